@@ -1,2 +1,23 @@
-//! .
+//! The records of a stream: what they say, their tables, written and read.
 #![tactic(auto)]
+
+mod fault;
+mod head;
+
+pub use fault::StreamFault;
+pub use head::{Head, Record};
+
+/// The magic number of BEGIN (`DMU_BACKUP_MAGIC` of zfs_ioctl.h).
+pub const MAGIC: u64 = 0x2_F5ba_cbac;
+
+/// The feature flags that are never accepted: those of other forms of streams, and those without a name.
+pub const OTHER_FEATURES: u32 = 0x3f47_fffb;
+
+/// The feature flag of blocks over 131,072 bytes.
+pub const LARGE_BLOCKS: u32 = 0x8_0000;
+
+/// The feature flag of a resumed stream.
+pub const RESUMING: u32 = 0x10_0000;
+
+/// The feature flag of a redacted stream.
+pub const REDACTED: u32 = 0x20_0000;

@@ -1,0 +1,34 @@
+use crate::guids::GuidSet;
+use crate::name::NameText;
+
+/// A place in a stream's order: by object number, then by byte offset in the object.
+#[derive(Clone, Copy, Debug, PartialEq, Eq)]
+pub struct Point {
+    pub object: u64,
+    pub offset: u64,
+}
+
+/// What BEGIN says of a stream (`drr_begin` of zfs_ioctl.h, with the payload of this project).
+#[derive(Drop)]
+pub struct Header {
+    /// 2 for a file system, 3 for a volume.
+    pub kind: u32,
+    /// The flags of BEGIN, with the bits that have no name.
+    pub flags: u32,
+    /// The feature flags: bits 2 to 31 of `drr_versioninfo`.
+    pub features: u32,
+    /// The snapshot's time of creation, in seconds.
+    pub time: u64,
+    /// The guid of the snapshot that is sent.
+    pub to: u64,
+    /// The guid of the source snapshot, 0 in a full stream.
+    pub from: u64,
+    /// The name of the snapshot that is sent.
+    pub name: NameText,
+    /// Where a resumed stream begins.
+    pub resume: Option<Point>,
+    /// The guids of the redaction snapshots that a redacted stream was made for.
+    pub redact: GuidSet,
+    /// The guids of the redaction snapshots of a source that is a redaction bookmark.
+    pub from_redact: GuidSet,
+}

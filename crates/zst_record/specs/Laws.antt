@@ -1,0 +1,30 @@
+-- What is written is read again, and what passes its checks is in its table's ranges.
+use Rattle.std.specs.Prelude.{ℕ, ◌≡◌, ◌<◌, ◌≤◌, ◌%◌, List, Ok}
+use Rattle.zst_model.specs.declared.header.Header.{Header}
+use Rattle.zst_record.specs.declared.head.Head.{Head}
+use Rattle.zst_record.specs.declared.head.Head.TheVariants as heads
+use Rattle.zst_record.specs.Heads.{payload_len}
+use Rattle.zst_record.specs.Table.{head_bytes, sealed_bytes}
+use Rattle.zst_record.specs.Decode.{decoded}
+use Rattle.zst_record.specs.Fits.{Fits, IsLater, BeginFits}
+
+-- the record of a BEGIN says that BEGIN
+abbrev pub BeginIsDecoded : Type 0
+BeginIsDecoded =
+    (features : ℕ) (header : Header) (len : ℕ) → BeginFits header len
+    → decoded 0 features (head_bytes (heads.Begin header len)) ≡ Ok (heads.Begin header len)
+
+-- the record of another head, with whatever checksum, says that head
+abbrev pub RecordIsDecoded : Type 0
+RecordIsDecoded =
+    (at features : ℕ) (head : Head) (sums : List ℕ) → 0 < at → IsLater head → Fits features head
+    → decoded at features (sealed_bytes head sums) ≡ Ok head
+
+-- a payload of whole words, no longer than a block of 131,072 bytes
+abbrev pub IsBounded : Head → Type 0
+IsBounded head = (payload_len head % 4 ≡ 0) × (payload_len head ≤ 131072)
+
+-- so is that of each record that passes its checks
+abbrev pub PayloadIsBounded : Type 0
+PayloadIsBounded =
+    (at features : ℕ) (bytes : List ℕ) (head : Head) → decoded at features bytes ≡ Ok head → IsBounded head
