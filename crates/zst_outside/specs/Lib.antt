@@ -1,0 +1,4 @@
+pub mod Causes
+pub mod Printing
+pub mod MemSource
+pub mod MemSink
