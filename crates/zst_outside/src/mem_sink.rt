@@ -45,7 +45,7 @@ impl MemSink {
     /// What was written.
     pub fn bytes(&self) -> &[u8]
         ensures bytes { result.now ≡ (output_of self.now).written }
-        ensures told { ⟦<MemSink as Sink>⟧.written self.now ≡ Some result.now }
+        ensures told { (⟦<MemSink as Sink>⟧.state self.now).written ≡ Some result.now }
     {
         &self.bytes
     }
@@ -65,9 +65,7 @@ impl Sink for MemSink {
     ghost use Rattle.zst_outside.specs.Causes.{HasCause, Rose};
     ghost use Rattle.zst_outside.specs.MemSink.{output_of, is_to_fail, after_taking, after_refusing, after_starving};
 
-    ghost written = { λ s. Some (output_of s).written };
-
-    ghost fault_count = { λ s. (output_of s).faults };
+    ghost state = { λ s. record { written = Some (output_of s).written; faults = (output_of s).faults } };
 
     fn write(&mut self, from: &[u8]) -> Result<usize, Fault>
         ensures bound { WritesAtMost result from.now }

@@ -45,7 +45,7 @@ impl MemSource {
     /// What is left of it.
     pub fn left(&self) -> &[u8]
         ensures bytes { result.now ≡ (input_of self.now).left }
-        ensures told { ⟦<MemSource as Source>⟧.left self.now ≡ Some result.now }
+        ensures told { (⟦<MemSource as Source>⟧.state self.now).left ≡ Some result.now }
     {
         &self.bytes[self.place..]
     }
@@ -58,9 +58,7 @@ impl Source for MemSource {
     ghost use Rattle.zst_outside.specs.Causes.{HasCause};
     ghost use Rattle.zst_outside.specs.MemSource.{input_of, is_to_fail, after_giving, after_refusing};
 
-    ghost left = { λ s. Some (input_of s).left };
-
-    ghost fault_count = { λ s. (input_of s).faults };
+    ghost state = { λ s. record { left = Some (input_of s).left; faults = (input_of s).faults } };
 
     fn read(&mut self, into: &mut [u8]) -> Result<usize, Fault>
         ensures bound { ReadsAtMost result into.new }
