@@ -124,69 +124,69 @@ impl fmt::Display for Refusal {
 #[cfg(test)]
 mod tests {
     use super::*;
+    use std::process::Abort;
+    use std::test::Fail;
 
-    #[test]
-    fn texts_and_numbers(rt: HostRuntime) {
-        let table = [
-            (Refusal::Usage { place: 3 }, 1, "usage: 3"),
-            (
-                Refusal::Grammar {
-                    at: 336,
-                    flaw: Flaw::BlockSize,
-                },
-                17,
-                "grammar at 336: block size",
-            ),
-            (
-                Refusal::Checksum {
-                    at: 592,
-                    stated: [1, 2, 3, 4],
-                    found: [5, 6, 7, 8],
-                },
-                18,
-                "checksum at 592: stated 1 2 3 4, found 5 6 7 8",
-            ),
-            (
-                Refusal::Unsupported {
-                    at: 8,
-                    lack: Lack::BigEndian,
-                },
-                19,
-                "unsupported at 8: big endian",
-            ),
-            (
-                Refusal::Unsupported {
-                    at: 16,
-                    lack: Lack::Feature { bit: 29 },
-                },
-                19,
-                "unsupported at 16: feature 29",
-            ),
-            (
-                Refusal::Truncated { at: u64::MAX },
-                20,
-                "truncated at 18446744073709551615",
-            ),
-            (
-                Refusal::Limit {
-                    which: Quantity::Stream,
-                    number: 1 << 62,
-                },
-                23,
-                "limit: stream 4611686018427387904",
-            ),
-            (Refusal::SourceFault, 29, "source fault"),
-            (Refusal::SinkFault, 30, "sink fault"),
-            (Refusal::OutOfMemory, 32, "no memory"),
-        ];
-        for (refusal, number, text) in table {
-            assert_eq!(rt; refusal.number(), number, "number of {text}");
-            assert_eq!(rt; refusal.text().as_str(), text);
-        }
+    fn check(rt: &impl Abort, refusal: Refusal, number: u8, text: &str) {
+        assert_eq!(rt; refusal.number(), number, "the number of {text}");
+        assert_eq!(rt; refusal.text().as_str(), text);
     }
 
     #[test]
-    fn prints_as_its_text(rt: HostRuntime) -> Result<(), std::test::Fail> {
+    fn numbers_and_texts(rt: HostRuntime) {
+        check(&rt, Refusal::Usage { place: 3 }, 1, "usage: 3");
+        let flaw = Flaw::BlockSize;
+        check(
+            &rt,
+            Refusal::Grammar { at: 336, flaw },
+            17,
+            "grammar at 336: block size",
+        );
+        let (stated, found) = ([1, 2, 3, 4], [5, 6, 7, 8]);
+        let wrong_sum = Refusal::Checksum {
+            at: 592,
+            stated,
+            found,
+        };
+        check(
+            &rt,
+            wrong_sum,
+            18,
+            "checksum at 592: stated 1 2 3 4, found 5 6 7 8",
+        );
+        let lack = Lack::BigEndian;
+        check(
+            &rt,
+            Refusal::Unsupported { at: 8, lack },
+            19,
+            "unsupported at 8: big endian",
+        );
+        let lack = Lack::Feature { bit: 29 };
+        check(
+            &rt,
+            Refusal::Unsupported { at: 16, lack },
+            19,
+            "unsupported at 16: feature 29",
+        );
+        check(
+            &rt,
+            Refusal::Truncated { at: u64::MAX },
+            20,
+            "truncated at 18446744073709551615",
+        );
+        let which = Quantity::Stream;
+        let limit = Refusal::Limit {
+            which,
+            number: 1 << 62,
+        };
+        check(&rt, limit, 23, "limit: stream 4611686018427387904");
+        check(&rt, Refusal::SourceFault, 29, "source fault");
+        check(&rt, Refusal::SinkFault, 30, "sink fault");
+        check(&rt, Refusal::OutOfMemory, 32, "no memory");
+    }
+
+    #[test]
+    fn prints_as_its_text(rt: HostRuntime) -> Result<(), Fail> {
         let refusal = Refusal::Truncated { at: 7 };
         let printed = format!(in rt.alloc(); "[{refusal}]")?;
         assert_eq!(rt; printed.as_str(), "[truncated at 7]");
