@@ -139,6 +139,17 @@ unfoldable pub named : (Header → Decoded) → (List ℕ → Header) → Option
 named next make None = Err (Grammar 56 flaws.Name)
 named next make (Some name) = next (make name)
 
+-- what BEGIN says of its snapshot and its payload
+unfoldable pub snapshot_with : (payload_len features time kind flags to from : ℕ) → List ℕ → Decoded
+snapshot_with payload_len features time kind flags to from field =
+    check ((kind == 2) || (kind == 3)) (Grammar 32 flaws.Kind)
+    (check (not (to == 0)) (Grammar 40 flaws.Guid)
+    (named (λ header. check (is_payload_len payload_len) (Unsupported 4 lacks.ForeignPayload)
+    (check (not ((payload_len == 0) && needs_payload features)) (Grammar 4 flaws.Payload)
+    (Ok (heads.Begin header payload_len))))
+    (header_with features kind flags time to from) (name_in field)))
+
+-- BEGIN: before these, what kind of a stream it begins
 unfoldable pub begin_with : (record_kind payload_len magic header_type features time kind flags to from : ℕ) → List ℕ → Decoded
 begin_with record_kind payload_len magic header_type features time kind flags to from field =
     check (record_kind == 0) (Grammar 0 flaws.RecordType)
@@ -148,12 +159,7 @@ begin_with record_kind payload_len magic header_type features time kind flags to
     (check (header_type == 1) (Grammar 16 flaws.HeaderType)
     (check (others_of features == 0) (Unsupported 16 (lack_of_feature (trailing_zeros w32 (others_of features))))
     (check (bit_and features LARGE_BLOCKS == 0) (Unsupported 16 lacks.LargeBlocks)
-    (check ((kind == 2) || (kind == 3)) (Grammar 32 flaws.Kind)
-    (check (not (to == 0)) (Grammar 40 flaws.Guid)
-    (named (λ header. check (is_payload_len payload_len) (Unsupported 4 lacks.ForeignPayload)
-    (check (not ((payload_len == 0) && needs_payload features)) (Grammar 4 flaws.Payload)
-    (Ok (heads.Begin header payload_len))))
-    (header_with features kind flags time to from) (name_in field))))))))))
+    (snapshot_with payload_len features time kind flags to from field)))))))
 
 -- the feature flags: bits 2 to 31 of drr_versioninfo
 abbrev pub features_in : List ℕ → ℕ

@@ -1,9 +1,13 @@
 //! The records of a stream: what they say, their tables, written and read.
 #![tactic(auto)]
 
+mod decoding;
+mod encoding;
 mod fault;
 mod head;
 
+pub use decoding::{decode, get_sums};
+pub use encoding::{encode, put_sums};
 pub use fault::StreamFault;
 pub use head::{Head, Record};
 
