@@ -1,4 +1,5 @@
 pub mod Heads
+pub mod Faults
 pub mod Fields
 pub mod Table
 pub mod Decode
