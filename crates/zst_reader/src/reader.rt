@@ -51,12 +51,12 @@ pub struct Reader {
 impl Reader {
     ghost use Rattle.std.specs.Prelude.{List, ℕ, [], ◌++◌, ◌∷◌, ◌%◌, IfOk, take, min};
     ghost use Rattle.std.specs.Borrow.{sem};
-    ghost use Rattle.zst_record.specs.Heads.{Covered, size_of};
+    ghost use Rattle.zst_record.specs.Heads.{Covered, covered_of, size_of};
     ghost use Rattle.zst_fletcher.specs.WeightSum.{weight_sum};
     ghost use Rattle.zst_reader.specs.Mark.{finish_of};
     ghost use Rattle.zst_reader.specs.Place.{IsPlaceAfter, IsWithin};
     ghost use Rattle.zst_reader.specs.StandsFor.{StandsFor, held, pushed_of, handed_of, room_of, mark_of, place_of};
-    ghost use Rattle.zst_reader.specs.Stepping.{StepsOn, Counts, Finds, FindsIn};
+    ghost use Rattle.zst_reader.specs.Stepping.{StepsOn, Counts, Finds, FindsIn, covered_in};
 
     /// A reader of the empty text.
     pub fn open(alloc: Global) -> Result<Reader, AllocError>
@@ -182,24 +182,29 @@ impl Reader {
         }
     }
 
+    // The record that was handed out last, of this place and number.
+    fn lent(&self, at: u64, index: u64) -> Record<'_>
+        requires { self.now.taken ≡ size_of self.now.head }
+        ensures { covered_of result ≡ covered_in self.now at index }
+    {
+        Record {
+            head: &self.head,
+            at,
+            index,
+            payload: &self.window.as_slice()[312..self.taken],
+        }
+    }
+
     /// The next covered record, whose payload lies in the reader's buffer until the next call. A record is covered once
     /// the next record's 312 bytes are there with the right checksum, END by itself. After a fault it answers that fault.
     pub fn next(&mut self) -> Result<Step<'_>, StreamFault>
         ensures* steps { sem 𝓛 (StepsOn self.entry result) }
     {
-        match self.find()? {
-            Found::Record { at, index } => {
-                let end = self.taken;
-                let payload = &self.window.as_slice()[312..end];
-                Ok(Step::Record(Record {
-                    head: &self.head,
-                    at,
-                    index,
-                    payload,
-                }))
-            }
-            Found::NeedMore => Ok(Step::NeedMore),
-            Found::End => Ok(Step::End),
+        match self.find() {
+            Ok(Found::Record { at, index }) => Ok(Step::Record(self.lent(at, index))),
+            Ok(Found::NeedMore) => Ok(Step::NeedMore),
+            Ok(Found::End) => Ok(Step::End),
+            Err(fault) => Err(fault),
         }
     }
 }
