@@ -27,3 +27,6 @@ pub const RESUMING: u32 = 0x10_0000;
 
 /// The feature flag of a redacted stream.
 pub const REDACTED: u32 = 0x20_0000;
+
+#[cfg(test)]
+mod tests;
