@@ -1,5 +1,5 @@
 -- What the record of a head but BEGIN says is that head.
-use Rattle.std.proofs.Common.{◌≡◌, ℕ, ◌+◌, ◌%◌, ◌^◌, ◌<◌, ◌≤◌, ◌==◌, ◌&&◌, true, ltb, leb, List, ◌++◌, slice_index, Ok, refl, sym, ap, arith}
+use Rattle.std.proofs.Common.{◌≡◌, ℕ, ◌+◌, ◌%◌, ◌^◌, ◌<◌, ◌==◌, ◌&&◌, true, ltb, leb, List, ◌++◌, slice_index, Ok, refl, sym, ap, arith}
 use Rattle.std.proofs.lemmas.Bool.{ne_eqb, leb-true, ltb-true, and_parts, le-leb}
 use Rattle.zst_bytes.specs.Bytes.{bytes_at, number_at}
 use Rattle.zst_record.specs.declared.head.Head.{Head}

@@ -1,5 +1,5 @@
 -- The length of a record, and its checksum, whatever its kind.
-use Rattle.std.proofs.Common.{◌≡◌, ℕ, ◌+◌, ◌-◌, ◌*◌, ◌^◌, ◌<◌, ◌≤◌, List, ◌++◌, length, take, replicate, slice_index, refl, sym, ◌∙◌, arith}
+use Rattle.std.proofs.Common.{◌≡◌, ℕ, ◌+◌, ◌-◌, ◌*◌, ◌^◌, ◌<◌, ◌≤◌, List, ◌++◌, length, take, replicate, slice_index, refl, sym, arith}
 use Rattle.std.proofs.lemmas.List.{length-append, length-replicate}
 use Rattle.zst_bytes.specs.Bytes.{bytes_at, number_at}
 use Rattle.zst_model.specs.declared.header.Header.{Header}

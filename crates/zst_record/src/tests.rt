@@ -240,13 +240,14 @@ fn writes_and_reads_an_object(rt: HostRuntime) {
     assert_eq!(rt; head.payload_len(), 168);
     let mut record = [0xff; 312];
     encode(&head, &mut record);
-    put_sums(&mut record, 280, &[1, 2, 3, 1 << 63]);
-    let front = [
+    let mut want = [0; 312];
+    want[..64].copy_from_slice(&[
         1, 0, 0, 0, 0, 0, 0, 0, 2, 0, 0, 0, 0, 0, 0, 0, 19, 0, 0, 0, 44, 0, 0, 0, 0, 0, 2, 0, 161,
         0, 0, 0, 0, 0, 1, 0, 0, 0, 0, 0, 0xef, 0xcd, 0xab, 0x89, 0x67, 0x45, 0x23, 1, 0, 0, 0, 0,
         0, 0, 0, 0, 7, 0, 0, 0, 0, 0, 0, 0,
-    ];
-    assert!(rt; &record[..64] == front.as_slice());
+    ]);
+    assert!(rt; record == want);
+    put_sums(&mut record, 280, &[1, 2, 3, 1 << 63]);
     assert!(rt; get_sums(&record, 280) == [1, 2, 3, 1 << 63]);
     let read = decode(&record, AT, 0).is_ok_and(|head| match head {
         Head::Object { bonus_len, .. } => bonus_len == 161,
