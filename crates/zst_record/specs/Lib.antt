@@ -5,3 +5,8 @@ pub mod Table
 pub mod Decode
 pub mod Fits
 pub mod Laws
+pub mod FieldsLaws
+pub mod TableLaws
+pub mod DecodeLaws
+pub mod BeginLaws
+pub mod SizeLaws

@@ -3,3 +3,4 @@ pub mod Growth
 pub mod Image
 pub mod Laws
 pub mod Findings
+pub mod Whole
