@@ -1,9 +1,9 @@
 -- How the code's sums and tests meet the rulings.
-use Rattle.std.proofs.Common.{◌≡◌, ℕ, ◌+◌, ◌-◌, ◌%◌, ◌≤◌, ◌<◌, Some, None, append_assoc, length-append, List, ◌++◌, length, take, drop, sym, ap, ◌∙◌, arith, refl}
+use Rattle.std.proofs.Common.{◌≡◌, ℕ, ◌+◌, ◌-◌, ◌%◌, ◌≤◌, Some, None, append_assoc, length-append, List, ◌++◌, length, take, drop, sym, ap, ◌∙◌, arith, refl}
 use Rattle.std.proofs.lemmas.List.{length-take-le}
 use Rattle.std.proofs.lemmas.Bool.{le-ltb}
 use Rattle.std.proofs.Math.Seq.{take-add}
-use Rattle.zst_fletcher.specs.WeightSum.{IsWhole, weight_sum}
+use Rattle.zst_fletcher.specs.WeightSum.{IsWhole}
 use Rattle.zst_record.specs.Heads.{size_of}
 use Rattle.zst_record.specs.declared.head.Head.{Head}
 use Rattle.zst_record.specs.declared.fault.StreamFault.{StreamFault}

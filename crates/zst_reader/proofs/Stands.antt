@@ -1,6 +1,6 @@
 -- What a reader stands for after each of its steps.
-use Rattle.std.proofs.Common.{subst, ◌≡◌, ℕ, ◌+◌, ◌-◌, ◌*◌, ◌%◌, ◌≤◌, List, [], ◌∷◌, ◌++◌, length, sum_by, take, drop, refl, sym, ap, ◌∙◌, arith, append_assoc, length-append, length-drop, zero-add}
-use Rattle.std.proofs.lemmas.List.{append-nil, take-append-drop, length-take-le}
+use Rattle.std.proofs.Common.{subst, ◌≡◌, ℕ, ◌+◌, ◌-◌, ◌≤◌, List, [], ◌∷◌, ◌++◌, length, sum_by, take, drop, refl, sym, ap, ◌∙◌, arith, append_assoc, length-append, length-drop, zero-add}
+use Rattle.std.proofs.lemmas.List.{append-nil, take-append-drop}
 use Rattle.std.proofs.lemmas.List.Sums.{sum_by-append}
 use Rattle.zst_record.specs.Heads.{Covered, payload_len, size_of}
 use Rattle.zst_record.specs.declared.head.Head.{Head}

@@ -1,5 +1,5 @@
 -- What the code's verdict says.
-use Rattle.std.specs.Prelude.{ℕ, ◌+◌, ◌%◌, ◌<◌, ◌≤◌, ◌≡◌, List, ◌++◌, take}
+use Rattle.std.specs.Prelude.{ℕ, ◌<◌, ◌≡◌, List, ◌++◌, take}
 use Rattle.zst_fletcher.specs.WeightSum.{weight_sum}
 use Rattle.zst_record.specs.Heads.{payload_len, size_of}
 use Rattle.zst_stream.specs.Reading.{Ruling, wait, refuse, last, more}

@@ -9,7 +9,7 @@ ghost use Rattle.zst_reader.specs.Verdict.{ruled, SumsUp, FitsIn};
 use crate::place::Place;
 use zst_fletcher::Sum;
 use zst_model::Lack;
-use zst_record::{Head, StreamFault, decode, get_sums};
+use zst_record::{Head, StreamFault, decode, get_sums, payload_is_bounded};
 
 /// What is found at the front of the held bytes.
 #[derive(Drop)]
@@ -17,15 +17,9 @@ pub(crate) enum Verdict {
     Wait,
     Refuse(StreamFault),
     /// END is covered. The sum is that of the text with it.
-    Last {
-        head: Head,
-        sum: Sum,
-    },
+    Last { head: Head, sum: Sum },
     /// Another record is covered. The sum is that of the text with it.
-    More {
-        head: Head,
-        sum: Sum,
-    },
+    More { head: Head, sum: Sum },
 }
 
 // What is wrong with the sums that stand at a place, where these were found.
@@ -159,6 +153,8 @@ pub(crate) fn judge(held: &[u8], place: &Place) -> Verdict
     if held.len() < 312 {
         return Verdict::Wait;
     }
+    // The record that passes is whole words and fits the buffer.
+    payload_is_bounded();
     match decode(front_of(held), place.at, place.features) {
         Err(_) => Verdict::Refuse(not_built(place.at)),
         Ok(head) => judge_head(held, place, head),

@@ -1,11 +1,11 @@
 ghost use Rattle.std.specs.Prelude.{◌≡◌, ◌+◌, ◌*◌, ◌-◌, ◌^◌, ◌≤◌, length};
 ghost use Rattle.zst_reader.specs.Window.{items};
 
+use crate::CAPACITY;
 use crate::judging::{Verdict, judge};
 use crate::mark::Mark;
 use crate::place::Place;
 use crate::window::Window;
-use crate::CAPACITY;
 use std::alloc::{AllocError, Global};
 use zst_fletcher::Sum;
 use zst_record::{Head, Record, StreamFault};

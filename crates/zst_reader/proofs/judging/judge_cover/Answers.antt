@@ -1,6 +1,6 @@
 use Rattle.std.proofs.Common.{◌≡◌, ◌+◌, ◌++◌, take, ap, ◌∙◌, arith}
 use Rattle.zst_fletcher.specs.WeightSum.{weight_sum}
-use Rattle.zst_record.specs.Heads.{payload_len, size_of}
+use Rattle.zst_record.specs.Heads.{size_of}
 use Rattle.zst_reader.proofs.Judged.{two-parts, whole-part, cover-refused, cover-right}
 use Rattle.zst_reader.proofs.judging.judge_cover.Goals as goal
 

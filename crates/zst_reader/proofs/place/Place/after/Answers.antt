@@ -1,4 +1,4 @@
-use Rattle.std.proofs.Common.{◌/◌, ◌%◌, ◌^◌, ◌≡◌, ◌≤◌, refl, ap, arith}
+use Rattle.std.proofs.Common.{◌/◌, ◌%◌, ◌^◌, refl, ap, arith}
 use Rattle.zst_reader.proofs.Places.{place-begun, place-later}
 use Rattle.zst_reader.proofs.place.Place.after.Goals as goal
 

@@ -1,11 +1,10 @@
-use Rattle.std.proofs.Common.{◌≡◌, ◌+◌, ◌≤◌, ◌++◌, List, ℕ, length, take, drop, refl, sym, ap, subst, ◌∙◌, arith}
+use Rattle.std.proofs.Common.{◌≡◌, ◌++◌, take, refl, sym, ap, ◌∙◌}
 use Rattle.zst_fletcher.specs.WeightSum.{weight_sum}
 use Rattle.zst_record.specs.Heads.{size_of}
 use Rattle.zst_stream.specs.Reading.{ruling, wait, refuse, more, last}
 use Rattle.zst_reader.specs.Window.{items}
-use Rattle.zst_reader.specs.Place.{IsPlaceAfter, IsWithin}
 use Rattle.zst_reader.specs.StandsFor.{held}
-use Rattle.zst_reader.proofs.Stands.{settled, Advances, has_failed, has_ended, waits, refused, finds_more, finds_last}
+use Rattle.zst_reader.proofs.Stands.{settled, has_failed, has_ended, waits, refused, finds_more, finds_last}
 use Rattle.zst_reader.proofs.reader.Reader.find.Goals as goal
 
 pub returns-in-Failed-clause-finds : goal.returns-in-Failed-clause-finds
