@@ -1,4 +1,5 @@
 pub mod Causes
 pub mod Printing
+pub mod Schedule
 pub mod MemSource
 pub mod MemSink

@@ -3,6 +3,7 @@
 
 mod mem_sink;
 mod mem_source;
+mod plan;
 mod sink;
 mod source;
 #[cfg(test)]
