@@ -1,5 +1,6 @@
 pub mod Causes
 pub mod Printing
+pub mod Ranges
 pub mod Images
 pub mod Schedule
 pub mod MemSource
