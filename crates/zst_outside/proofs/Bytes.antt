@@ -3,8 +3,8 @@ use Rattle.std.proofs.Common.{◌≡◌, ◌⊎◌, inl, inr, ℕ, ◌+◌, ◌-
 use Rattle.std.proofs.lemmas.List.{ext_get_or, get_or-take, get_or-drop, get_or-append_right, length-take, length-take-le}
 use Rattle.std.proofs.lemmas.Bool.{cases_lt}
 use Rattle.std.proofs.Math.ListN.{get_or-append}
-use Rattle.zst_outside.specs.Images.{bytes_at, overwritten, Torn}
-use Rattle.zst_outside.proofs.Ranges.{length-overwritten}
+use Rattle.zst_outside.specs.Ranges.{bytes_at, overwritten, Torn}
+use Rattle.zst_outside.specs.Ranges.{length-overwritten}
 
 pub get_or-bytes_at : (xs : List ℕ) (p n k : ℕ) → k < n → get_or (bytes_at xs p n) k 0 ≡ get_or xs (p + k) 0
 unfolding bytes_at

@@ -1,4 +1,4 @@
-pub mod Ranges
+pub mod Copies
 pub mod Bytes
 pub mod Past
 pub mod Filling

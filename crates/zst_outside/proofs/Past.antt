@@ -4,28 +4,33 @@ use Rattle.std.specs.declared.alloc.Global.{Global}
 use Rattle.std.proofs.lemmas.List.{ext_get_or, take_all, drop_all}
 use Rattle.std.proofs.lemmas.Bool.{cases_lt, cond-true, le-leb}
 use lib.Dec.{leb}
-use Rattle.zst_outside.specs.Images.{bytes_at, overwritten, Torn, Leaves, Leaves-weaker, Keeps, TornImage, OnlyReads, WritesIn}
+use Rattle.zst_outside.specs.Ranges.{bytes_at, overwritten, Torn}
+use Rattle.zst_outside.specs.Images.{Leaves, Leaves-weaker, Keeps, TornImage, OnlyReads, WritesIn, IsSynced}
 use Rattle.zst_outside.specs.CallLog.{Untouched, IsImage, pending_after, pending, undone, bytes_before, ImageAt}
 use Rattle.zst_outside.specs.MemDisk.{memory_state}
 use Rattle.zst_outside.specs.declared.mem_disk.MemDisk.{MemDisk}
 use Rattle.zst_outside.specs.declared.call_log.Entry.{Entry}
 use Rattle.zst_outside.specs.declared.call_log.Call.TheVariants.{Write, Sync}
-use Rattle.zst_outside.proofs.Ranges.{length-bytes_at}
+use Rattle.zst_outside.specs.Ranges.{length-bytes_at}
 use Rattle.zst_outside.proofs.Bytes.{AlikeOutside, alike-overwritten, overwritten_in, torn_from_alike, get_or-bytes_at, put_back}
 
+-- the ranges that are pending after one entry more
 pub pending-push : (ranges : List (ℕ × ℕ)) (log : List Entry) (entry : Entry) → pending ranges (log ++ entry ∷ []) ≡ pending_after (pending ranges log) entry.call
 pending-push ranges [] entry = refl
 pending-push ranges (e ∷ log) entry = pending-push (pending_after ranges e.call) log entry
 
+-- the bytes before a record with one entry more
 before-push : (log : List Entry) (entry : Entry) (bytes : List ℕ) → bytes_before (log ++ entry ∷ []) bytes ≡ bytes_before log (undone entry.call bytes)
 before-push [] entry bytes = refl
 before-push (e ∷ log) entry bytes = ap (undone e.call) (before-push log entry bytes)
 
+-- an earlier part of the record is as it was
 take_push : (k : ℕ) (log : List Entry) (entry : Entry) → k ≤ length log → take k (log ++ entry ∷ []) ≡ take k log
 take_push zero log entry le = refl
 take_push (suc k) [] entry le = absurd (omega arith)
 take_push (suc k) (e ∷ log) entry le = ap (λ (l : List Entry). e ∷ l) (take_push k log entry (omega arith))
 
+-- a later part has the entry at its end
 drop_push : (k : ℕ) (log : List Entry) (entry : Entry) → k ≤ length log → drop k (log ++ entry ∷ []) ≡ drop k log ++ entry ∷ []
 drop_push zero log entry le = refl
 drop_push (suc k) [] entry le = absurd (omega arith)
@@ -37,9 +42,11 @@ image_now log bytes image =
     ap (λ (l : List Entry). IsImage (pending [] l) (bytes_before (drop (length log) log) bytes) image) (take_all (length log) log (omega arith))
     ∙ ap (λ (l : List Entry). IsImage (pending [] log) (bytes_before l bytes) image) (drop_all (length log) log (omega arith))
 
+-- and back
 image_here : (log : List Entry) (bytes image : List ℕ) → IsImage (pending [] log) bytes image → ImageAt log bytes (length log) image
 image_here log bytes image is = subst (λ T. T) (sym (image_now log bytes image)) is
 
+-- a place outside one range more
 untouched_push : (k : ℕ) (ranges : List (ℕ × ℕ)) (range : ℕ × ℕ) → Untouched k ranges → (k < range.0) ⊎ (range.0 + range.1 ≤ k) → Untouched k (ranges ++ range ∷ [])
 untouched_push k [] range free out = (out, tt)
 untouched_push k (r ∷ ranges) range free out = (free.0, untouched_push k ranges range free.1 out)
@@ -111,7 +118,7 @@ module _ (old new : MemDisk) (entry : Entry) (is : new.log.items ≡ old.log.ite
   }
 
   -- the ranges after it
-  pub image_after : (image : List ℕ) → (memory_state new).images image → IsImage (pending_after (pending [] old.log.items) entry.call) new.bytes.items image
+  image_after : (image : List ℕ) → (memory_state new).images image → IsImage (pending_after (pending [] old.log.items) entry.call) new.bytes.items image
   image_after image now =
       subst (λ (r : List (ℕ × ℕ)). IsImage r new.bytes.items image) (ap (pending []) is ∙ pending-push [] old.log.items entry) (subst (λ T. T) (image_now new.log.items new.bytes.items image) now)
 
@@ -136,9 +143,16 @@ sync_image ranges true bytes image is = record { size = is.size; at = λ k free.
 sync_image ranges false bytes image is = is
 
 -- with no range there is one image
-pub image_only : (bytes image : List ℕ) → IsImage [] bytes image → image ≡ bytes
+image_only : (bytes image : List ℕ) → IsImage [] bytes image → image ≡ bytes
 image_only bytes image is = ext_get_or 0 image bytes is.size (λ k lt. is.at k tt)
 
+-- a sync that was done leaves what a read gives
+pub disk_synced : (old new : MemDisk) (number : ℕ) (done : Bool) → new.log.items ≡ old.log.items ++ record { number = number; call = Sync done } ∷ [] → new.bytes.items ≡ old.bytes.items → done ≡ true → IsSynced (memory_state new)
+disk_synced old new number done is same good = λ image now.
+    image_only new.bytes.items image
+    (subst (λ (d : Bool). IsImage (pending_after (pending [] old.log.items) (Sync d)) new.bytes.items image) good (image_after old new _ is same image now))
+
+-- a write, done or not, changes no byte outside its range
 pub written_alike : (place : ℕ) (from old new : List ℕ) (fails : Bool) → place + length from ≤ length old → new ≡ cond fails old (overwritten old place from) → AlikeOutside place (length from) old new
 written_alike place from old new true inside is = subst (λ (l : List ℕ). AlikeOutside place (length from) old l) (sym is) (record { size = refl; at = λ k out. refl })
 written_alike place from old new false inside is = subst (λ (l : List ℕ). AlikeOutside place (length from) old l) (sym is) (alike-overwritten old place from inside)

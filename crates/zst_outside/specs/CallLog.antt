@@ -2,7 +2,7 @@
 use Rattle.std.specs.Prelude.{◌≡◌, ◌⊎◌, ℕ, ◌+◌, ◌<◌, ◌≤◌, true, false, List, [], ◌∷◌, ◌++◌, nat_lt, nat_le, if◌then◌else◌, length, take, drop, take_while, slice_index}
 use Rattle.std.proofs.Common.{refl, sym, ◌∙◌, subst, ap, arith}
 use Rattle.std.proofs.lemmas.List.{drop_all}
-use Rattle.zst_outside.specs.Images.{overwritten}
+use Rattle.zst_outside.specs.Ranges.{overwritten}
 use Rattle.zst_outside.specs.declared.call_log.Call.{Call}
 use Rattle.zst_outside.specs.declared.call_log.Call.TheVariants.{Read, Write, Sync}
 use Rattle.zst_outside.specs.declared.call_log.Entry.{Entry}
@@ -61,7 +61,7 @@ ImageSince log bytes t image = (k : ℕ) × (t ≤ k) × (k ≤ length log) × I
 abbrev pub entries_before : ℕ → List Entry → ℕ
 entries_before number log = length (take_while (λ entry. nat_lt entry.number number) log)
 
--- The laws of a disk in memory.
+-- The laws of a disk in memory: this moment is one of those since t, and since now there is no other; it reads as an image, and each image has its size.
 
 pub now_since : (log : List Entry) (bytes : List ℕ) (t : ℕ) (image : List ℕ) → t ≤ length log → ImageAt log bytes (length log) image → ImageSince log bytes t image
 now_since log bytes t image le now = (length log, le, omega arith, now)

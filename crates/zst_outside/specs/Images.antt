@@ -1,20 +1,7 @@
--- What a disk is to those who use it, what calls do to its bytes, and what a crash may leave.
-use Rattle.std.specs.Prelude.{◌≡◌, ◌⊎◌, ℕ, ◌+◌, ◌≤◌, List, ◌++◌, length, take, drop, refl}
+-- What a disk is to those who use it: what a read gives, and what a crash may leave.
+use Rattle.std.specs.Prelude.{◌≡◌, ◌⊎◌, ℕ, ◌+◌, ◌≤◌, List, refl}
 use Rattle.std.proofs.Common.{inl, inr, ⊎_elim, ◌∙◌, subst, sym, arith}
-
--- the bytes of a range
-unfoldable pub bytes_at : List ℕ → ℕ → ℕ → List ℕ
-bytes_at image place count = take count (drop place image)
-
--- these bytes at this place, and elsewhere the old ones
-unfoldable pub overwritten : List ℕ → ℕ → List ℕ → List ℕ
-overwritten old place bytes = take place old ++ bytes ++ drop (place + length bytes) old
-
--- every range that doesn't touch this one is as before
-pub record Torn (place count : ℕ) (old new : List ℕ) : Type 0 where
-  pub size : length new ≡ length old
-  pub below : (p n : ℕ) → p + n ≤ place → bytes_at new p n ≡ bytes_at old p n
-  pub above : (p n : ℕ) → place + count ≤ p → bytes_at new p n ≡ bytes_at old p n
+use Rattle.zst_outside.specs.Ranges.{Torn, Torn-same, Torn-then, Torn-wider}
 
 pub record DiskState : Type 1 where
   -- how many bytes it has
@@ -65,49 +52,35 @@ pub record WritesIn (place count : ℕ) (old new : DiskState) : Type 0 where
   pub time : Leaves old new (TornImage place count old)
   pub kept : Keeps old new
 
--- How torn ranges follow one another.
-
-pub Torn-same : (place count : ℕ) (bytes : List ℕ) → Torn place count bytes bytes
-Torn-same place count bytes = record { size = refl; below = λ p n le. refl; above = λ p n le. refl }
-
-pub Torn-then : (place count : ℕ) (old mid new : List ℕ) → Torn place count old mid → Torn place count mid new → Torn place count old new
-Torn-then place count old mid new first second = record {
-  size = second.size ∙ first.size;
-  below = λ p n le. second.below p n le ∙ first.below p n le;
-  above = λ p n le. second.above p n le ∙ first.above p n le;
-}
-
--- torn in a part of the range
-pub Torn-wider : (place count p n : ℕ) (old new : List ℕ) → place ≤ p → p + n ≤ place + count → Torn p n old new → Torn place count old new
-Torn-wider place count p n old new starts ends torn = record {
-  size = torn.size;
-  below = λ q m le. torn.below q m (omega arith);
-  above = λ q m le. torn.above q m (omega arith);
-}
-
 -- How parts of a run follow one another.
 
+-- where nothing is done, no image is added
 pub Leaves-none : (disk : DiskState) (P : List ℕ → Type 0) → Leaves disk disk P
 Leaves-none disk P = record { later = omega arith; adds = λ t c le left. inl left }
 
+-- a weaker fact holds of each image too
 pub Leaves-weaker : (old new : DiskState) (P Q : List ℕ → Type 0) → Leaves old new P → ((c : List ℕ) → P c → Q c) → Leaves old new Q
 Leaves-weaker old new P Q leaves is = record {
   later = leaves.later;
   adds = λ t c le left. ⊎_elim (λ before. inl before) (λ here. inr (is c here)) (leaves.adds t c le left);
 }
 
+-- one part and then another
 pub Leaves-then : (old mid new : DiskState) (P Q : List ℕ → Type 0) → Leaves old mid P → Leaves mid new Q → ((c : List ℕ) → Q c → P c) → Leaves old new P
 Leaves-then old mid new P Q first second is = record {
   later = omega (arith, first.later, second.later);
   adds = λ t c le left. ⊎_elim (λ before. first.adds t c le before) (λ here. inr (is c here)) (second.adds t c (omega (arith, le, first.later)) left);
 }
 
+-- what neither part forgets is kept
 pub Keeps-then : (old mid new : DiskState) → old.moment ≤ mid.moment → Keeps old mid → Keeps mid new → Keeps old new
 Keeps-then old mid new later first second = λ t c le left. second t c (omega (arith, le, later)) (first t c le left)
 
+-- where nothing is done, it only reads
 pub OnlyReads-none : (disk : DiskState) → OnlyReads disk disk
 OnlyReads-none disk = record { size = refl; seen = refl; crash = λ c image. image; time = Leaves-none disk disk.images; kept = λ t c le left. left }
 
+-- two parts that only read
 pub OnlyReads-then : (old mid new : DiskState) → OnlyReads old mid → OnlyReads mid new → OnlyReads old new
 OnlyReads-then old mid new first second = record {
   size = second.size ∙ first.size;
@@ -127,11 +100,13 @@ WritesIn-reads place count old new reads = record {
   kept = reads.kept;
 }
 
+-- an image torn twice is a torn one
 TornImage-back : (place count : ℕ) (old mid : DiskState) → WritesIn place count old mid → (c : List ℕ) → TornImage place count mid c → TornImage place count old c
 TornImage-back place count old mid first c torn =
     let was = first.crash torn.0 torn.1 in
     (was.0, was.1, Torn-then place count was.0 torn.0 c was.2 torn.2)
 
+-- two parts that write in one range
 pub WritesIn-then : (place count : ℕ) (old mid new : DiskState) → WritesIn place count old mid → WritesIn place count mid new → WritesIn place count old new
 WritesIn-then place count old mid new first second = record {
   size = second.size ∙ first.size;

@@ -1,6 +1,7 @@
 pub mod Causes
 pub mod States
 pub mod Printing
+pub mod Ranges
 pub mod Images
 pub mod Schedule
 pub mod MemSource

@@ -1,7 +1,8 @@
 -- A disk in memory that keeps a record of its calls, as its contracts see it.
 use Rattle.std.specs.Prelude.{◌≡◌, ℕ, List, [], ◌∷◌, ◌++◌, length, take, drop, Vec}
 use Rattle.std.specs.declared.alloc.Global.{Global}
-use Rattle.zst_outside.specs.Images.{DiskState, bytes_at}
+use Rattle.zst_outside.specs.Ranges.{bytes_at}
+use Rattle.zst_outside.specs.Images.{DiskState}
 use Rattle.zst_outside.specs.Schedule.{Schedule, after_starved}
 use Rattle.zst_outside.specs.CallLog.{ImageAt, ImageSince, pending, bytes_before, entries_before}
 use Rattle.zst_outside.specs.declared.call_log.Call.{Call}

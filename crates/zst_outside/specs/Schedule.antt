@@ -28,13 +28,21 @@ is_to_fail s = option_map_or (λ stop. nat_le stop s.calls) s.stop false || list
 abbrev pub after_done : Schedule → Schedule
 after_done s = record s { calls = next_count s.calls }
 
+-- with one fault more
+abbrev pub with_fault : Schedule → Schedule
+with_fault s = record s { faults = next_count s.faults }
+
+-- with one fault more, for want of memory
+abbrev pub with_want : Schedule → Schedule
+with_want s = record s { faults = next_count s.faults; starved = next_count s.starved }
+
 -- after a call that was to fail
 abbrev pub after_refused : Schedule → Schedule
-after_refused s = record s { calls = next_count s.calls; faults = next_count s.faults }
+after_refused s = with_fault (after_done s)
 
 -- after a call that found no memory
 abbrev pub after_starved : Schedule → Schedule
-after_starved s = record s { calls = next_count s.calls; faults = next_count s.faults; starved = next_count s.starved }
+after_starved s = with_want (after_done s)
 
 -- a call that is to fail does, another fails only for want of memory, and each is counted
 pub record MeetsSchedule {T E : Type 0} (old new : Schedule) (result : Result T E) : Type 0 where

@@ -1,6 +1,7 @@
 ghost use Rattle.std.specs.Prelude.{◌≡◌, ◌+◌, ◌≤◌, Bool, List, ℕ, length, IsTrue, OnOk};
 ghost use Rattle.zst_outside.specs.Causes.{HasCause, next_count};
-ghost use Rattle.zst_outside.specs.Images.{bytes_at, DiskState, Leaves, IsSynced, OnlyReads, WritesIn};
+ghost use Rattle.zst_outside.specs.Ranges.{bytes_at};
+ghost use Rattle.zst_outside.specs.Images.{DiskState, Leaves, IsSynced, OnlyReads, WritesIn};
 
 use crate::Fault;
 
@@ -30,7 +31,7 @@ pub trait Disk {
     fn faults(&self) -> u64
         ensures { result ≡ (state self.now).faults };
 
-    /// Reads the bytes at a place. After a fault the buffer holds any bytes.
+    /// Reads the bytes at a place, all inside the disk. After a fault the buffer holds any bytes.
     fn read(&mut self, place: u64, into: &mut [u8]) -> Result<(), Fault>
         requires { place + length into.old ≤ (state self.old).size }
         ensures bytes { IsTrue tells_reads → OnOk result (into.new ≡ bytes_at (state self.old).seen place (length into.old)) }
@@ -39,8 +40,8 @@ pub trait Disk {
         ensures calls { (state self.new).calls ≡ next_count (state self.old).calls }
         ensures cause { HasCause (state self.old).faults (state self.new).faults result };
 
-    /// Writes bytes at a place. Until the next sync that succeeds a crash may leave any bytes in
-    /// the range, and after a fault a read may give any there.
+    /// Writes bytes at a place, all inside the disk. Until the next sync that succeeds a crash may
+    /// leave any bytes in the range, and after a fault a read may give any there.
     fn write_at(&mut self, place: u64, from: &[u8]) -> Result<(), Fault>
         requires { place + length from.now ≤ (state self.old).size }
         ensures written { IsTrue tells_reads → OnOk result (bytes_at (state self.new).seen place (length from.now) ≡ from.now) }

@@ -16,9 +16,8 @@ pub struct MemDisk {
 
 impl MemDisk {
     ghost use Rattle.std.specs.Prelude.{◌≡◌, ◌+◌, ◌≤◌, [], None, length, IsTrue, IfOk, OnOk, OnErr, if◌then◌else◌, ◌++◌, ◌∷◌};
-    ghost use Rattle.zst_outside.specs.Causes.{next_count};
-    ghost use Rattle.zst_outside.specs.Images.{bytes_at, overwritten};
-    ghost use Rattle.zst_outside.specs.Schedule.{fresh};
+    ghost use Rattle.zst_outside.specs.Ranges.{bytes_at, overwritten};
+    ghost use Rattle.zst_outside.specs.Schedule.{fresh, with_want};
     ghost use Rattle.zst_outside.specs.CallLog.{IsImage, IsFilled, entries_before};
     ghost use Rattle.zst_outside.specs.MemDisk.{memory_state, schedule_of, log_of, pending_at, seen_at};
 
@@ -39,13 +38,6 @@ impl MemDisk {
         }
     }
 
-    /// The count of calls.
-    pub fn calls(&self) -> u64
-        ensures { result ≡ (schedule_of self.now).calls }
-    {
-        self.plan.calls()
-    }
-
     /// How many of the faults were a want of memory.
     pub fn starved(&self) -> u64
         ensures { result ≡ (schedule_of self.now).starved }
@@ -62,7 +54,7 @@ impl MemDisk {
 
     /// The image before the call of this number, with every range filled that was not synced then.
     pub fn image(&self, alloc: Global, moment: u64, fill: u8) -> Result<MemDisk, AllocError>
-        requires { moment ≤ (schedule_of self.now).calls }
+        requires { moment ≤ (memory_state self.now).calls }
         ensures others { IfOk result (λ d. IsImage (pending_at moment self.now) (seen_at moment self.now) (memory_state d).seen) }
         ensures filled { IfOk result (λ d. IsFilled (pending_at moment self.now) fill (memory_state d).seen) }
         ensures left { IfOk result (λ d. (⟦<MemDisk as Disk>⟧.state self.now).left_since (entries_before moment (log_of self.now)) (memory_state d).seen) }
@@ -83,7 +75,7 @@ impl MemDisk {
         ensures log { OnOk result (self.new.log.items ≡ self.old.log.items ++ record { number = number; call = call } ∷ []) }
         ensures plan { OnOk result (self.new.plan ≡ self.old.plan) }
         ensures log_err { OnErr result (self.new.log.items ≡ self.old.log.items) }
-        ensures plan_err { OnErr result (self.new.plan ≡ record self.old.plan { faults = next_count self.old.plan.faults; starved = next_count self.old.plan.starved }) }
+        ensures plan_err { OnErr result (self.new.plan ≡ with_want self.old.plan) }
         ensures later { self.old.plan.faults ≤ self.new.plan.faults }
     {
         match self.log.push(Entry { number, call }) {
@@ -107,7 +99,7 @@ impl MemDisk {
         ensures plan { OnOk result (self.new.plan ≡ self.old.plan) }
         ensures bytes_err { OnErr result (self.new.bytes.items ≡ self.old.bytes.items) }
         ensures log_err { OnErr result (self.new.log.items ≡ self.old.log.items) }
-        ensures plan_err { OnErr result (self.new.plan ≡ record self.old.plan { faults = next_count self.old.plan.faults; starved = next_count self.old.plan.starved }) }
+        ensures plan_err { OnErr result (self.new.plan ≡ with_want self.old.plan) }
         ensures later { self.old.plan.faults ≤ self.new.plan.faults }
     {
         let alloc = *self.bytes.allocator();
@@ -126,7 +118,8 @@ impl Disk for MemDisk {
     ghost use Rattle.std.specs.Prelude.{◌≡◌, ◌⊎◌, ◌+◌, ◌≤◌, true, false, length, OnOk, OnErr};
     ghost use Rattle.std.proofs.Common.{refl};
     ghost use Rattle.zst_outside.specs.Causes.{HasCause, next_count};
-    ghost use Rattle.zst_outside.specs.Images.{bytes_at, Leaves, IsSynced, OnlyReads, WritesIn};
+    ghost use Rattle.zst_outside.specs.Ranges.{bytes_at};
+    ghost use Rattle.zst_outside.specs.Images.{Leaves, IsSynced, OnlyReads, WritesIn};
     ghost use Rattle.zst_outside.specs.Schedule.{MeetsSchedule};
     ghost use Rattle.zst_outside.specs.CallLog.{now_since, since_now, reads_as_image as at_rest, image_size as size_of_image};
     ghost use Rattle.zst_outside.specs.MemDisk.{memory_state, schedule_of, Logs, LogsWrite, IsStarved};

@@ -1,6 +1,6 @@
 // Bytes at places of a disk in memory.
 ghost use Rattle.std.specs.Prelude.{◌≡◌, ◌+◌, ◌≤◌, length};
-ghost use Rattle.zst_outside.specs.Images.{bytes_at, overwritten};
+ghost use Rattle.zst_outside.specs.Ranges.{bytes_at, overwritten};
 
 /// Copies out the bytes at a place.
 pub fn copy_out(bytes: &[u8], place: usize, into: &mut [u8])

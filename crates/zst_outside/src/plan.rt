@@ -1,6 +1,5 @@
 ghost use Rattle.std.specs.Prelude.{◌≡◌, ◌≤◌, true, false, OnOk, OnErr};
-ghost use Rattle.zst_outside.specs.Causes.{next_count};
-ghost use Rattle.zst_outside.specs.Schedule.{Schedule, fresh, is_to_fail, after_done};
+ghost use Rattle.zst_outside.specs.Schedule.{Schedule, fresh, is_to_fail, after_done, with_fault, with_want};
 
 use crate::Fault;
 use std::marker::Model;
@@ -69,7 +68,7 @@ impl Plan {
 
     /// Counts the fault of a call that is to fail.
     pub fn refuse(&mut self) -> Fault
-        ensures counts { self.new ≡ record self.old { faults = next_count self.old.faults } }
+        ensures counts { self.new ≡ with_fault self.old }
         ensures later { self.old.faults ≤ self.new.faults }
     {
         self.faults = self.faults.saturating_add(1);
@@ -78,7 +77,7 @@ impl Plan {
 
     /// Counts the fault of a call that finds no memory.
     pub fn starve(&mut self) -> Fault
-        ensures counts { self.new ≡ record self.old { faults = next_count self.old.faults; starved = next_count self.old.starved } }
+        ensures counts { self.new ≡ with_want self.old }
         ensures later { self.old.faults ≤ self.new.faults }
     {
         self.starved = self.starved.saturating_add(1);
@@ -89,7 +88,7 @@ impl Plan {
     /// Ends a call: it fails where it is to.
     pub fn end(&mut self, fails: bool) -> Result<(), Fault>
         ensures ok { OnOk result ((fails ≡ false) × (self.new ≡ self.old)) }
-        ensures err { OnErr result ((fails ≡ true) × (self.new ≡ record self.old { faults = next_count self.old.faults })) }
+        ensures err { OnErr result ((fails ≡ true) × (self.new ≡ with_fault self.old)) }
         ensures later { self.old.faults ≤ self.new.faults }
     {
         if fails {

@@ -1,6 +1,6 @@
 use Rattle.std.proofs.Common.{arith}
 use Rattle.std.proofs.lemmas.Grind.{common_steps}
-use Rattle.zst_outside.specs.Images.{bytes_at}
+use Rattle.zst_outside.specs.Ranges.{bytes_at}
 use Rattle.zst_outside.proofs.places.copy_out.Goals as goal
 
 pub returns : goal.returns

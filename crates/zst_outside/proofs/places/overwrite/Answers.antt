@@ -1,6 +1,7 @@
 use Rattle.std.proofs.Common.{arith, ap, refl, ◌∙◌, ◌≡◌, length}
-use Rattle.zst_outside.specs.Images.{overwritten}
-use Rattle.zst_outside.proofs.Ranges.{overwritten-put_mid, whole_vec, length-overwritten}
+use Rattle.zst_outside.specs.Ranges.{overwritten}
+use Rattle.zst_outside.proofs.Copies.{overwritten-put_mid, whole_vec}
+use Rattle.zst_outside.specs.Ranges.{length-overwritten}
 use Rattle.zst_outside.proofs.places.overwrite.Goals as goal
 
 pub returns-clause-bytes : goal.returns-clause-bytes

@@ -1,6 +1,6 @@
 use Rattle.std.proofs.Common.{◌≡◌, length, arith}
 use Rattle.std.proofs.lemmas.Grind.{common_steps}
-use Rattle.zst_outside.specs.Images.{bytes_at}
+use Rattle.zst_outside.specs.Ranges.{bytes_at}
 use Rattle.zst_outside.proofs.mem_disk.MemDisk.note_write.Goals as goal
 
 pub returns-then-not-fails-clause-log : goal.returns-then-not-fails-clause-log

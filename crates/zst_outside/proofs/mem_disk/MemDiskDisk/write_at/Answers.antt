@@ -1,9 +1,9 @@
 use Rattle.std.proofs.Common.{ap, ◌∙◌, ◌++◌, ◌∷◌, [], cond, inl, length, List, ℕ, Bool}
 use Rattle.std.proofs.lemmas.Result.{on_ok_weaker}
-use Rattle.zst_outside.specs.Images.{bytes_at, overwritten}
+use Rattle.zst_outside.specs.Ranges.{bytes_at, overwritten}
 use Rattle.zst_outside.specs.declared.call_log.Call.TheVariants.{Write}
 use Rattle.zst_outside.specs.declared.mem_disk.MemDisk.{MemDisk}
-use Rattle.zst_outside.proofs.Ranges.{bytes_at-overwritten}
+use Rattle.zst_outside.specs.Ranges.{bytes_at-overwritten}
 use Rattle.zst_outside.proofs.Past.{disk_writes, write_time, written_alike}
 use Rattle.zst_outside.proofs.mem_disk.MemDiskDisk.write_at.Goals as goal
 
