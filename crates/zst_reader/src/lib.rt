@@ -12,3 +12,6 @@ pub use reader::{Reader, Step};
 /// How many bytes a reader can hold: the longest record, the next record's 312 bytes, and as much
 /// again, so that few bytes are ever moved.
 pub const CAPACITY: usize = 262_144;
+
+#[cfg(test)]
+mod tests;
