@@ -283,7 +283,7 @@ pub fn line_of<K: Sink>(covered: &Record<'_>, out: &mut K) -> Result<(), Fault>
     ensures { Prints (K.state out.old) (K.state out.new) (line_text (covered_of covered.now)) result }
 {
     print_number(covered.at, out)?;
-    print_said(&covered.head, covered.payload.len() as u64, out)
+    print_said(covered.head, covered.payload.len() as u64, out)
 }
 
 /// Writes the two last lines: how many records of each type there are, and how many bytes.

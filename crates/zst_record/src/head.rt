@@ -85,9 +85,9 @@ impl Head {
 }
 
 /// A covered record: its head, its place in the stream in bytes, its number from 0 at BEGIN, and its payload.
-#[derive(Drop)]
+#[derive(Clone, Copy)]
 pub struct Record<'a> {
-    pub head: Head,
+    pub head: &'a Head,
     pub at: u64,
     pub index: u64,
     pub payload: &'a [u8],

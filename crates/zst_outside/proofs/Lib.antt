@@ -1,0 +1,4 @@
+pub mod Ranges
+pub mod Bytes
+pub mod Past
+pub mod Filling
