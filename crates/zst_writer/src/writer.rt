@@ -56,7 +56,8 @@ impl Writer {
     /// Puts the sum of all that stands before it into a record, and adds the record.
     fn seal(&mut self, into: &mut [u8])
         requires { length into.old ≡ 312 }
-        ensures sealed { (text : List ℕ) → HasWritten self.old text → into.new ≡ lay (sum_fields 280 (parts_of (weight_sum (text ++ take 280 into.old)))) into.old }
+        ensures sealed { (text : List ℕ) → HasWritten self.old text
+            → into.new ≡ lay (sum_fields 280 (parts_of (weight_sum (text ++ take 280 into.old)))) into.old }
         ensures added { (text : List ℕ) → HasWritten self.old text → HasWritten self.new (text ++ into.new) }
     {
         self.add(&into[..280]);
@@ -67,7 +68,8 @@ impl Writer {
     /// Gives a record its checksum, where it has one, and adds it.
     fn close(&mut self, is_first: bool, into: &mut [u8; 312])
         ensures first { is_first ≡ true → into.new ≡ into.old }
-        ensures later { is_first ≡ false → (text : List ℕ) → HasWritten self.old text → into.new ≡ lay (sum_fields 280 (parts_of (weight_sum (text ++ take 280 into.old)))) into.old }
+        ensures later { is_first ≡ false → (text : List ℕ) → HasWritten self.old text
+            → into.new ≡ lay (sum_fields 280 (parts_of (weight_sum (text ++ take 280 into.old)))) into.old }
         ensures added { (text : List ℕ) → HasWritten self.old text → HasWritten self.new (text ++ into.new) }
     {
         if is_first {
@@ -84,7 +86,8 @@ impl Writer {
         requires len { length payload.now ≡ payload_len head.now }
         requires words { IsWhole payload.now }
         ensures record { (text : List ℕ) → HasWritten self.old text → into.new ≡ bytes_after text head.now }
-        ensures written { (text : List ℕ) → HasWritten self.old text → HasWritten self.new (text ++ (into.new ++ payload.now)) }
+        ensures written { (text : List ℕ) → HasWritten self.old text
+            → HasWritten self.new (text ++ (into.new ++ payload.now)) }
     {
         self.state(head, into);
         self.close(begins(head), into);
