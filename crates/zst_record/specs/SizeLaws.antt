@@ -118,14 +118,14 @@ snapshot-bounded len features time kind flags to from name =
     gives-named IsBounded _ _ (name_in name) (λ header. gives-check IsBounded (is_payload_len len) _ _ (λ is. gives-check IsBounded (not ((len == 0) && needs_payload features)) _ _ (λ c.
     gives-ok IsBounded (heads.Begin header len) (len-bounded len is))))))
 
-begin-bounded : (record_kind len magic form features time kind flags to from : ℕ) (name : List ℕ) → Gives IsBounded (begin_with record_kind len magic form features time kind flags to from name)
+begin-bounded : (record_kind magic form features : ℕ) (next : Decoded) → Gives IsBounded next → Gives IsBounded (begin_with record_kind magic form features next)
 unfolding begin_with
-begin-bounded record_kind len magic form features time kind flags to from name =
+begin-bounded record_kind magic form features next h =
     gives-check IsBounded (record_kind == 0) _ _ (λ a. gives-check IsBounded (not (magic == 0xaccbbaf502000000)) _ _ (λ b. gives-check IsBounded (magic == MAGIC) _ _ (λ c.
     gives-check IsBounded (not (form == 2)) _ _ (λ d. gives-check IsBounded (form == 1) _ _ (λ e. gives-check IsBounded (others_of features == 0) _ _ (λ f.
-    gives-check IsBounded (bit_and features LARGE_BLOCKS == 0) _ _ (λ g. snapshot-bounded len features time kind flags to from name)))))))
+    gives-check IsBounded (bit_and features LARGE_BLOCKS == 0) _ _ (λ g. h)))))))
 
 -- the payload of a record that passes its checks is whole words, and no longer than a block
 pub bounded : (at features : ℕ) (bytes : List ℕ) (head : Head) → decoded at features bytes ≡ Ok head → IsBounded head
 unfolding decoded begin_of
-bounded at features bytes = gives-if IsBounded (at == 0) _ _ (begin-bounded _ _ _ _ _ _ _ _ _ _ _) (typed-bounded (number_at bytes 0 4) at features bytes)
+bounded at features bytes = gives-if IsBounded (at == 0) _ _ (begin-bounded _ _ _ _ _ (snapshot-bounded _ _ _ _ _ _ _ _)) (typed-bounded (number_at bytes 0 4) at features bytes)

@@ -2,7 +2,7 @@ ghost use Rattle.std.specs.Prelude.{◌≡◌, ◌+◌, ◌/◌, ◌%◌, ◌≤
 ghost use Rattle.std.specs.Int.{w32, trailing_zeros};
 ghost use Rattle.zst_bytes.specs.Bytes.{number_at, bytes_at};
 ghost use Rattle.zst_record.specs.declared.fault.StreamFault.TheVariants.{Grammar, Unsupported};
-ghost use Rattle.zst_record.specs.Decode.{decoded, typed, begin_of, snapshot_with, object_with, write_with, free_with, spill_with, redact_with, is_object, is_block_size, is_range, is_payload_len, needs_payload, name_in, sums_at, features_in, others_of, lack_of_feature};
+ghost use Rattle.zst_record.specs.Decode.{decoded, typed, begin_of, snapshot_of, header_with, object_of, write_of, free_of, spill_of, redact_of, is_object, is_block_size, is_range, is_payload_len, needs_payload, name_in, sums_at, lack_of_feature};
 
 use crate::fault::StreamFault;
 use crate::head::Head;
@@ -62,7 +62,7 @@ fn unsupported(at: u64, lack: Lack) -> Result<Head, StreamFault>
 #[tactic(auto, unfolding(crate::specs::Decode::object_with))]
 fn decode_object(bytes: &[u8; 312], at: u64) -> Result<Head, StreamFault>
     requires { at ≤ 2 ^ 62 }
-    ensures { result ≡ object_with at (number_at bytes.now 8 8) (number_at bytes.now 16 4) (number_at bytes.now 20 4) (number_at bytes.now 24 4) (number_at bytes.now 28 4) (number_at bytes.now 34 1) (number_at bytes.now 36 4) (number_at bytes.now 56 8) (number_at bytes.now 40 8) }
+    ensures { result ≡ object_of at bytes.now }
 {
     let object = le64(bytes, 8);
     let type_ = le32(bytes, 16);
@@ -100,7 +100,7 @@ fn decode_object(bytes: &[u8; 312], at: u64) -> Result<Head, StreamFault>
 #[tactic(auto, unfolding(crate::specs::Decode::write_with))]
 fn decode_write(bytes: &[u8; 312], at: u64) -> Result<Head, StreamFault>
     requires { at ≤ 2 ^ 62 }
-    ensures { result ≡ write_with at (number_at bytes.now 8 8) (number_at bytes.now 16 4) (number_at bytes.now 24 8) (number_at bytes.now 32 8) (number_at bytes.now 50 1) (number_at bytes.now 40 8) }
+    ensures { result ≡ write_of at bytes.now }
 {
     let object = le64(bytes, 8);
     let length = le64(bytes, 32);
@@ -125,7 +125,7 @@ fn decode_write(bytes: &[u8; 312], at: u64) -> Result<Head, StreamFault>
 #[tactic(auto, unfolding(crate::specs::Decode::free_with))]
 fn decode_free(bytes: &[u8; 312], at: u64) -> Result<Head, StreamFault>
     requires { at ≤ 2 ^ 62 }
-    ensures { result ≡ free_with at (number_at bytes.now 8 8) (number_at bytes.now 16 8) (number_at bytes.now 24 8) (number_at bytes.now 32 8) }
+    ensures { result ≡ free_of at bytes.now }
 {
     let object = le64(bytes, 8);
     let offset = le64(bytes, 16);
@@ -147,7 +147,7 @@ fn decode_free(bytes: &[u8; 312], at: u64) -> Result<Head, StreamFault>
 #[tactic(auto, unfolding(crate::specs::Decode::spill_with))]
 fn decode_spill(bytes: &[u8; 312], at: u64) -> Result<Head, StreamFault>
     requires { at ≤ 2 ^ 62 }
-    ensures { result ≡ spill_with at (number_at bytes.now 8 8) (number_at bytes.now 16 8) (number_at bytes.now 33 1) (number_at bytes.now 24 8) }
+    ensures { result ≡ spill_of at bytes.now }
 {
     let object = le64(bytes, 8);
     let length = le64(bytes, 16);
@@ -170,7 +170,7 @@ fn decode_spill(bytes: &[u8; 312], at: u64) -> Result<Head, StreamFault>
 #[tactic(auto, unfolding(crate::specs::Decode::redact_with))]
 fn decode_redact(bytes: &[u8; 312], at: u64, features: u32) -> Result<Head, StreamFault>
     requires { at ≤ 2 ^ 62 }
-    ensures { result ≡ redact_with at features (number_at bytes.now 8 8) (number_at bytes.now 16 8) (number_at bytes.now 24 8) (number_at bytes.now 32 8) }
+    ensures { result ≡ redact_of at features bytes.now }
 {
     if features & REDACTED == 0 {
         return grammar(at, Flaw::Redact);
@@ -268,17 +268,36 @@ fn wants_payload(features: u32) -> bool
     features & (RESUMING | REDACTED) != 0
 }
 
-#[tactic(auto, unfolding(crate::specs::Decode::snapshot_with, crate::specs::Decode::named, crate::specs::Decode::header_with))]
+#[tactic(auto, unfolding(crate::specs::Decode::header_with))]
+fn get_header(bytes: &[u8; 312], features: u32, name: NameText) -> Header
+    ensures { result ≡
+        header_with features (number_at bytes.now 32 4) (number_at bytes.now 36 4)
+        (number_at bytes.now 24 8) (number_at bytes.now 40 8) (number_at bytes.now 48 8) name }
+{
+    Header {
+        kind: le32(bytes, 32),
+        flags: le32(bytes, 36),
+        features,
+        time: le64(bytes, 24),
+        to: le64(bytes, 40),
+        from: le64(bytes, 48),
+        name,
+        resume: None,
+        redact: GuidSet::empty(),
+        from_redact: GuidSet::empty(),
+    }
+}
+
+#[tactic(auto, unfolding(crate::specs::Decode::snapshot_with, crate::specs::Decode::named))]
 fn decode_snapshot(bytes: &[u8; 312], features: u32) -> Result<Head, StreamFault>
-    ensures { result ≡ snapshot_with (number_at bytes.now 4 4) features (number_at bytes.now 24 8) (number_at bytes.now 32 4) (number_at bytes.now 36 4) (number_at bytes.now 40 8) (number_at bytes.now 48 8) (bytes_at bytes.now 56 256) }
+    ensures { result ≡ snapshot_of features bytes.now }
 {
     let payload_len = le32(bytes, 4);
     let kind = le32(bytes, 32);
-    let to = le64(bytes, 40);
     if kind != 2 && kind != 3 {
         return grammar(32, Flaw::Kind);
     }
-    if to == 0 {
+    if le64(bytes, 40) == 0 {
         return grammar(40, Flaw::Guid);
     }
     let Some(name) = get_name(bytes) else {
@@ -290,18 +309,7 @@ fn decode_snapshot(bytes: &[u8; 312], features: u32) -> Result<Head, StreamFault
     if payload_len == 0 && wants_payload(features) {
         return grammar(4, Flaw::Payload);
     }
-    let header = Header {
-        kind,
-        flags: le32(bytes, 36),
-        features,
-        time: le64(bytes, 24),
-        to,
-        from: le64(bytes, 48),
-        name,
-        resume: None,
-        redact: GuidSet::empty(),
-        from_redact: GuidSet::empty(),
-    };
+    let header = get_header(bytes, features, name);
     Ok(Head::Begin {
         header,
         payload_len,

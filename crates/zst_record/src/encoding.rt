@@ -55,7 +55,8 @@ fn put_object(
     to: u64,
 )
     requires { length into.old ≡ 312 }
-    ensures { into.new ≡ lay (fields_of (Object object type_ bonus_type block_size bonus_len max_block to)) into.old }
+    ensures { into.new ≡
+        lay (fields_of (Object object type_ bonus_type block_size bonus_len max_block to)) into.old }
 {
     put32(into, 0, 1);
     put64(into, 8, object);

@@ -4,3 +4,5 @@ pub mod Image
 pub mod Laws
 pub mod Findings
 pub mod Whole
+pub mod Example
+pub mod ExampleLaws

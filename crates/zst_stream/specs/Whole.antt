@@ -1,5 +1,5 @@
 -- The reading of an image is the records that it was made of.
-use Rattle.std.proofs.Common.{◌≡◌, ℕ, zero, suc, ◌+◌, ◌/◌, ◌%◌, ◌^◌, ◌<◌, ◌≤◌, ◌==◌, true, List, [], ◌∷◌, ◌++◌, length, take, drop, slice_index, None, Ok, refl, sym, ap, ◌∙◌, arith, append_assoc, length-append, add-one, subst, map, inl, inr}
+use Rattle.std.proofs.Common.{◌≡◌, ℕ, zero, suc, ◌+◌, ◌/◌, ◌%◌, ◌^◌, ◌<◌, ◌≤◌, true, List, [], ◌∷◌, ◌++◌, length, take, drop, slice_index, None, Ok, refl, sym, ap, ◌∙◌, arith, append_assoc, length-append, add-one, subst, map, inl, inr}
 use Rattle.std.specs.Prelude.{◌⊎◌}
 use Rattle.std.proofs.lemmas.List.{take-append-le, take_at, drop_at, append-nil, map-append}
 use Rattle.std.proofs.lemmas.Bool.{eq-eqb, le-ltb}
@@ -10,7 +10,7 @@ use Rattle.zst_bytes.specs.Bytes.{number_at, bytes_at}
 use Rattle.zst_model.specs.declared.header.Header.{Header}
 use Rattle.zst_record.specs.declared.head.Head.{Head}
 use Rattle.zst_record.specs.declared.head.Head.TheVariants as heads
-use Rattle.zst_record.specs.Heads.{Covered, payload_len, size_of}
+use Rattle.zst_record.specs.Heads.{payload_len, size_of}
 use Rattle.zst_record.specs.Table.{head_bytes, sealed_bytes}
 use Rattle.zst_record.specs.Fits.{Fits, IsLater, SumsFit}
 use Rattle.zst_record.specs.Decode.{sums_at, decoded, features_in}

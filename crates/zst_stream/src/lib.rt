@@ -1,6 +1,7 @@
 //! What the bytes of a stream say: its reading, its image, and the laws that tie them.
 #![tactic(auto)]
 
+ghost use Rattle.zst_stream.specs.Example.{ExampleIsStream};
 ghost use Rattle.zst_stream.specs.Laws.{FrontsAgree, ImageIsRead, FrontIsRead, CoversArePieces, FirstPieces, PieceGoesOn};
 
 /// However a text goes on, the reading of a front of it is a front of its reading.
@@ -31,4 +32,9 @@ pub fn first_pieces_are_covered()
 /// A writer that has a text and goes on by its next piece still writes the image.
 pub fn piece_goes_on()
     ensures { PieceGoesOn }
+{}
+
+/// Streams of which these laws speak exist: a small one is among them.
+pub fn example_is_a_stream()
+    ensures { ExampleIsStream }
 {}
