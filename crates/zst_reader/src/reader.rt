@@ -33,7 +33,7 @@ pub(crate) enum Found {
 #[derive(Drop)]
 pub struct Reader {
     window: Window,
-    /// The record that was handed out last.
+    /// The record that was handed out last. Before the first one nobody looks at it.
     head: Head,
     /// How many bytes at the window's front are of it.
     taken: usize,
@@ -44,7 +44,6 @@ pub struct Reader {
     ghost inside: { taken ≤ length (items window) },
     ghost counted: { place.at + (length (items window) - taken) ≡ pushed },
     ghost bounded: { pushed ≤ 2 ^ 62 },
-    ghost small: { length (items window) ≤ 262144 },
     ghost numbered: { 312 * handed ≤ place.at },
 }
 
