@@ -2,7 +2,7 @@ ghost use Rattle.std.specs.Prelude.{◌≡◌, ◌+◌, ◌%◌, ◌^◌, ◌<�
 ghost use Rattle.zst_fletcher.specs.WeightSum.{weight_sum};
 ghost use Rattle.zst_record.specs.Heads.{payload_len};
 ghost use Rattle.zst_record.specs.declared.head.Head.TheVariants.{End};
-ghost use Rattle.zst_stream.specs.Reading.{sum_fault, is_built, closing, cover, rule_by, judged, ruling};
+ghost use Rattle.zst_stream.specs.Reading.{sum_fault, closing, cover, rule_by, judged, ruling};
 ghost use Rattle.zst_reader.specs.Place.{IsPlaceAfter};
 ghost use Rattle.zst_reader.specs.Verdict.{ruled, SumsUp, FitsIn};
 
@@ -10,6 +10,7 @@ use crate::place::Place;
 use zst_fletcher::Sum;
 use zst_model::Lack;
 use zst_record::{Head, StreamFault, decode, get_sums, payload_is_bounded};
+use zst_stream::is_form_built;
 
 /// What is found at the front of the held bytes.
 #[derive(Drop)]
@@ -49,17 +50,6 @@ fn not_built(at: u64) -> StreamFault
     StreamFault::Unsupported {
         at,
         lack: Lack::NotBuilt,
-    }
-}
-
-fn is_form_built(head: &Head) -> bool
-    ensures { result ≡ is_built head.now }
-{
-    match head {
-        Head::Begin { payload_len, .. } => *payload_len == 0,
-        Head::Spill { .. } => false,
-        Head::Redact { .. } => false,
-        _ => true,
     }
 }
 

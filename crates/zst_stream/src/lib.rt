@@ -2,11 +2,20 @@
 #![tactic(auto)]
 
 ghost use Rattle.zst_stream.specs.Example.{ExampleIsStream};
-ghost use Rattle.zst_stream.specs.Laws.{FrontsAgree, ImageIsRead, FrontIsRead, CoversArePieces, FirstPieces, PieceGoesOn};
+ghost use Rattle.zst_stream.specs.Laws.{FrontsAgree, FaultsAreFound, ImageIsRead, FrontIsRead, CoversArePieces, FirstPieces, PieceGoesOn};
+
+mod forms;
+
+pub use forms::is_form_built;
 
 /// However a text goes on, the reading of a front of it is a front of its reading.
 pub fn fronts_agree()
     ensures { FrontsAgree }
+{}
+
+/// What a reading refuses is in the stream itself, and never that the input is cut.
+pub fn faults_are_found()
+    ensures { FaultsAreFound }
 {}
 
 /// An image is read as BEGIN, its pieces and END.
