@@ -6,6 +6,8 @@ mod command;
 mod dump;
 mod intake;
 mod note;
+#[cfg(test)]
+mod round_trip;
 mod run;
 
 use adapters::{Reading, Writing};
