@@ -138,13 +138,17 @@ module _ (old new : MemDisk) (entry : Entry) (is : new.log.items ≡ old.log.ite
       }
 
 -- a sync, done or not, brings no image
-pub sync_image : (ranges : List (ℕ × ℕ)) (done : Bool) (bytes image : List ℕ) → IsImage (pending_after ranges (Sync done)) bytes image → IsImage ranges bytes image
+sync_image : (ranges : List (ℕ × ℕ)) (done : Bool) (bytes image : List ℕ) → IsImage (pending_after ranges (Sync done)) bytes image → IsImage ranges bytes image
 sync_image ranges true bytes image is = record { size = is.size; at = λ k free. is.at k tt }
 sync_image ranges false bytes image is = is
 
 -- with no range there is one image
 image_only : (bytes image : List ℕ) → IsImage [] bytes image → image ≡ bytes
 image_only bytes image is = ext_get_or 0 image bytes is.size (λ k lt. is.at k tt)
+
+-- a sync, done or not, only reads
+pub disk_syncs : (old new : MemDisk) (number : ℕ) (done : Bool) → new.log.items ≡ old.log.items ++ record { number = number; call = Sync done } ∷ [] → new.bytes.items ≡ old.bytes.items → OnlyReads (memory_state old) (memory_state new)
+disk_syncs old new number done is same = disk_reads old new _ is same same (sync_image (pending [] old.log.items) done old.bytes.items)
 
 -- a sync that was done leaves what a read gives
 pub disk_synced : (old new : MemDisk) (number : ℕ) (done : Bool) → new.log.items ≡ old.log.items ++ record { number = number; call = Sync done } ∷ [] → new.bytes.items ≡ old.bytes.items → done ≡ true → IsSynced (memory_state new)

@@ -1,5 +1,5 @@
 -- What a disk is to those who use it: what a read gives, and what a crash may leave.
-use Rattle.std.specs.Prelude.{◌≡◌, ◌⊎◌, ℕ, ◌+◌, ◌≤◌, List, refl}
+use Rattle.std.specs.Prelude.{◌≡◌, ◌⊎◌, ℕ, ◌+◌, ◌≤◌, List, [], refl}
 use Rattle.std.proofs.Common.{inl, inr, ⊎_elim, ◌∙◌, subst, sym, arith}
 use Rattle.zst_outside.specs.Ranges.{Torn, Torn-same, Torn-then, Torn-wider}
 
@@ -18,6 +18,10 @@ pub record DiskState : Type 1 where
   pub calls : ℕ
   -- the count of faults
   pub faults : ℕ
+
+-- a disk that tells neither what a read gives nor its images
+abbrev pub untold : ℕ → ℕ → ℕ → DiskState
+untold size calls faults = record { size = size; seen = []; images = λ c. ⊥; moment = 0; left_since = λ t c. ⊥; calls = calls; faults = faults }
 
 -- there is no image but what a read gives
 abbrev pub IsSynced : DiskState → Type 0

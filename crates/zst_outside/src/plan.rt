@@ -34,18 +34,21 @@ impl Plan {
         }
     }
 
+    /// The count of calls, which is the number of the next.
     pub fn calls(&self) -> u64
         ensures { result ≡ self.now.calls }
     {
         self.calls
     }
 
+    /// The count of faults.
     pub fn faults(&self) -> u64
         ensures { result ≡ self.now.faults }
     {
         self.faults
     }
 
+    /// The count of those faults that were a want of memory.
     pub fn starved(&self) -> u64
         ensures { result ≡ self.now.starved }
     {
