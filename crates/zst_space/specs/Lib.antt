@@ -1,0 +1,2 @@
+pub mod FreeSectors
+pub mod Taking
