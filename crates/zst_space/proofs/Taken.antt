@@ -2,27 +2,13 @@
 use Rattle.std.proofs.Common.{◌≡◌, ◌⊎◌, inl, inr, ⊎_elim, ℕ, ◌+◌, ◌-◌, ◌<◌, ◌≤◌, ◌==◌, max, Bool, true, false, cond, nat_le, List, [], ◌∷◌, ◌++◌, refl, sym, ◌∙◌, ap, subst, arith}
 use Rattle.std.proofs.lemmas.Bool.{cases_Bool, cond-true, cond-false, leb-true, leb-false, eqb-true, cases_lt}
 use Rattle.zst_space.specs.FreeSectors.{FreeSectors, IsWithin, IsInSome, IsFree, Rise, IsSpaceFrom, greatest, largest_of, total, room}
+use Rattle.zst_space.specs.FreeSectorsLaws.{Rise-end, Rise-earlier, Rise-above}
 use Rattle.zst_space.specs.Taking.{shortened, run_first, extents_without, end_without, without, place_of, Takes}
 use Rattle.zst_space.specs.declared.space.Extent.{Extent}
 
 -- the sector is in an extent, or not below the end
 abbrev Free : List Extent → ℕ → ℕ → Type 0
 Free extents end sector = IsInSome extents sector ⊎ (end ≤ sector)
-
-pub Rise-end : (from end : ℕ) (extents : List Extent) → Rise from extents end → from ≤ end
-Rise-end from end [] rise = rise
-Rise-end from end (e ∷ es) rise = omega (arith, rise.0, Rise-end (e.first + e.count) end es rise.1)
-
-above : (from end sector : ℕ) (extents : List Extent) → Rise from extents end → Free extents end sector → from ≤ sector
-above from end sector [] rise (inl in_none) = absurd in_none
-above from end sector [] rise (inr past) = omega (arith, rise, past)
-above from end sector (e ∷ es) rise (inl (inl within)) = omega (arith, rise.0, within.0)
-above from end sector (e ∷ es) rise (inl (inr later)) = omega (arith, rise.0, above (e.first + e.count) end sector es rise.1 (inl later))
-above from end sector (e ∷ es) rise (inr past) = omega (arith, rise.0, above (e.first + e.count) end sector es rise.1 (inr past))
-
-Rise-earlier : (from earlier end : ℕ) (extents : List Extent) → earlier ≤ from → Rise from extents end → Rise earlier extents end
-Rise-earlier from earlier end [] le rise = omega (arith, le, rise)
-Rise-earlier from earlier end (e ∷ es) le rise = (omega (arith, le, rise.0), rise.1)
 
 -- the extents and the end before and after a run was taken from this sector on
 record Ran (from sectors : ℕ) (old : List Extent) (end : ℕ) (new : List Extent) (new_end first count : ℕ) : Type 0 where
@@ -56,7 +42,7 @@ ran_whole from sectors end e es rise le = record {
   above = rise.0;
   inside = omega (arith, le, Rise-end (e.first + e.count) end es rise.1);
   was_free = λ s within. inl (inl within);
-  is_gone = λ s within free. omega (arith, within.1, above (e.first + e.count) end s es rise.1 free);
+  is_gone = λ s within free. omega (arith, within.1, Rise-above (e.first + e.count) end s es rise.1 free);
   fewer = λ s free. ⊎_elim (λ later. inl (inr later)) (λ past. inr past) free;
   others = λ s free. ⊎_elim (λ some. ⊎_elim (λ here. inl here) (λ later. inr (inl later)) some) (λ past. inr (inr past)) free;
   room_is = omega arith;
@@ -73,7 +59,7 @@ ran_part from sectors end count e es rise le fits =
       above = rise.0;
       inside = omega (arith, le, fits, Rise-end (e.first + e.count) end es rise.1);
       was_free = λ s within. inl (inl (within.0, omega (arith, within.1, fits)));
-      is_gone = λ s within free. ⊎_elim (λ some. ⊎_elim (λ here. omega (arith, within.1, here.0)) (λ later. omega (arith, within.1, fits, above (e.first + e.count) end s es rise.1 (inl later))) some) (λ past. omega (arith, within.1, fits, past, Rise-end (e.first + e.count) end es rise.1)) free;
+      is_gone = λ s within free. ⊎_elim (λ some. ⊎_elim (λ here. omega (arith, within.1, here.0)) (λ later. omega (arith, within.1, fits, Rise-above (e.first + e.count) end s es rise.1 (inl later))) some) (λ past. omega (arith, within.1, fits, past, Rise-end (e.first + e.count) end es rise.1)) free;
       fewer = λ s free. ⊎_elim (λ some. ⊎_elim (λ here. inl (inl (omega (arith, here.0), omega (arith, here.1, same)))) (λ later. inl (inr later)) some) (λ past. inr past) free;
       others = λ s free. ⊎_elim (λ some. ⊎_elim (λ here. elim (cases_lt s (e.first + count)) [ inl lt ↦ inl (here.0, lt) | inr ge ↦ inr (inl (inl (ge, omega (arith, here.1, same)))) ]) (λ later. inr (inl (inr later))) some) (λ past. inr (inr past)) free;
       room_is = omega (arith, fits);

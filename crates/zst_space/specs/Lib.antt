@@ -1,2 +1,3 @@
 pub mod FreeSectors
 pub mod Taking
+pub mod FreeSectorsLaws
