@@ -24,9 +24,10 @@ pub record IsBlock (image : List ℕ) (ptr : Ptr) (bytes : List ℕ) : Type 0 wh
 abbrev pub IsTaken : FreeSectors → ℕ → ℕ → Type 0
 IsTaken space place count = (byte : ℕ) → place ≤ byte → byte < place + count → ¬ (IsFree space (byte / 512))
 
--- the image has this block, in sectors that aren't free
+-- the image has this block behind sectors 0 to 7, in sectors that aren't free
 pub record Has (image : List ℕ) (space : FreeSectors) (ptr : Ptr) (bytes : List ℕ) : Type 0 where
   pub block : IsBlock image ptr bytes
+  pub behind : 8 ≤ ptr.sector
   pub taken : IsTaken space (512 * ptr.sector) ptr.length
 
 -- a space fits a disk of so many bytes, and sectors 0 to 7 are never free

@@ -16,7 +16,7 @@ pub IsTaken-fewer : (space fewer : FreeSectors) (place count : ℕ) → ((sector
 IsTaken-fewer space fewer place count less taken = λ byte starts ends free. taken byte starts ends (less (byte / 512) free)
 
 pub Has-fewer : (image : List ℕ) (space fewer : FreeSectors) (ptr : Ptr) (bytes : List ℕ) → ((sector : ℕ) → IsFree fewer sector → IsFree space sector) → Has image space ptr bytes → Has image fewer ptr bytes
-Has-fewer image space fewer ptr bytes less has = record { block = has.block; taken = IsTaken-fewer space fewer (512 * ptr.sector) ptr.length less has.taken }
+Has-fewer image space fewer ptr bytes less has = record { block = has.block; behind = has.behind; taken = IsTaken-fewer space fewer (512 * ptr.sector) ptr.length less has.taken }
 
 -- a block stays where free sectors alone are written
 pub Has-spared : (space : FreeSectors) (old new : List ℕ) (ptr : Ptr) (bytes : List ℕ) → SparesTaken space old new → Has old space ptr bytes → Has new space ptr bytes
@@ -26,6 +26,19 @@ Has-spared space old new ptr bytes spares has = record {
     bytes_are = spares.ranges (512 * ptr.sector) ptr.length has.taken ∙ has.block.bytes_are;
     sum_is = has.block.sum_is;
   };
+  behind = has.behind;
+  taken = has.taken;
+}
+
+-- and where sectors 0 to 7 alone are
+pub Has-head : (space : FreeSectors) (old new : List ℕ) (ptr : Ptr) (bytes : List ℕ) → Torn 0 4096 old new → Has old space ptr bytes → Has new space ptr bytes
+Has-head space old new ptr bytes torn has = record {
+  block = record {
+    placed = record { whole = has.block.placed.whole; inside = omega (arith, torn.size, has.block.placed.inside) };
+    bytes_are = torn.above (512 * ptr.sector) ptr.length (omega (arith, has.behind)) ∙ has.block.bytes_are;
+    sum_is = has.block.sum_is;
+  };
+  behind = has.behind;
   taken = has.taken;
 }
 

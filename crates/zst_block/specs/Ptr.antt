@@ -1,5 +1,5 @@
 -- The table of a pointer: 64 bytes.
-use Rattle.std.specs.Prelude.{ℕ, ◌+◌, ◌^◌, ◌<◌, ◌==◌, ◌&&◌, ◌||◌, Bool, nat_le, if◌then◌else◌, List, [], ◌∷◌}
+use Rattle.std.specs.Prelude.{ℕ, ◌+◌, ◌^◌, ◌<◌, ◌==◌, ◌&&◌, ◌||◌, Bool, nat_le, if◌then◌else◌, List, [], ◌∷◌, ◌++◌}
 use Rattle.zst_bytes.specs.Bytes.{number_at}
 use Rattle.zst_bytes.specs.Fields.{Field, number, laid}
 use Rattle.zst_fletcher.specs.declared.sum.Sum.{Sum}
@@ -23,15 +23,18 @@ sum_at bytes place = record {
   d = number_at bytes (place + 24) 8;
 }
 
--- the fields of a pointer, one a line: place, width, value
-abbrev pub ptr_fields : Ptr → List Field
-ptr_fields ptr =
+-- the fields of a pointer before its sum, one a line: place, width, value
+abbrev pub number_fields : Ptr → List Field
+number_fields ptr =
     number 0 1 ptr.kind
     ∷ number 1 1 ptr.level
     ∷ number 4 4 ptr.length
     ∷ number 8 8 ptr.sector
     ∷ number 16 8 ptr.number
-    ∷ sum_fields 24 ptr.sum
+    ∷ []
+
+abbrev pub ptr_fields : Ptr → List Field
+ptr_fields ptr = number_fields ptr ++ sum_fields 24 ptr.sum
 
 -- its 64 bytes; one that no field names is 0
 unfoldable pub ptr_bytes : Ptr → List ℕ

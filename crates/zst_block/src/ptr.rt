@@ -24,9 +24,10 @@ pub struct Ptr {
 }
 
 impl Ptr {
-    ghost use Rattle.std.specs.Prelude.{◌≡◌, ◌+◌, ◌≤◌, length, List, ℕ};
+    ghost use Rattle.std.specs.Prelude.{◌≡◌, ◌+◌, ◌^◌, ◌<◌, ◌≤◌, length, List, ℕ};
     ghost use Rattle.zst_bytes.specs.Bytes.{bytes_at, written};
-    ghost use Rattle.zst_block.specs.Ptr.{ptr_bytes, ptr_at, PtrFits, is_lawful, hole_of};
+    ghost use Rattle.zst_bytes.specs.Fields.{lay};
+    ghost use Rattle.zst_block.specs.Ptr.{ptr_bytes, number_fields, ptr_at, PtrFits, is_lawful, hole_of};
     ghost use Rattle.zst_block.specs.declared.ptr.Ptr.{Ptr};
 
     /// A hole with its date.
@@ -64,16 +65,30 @@ impl Ptr {
     #[tactic(auto, unfolding(crate::specs::Ptr::ptr_bytes, zst_bytes::specs::Fields::zeros))]
     pub fn put(&self, into: &mut [u8], at: usize)
         requires { at + 64 ≤ length into.old }
-        ensures { into.new ≡ written at 64 (ptr_bytes self.now) into.old }
+        ensures bytes { into.new ≡ written at 64 (ptr_bytes self.now) into.old }
+        ensures fits { PtrFits self.now }
     {
         let mut bytes = [0; 64];
-        put8(&mut bytes, 0, self.kind);
-        put8(&mut bytes, 1, self.level);
-        put32(&mut bytes, 4, self.length);
-        put64(&mut bytes, 8, self.sector);
-        put64(&mut bytes, 16, self.number);
+        self.put_numbers(&mut bytes);
         put_sum(&mut bytes, 24, &self.sum);
         put_bytes(into, at, &bytes);
+    }
+
+    // Writes what stands before the sum.
+    fn put_numbers(&self, bytes: &mut [u8])
+        requires { length bytes.old ≡ 64 }
+        ensures bytes { bytes.new ≡ lay (number_fields self.now) bytes.old }
+        ensures kind { self.now.kind < 2 ^ 8 }
+        ensures level { self.now.level < 2 ^ 8 }
+        ensures length { self.now.length < 2 ^ 32 }
+        ensures sector { self.now.sector < 2 ^ 64 }
+        ensures number { self.now.number < 2 ^ 64 }
+    {
+        put8(bytes, 0, self.kind);
+        put8(bytes, 1, self.level);
+        put32(bytes, 4, self.length);
+        put64(bytes, 8, self.sector);
+        put64(bytes, 16, self.number);
     }
 
     /// Reads the pointer in the 64 bytes from a place on.
@@ -104,7 +119,8 @@ fn is_zero(sum: &Sum) -> bool
 /// Writes four sums in the 32 bytes from a place on, and leaves all others.
 pub fn put_sum(bytes: &mut [u8], at: usize, sum: &Sum)
     requires { at + 32 ≤ length bytes.old }
-    ensures { bytes.new ≡ lay (sum_fields at sum.now) bytes.old }
+    ensures bytes { bytes.new ≡ lay (sum_fields at sum.now) bytes.old }
+    ensures fits { SumFits sum.now }
 {
     put64(bytes, at, sum.a);
     put64(bytes, at + 8, sum.b);

@@ -13,7 +13,7 @@ returns-in-Ok-write_at-clause-wrote g c = λ told.
     let writes = c.write_at.ensures.writes in
     let long = g.met.D.Disk.seen_size c.write_at.new.self told in
     has _ c.args.io.now.space c.take.new.self _ (record { kind = 1; level = c.args.level; length = length c.args.bytes.now; sector = c.in-Ok.sector; number = c.args.number; sum = c.sum_of.result }) c.args.bytes.now
-    c.place_in-place.ensures refl c.requires.whole c.in-Ok.ensures.takes (omega (arith, long, writes.size, c.requires.fits.sectors)) (c.in-Ok-write_at.ensures.written told) c.sum_of.ensures
+    c.requires.fits.extents c.requires.some c.place_in-place.ensures refl c.requires.whole c.in-Ok.ensures.takes (omega (arith, long, writes.size, c.requires.fits.sectors)) (c.in-Ok-write_at.ensures.written told) c.sum_of.ensures
 
 pub returns-in-Ok-write_at-clause-fills : goal.returns-in-Ok-write_at-clause-fills
 returns-in-Ok-write_at-clause-fills g c =
