@@ -76,3 +76,15 @@ pub number_at-written : (place width value : ℕ) (old : List ℕ) → value < 2
 unfolding number_at
 number_at-written place width value old fits inside =
     ap (little_number width) (written-same place width (number_bytes width value) old (length-number_bytes width value) inside) ∙ number-again width value fits
+
+-- a range of a range
+pub bytes_at-bytes_at : (xs : List ℕ) (p n q m : ℕ) → p + n ≤ length xs → q + m ≤ n → bytes_at (bytes_at xs p n) q m ≡ bytes_at xs (p + q) m
+unfolding bytes_at
+bytes_at-bytes_at xs p n q m inside le =
+    let long : n ≤ length (drop p xs) = omega (arith, length-drop p xs, inside) in
+    bytes_at-take (drop p xs) n q m long le ∙ ap (take m) (drop-drop q p xs)
+
+-- a number in a range
+pub number_at-bytes_at : (xs : List ℕ) (p n q width : ℕ) → p + n ≤ length xs → q + width ≤ n → number_at (bytes_at xs p n) q width ≡ number_at xs (p + q) width
+unfolding number_at
+number_at-bytes_at xs p n q width inside le = ap (little_number width) (bytes_at-bytes_at xs p n q width inside le)

@@ -1,0 +1,6 @@
+pub mod Ptr
+pub mod PtrLaws
+pub mod Faults
+pub mod Blocks
+pub mod BlocksLaws
+pub mod Reading

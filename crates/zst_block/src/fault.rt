@@ -1,0 +1,46 @@
+use zst_outside::Fault;
+use zst_space::Full;
+
+/// Why a block is not read or written.
+#[derive(Clone, Copy, Debug, PartialEq, Eq)]
+pub enum BlockFault {
+    /// No run of `need` sectors is free: the longest one has `largest`.
+    Full {
+        need: u64,
+        largest: u64,
+    },
+    /// The block from this sector on has other sums than are stated, or, with both alike, its
+    /// pointer names no whole sectors of the disk.
+    Damaged {
+        sector: u64,
+        stated: [u64; 4],
+        found: [u64; 4],
+    },
+    /// The disk failed, and its count of faults rose.
+    DiskFault,
+}
+
+impl From<Fault> for BlockFault {
+    ghost use Rattle.std.specs.Prelude.{◌≡◌};
+    ghost use Rattle.zst_block.specs.declared.fault.BlockFault.TheVariants.{DiskFault};
+
+    ghost from_gives = { λ _ fault. fault ≡ DiskFault };
+
+    fn from(_: Fault) -> Self {
+        BlockFault::DiskFault
+    }
+}
+
+impl From<Full> for BlockFault {
+    ghost use Rattle.std.specs.Prelude.{◌≡◌};
+    ghost use Rattle.zst_block.specs.declared.fault.BlockFault.TheVariants as faults;
+
+    ghost from_gives = { λ full fault. fault ≡ faults.Full full.need full.largest };
+
+    fn from(full: Full) -> Self {
+        BlockFault::Full {
+            need: full.need,
+            largest: full.largest,
+        }
+    }
+}

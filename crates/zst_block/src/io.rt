@@ -1,0 +1,186 @@
+ghost use Rattle.std.specs.Prelude.{◌≡◌, ◌↔◌, ◌+◌, ◌*◌, ◌/◌, ◌%◌, ◌^◌, ◌<◌, ◌≤◌, ◌||◌, ◌⊎◌, List, ℕ, false, length, IsTrue, OnOk, IfOk};
+ghost use Rattle.zst_fletcher.specs.WeightSum.{weight_sum, parts_of};
+ghost use Rattle.zst_outside.specs.Images.{OnlyReads, DiskState};
+ghost use Rattle.zst_space.specs.FreeSectors.{room, largest_of};
+ghost use Rattle.zst_space.specs.Taking.{Takes, place_of, without};
+ghost use Rattle.zst_block.specs.Faults.{HasDiskCause, is_disk_fault};
+ghost use Rattle.zst_block.specs.Blocks.{Has, IsPlaced, FitsDisk, FillsFree, KeepsBlocks, Follows};
+ghost use Rattle.zst_block.specs.Reading.{ReadAnswers, GivesBlock};
+
+use crate::fault::BlockFault;
+use crate::ptr::Ptr;
+use std::alloc::{AllocError, Global};
+use zst_fletcher::{Sum, sum_of};
+use zst_outside::{Disk, Fault};
+use zst_space::Space;
+
+/// The disk of a pool and its free sectors.
+#[derive(Drop)]
+pub struct Io<'d, D: Disk> {
+    /// The disk.
+    pub disk: &'d mut D,
+    /// The sectors into which blocks may be written.
+    pub space: Space,
+    /// Whether the disk has failed.
+    pub failed: bool,
+}
+
+impl<'d, D: Disk> Io<'d, D> {
+    /// A disk that hasn't failed, with its free sectors.
+    pub fn new(_alloc: Global, disk: &'d mut D, space: Space) -> Result<Io<'d, D>, AllocError>
+        ensures same { IfOk result (λ io. io.disk.ghost_name ≡ disk.entry.ghost_name) }
+        ensures disk { IfOk result (λ io. io.disk.now ≡ disk.old) }
+        ensures space { IfOk result (λ io. io.space ≡ space) }
+        ensures failed { IfOk result (λ io. io.failed ≡ false) }
+    {
+        Ok(Io {
+            disk,
+            space,
+            failed: false,
+        })
+    }
+}
+
+/// Reads the block that a pointer names.
+///
+/// It is damaged where its bytes have other sums than the pointer states, and with both sums
+/// alike where the pointer names no whole sectors of the disk. A call of the disk is made at most
+/// once.
+pub fn read<D: Disk>(io: &mut Io<'_, D>, ptr: Ptr, into: &mut [u8]) -> Result<(), BlockFault>
+    requires length { length into.old ≡ ptr.length }
+    requires fits { FitsDisk (D.state io.old.disk.now).size io.old.space }
+
+    // What is read is the block. Each answer has its cause, and a block that is there is read.
+    ensures answer { IsTrue D.tells_reads → ReadAnswers (D.state io.old.disk.now).seen (D.state io.old.disk.now).size ptr into.new result }
+    ensures there { (bytes : List ℕ) → IsTrue D.tells_reads → Has (D.state io.old.disk.now).seen io.old.space ptr bytes → GivesBlock bytes into.new result }
+    ensures sum { OnOk result (weight_sum into.new ≡ ptr.sum) }
+    ensures placed { OnOk result (IsPlaced (D.state io.old.disk.now).size ptr) }
+    ensures never_full { (need largest : ℕ) → ¬ (result ≡ Err (BlockFault.Full need largest)) }
+
+    // The disk is read at most once.
+    ensures reads { OnlyReads (D.state io.old.disk.now) (D.state io.new.disk.now) }
+    ensures calls { (D.state io.new.disk.now).calls ≤ (D.state io.old.disk.now).calls + 1 }
+    ensures cause { HasDiskCause (D.state io.old.disk.now).faults (D.state io.new.disk.now).faults result }
+
+    ensures failed { io.new.failed ≡ (io.old.failed || is_disk_fault result) }
+    ensures space { io.new.space ≡ io.old.space }
+    ensures kept_fit { FitsDisk (D.state io.new.disk.now).size io.new.space }
+    ensures same { io.new.disk.ghost_name ≡ io.old.disk.ghost_name }
+{
+    let outcome = read_block(io.disk, &ptr, into);
+    if outcome == Err(BlockFault::DiskFault) {
+        io.failed = true;
+    }
+    outcome
+}
+
+fn read_block<D: Disk>(disk: &mut D, ptr: &Ptr, into: &mut [u8]) -> Result<(), BlockFault>
+    requires { length into.old ≡ ptr.now.length }
+    ensures answer { IsTrue D.tells_reads → ReadAnswers (D.state disk.old).seen (D.state disk.old).size ptr.now into.new result }
+    ensures sum { OnOk result (weight_sum into.new ≡ ptr.now.sum) }
+    ensures placed { OnOk result (IsPlaced (D.state disk.old).size ptr.now) }
+    ensures never_full { (need largest : ℕ) → ¬ (result ≡ Err (BlockFault.Full need largest)) }
+    ensures reads { OnlyReads (D.state disk.old) (D.state disk.new) }
+    ensures calls { (D.state disk.new).calls ≤ (D.state disk.old).calls + 1 }
+    ensures cause { HasDiskCause (D.state disk.old).faults (D.state disk.new).faults result }
+{
+    if !is_placed(disk.bytes(), ptr) {
+        return Err(damaged(ptr, ptr.sum));
+    }
+    disk.read(512 * ptr.sector, into)?;
+    let found = sum_of(into);
+    if found == ptr.sum {
+        Ok(())
+    } else {
+        Err(damaged(ptr, found))
+    }
+}
+
+// Whether the pointer names whole sectors of a disk of so many bytes.
+fn is_placed(size: u64, ptr: &Ptr) -> bool
+    ensures { IsTrue result ↔ IsPlaced size ptr.now }
+{
+    let length = u64::from(ptr.length);
+    length % 512 == 0 && length <= size && ptr.sector <= (size - length) / 512
+}
+
+fn damaged(ptr: &Ptr, found: Sum) -> BlockFault
+    ensures { result ≡ BlockFault.Damaged ptr.now.sector (parts_of ptr.now.sum) (parts_of found) }
+{
+    BlockFault::Damaged {
+        sector: ptr.sector,
+        stated: ptr.sum.parts(),
+        found: found.parts(),
+    }
+}
+
+/// Writes a block into free sectors, and gives the pointer that names it, with kind 1.
+///
+/// Whatever it answers, every block that was there still is, and each image that a crash may
+/// leave has all blocks of one that it might have left before.
+pub fn write<D: Disk>(
+    io: &mut Io<'_, D>,
+    bytes: &[u8],
+    level: u8,
+    number: u64,
+) -> Result<Ptr, BlockFault>
+    requires some { 0 < length bytes.now }
+    requires whole { length bytes.now % 512 ≡ 0 }
+    requires small { length bytes.now < 2 ^ 32 }
+    requires fits { FitsDisk (D.state io.old.disk.now).size io.old.space }
+
+    ensures wrote { IsTrue D.tells_reads → IfOk result (λ ptr. Has (D.state io.new.disk.now).seen io.new.space ptr bytes.now) }
+    ensures pointer { IfOk result (λ ptr. ptr ≡ record { kind = 1; level = level; length = length bytes.now; sector = place_of io.old.space (length bytes.now / 512); number = number; sum = weight_sum bytes.now }) }
+
+    // Free sectors alone are written, and are then taken.
+    ensures fills { FillsFree (D.state io.old.disk.now) io.old.space (D.state io.new.disk.now) io.new.space }
+    ensures kept { KeepsBlocks (D.state io.old.disk.now).seen io.old.space (D.state io.new.disk.now).seen io.new.space }
+    ensures follows { Follows (D.state io.old.disk.now).images io.old.space (D.state io.new.disk.now).images io.new.space }
+    ensures takes { IfOk result (λ ptr. Takes io.old.space io.new.space ptr.sector (length bytes.now / 512)) }
+    ensures after { length bytes.now / 512 ≤ largest_of io.old.space → io.new.space ≡ without io.old.space (length bytes.now / 512) }
+    ensures room { room io.old.space ≤ room io.new.space + length bytes.now / 512 }
+    ensures kept_fit { FitsDisk (D.state io.new.disk.now).size io.new.space }
+
+    // It is full where no run is long enough, and then nothing is done.
+    ensures full { (need largest : ℕ) → result ≡ Err (BlockFault.Full need largest) ↔ ((need ≡ length bytes.now / 512) × (largest ≡ largest_of io.old.space) × (largest < need)) }
+    ensures untouched { largest_of io.old.space < length bytes.now / 512 → io.new.disk.now ≡ io.old.disk.now }
+    ensures space_untouched { largest_of io.old.space < length bytes.now / 512 → io.new.space ≡ io.old.space }
+    ensures never_damaged { (sector : ℕ) (stated found : List ℕ) → ¬ (result ≡ Err (BlockFault.Damaged sector stated found)) }
+
+    ensures calls { (D.state io.new.disk.now).calls ≤ (D.state io.old.disk.now).calls + 1 }
+    ensures cause { HasDiskCause (D.state io.old.disk.now).faults (D.state io.new.disk.now).faults result }
+    ensures failed { io.new.failed ≡ (io.old.failed || is_disk_fault result) }
+    ensures same { io.new.disk.ghost_name ≡ io.old.disk.ghost_name }
+{
+    let count = bytes.len() as u64 / 512;
+    match io.space.take(count) {
+        Err(full) => Err(BlockFault::from(full)),
+        Ok(sector) => {
+            let place = place_in(io.disk, sector);
+            match io.disk.write_at(place, bytes) {
+                Ok(()) => Ok(Ptr {
+                    kind: 1,
+                    level,
+                    length: bytes.len() as u32,
+                    sector,
+                    number,
+                    sum: sum_of(bytes),
+                }),
+                Err(Fault) => {
+                    io.failed = true;
+                    Err(BlockFault::DiskFault)
+                }
+            }
+        }
+    }
+}
+
+// The place of a sector that the disk has.
+fn place_in<D: Disk>(disk: &D, sector: u64) -> u64
+    requires { 512 * sector ≤ (D.state disk.now).size }
+    ensures { result ≡ 512 * sector }
+{
+    let size = disk.bytes();
+    prove!(sector <= size / 512);
+    512 * sector
+}

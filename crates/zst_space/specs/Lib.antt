@@ -1,0 +1,3 @@
+pub mod FreeSectors
+pub mod Taking
+pub mod FreeSectorsLaws

@@ -1,0 +1,194 @@
+ghost use Rattle.std.specs.Prelude.{◌≡◌};
+ghost use Rattle.zst_space.specs.FreeSectors.{greatest};
+
+use std::marker::Model;
+
+/// Sectors in a row.
+#[derive(Clone, Copy, Debug, PartialEq, Eq)]
+pub struct Extent {
+    /// The first sector.
+    pub first: u64,
+    /// How many sectors.
+    pub count: u64,
+}
+
+/// No run of `need` sectors is free: the longest one has `largest`.
+#[derive(Clone, Copy, Debug, PartialEq, Eq)]
+pub struct Full {
+    pub need: u64,
+    pub largest: u64,
+}
+
+/// The free sectors of a pool: those of the free extents, and all from `end` on.
+#[derive(Drop)]
+pub struct Space {
+    end: u64,
+    sectors: u64,
+    free: Vec<Extent>,
+}
+
+impl Model for Space {
+    ghost use Rattle.zst_space.specs.FreeSectors.{FreeSectors};
+
+    ghost Value = { FreeSectors };
+
+    ghost view = { λ s. record { end = s.end; sectors = s.sectors; free = s.free.items } };
+}
+
+impl Space {
+    ghost use Rattle.std.specs.Prelude.{◌≡◌, ◌↔◌, ◌+◌, ◌-◌, ◌<◌, ◌≤◌, ◌==◌, ℕ, length, nat_le, IfOk, OnOk, OnErr, IfErr, IsOk, IsErr, slice_index_or};
+    ghost use Rattle.std.specs.List.{position, remove};
+    ghost use Rattle.std.specs.Prelude.{slice_set, if◌then◌else◌};
+    ghost use Rattle.zst_space.specs.FreeSectors.{FreeSectors, IsSpace, IsSpaceFrom, largest_of, room};
+    ghost use Rattle.zst_space.specs.Taking.{Takes, place_of, without};
+
+    /// The sectors of a pool of so many, of which those of the free extents and all from `end` on
+    /// are free.
+    pub fn new(end: u64, sectors: u64, free: Vec<Extent>) -> Space
+        ensures { result ≡ record { end = end; sectors = sectors; free = free.items } }
+    {
+        Space { end, sectors, free }
+    }
+
+    /// The sector from which on all are free.
+    pub fn end(&self) -> u64
+        ensures { result ≡ self.now.end }
+    {
+        self.end
+    }
+
+    /// How many sectors the longest run has that is free, in an extent or from `end` on.
+    pub fn largest(&self) -> u64
+        requires { IsSpace self.now }
+        ensures { result ≡ largest_of self.now }
+    {
+        greatest_of(&self.free, self.sectors - self.end)
+    }
+
+    /// Takes a run of `count` sectors and gives its first one. It stands in the first free extent
+    /// that has so many, and else at `end`.
+    pub fn take(&mut self, count: u64) -> Result<u64, Full>
+        requires { IsSpace self.old }
+
+        // The run is the first one that is long enough, and is no longer free.
+        ensures first { IfOk result (λ first. first ≡ place_of self.old count) }
+        ensures after { OnOk result (self.new ≡ without self.old count) }
+        ensures takes { IfOk result (λ first. Takes self.old self.new first count) }
+
+        // Where none is long enough, nothing changes.
+        ensures fits { IsOk result ↔ (count ≤ largest_of self.old) }
+        ensures full { IfErr result (λ full. full ≡ record { need = count; largest = largest_of self.old }) }
+        ensures unchanged { OnErr result (self.new ≡ self.old) }
+
+        ensures kept { (from : ℕ) → IsSpaceFrom from self.old → IsSpaceFrom from self.new }
+    {
+        let largest = self.largest();
+        if largest < count {
+            return Err(Full {
+                need: count,
+                largest,
+            });
+        }
+        match self.fitting(count) {
+            Some(i) => Ok(self.cut(i, count)),
+            None => Ok(self.pass_end(count)),
+        }
+    }
+
+    // The first free extent that has so many sectors.
+    fn fitting(&self, count: u64) -> Option<usize>
+        ensures { result ≡ position (λ e. nat_le count e.count) self.now.free }
+    {
+        self.free.iter().position(|extent| count <= extent.count)
+    }
+
+    // Takes the first sectors of the first free extent that has so many.
+    fn cut(&mut self, i: usize, count: u64) -> u64
+        requires space { IsSpace self.old }
+        requires fits { position (λ e. nat_le count e.count) self.old.free ≡ Some i }
+        ensures first { result ≡ place_of self.old count }
+        ensures after { self.new ≡ without self.old count }
+    {
+        prove!(self.end <= self.sectors);
+        let extent = self.free[i];
+        if extent.count == count {
+            self.free.remove(i);
+        } else {
+            self.free[i] = Extent {
+                first: extent.first + count,
+                count: extent.count - count,
+            };
+        }
+        extent.first
+    }
+
+    // Takes sectors from the end on, where no free extent has so many.
+    fn pass_end(&mut self, count: u64) -> u64
+        requires none { position (λ e. nat_le count e.count) self.old.free ≡ None }
+        requires room { self.old.end + count ≤ self.old.sectors }
+        ensures first { result ≡ place_of self.old count }
+        ensures after { self.new ≡ without self.old count }
+    {
+        prove!(self.end <= self.sectors);
+        let first = self.end;
+        self.end += count;
+        first
+    }
+}
+
+// The greatest count of the extents, or this one.
+fn greatest_of(extents: &[Extent], least: u64) -> u64
+    ensures { result ≡ greatest extents.now least }
+{
+    let mut largest = least;
+    for extent in extents {
+        largest = largest.max(extent.count);
+    }
+    largest
+}
+
+#[cfg(test)]
+mod tests {
+    use super::*;
+    use std::alloc::AllocError;
+
+    #[test]
+    fn what_is_left_past_the_end_bounds_a_run(rt: HostRuntime) {
+        let mut space = Space::new(10, 16, Vec::new(rt.alloc()));
+        assert_eq!(rt; space.take(6), Ok(10));
+        assert_eq!(rt; space.end(), 16);
+        assert_eq!(rt;
+            space.take(1),
+            Err(Full {
+                need: 1,
+                largest: 0
+            })
+        );
+    }
+
+    #[test]
+    fn runs_stand_in_the_first_extent_that_is_long_enough(
+        rt: HostRuntime,
+    ) -> Result<(), AllocError> {
+        let low = Extent { first: 8, count: 3 };
+        let high = Extent {
+            first: 20,
+            count: 6,
+        };
+        let mut space = Space::new(30, 32, vec![in rt.alloc(); low, high]?);
+        assert_eq!(rt; space.largest(), 6);
+        assert_eq!(rt; space.take(4), Ok(20));
+        assert_eq!(rt; space.take(2), Ok(8));
+        assert_eq!(rt;
+            space.take(5),
+            Err(Full {
+                need: 5,
+                largest: 2
+            })
+        );
+        assert_eq!(rt; space.take(2), Ok(24));
+        assert_eq!(rt; space.take(1), Ok(10));
+        assert_eq!(rt; space.take(2), Ok(30));
+        Ok(())
+    }
+}

@@ -1,0 +1,3 @@
+pub mod LatestLemmas
+pub mod Stages
+pub mod Decoding

@@ -1,0 +1,112 @@
+// The commit: one body more, in the slot that isn't the latest.
+ghost use Rattle.std.specs.Prelude.{◌≡◌, ◌≤◌, List, ℕ, IsTrue, IfOk, OnOk};
+ghost use Rattle.zst_outside.specs.Causes.{HasCause};
+ghost use Rattle.zst_outside.specs.Images.{bytes_at, IsSynced, Leaves, OnlyReads, WritesIn};
+ghost use Rattle.zst_uber.specs.Body.{UberFits};
+ghost use Rattle.zst_uber.specs.Slots.{gate_place, body_place, IsOpen, IsNext, Stands, latest, latest_slot, other};
+ghost use Rattle.zst_uber.specs.Commit.{HeadSettled, HasOldOrNew, Closes};
+ghost use Rattle.zst_uber.specs.Opening.{HasDiskCause};
+
+use crate::fault::UberFault;
+use crate::slot::{OPEN, Slot, later_slot, read_slot};
+use crate::uber::Uber;
+use zst_outside::{Disk, Fault, put};
+
+/// Makes this the latest body: in the slot that isn't the latest, the first one where there is
+/// no pool yet.
+///
+/// At every moment each image that a crash may leave has the old latest body, or the new one.
+/// The disk's failure is the only fault.
+pub fn commit<D: Disk>(disk: &mut D, uber: &Uber) -> Result<(), UberFault>
+    requires room { 4096 ≤ (D.state disk.old).size }
+    requires next { IsTrue D.tells_reads → IsNext uber.now.number (latest (D.state disk.old).seen) }
+    requires settled { IsTrue D.tells_reads → HeadSettled (D.state disk.old) }
+
+    // Whatever it answers, and at every moment of it.
+    ensures moments { IsTrue D.tells_reads → Leaves (D.state disk.old) (D.state disk.new) (HasOldOrNew uber.now (D.state disk.old)) }
+    ensures images { (c : List ℕ) → IsTrue D.tells_reads → (D.state disk.new).images c → HasOldOrNew uber.now (D.state disk.old) c }
+    ensures writes { WritesIn 0 4096 (D.state disk.old) (D.state disk.new) }
+
+    // The new body stands once it is done, and nothing is pending.
+    ensures stands { IsTrue D.tells_reads → OnOk result (Stands uber.now (D.state disk.new).seen) }
+    ensures durable { OnOk result (IsSynced (D.state disk.new)) }
+    ensures fits { UberFits uber.now }
+
+    ensures cause { HasDiskCause (D.state disk.old).faults (D.state disk.new).faults result }
+    ensures only { (fault : UberFault) → result ≡ Err fault → fault ≡ UberFault.DiskFault }
+{
+    match write_body(disk, uber) {
+        Ok(()) => Ok(()),
+        Err(Fault) => Err(UberFault::DiskFault),
+    }
+}
+
+fn write_body<D: Disk>(disk: &mut D, uber: &Uber) -> Result<(), Fault>
+    requires room { 4096 ≤ (D.state disk.old).size }
+    requires next { IsTrue D.tells_reads → IsNext uber.now.number (latest (D.state disk.old).seen) }
+    requires settled { IsTrue D.tells_reads → HeadSettled (D.state disk.old) }
+    ensures moments { IsTrue D.tells_reads → Leaves (D.state disk.old) (D.state disk.new) (HasOldOrNew uber.now (D.state disk.old)) }
+    ensures writes { WritesIn 0 4096 (D.state disk.old) (D.state disk.new) }
+    ensures stands { IsTrue D.tells_reads → OnOk result (Stands uber.now (D.state disk.new).seen) }
+    ensures durable { OnOk result (IsSynced (D.state disk.new)) }
+    ensures fits { UberFits uber.now }
+    ensures cause { HasCause (D.state disk.old).faults (D.state disk.new).faults result }
+{
+    let body = uber.encode();
+    let slot = find_idle(disk)?;
+    close(disk, slot)?;
+    fill(disk, slot, &body)?;
+    open_gate(disk, slot)
+}
+
+// The slot that isn't the latest body's.
+fn find_idle<D: Disk>(disk: &mut D) -> Result<Slot, Fault>
+    ensures idle { IsTrue D.tells_reads → IfOk result (λ slot. latest_slot (D.state disk.old).seen ≡ other slot) }
+    ensures reads { OnlyReads (D.state disk.old) (D.state disk.new) }
+    ensures cause { HasCause (D.state disk.old).faults (D.state disk.new).faults result }
+{
+    let first = read_slot(disk, Slot::First)?;
+    let second = read_slot(disk, Slot::Second)?;
+    Ok(later_slot(&first, &second).other())
+}
+
+// Closes a gate if it is open, and syncs. A closed gate isn't written: until the sync it might
+// hold any byte.
+fn close<D: Disk>(disk: &mut D, slot: Slot) -> Result<(), Fault>
+    requires { 2048 ≤ (D.state disk.old).size }
+    ensures closed { IsTrue D.tells_reads → OnOk result (¬ (IsOpen (D.state disk.new).seen slot)) }
+    ensures durable { OnOk result (IsSynced (D.state disk.new)) }
+    ensures closes { IsTrue D.tells_reads → Closes slot (D.state disk.old) (D.state disk.new) }
+    ensures writes { WritesIn (gate_place slot) 1 (D.state disk.old) (D.state disk.new) }
+    ensures cause { HasCause (D.state disk.old).faults (D.state disk.new).faults result }
+{
+    let mut gate = [0u8; 1];
+    disk.read(slot.gate(), &mut gate)?;
+    if gate[0] == OPEN {
+        put(disk, slot.gate(), &[0])
+    } else {
+        disk.sync()
+    }
+}
+
+// Writes a body into a slot, and syncs.
+fn fill<D: Disk>(disk: &mut D, slot: Slot, body: &[u8; 512]) -> Result<(), Fault>
+    requires { 2048 ≤ (D.state disk.old).size }
+    ensures body { IsTrue D.tells_reads → OnOk result (bytes_at (D.state disk.new).seen (body_place slot) 512 ≡ body.now) }
+    ensures durable { OnOk result (IsSynced (D.state disk.new)) }
+    ensures writes { WritesIn (body_place slot) 512 (D.state disk.old) (D.state disk.new) }
+    ensures cause { HasCause (D.state disk.old).faults (D.state disk.new).faults result }
+{
+    put(disk, slot.body(), body)
+}
+
+// Opens a gate by a write of one byte, and syncs.
+fn open_gate<D: Disk>(disk: &mut D, slot: Slot) -> Result<(), Fault>
+    requires { 2048 ≤ (D.state disk.old).size }
+    ensures opened { IsTrue D.tells_reads → OnOk result (IsOpen (D.state disk.new).seen slot) }
+    ensures durable { OnOk result (IsSynced (D.state disk.new)) }
+    ensures writes { WritesIn (gate_place slot) 1 (D.state disk.old) (D.state disk.new) }
+    ensures cause { HasCause (D.state disk.old).faults (D.state disk.new).faults result }
+{
+    put(disk, slot.gate(), &[OPEN])
+}

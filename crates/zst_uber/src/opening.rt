@@ -1,0 +1,80 @@
+// The latest body of a disk.
+ghost use Rattle.std.specs.Prelude.{◌≡◌, ◌↔◌, ◌≤◌, List, ℕ, Some, length, IsTrue, IfOk};
+ghost use Rattle.zst_outside.specs.Causes.{HasCause};
+ghost use Rattle.zst_outside.specs.Images.{bytes_at, IsSynced, OnlyReads};
+ghost use Rattle.zst_uber.specs.Body.{IsBody, InRange, body_bytes};
+ghost use Rattle.zst_uber.specs.Slots.{latest as latest_of, latest_slot, body_sector, slot_at};
+ghost use Rattle.zst_uber.specs.Opening.{Answers, Decodes, GivesUber, HasDiskCause};
+ghost use Rattle.zst_uber.specs.declared.uber.Uber.{Uber};
+
+use crate::VERSION;
+use crate::fault::UberFault;
+use crate::slot::{Slot, later_slot, read_slot};
+use crate::uber::Uber;
+use zst_block::get_sum;
+use zst_bytes::le32;
+use zst_fletcher::sum_of;
+use zst_outside::{Disk, Fault};
+
+/// Reads the latest body.
+///
+/// Unless the disk fails, nothing is pending on it afterwards.
+pub fn latest<D: Disk>(disk: &mut D) -> Result<Uber, UberFault>
+    // Each answer has its cause, and a body that stands is read.
+    ensures answer { IsTrue D.tells_reads → Answers (D.state disk.old) result }
+    ensures there { (uber : Uber) (body : List ℕ) → IsTrue D.tells_reads → latest_of (D.state disk.old).seen ≡ Some body → IsBody (D.state disk.old).size uber body → GivesUber uber result }
+
+    ensures settled { ¬ (result ≡ Err UberFault.DiskFault) → IsSynced (D.state disk.new) }
+    ensures reads { OnlyReads (D.state disk.old) (D.state disk.new) }
+    ensures cause { HasDiskCause (D.state disk.old).faults (D.state disk.new).faults result }
+{
+    disk.sync()?;
+    let (slot, body) = newest(disk)?;
+    match body {
+        None => Err(UberFault::NoPool),
+        Some(body) => decode(&body, slot.body_sector(), disk.bytes()),
+    }
+}
+
+// The slot of the latest body, and the body.
+fn newest<D: Disk>(disk: &mut D) -> Result<(Slot, Option<[u8; 512]>), Fault>
+    ensures slot { IsTrue D.tells_reads → IfOk result (λ found. found.0 ≡ latest_slot (D.state disk.old).seen) }
+    ensures body { IsTrue D.tells_reads → IfOk result (λ found. found.1 ≡ latest_of (D.state disk.old).seen) }
+    ensures reads { OnlyReads (D.state disk.old) (D.state disk.new) }
+    ensures cause { HasCause (D.state disk.old).faults (D.state disk.new).faults result }
+{
+    let first = read_slot(disk, Slot::First)?;
+    let second = read_slot(disk, Slot::Second)?;
+    match later_slot(&first, &second) {
+        Slot::First => Ok((Slot::First, first)),
+        Slot::Second => Ok((Slot::Second, second)),
+    }
+}
+
+// What a body in this sector says on a disk of so many bytes.
+fn decode(body: &[u8], sector: u64, size: u64) -> Result<Uber, UberFault>
+    requires { length body.now ≡ 512 }
+    ensures { Decodes size sector body.now result }
+{
+    let version = le32(body, 8);
+    if version != VERSION {
+        return Err(UberFault::BadVersion(version));
+    }
+    let uber = Uber::get(body);
+    if is_body(body, &uber, size) {
+        Ok(uber)
+    } else {
+        Err(UberFault::Damaged {
+            sector,
+            stated: get_sum(body, 480).parts(),
+            found: sum_of(&body[..480]).parts(),
+        })
+    }
+}
+
+// Whether these bytes are the body of this uber.
+fn is_body(body: &[u8], uber: &Uber, size: u64) -> bool
+    ensures { IsTrue result ↔ (InRange size uber.now × (body.now ≡ body_bytes uber.now)) }
+{
+    uber.is_in_range(size) && uber.encode().as_slice() == body
+}
