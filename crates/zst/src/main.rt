@@ -4,6 +4,7 @@
 mod adapters;
 mod command;
 mod dump;
+mod file_disk;
 mod intake;
 mod note;
 #[cfg(test)]
