@@ -7,6 +7,8 @@ mod dump;
 mod intake;
 mod note;
 mod run;
+#[cfg(test)]
+mod tests;
 
 use adapters::{Reading, Writing};
 use run::run;
