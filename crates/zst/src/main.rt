@@ -10,6 +10,8 @@ mod note;
 #[cfg(test)]
 mod round_trip;
 mod run;
+#[cfg(test)]
+mod tests;
 
 use adapters::{Reading, Writing};
 use run::run;

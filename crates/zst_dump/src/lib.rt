@@ -7,3 +7,6 @@ mod part;
 
 pub use counts::Counts;
 pub use line::{line_of, summary};
+
+#[cfg(test)]
+mod tests;

@@ -1,0 +1,430 @@
+// Records at the bounds of their fields, and one past these.
+
+use super::TEN;
+use super::runs::{check, dump_of, lines_of, text_of};
+use super::streams::{BEGIN, FREE, FREE_OBJECTS, Field, GUID, OBJECT, Stream, WRITE, noise_in};
+use std::alloc::Global;
+use std::process::Abort;
+use std::test::Fail;
+
+const LIMIT: u64 = 1 << 48;
+
+/// A field that is set otherwise, the length of the payload, and the line without its place: none where the record is
+/// refused.
+type Row = (Field, usize, &'static str);
+
+/// Dumps BEGIN, a record, the record of each row, and END.
+fn check_rows(
+    rt: &impl Abort,
+    alloc: Global,
+    good: &[Field],
+    counts: &str,
+    rows: &[Row],
+) -> Result<(), Fail> {
+    let before = lines_of(TEN, 2);
+    for (other, payload, line) in rows {
+        let mut stream = Stream::begin(rt, alloc, &[])?;
+        stream.put(rt, &FREE_OBJECTS)?;
+        stream.put_with(rt, good, *other)?;
+        stream.put_payload(*payload)?;
+        let place = stream.bytes.len();
+        let [a, b, c, d] = stream.sums;
+        stream.end(rt)?;
+        let size = stream.bytes.len();
+        let (at, _, value) = other;
+        let what = format!(in alloc; "{value} at {at}: {line}")?;
+        let ran = dump_of(alloc, &stream.bytes)?;
+        if line.is_empty() {
+            check(
+                rt,
+                &what,
+                &ran,
+                4,
+                before,
+                "zst: E19 unsupported at 624: not built\n",
+            );
+        } else {
+            let text = format!(in alloc;
+                "{before}624 {line}\n{place} END sums {a} {b} {c} {d}\ncounts begin 1 {counts} end 1 spill 0 redact 0\nrecords 4 payload {payload} stream {size}\n"
+            )?;
+            check(rt, &what, &ran, 0, &text, "");
+        }
+    }
+    Ok(())
+}
+
+#[test]
+fn objects_are_judged_at_their_bounds(rt: HostRuntime) -> Result<(), Fail> {
+    let rows = [
+        ((8, 8, 0), 0, ""),
+        (
+            (8, 8, 1),
+            0,
+            "OBJECT object 1 type 19 bonustype 0 size 512 bonus 0",
+        ),
+        (
+            (8, 8, LIMIT - 1),
+            0,
+            "OBJECT object 281474976710655 type 19 bonustype 0 size 512 bonus 0",
+        ),
+        ((8, 8, LIMIT), 0, ""),
+        ((8, 8, u64::MAX), 0, ""),
+        ((16, 4, 0), 0, ""),
+        (
+            (16, 4, 0xffff_ffff),
+            0,
+            "OBJECT object 1 type 4294967295 bonustype 0 size 512 bonus 0",
+        ),
+        (
+            (20, 4, 0xffff_ffff),
+            0,
+            "OBJECT object 1 type 19 bonustype 4294967295 size 512 bonus 0",
+        ),
+        ((24, 4, 0), 0, ""),
+        ((24, 4, 511), 0, ""),
+        ((24, 4, 513), 0, ""),
+        (
+            (24, 4, 1536),
+            0,
+            "OBJECT object 1 type 19 bonustype 0 size 1536 bonus 0",
+        ),
+        (
+            (24, 4, 131_072),
+            0,
+            "OBJECT object 1 type 19 bonustype 0 size 131072 bonus 0",
+        ),
+        ((24, 4, 131_584), 0, ""),
+        (
+            (28, 4, 1),
+            8,
+            "OBJECT object 1 type 19 bonustype 0 size 512 bonus 1",
+        ),
+        (
+            (28, 4, 8),
+            8,
+            "OBJECT object 1 type 19 bonustype 0 size 512 bonus 8",
+        ),
+        (
+            (28, 4, 9),
+            16,
+            "OBJECT object 1 type 19 bonustype 0 size 512 bonus 9",
+        ),
+        (
+            (28, 4, 320),
+            320,
+            "OBJECT object 1 type 19 bonustype 0 size 512 bonus 320",
+        ),
+        ((28, 4, 321), 328, ""),
+        (
+            (34, 1, 0),
+            0,
+            "OBJECT object 1 type 19 bonustype 0 size 512 bonus 0",
+        ),
+        ((34, 1, 2), 0, ""),
+        ((36, 4, 1), 0, ""),
+        ((36, 4, 1 << 31), 0, ""),
+    ];
+    check_rows(
+        &rt,
+        rt.alloc(),
+        &OBJECT,
+        "object 1 freeobjects 1 write 0 free 0",
+        &rows,
+    )
+}
+
+#[test]
+fn writes_are_judged_at_their_bounds(rt: HostRuntime) -> Result<(), Fail> {
+    let rows = [
+        ((8, 8, 0), 512, ""),
+        (
+            (8, 8, LIMIT - 1),
+            512,
+            "WRITE object 281474976710655 type 19 offset 0 length 512",
+        ),
+        ((8, 8, LIMIT), 512, ""),
+        ((16, 4, 0), 512, "WRITE object 1 type 0 offset 0 length 512"),
+        (
+            (24, 8, 1),
+            512,
+            "WRITE object 1 type 19 offset 1 length 512",
+        ),
+        (
+            (24, 8, u64::MAX),
+            512,
+            "WRITE object 1 type 19 offset 18446744073709551615 length 512",
+        ),
+        ((32, 8, 0), 0, ""),
+        ((32, 8, 511), 512, ""),
+        (
+            (32, 8, 1024),
+            1024,
+            "WRITE object 1 type 19 offset 0 length 1024",
+        ),
+        (
+            (32, 8, 131_072),
+            131_072,
+            "WRITE object 1 type 19 offset 0 length 131072",
+        ),
+        ((32, 8, 131_584), 131_584, ""),
+        ((36, 4, 1), 512, ""),
+        ((50, 1, 1), 512, ""),
+        ((50, 1, 15), 512, ""),
+    ];
+    check_rows(
+        &rt,
+        rt.alloc(),
+        &WRITE,
+        "object 0 freeobjects 1 write 1 free 0",
+        &rows,
+    )
+}
+
+#[test]
+fn ranges_are_judged_at_their_bounds(rt: HostRuntime) -> Result<(), Fail> {
+    let rows = [
+        ((8, 8, 0), 0, ""),
+        (
+            (8, 8, LIMIT - 1),
+            0,
+            "FREE object 281474976710655 offset 18446744073709551103 length 512",
+        ),
+        ((8, 8, LIMIT), 0, ""),
+        (
+            (24, 8, 0),
+            0,
+            "FREE object 1 offset 18446744073709551103 length 0",
+        ),
+        (
+            (24, 8, 512),
+            0,
+            "FREE object 1 offset 18446744073709551103 length 512",
+        ),
+        ((24, 8, 513), 0, ""),
+        ((24, 8, u64::MAX - 1), 0, ""),
+        (
+            (24, 8, u64::MAX),
+            0,
+            "FREE object 1 offset 18446744073709551103 length to-end",
+        ),
+        ((16, 8, u64::MAX - 511), 0, ""),
+        ((16, 8, 0), 0, "FREE object 1 offset 0 length 512"),
+    ];
+    check_rows(
+        &rt,
+        rt.alloc(),
+        &FREE,
+        "object 0 freeobjects 1 write 0 free 1",
+        &rows,
+    )?;
+    let rows = [
+        (
+            (8, 8, u64::MAX),
+            0,
+            "FREEOBJECTS first 18446744073709551615 count 1",
+        ),
+        (
+            (16, 8, u64::MAX),
+            0,
+            "FREEOBJECTS first 0 count 18446744073709551615",
+        ),
+        ((16, 8, 0), 0, "FREEOBJECTS first 0 count 0"),
+    ];
+    check_rows(
+        &rt,
+        rt.alloc(),
+        &FREE_OBJECTS,
+        "object 0 freeobjects 2 write 0 free 0",
+        &rows,
+    )
+}
+
+#[test]
+fn other_types_are_not_built(rt: HostRuntime) -> Result<(), Fail> {
+    let alloc = rt.alloc();
+    let good = [(8, 8, 1), (16, 8, 512)];
+    let rows = [
+        ((0, 4, 6), 0, ""),
+        ((0, 4, 7), 512, ""),
+        ((0, 4, 8), 0, ""),
+        ((0, 4, 9), 0, ""),
+        ((0, 4, 10), 0, ""),
+        ((0, 4, 11), 0, ""),
+        ((0, 4, 0x105), 0, ""),
+        ((0, 4, 0xffff_ffff), 0, ""),
+    ];
+    check_rows(&rt, alloc, &good, "", &rows)?;
+    check_rows(&rt, alloc, &BEGIN, "", &[((0, 4, 0), 0, "")])
+}
+
+/// Dumps BEGIN with a field set otherwise, and END with BEGIN's guid.
+fn check_begin(
+    rt: &impl Abort,
+    alloc: Global,
+    other: Field,
+    guid: u64,
+    line: &str,
+) -> Result<(), Fail> {
+    let mut stream = Stream::begin(rt, alloc, &[other])?;
+    let [a, b, c, d] = stream.sums;
+    stream.end_with(rt, (40, 8, guid))?;
+    let (at, _, value) = other;
+    let what = format!(in alloc; "{value} at {at}: {line}")?;
+    let ran = dump_of(alloc, &stream.bytes)?;
+    if line.is_empty() {
+        check(
+            rt,
+            &what,
+            &ran,
+            4,
+            "",
+            "zst: E19 unsupported at 0: not built\n",
+        );
+        return Ok(());
+    }
+    let text = format!(in alloc;
+        "0 BEGIN features {line}\n312 END sums {a} {b} {c} {d}\ncounts begin 1 object 0 freeobjects 0 write 0 free 0 end 1 spill 0 redact 0\nrecords 2 payload 0 stream 624\n"
+    )?;
+    check(rt, &what, &ran, 0, &text, "");
+    Ok(())
+}
+
+#[test]
+fn begin_is_judged_at_its_bounds(rt: HostRuntime) -> Result<(), Fail> {
+    let alloc = rt.alloc();
+    let rows = [
+        ((0, 4, 1), ""),
+        ((4, 4, 8), ""),
+        ((4, 4, 40), ""),
+        ((8, 8, 0xaccb_baf5_0200_0000), ""),
+        ((16, 8, 16), ""),
+        ((16, 8, 18), ""),
+        ((16, 8, 19), ""),
+        (
+            (16, 8, 1),
+            "0 kind 2 flags 12 time 1700000000 toguid 0000000100000001 fromguid 0000000000000000 payload 0 name t/a@s",
+        ),
+        (
+            (16, 8, 17 + (1 << 25)),
+            "8388612 kind 2 flags 12 time 1700000000 toguid 0000000100000001 fromguid 0000000000000000 payload 0 name t/a@s",
+        ),
+        ((16, 8, 17 + (1 << 2)), ""),
+        ((16, 8, 17 + (1 << 5)), ""),
+        ((16, 8, 17 + (1 << 21)), ""),
+        ((16, 8, 17 + (1 << 22)), ""),
+        ((16, 8, 17 + (1 << 23)), ""),
+        ((16, 8, 17 + (1 << 24)), ""),
+        ((16, 8, 17 + (1 << 31)), ""),
+        (
+            (24, 8, u64::MAX),
+            "4 kind 2 flags 12 time 18446744073709551615 toguid 0000000100000001 fromguid 0000000000000000 payload 0 name t/a@s",
+        ),
+        ((32, 4, 1), ""),
+        (
+            (32, 4, 3),
+            "4 kind 3 flags 12 time 1700000000 toguid 0000000100000001 fromguid 0000000000000000 payload 0 name t/a@s",
+        ),
+        ((32, 4, 4), ""),
+        (
+            (36, 4, 0xffff_ffff),
+            "4 kind 2 flags 4294967295 time 1700000000 toguid 0000000100000001 fromguid 0000000000000000 payload 0 name t/a@s",
+        ),
+        ((40, 8, 0), ""),
+        (
+            (48, 8, 0x0123_4567_89ab_cdef),
+            "4 kind 2 flags 12 time 1700000000 toguid 0000000100000001 fromguid 0123456789abcdef payload 0 name t/a@s",
+        ),
+        (
+            (56, 1, 0),
+            "4 kind 2 flags 12 time 1700000000 toguid 0000000100000001 fromguid 0000000000000000 payload 0 name ",
+        ),
+        (
+            (56, 5, 0x7f_ff5c_207e),
+            "4 kind 2 flags 12 time 1700000000 toguid 0000000100000001 fromguid 0000000000000000 payload 0 name ~\\x20\\x5c\\xff\\x7f",
+        ),
+        (
+            (61, 3, 0x1f_8021),
+            "4 kind 2 flags 12 time 1700000000 toguid 0000000100000001 fromguid 0000000000000000 payload 0 name t/a@s!\\x80\\x1f",
+        ),
+    ];
+    for (other, line) in rows {
+        check_begin(&rt, alloc, other, GUID, line)?;
+    }
+    let line =
+        "4 kind 2 flags 12 time 1700000000 toguid fedcba9876543210 fromguid 0000000000000000 payload 0 name t/a@s";
+    check_begin(
+        &rt,
+        alloc,
+        (40, 8, 0xfedc_ba98_7654_3210),
+        0xfedc_ba98_7654_3210,
+        line,
+    )
+}
+
+/// BEGIN, of whose name so many bytes are `A`, and END.
+fn named(rt: &impl Abort, alloc: Global, count: usize) -> Result<Vec<u8>, Fail> {
+    let mut fields = Vec::new(alloc);
+    for place in 56..count.saturating_add(56) {
+        fields.push((place, 1, 0x41))?;
+    }
+    let mut stream = Stream::begin(rt, alloc, &fields)?;
+    stream.end(rt)?;
+    Ok(stream.bytes)
+}
+
+#[test]
+fn a_name_has_at_most_255_bytes(rt: HostRuntime) -> Result<(), Fail> {
+    let alloc = rt.alloc();
+    let longest = dump_of(alloc, &named(&rt, alloc, 255)?)?;
+    let name = "AAAAAAAAAAAAAAA".repeat(alloc, 17)?;
+    let first = format!(in alloc;
+        "0 BEGIN features 4 kind 2 flags 12 time 1700000000 toguid 0000000100000001 fromguid 0000000000000000 payload 0 name {name}\n"
+    )?;
+    assert_eq!(rt; lines_of(text_of(&longest.out), 1), first.as_str());
+    assert_eq!(rt; longest.status, 0);
+    let unending = dump_of(alloc, &named(&rt, alloc, 256)?)?;
+    check(
+        &rt,
+        "no zero byte",
+        &unending,
+        4,
+        "",
+        "zst: E19 unsupported at 0: not built\n",
+    );
+    Ok(())
+}
+
+#[test]
+fn what_no_field_names_is_summed_and_changes_no_line(rt: HostRuntime) -> Result<(), Fail> {
+    let alloc = rt.alloc();
+    let mut stream = Stream::begin(&rt, alloc, &noise_in(alloc, &[], &[(20, 24), (62, 312)])?)?;
+    stream.put(&rt, &noise_in(alloc, &FREE_OBJECTS, &[(4, 8), (24, 280)])?)?;
+    let places = [(4, 8), (32, 34), (35, 36), (40, 280)];
+    stream.put(&rt, &noise_in(alloc, &OBJECT, &places)?)?;
+    let places = [(4, 8), (20, 24), (40, 50), (51, 280)];
+    stream.put(&rt, &noise_in(alloc, &WRITE, &places)?)?;
+    stream.put_payload(512)?;
+    stream.put(&rt, &noise_in(alloc, &FREE, &[(4, 8), (32, 280)])?)?;
+    let [a, b, c, d] = stream.sums;
+    let end = [
+        (0, 4, 5),
+        (8, 8, a),
+        (16, 8, b),
+        (24, 8, c),
+        (32, 8, d),
+        (40, 8, GUID),
+    ];
+    stream.put(&rt, &noise_in(alloc, &end, &[(4, 8), (48, 280)])?)?;
+    let before = lines_of(TEN, 2);
+    let text = format!(in alloc;
+        "{before}624 OBJECT object 1 type 19 bonustype 0 size 512 bonus 0
+936 WRITE object 1 type 19 offset 0 length 512
+1760 FREE object 1 offset 18446744073709551103 length 512
+2072 END sums {a} {b} {c} {d}
+counts begin 1 object 1 freeobjects 1 write 1 free 1 end 1 spill 0 redact 0
+records 6 payload 512 stream 2384
+"
+    )?;
+    check(&rt, "noise", &dump_of(alloc, &stream.bytes)?, 0, &text, "");
+    Ok(())
+}
