@@ -7,7 +7,7 @@ mod opening;
 mod slot;
 mod uber;
 
-pub use committing::commit;
+pub use committing::{commit, commit_event};
 pub use fault::UberFault;
 pub use opening::latest;
 pub use slot::Slot;
