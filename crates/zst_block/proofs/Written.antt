@@ -1,7 +1,8 @@
 -- What the write of a run of sectors leaves.
 use Rattle.std.proofs.Common.{◌≡◌, ℕ, ◌+◌, ◌*◌, ◌/◌, ◌%◌, ◌<◌, ◌≤◌, List, length, refl, sym, ◌∙◌, ap, subst, arith}
 use Rattle.zst_fletcher.specs.WeightSum.{weight_sum}
-use Rattle.zst_outside.specs.Images.{bytes_at, DiskState, WritesIn}
+use Rattle.zst_outside.specs.Images.{DiskState, WritesIn}
+use Rattle.zst_outside.specs.Ranges.{bytes_at}
 use Rattle.zst_space.specs.FreeSectors.{FreeSectors, IsFree, IsWithin, IsSpaceFrom}
 use Rattle.zst_space.specs.FreeSectorsLaws.{IsFree-from}
 use Rattle.zst_space.specs.Taking.{Takes}

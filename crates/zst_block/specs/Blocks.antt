@@ -1,7 +1,8 @@
 -- Blocks in an image, and what a write into free sectors leaves of them.
 use Rattle.std.specs.Prelude.{◌≡◌, ℕ, ◌+◌, ◌*◌, ◌/◌, ◌%◌, ◌<◌, ◌≤◌, List, length}
 use Rattle.zst_fletcher.specs.WeightSum.{weight_sum}
-use Rattle.zst_outside.specs.Images.{bytes_at, DiskState, Leaves, Keeps}
+use Rattle.zst_outside.specs.Images.{DiskState, Leaves, Keeps}
+use Rattle.zst_outside.specs.Ranges.{bytes_at}
 use Rattle.zst_space.specs.FreeSectors.{FreeSectors, IsSpaceFrom, IsFree}
 use Rattle.zst_block.specs.declared.ptr.Ptr.{Ptr}
 

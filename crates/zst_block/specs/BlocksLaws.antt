@@ -1,7 +1,8 @@
 -- How writes into free sectors follow one another, and what they leave of blocks.
 use Rattle.std.proofs.Common.{◌≡◌, ◌⊎◌, inl, inr, ⊎_elim, ℕ, ◌+◌, ◌*◌, ◌/◌, ◌<◌, ◌≤◌, List, length, refl, sym, ◌∙◌, ap, subst, arith}
 use Rattle.std.proofs.lemmas.Bool.{cases_lt}
-use Rattle.zst_outside.specs.Images.{bytes_at, DiskState, Torn, TornImage, WritesIn, OnlyReads, Leaves, Keeps, Leaves-weaker, Leaves-then, Keeps-then}
+use Rattle.zst_outside.specs.Images.{DiskState, TornImage, WritesIn, OnlyReads, Leaves, Keeps, Leaves-weaker, Leaves-then, Keeps-then}
+use Rattle.zst_outside.specs.Ranges.{bytes_at, Torn}
 use Rattle.zst_space.specs.FreeSectors.{FreeSectors, IsFree, IsSpaceFrom}
 use Rattle.zst_space.specs.FreeSectorsLaws.{IsFree-from}
 use Rattle.zst_block.specs.Blocks.{IsPlaced, IsBlock, IsTaken, Has, FitsDisk, SparesTaken, Spared, FillsFree, KeepsBlocks, Follows, named}

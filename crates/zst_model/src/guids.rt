@@ -36,3 +36,13 @@ impl GuidSet {
         self.guids.as_slice()
     }
 }
+
+#[cfg(test)]
+mod tests {
+    use super::*;
+
+    #[test]
+    fn an_empty_set_has_no_guids(rt: HostRuntime) {
+        assert!(rt; GuidSet::empty().as_slice().is_empty());
+    }
+}

@@ -6,6 +6,7 @@ mod guids;
 mod header;
 mod name;
 mod refusal;
+mod text;
 
 pub use faults::{Flaw, Lack, Quantity};
 pub use guids::GuidSet;

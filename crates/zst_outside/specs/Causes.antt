@@ -1,7 +1,7 @@
 -- Counts of calls and faults, and what a fault says of them.
-use Rattle.std.specs.Prelude.{ℕ, ◌+◌, ◌-◌, ◌^◌, ◌≤◌, ◌==◌, List, Bool, min, Result, OnErr}
-use Rattle.std.specs.List.{list_any}
+use Rattle.std.specs.Prelude.{ℕ, ◌+◌, ◌-◌, ◌^◌, ◌≤◌, min, Result, OnErr}
 use Rattle.std.proofs.Common.{arith}
+use Rattle.std.proofs.lemmas.Result.{on_err_weaker}
 
 -- the count after one more, which stays at its last value
 abbrev pub next_count : ℕ → ℕ
@@ -16,10 +16,13 @@ pub record HasCause {T E : Type 0} (before now : ℕ) (result : Result T E) : Ty
   pub later : before ≤ now
   pub fault : OnErr result (Rose before now)
 
--- the call of this number is one of those that are to fail
-abbrev pub is_listed : ℕ → List ℕ → Bool
-is_listed number fail = list_any (λ n. n == number) fail
-
 -- what rose since a later count rose since an earlier one
 pub Rose-earlier : (before mid now : ℕ) → before ≤ mid → Rose mid now → Rose before now
 Rose-earlier before mid now later rose = omega arith
+
+-- a fault of a later part has its cause in the whole
+pub HasCause-earlier : {T E : Type 0} → (before mid now : ℕ) (result : Result T E) → before ≤ mid → HasCause mid now result → HasCause before now result
+HasCause-earlier before mid now result later cause = record {
+  later = omega (arith, later, cause.later);
+  fault = on_err_weaker result (Rose-earlier before mid now later) cause.fault;
+}

@@ -1,5 +1,11 @@
 pub mod Causes
 pub mod States
 pub mod Printing
+pub mod Ranges
+pub mod Images
+pub mod Schedule
 pub mod MemSource
 pub mod MemSink
+pub mod SureDisk
+pub mod CallLog
+pub mod MemDisk

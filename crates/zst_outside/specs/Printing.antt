@@ -1,5 +1,5 @@
 -- What calls wrote of a text, and how such calls follow one another.
-use Rattle.std.specs.Prelude.{ℕ, ◌≡◌, List, [], ◌++◌, take, drop, Result, Ok, Err, OnOk, OnErr, ◌≤◌, is_some, refl}
+use Rattle.std.specs.Prelude.{ℕ, ◌≡◌, List, [], ◌++◌, take, drop, Result, Ok, Err, OnOk, OnErr, IsErr, ◌≤◌, is_some, refl}
 use Rattle.std.specs.Io.KnownBytes.{Appends, Keeps}
 use Rattle.std.proofs.Common.{sym, ap, ◌∙◌, append_assoc, append-nil, take-append-drop, arith}
 use Rattle.std.proofs.KnownBytes.{Appends-nil, Appends-trans, Appends-kept}
@@ -83,11 +83,18 @@ Prints-then a b c done text (Err e) first next = record {
   fault = Rose-earlier a.faults b.faults c.faults first.later next.fault;
 }
 
--- a fault in the middle of a longer text
-pub Prints-stop : {T T' E : Type 0} → (a b c : SinkState) (done text further : List ℕ) (e : E)
-    → Wrote a b done [] → Prints {T = T} b c text (Err e) → Prints {T = T'} a c (done ++ (text ++ further)) (Err e)
-Prints-stop a b c done text further e first stopped = record {
-  front = (stopped.front.0 ++ further, Wrote-then a b c done (text ++ further) (stopped.front.0 ++ further) first (Wrote-longer b c text stopped.front.0 further stopped.front.1));
+-- a fault in a text is one in a longer text, whatever error then tells of it
+pub Prints-longer : {T T' E E' : Type 0} → (a b : SinkState) (text further : List ℕ) (e : E) (result : Result T' E') → IsErr result
+    → Prints {T = T} a b text (Err e) → Prints a b (text ++ further) result
+Prints-longer a b text further e (Ok x) failed stopped = absurd cc
+Prints-longer a b text further e (Err e') failed stopped = record {
+  front = (stopped.front.0 ++ further, Wrote-longer a b text stopped.front.0 further stopped.front.1);
   whole = tt;
-  fault = Rose-earlier a.faults b.faults c.faults first.later stopped.fault;
+  fault = stopped.fault;
 }
+
+-- a fault in the middle of a longer text
+pub Prints-stop : {T T' E E' : Type 0} → (a b c : SinkState) (done text further : List ℕ) (e : E) (result : Result T' E') → IsErr result
+    → Wrote a b done [] → Prints {T = T} b c text (Err e) → Prints a c (done ++ (text ++ further)) result
+Prints-stop a b c done text further e result failed first stopped =
+    Prints-then a b c done (text ++ further) result first (Prints-longer b c text further e result failed stopped)

@@ -1,5 +1,6 @@
 ghost use Rattle.std.specs.Prelude.{◌<◌};
 
+use crate::plan::Plan;
 use crate::{Fault, Sink};
 
 /// An output in memory. Its calls are numbered from 0, and those that are listed fail, and so
@@ -8,28 +9,23 @@ use crate::{Fault, Sink};
 pub struct MemSink {
     bytes: Vec<u8>,
     piece: usize,
-    fail: Vec<u64>,
-    calls: u64,
-    faults: u64,
-    starved: u64,
+    plan: Plan,
     ghost takes_some: { 0 < piece },
 }
 
 impl MemSink {
-    ghost use Rattle.std.specs.Prelude.{◌≡◌, [], Some};
+    ghost use Rattle.std.specs.Prelude.{◌≡◌, [], Some, None};
+    ghost use Rattle.zst_outside.specs.Schedule.{fresh};
     ghost use Rattle.zst_outside.specs.MemSink.{output_of};
 
     /// An empty output, in which the calls of these numbers fail.
     pub fn new(fail: Vec<u64>) -> Self
-        ensures { output_of result ≡ record { written = []; piece = usize.MAX; fail = fail.items; next = 0; faults = 0; starved = 0 } }
+        ensures { output_of result ≡ record { written = []; piece = usize.MAX; schedule = fresh fail.items None } }
     {
         MemSink {
             bytes: Vec::new(*fail.allocator()),
             piece: usize::MAX,
-            fail,
-            calls: 0,
-            faults: 0,
-            starved: 0,
+            plan: Plan::new(fail, None),
         }
     }
 
@@ -52,52 +48,45 @@ impl MemSink {
 
     /// How many of the faults were a want of memory.
     pub fn starved(&self) -> u64
-        ensures { result ≡ (output_of self.now).starved }
+        ensures { result ≡ (output_of self.now).schedule.starved }
     {
-        self.starved
+        self.plan.starved()
     }
 }
 
 impl Sink for MemSink {
-    ghost use Rattle.std.specs.Prelude.{◌≡◌, ◌⊎◌, Some, IsTrue, IsErr, IfOk, OnErr, if◌then◌else◌, min, length, take};
+    ghost use Rattle.std.specs.Prelude.{◌≡◌, Some, IfOk, OnErr, min, length, take};
     ghost use Rattle.std.specs.Io.{WritesAtMost};
     ghost use Rattle.std.specs.Io.KnownBytes.{WriteAppends};
-    ghost use Rattle.zst_outside.specs.Causes.{HasCause, Rose};
-    ghost use Rattle.zst_outside.specs.MemSink.{output_of, is_to_fail, after_taking, after_refusing, after_starving};
+    ghost use Rattle.zst_outside.specs.Causes.{HasCause};
+    ghost use Rattle.zst_outside.specs.Schedule.{MeetsSchedule};
+    ghost use Rattle.zst_outside.specs.MemSink.{output_of, after_taking};
 
-    ghost state = { λ s. record { written = Some (output_of s).written; faults = (output_of s).faults } };
+    ghost state = { λ s. record { written = Some (output_of s).written; faults = (output_of s).schedule.faults } };
 
     fn write(&mut self, from: &[u8]) -> Result<usize, Fault>
         ensures bound { WritesAtMost result from.now }
         ensures some { IfOk result (λ n. 0 < length from.now → 0 < n) }
         ensures bytes { WriteAppends (Some (output_of self.old).written) (Some (output_of self.new).written) result from.now }
-        ensures cause { HasCause (output_of self.old).faults (output_of self.new).faults result }
+        ensures cause { HasCause (output_of self.old).schedule.faults (output_of self.new).schedule.faults result }
 
         // It fails where its call is listed, and else only for want of memory.
-        ensures fails { IsTrue (is_to_fail (output_of self.old)) → IsErr result }
-        ensures exact { OnErr result (IsTrue (is_to_fail (output_of self.old)) ⊎ Rose (output_of self.old).starved (output_of self.new).starved) }
+        ensures exact { MeetsSchedule (output_of self.old).schedule (output_of self.new).schedule result }
         ensures count { IfOk result (λ n. n ≡ min (length from.now) (output_of self.old).piece) }
         ensures took { IfOk result (λ n. output_of self.new ≡ after_taking (take n from.now) (output_of self.old)) }
-        ensures refused { OnErr result (output_of self.new ≡ (if is_to_fail (output_of self.old) then after_refusing (output_of self.old) else after_starving (output_of self.old))) }
+        ensures refused { OnErr result (output_of self.new ≡ record (output_of self.old) { schedule = (output_of self.new).schedule }) }
     {
-        let call = self.calls;
-        self.calls = call.saturating_add(1);
-        if self.fail.contains(&call) {
-            self.faults = self.faults.saturating_add(1);
-            return Err(Fault);
+        if self.plan.begin() {
+            return Err(self.plan.refuse());
         }
         let count = from.len().min(self.piece);
         match self.bytes.extend_from_slice(&from[..count]) {
             Ok(()) => Ok(count),
-            Err(_) => {
-                self.starved = self.starved.saturating_add(1);
-                self.faults = self.faults.saturating_add(1);
-                Err(Fault)
-            }
+            Err(_) => Err(self.plan.starve()),
         }
     }
 
     fn faults(&self) -> u64 {
-        self.faults
+        self.plan.faults()
     }
 }

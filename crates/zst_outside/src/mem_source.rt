@@ -1,5 +1,6 @@
 ghost use Rattle.std.specs.Prelude.{◌≡◌, ◌≤◌, ◌<◌, length, min, take};
 
+use crate::plan::Plan;
 use crate::{Fault, Source};
 
 /// An input in memory. Its calls are numbered from 0, and those that are listed fail.
@@ -8,28 +9,25 @@ pub struct MemSource {
     bytes: Vec<u8>,
     place: usize,
     piece: usize,
-    fail: Vec<u64>,
-    calls: u64,
-    faults: u64,
+    plan: Plan,
     ghost inside: { place ≤ length bytes.items },
     ghost gives_some: { 0 < piece },
 }
 
 impl MemSource {
-    ghost use Rattle.std.specs.Prelude.{◌≡◌, Some};
+    ghost use Rattle.std.specs.Prelude.{◌≡◌, Some, None};
+    ghost use Rattle.zst_outside.specs.Schedule.{fresh};
     ghost use Rattle.zst_outside.specs.MemSource.{input_of};
 
     /// An input of these bytes, in which the calls of these numbers fail.
     pub fn new(bytes: Vec<u8>, fail: Vec<u64>) -> Self
-        ensures { input_of result ≡ record { left = bytes.items; piece = usize.MAX; fail = fail.items; next = 0; faults = 0 } }
+        ensures { input_of result ≡ record { left = bytes.items; piece = usize.MAX; schedule = fresh fail.items None } }
     {
         MemSource {
             bytes,
             place: 0,
             piece: usize::MAX,
-            fail,
-            calls: 0,
-            faults: 0,
+            plan: Plan::new(fail, None),
         }
     }
 
@@ -52,38 +50,36 @@ impl MemSource {
 }
 
 impl Source for MemSource {
-    ghost use Rattle.std.specs.Prelude.{◌≡◌, ◌↔◌, ℕ, Some, IsTrue, IsErr, IfOk, OnErr, min};
+    ghost use Rattle.std.specs.Prelude.{◌≡◌, ◌↔◌, Some, IsTrue, IsErr, IfOk, OnErr, min};
     ghost use Rattle.std.specs.Io.{ReadsAtMost};
     ghost use Rattle.std.specs.Io.KnownBytes.{ReadConsumes};
     ghost use Rattle.zst_outside.specs.Causes.{HasCause};
-    ghost use Rattle.zst_outside.specs.MemSource.{input_of, is_to_fail, after_giving, after_refusing};
+    ghost use Rattle.zst_outside.specs.Schedule.{is_to_fail, after_refused};
+    ghost use Rattle.zst_outside.specs.MemSource.{input_of, after_giving};
 
-    ghost state = { λ s. record { left = Some (input_of s).left; faults = (input_of s).faults } };
+    ghost state = { λ s. record { left = Some (input_of s).left; faults = (input_of s).schedule.faults } };
 
     fn read(&mut self, into: &mut [u8]) -> Result<usize, Fault>
         ensures bound { ReadsAtMost result into.new }
         ensures bytes { ReadConsumes (Some (input_of self.old).left) (Some (input_of self.new).left) result into.new }
-        ensures cause { HasCause (input_of self.old).faults (input_of self.new).faults result }
+        ensures cause { HasCause (input_of self.old).schedule.faults (input_of self.new).schedule.faults result }
 
         // It fails exactly where its call is listed, and else gives all that has room.
-        ensures fails { IsErr result ↔ IsTrue (is_to_fail (input_of self.old)) }
+        ensures fails { IsErr result ↔ IsTrue (is_to_fail (input_of self.old).schedule) }
         ensures count { IfOk result (λ n. n ≡ min (length into.old) (min (input_of self.old).piece (length (input_of self.old).left))) }
         ensures gave { IfOk result (λ n. input_of self.new ≡ after_giving n (input_of self.old)) }
-        ensures refused { OnErr result (input_of self.new ≡ after_refusing (input_of self.old)) }
+        ensures refused { OnErr result (input_of self.new ≡ record (input_of self.old) { schedule = after_refused (input_of self.old).schedule }) }
     {
-        let call = self.calls;
-        self.calls = call.saturating_add(1);
-        if self.fail.contains(&call) {
-            self.faults = self.faults.saturating_add(1);
-            return Err(Fault);
+        if self.plan.begin() {
+            return Err(self.plan.refuse());
         }
-        let count = copy_front(&self.bytes[self.place..], into, self.piece);
+        let count = copy_front(self.left(), into, self.piece);
         self.place += count;
         Ok(count)
     }
 
     fn faults(&self) -> u64 {
-        self.faults
+        self.plan.faults()
     }
 }
 

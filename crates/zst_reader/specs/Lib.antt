@@ -1,0 +1,6 @@
+pub mod Window
+pub mod Place
+pub mod Mark
+pub mod Verdict
+pub mod StandsFor
+pub mod Stepping

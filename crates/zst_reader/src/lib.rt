@@ -1,2 +1,17 @@
-//! .
+//! Reads a stream in whatever pieces it comes, and hands out its covered records.
 #![tactic(auto)]
+
+mod judging;
+mod mark;
+mod place;
+mod reader;
+mod window;
+
+pub use reader::{Reader, Step};
+
+/// How many bytes a reader can hold: the longest record, the next record's 312 bytes, and as much
+/// again, so that few bytes are ever moved.
+pub const CAPACITY: usize = 262_144;
+
+#[cfg(test)]
+mod tests;

@@ -76,21 +76,45 @@ redact_with at features object offset size to =
     (check (is_range offset size) (Grammar (at + 24) flaws.Range)
     (Ok (heads.Redact object offset size to))))
 
+-- the records, from their fields' places
+abbrev pub object_of : ℕ → List ℕ → Decoded
+object_of at bytes =
+    object_with at (number_at bytes 8 8) (number_at bytes 16 4) (number_at bytes 20 4) (number_at bytes 24 4) (number_at bytes 28 4)
+    (number_at bytes 34 1) (number_at bytes 36 4) (number_at bytes 56 8) (number_at bytes 40 8)
+
+abbrev pub free_objects_of : List ℕ → Decoded
+free_objects_of bytes = Ok (heads.FreeObjects (number_at bytes 8 8) (number_at bytes 16 8) (number_at bytes 24 8))
+
+abbrev pub write_of : ℕ → List ℕ → Decoded
+write_of at bytes =
+    write_with at (number_at bytes 8 8) (number_at bytes 16 4) (number_at bytes 24 8) (number_at bytes 32 8) (number_at bytes 50 1) (number_at bytes 40 8)
+
+abbrev pub free_of : ℕ → List ℕ → Decoded
+free_of at bytes = free_with at (number_at bytes 8 8) (number_at bytes 16 8) (number_at bytes 24 8) (number_at bytes 32 8)
+
+abbrev pub end_of : List ℕ → Decoded
+end_of bytes = Ok (heads.End (sums_at bytes 8) (number_at bytes 40 8))
+
+abbrev pub spill_of : ℕ → List ℕ → Decoded
+spill_of at bytes = spill_with at (number_at bytes 8 8) (number_at bytes 16 8) (number_at bytes 33 1) (number_at bytes 24 8)
+
+abbrev pub redact_of : ℕ → ℕ → List ℕ → Decoded
+redact_of at features bytes = redact_with at features (number_at bytes 8 8) (number_at bytes 16 8) (number_at bytes 24 8) (number_at bytes 32 8)
+
 -- a record but BEGIN, by the number of its type
 unfoldable pub typed : (kind at features : ℕ) → List ℕ → Decoded
 typed kind at features bytes =
     if kind == 0 then Err (Grammar at flaws.SecondBegin)
-    else if kind == 1 then object_with at (number_at bytes 8 8) (number_at bytes 16 4) (number_at bytes 20 4) (number_at bytes 24 4) (number_at bytes 28 4)
-    (number_at bytes 34 1) (number_at bytes 36 4) (number_at bytes 56 8) (number_at bytes 40 8)
-    else if kind == 2 then Ok (heads.FreeObjects (number_at bytes 8 8) (number_at bytes 16 8) (number_at bytes 24 8))
-    else if kind == 3 then write_with at (number_at bytes 8 8) (number_at bytes 16 4) (number_at bytes 24 8) (number_at bytes 32 8) (number_at bytes 50 1) (number_at bytes 40 8)
-    else if kind == 4 then free_with at (number_at bytes 8 8) (number_at bytes 16 8) (number_at bytes 24 8) (number_at bytes 32 8)
-    else if kind == 5 then Ok (heads.End (sums_at bytes 8) (number_at bytes 40 8))
+    else if kind == 1 then object_of at bytes
+    else if kind == 2 then free_objects_of bytes
+    else if kind == 3 then write_of at bytes
+    else if kind == 4 then free_of at bytes
+    else if kind == 5 then end_of bytes
     else if kind == 6 then Err (Unsupported at lacks.ByReference)
-    else if kind == 7 then spill_with at (number_at bytes 8 8) (number_at bytes 16 8) (number_at bytes 33 1) (number_at bytes 24 8)
+    else if kind == 7 then spill_of at bytes
     else if kind == 8 then Err (Unsupported at lacks.Embedded)
     else if kind == 9 then Err (Unsupported at lacks.ObjectRange)
-    else if kind == 10 then redact_with at features (number_at bytes 8 8) (number_at bytes 16 8) (number_at bytes 24 8) (number_at bytes 32 8)
+    else if kind == 10 then redact_of at features bytes
     else Err (Grammar at flaws.RecordType)
 
 -- what a feature flag that is never accepted stands for
@@ -139,29 +163,39 @@ unfoldable pub named : (Header → Decoded) → (List ℕ → Header) → Option
 named next make None = Err (Grammar 56 flaws.Name)
 named next make (Some name) = next (make name)
 
-unfoldable pub begin_with : (record_kind payload_len magic header_type features time kind flags to from : ℕ) → List ℕ → Decoded
-begin_with record_kind payload_len magic header_type features time kind flags to from field =
+-- what BEGIN says of its snapshot and its payload
+unfoldable pub snapshot_with : (payload_len features time kind flags to from : ℕ) → List ℕ → Decoded
+snapshot_with payload_len features time kind flags to from field =
+    check ((kind == 2) || (kind == 3)) (Grammar 32 flaws.Kind)
+    (check (not (to == 0)) (Grammar 40 flaws.Guid)
+    (named (λ header. check (is_payload_len payload_len) (Unsupported 4 lacks.ForeignPayload)
+    (check (not ((payload_len == 0) && needs_payload features)) (Grammar 4 flaws.Payload)
+    (Ok (heads.Begin header payload_len))))
+    (header_with features kind flags time to from) (name_in field)))
+
+abbrev pub snapshot_of : ℕ → List ℕ → Decoded
+snapshot_of features bytes =
+    snapshot_with (number_at bytes 4 4) features (number_at bytes 24 8) (number_at bytes 32 4) (number_at bytes 36 4)
+    (number_at bytes 40 8) (number_at bytes 48 8) (bytes_at bytes 56 256)
+
+-- before that, what kind of a stream it begins
+unfoldable pub begin_with : (record_kind magic header_type features : ℕ) → Decoded → Decoded
+begin_with record_kind magic header_type features next =
     check (record_kind == 0) (Grammar 0 flaws.RecordType)
     (check (not (magic == 0xaccbbaf502000000)) (Unsupported 8 lacks.BigEndian)
     (check (magic == MAGIC) (Grammar 8 flaws.Magic)
     (check (not (header_type == 2)) (Unsupported 16 lacks.Compound)
     (check (header_type == 1) (Grammar 16 flaws.HeaderType)
     (check (others_of features == 0) (Unsupported 16 (lack_of_feature (trailing_zeros w32 (others_of features))))
-    (check (bit_and features LARGE_BLOCKS == 0) (Unsupported 16 lacks.LargeBlocks)
-    (check ((kind == 2) || (kind == 3)) (Grammar 32 flaws.Kind)
-    (check (not (to == 0)) (Grammar 40 flaws.Guid)
-    (named (λ header. check (is_payload_len payload_len) (Unsupported 4 lacks.ForeignPayload)
-    (check (not ((payload_len == 0) && needs_payload features)) (Grammar 4 flaws.Payload)
-    (Ok (heads.Begin header payload_len))))
-    (header_with features kind flags time to from) (name_in field))))))))))
+    (check (bit_and features LARGE_BLOCKS == 0) (Unsupported 16 lacks.LargeBlocks) next))))))
 
 -- the feature flags: bits 2 to 31 of drr_versioninfo
 abbrev pub features_in : List ℕ → ℕ
 features_in bytes = number_at bytes 16 8 / 4 % 2 ^ 30
 
 unfoldable pub begin_of : List ℕ → Decoded
-begin_of bytes = begin_with (number_at bytes 0 4) (number_at bytes 4 4) (number_at bytes 8 8) (number_at bytes 16 8 % 4) (features_in bytes)
-    (number_at bytes 24 8) (number_at bytes 32 4) (number_at bytes 36 4) (number_at bytes 40 8) (number_at bytes 48 8) (bytes_at bytes 56 256)
+begin_of bytes =
+    begin_with (number_at bytes 0 4) (number_at bytes 8 8) (number_at bytes 16 8 % 4) (features_in bytes) (snapshot_of (features_in bytes) bytes)
 
 -- what the record at this place says, in a stream with these features
 unfoldable pub decoded : (at features : ℕ) → List ℕ → Decoded

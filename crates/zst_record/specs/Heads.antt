@@ -1,5 +1,5 @@
 -- What a record says beside its fields.
-use Rattle.std.specs.Prelude.{ℕ, ◌+◌, ◌*◌, ◌/◌, Bool, true, false, List}
+use Rattle.std.specs.Prelude.{ℕ, ◌+◌, ◌*◌, ◌/◌, List}
 use Rattle.zst_record.specs.declared.head.Head.{Head}
 use Rattle.zst_record.specs.declared.head.Head.TheVariants as heads
 use Rattle.zst_record.specs.declared.head.Record.{Record}
@@ -28,4 +28,4 @@ pub record Covered : Type 0 where
 
 -- a record as the code hands it out
 abbrev pub covered_of : Record → Covered
-covered_of r = record { head = r.head; at = r.at; index = r.index; payload = r.payload.now }
+covered_of r = record { head = r.head.now; at = r.at; index = r.index; payload = r.payload.now }

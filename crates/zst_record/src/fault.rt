@@ -1,4 +1,4 @@
-use zst_model::{Flaw, Lack};
+use zst_model::{Flaw, Lack, Refusal};
 
 /// Why a stream was refused, with the byte at which the reason stands.
 #[derive(Clone, Copy, Debug, PartialEq, Eq)]
@@ -23,4 +23,20 @@ pub enum StreamFault {
     Truncated {
         at: u64,
     },
+}
+
+impl From<StreamFault> for Refusal {
+    ghost use Rattle.std.specs.Prelude.{◌≡◌};
+    ghost use Rattle.zst_record.specs.Faults.{refusal_of};
+
+    ghost from_gives = { λ fault refusal. refusal ≡ refusal_of fault };
+
+    fn from(fault: StreamFault) -> Refusal {
+        match fault {
+            StreamFault::Grammar { at, flaw } => Refusal::Grammar { at, flaw },
+            StreamFault::Checksum { at, stated, found } => Refusal::Checksum { at, stated, found },
+            StreamFault::Unsupported { at, lack } => Refusal::Unsupported { at, lack },
+            StreamFault::Truncated { at } => Refusal::Truncated { at },
+        }
+    }
 }

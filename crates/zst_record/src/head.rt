@@ -1,3 +1,7 @@
+ghost use Rattle.std.specs.Prelude.{◌≡◌};
+ghost use Rattle.zst_record.specs.Heads.{payload_len};
+
+use zst_bytes::pad8;
 use zst_model::Header;
 
 /// What the 312 bytes of a record say (`dmu_replay_record` of zfs_ioctl.h), but for its checksum.
@@ -59,10 +63,31 @@ pub enum Head {
     },
 }
 
+impl Head {
+    /// The count of bytes of the payload that follows the record.
+    pub fn payload_len(&self) -> u64
+        ensures { result ≡ payload_len self.now }
+    {
+        match self {
+            Head::Begin {
+                header: _,
+                payload_len,
+            } => u64::from(*payload_len),
+            Head::Object { bonus_len, .. } => pad8(u64::from(*bonus_len)),
+            Head::Write { length, .. } => *length,
+            Head::Spill { length, .. } => *length,
+            Head::FreeObjects { .. } => 0,
+            Head::Free { .. } => 0,
+            Head::End { .. } => 0,
+            Head::Redact { .. } => 0,
+        }
+    }
+}
+
 /// A covered record: its head, its place in the stream in bytes, its number from 0 at BEGIN, and its payload.
-#[derive(Drop)]
+#[derive(Clone, Copy)]
 pub struct Record<'a> {
-    pub head: Head,
+    pub head: &'a Head,
     pub at: u64,
     pub index: u64,
     pub payload: &'a [u8],

@@ -1,11 +1,17 @@
 //! The records of a stream: what they say, their tables, written and read.
 #![tactic(auto)]
 
+mod decoding;
+mod encoding;
 mod fault;
 mod head;
+mod laws;
 
+pub use decoding::{decode, get_sums};
+pub use encoding::{encode, put_sums};
 pub use fault::StreamFault;
 pub use head::{Head, Record};
+pub use laws::{begin_is_decoded, payload_is_bounded, record_is_decoded};
 
 /// The magic number of BEGIN (`DMU_BACKUP_MAGIC` of zfs_ioctl.h).
 pub const MAGIC: u64 = 0x2_F5ba_cbac;
@@ -21,3 +27,6 @@ pub const RESUMING: u32 = 0x10_0000;
 
 /// The feature flag of a redacted stream.
 pub const REDACTED: u32 = 0x20_0000;
+
+#[cfg(test)]
+mod tests;

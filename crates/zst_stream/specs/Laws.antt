@@ -4,11 +4,16 @@ use Rattle.zst_model.specs.declared.header.Header.{Header}
 use Rattle.zst_record.specs.declared.head.Head.TheVariants as heads
 use Rattle.zst_record.specs.Heads.{Covered}
 use Rattle.zst_stream.specs.Reading.{reading, FrontOf, waiting, complete}
+use Rattle.zst_stream.specs.Findings.{FindsAtEnd}
 use Rattle.zst_stream.specs.Image.{begin_head, begin_payload, Piece, IsStream, image, image_after, piece_after, covers}
 
 -- However a text goes on, the reading of a front of it is a front of its reading.
 abbrev pub FrontsAgree : Type 0
 FrontsAgree = (text later : List ℕ) → FrontOf (reading text) (reading (text ++ later))
+
+-- What a reading refuses is in the stream itself, and never that the input is cut.
+abbrev pub FaultsAreFound : Type 0
+FaultsAreFound = (text : List ℕ) → FindsAtEnd (reading text).outcome
 
 -- An image is read as BEGIN, its pieces and END.
 abbrev pub ImageIsRead : Type 0

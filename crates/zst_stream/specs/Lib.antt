@@ -1,3 +1,8 @@
 pub mod Reading
+pub mod Growth
 pub mod Image
 pub mod Laws
+pub mod Findings
+pub mod Whole
+pub mod Example
+pub mod ExampleLaws

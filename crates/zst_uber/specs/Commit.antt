@@ -1,6 +1,7 @@
 -- What a crash may leave in a commit.
 use Rattle.std.specs.Prelude.{◌≡◌, ◌⊎◌, ℕ, ◌+◌, ◌≤◌, List}
-use Rattle.zst_outside.specs.Images.{bytes_at, Torn, DiskState, Leaves, Keeps}
+use Rattle.zst_outside.specs.Images.{DiskState, Leaves, Keeps}
+use Rattle.zst_outside.specs.Ranges.{bytes_at, Torn}
 use Rattle.zst_space.specs.FreeSectors.{FreeSectors}
 use Rattle.zst_block.specs.Blocks.{KeepsBlocks}
 use Rattle.zst_uber.specs.Slots.{latest, Stands, IsOpen, gate_place}

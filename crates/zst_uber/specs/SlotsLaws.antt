@@ -1,6 +1,6 @@
 -- The latest body stands in sectors 0 to 7.
 use Rattle.std.proofs.Common.{◌≡◌, ℕ, ◌+◌, ◌≤◌, List, Option, refl, sym, ◌∙◌, ap, arith}
-use Rattle.zst_outside.specs.Images.{bytes_at}
+use Rattle.zst_outside.specs.Ranges.{bytes_at}
 use Rattle.zst_uber.specs.Slots.{body_place, in_slot, gate_of, slot_at, greater, latest, latest_slot}
 use Rattle.zst_uber.specs.declared.slot.Slot.{Slot}
 use Rattle.zst_uber.specs.declared.slot.Slot.TheVariants.{First, Second}

@@ -1,7 +1,8 @@
 // The commit: one body more, in the slot that isn't the latest.
 ghost use Rattle.std.specs.Prelude.{◌≡◌, ◌≤◌, ◌||◌, List, ℕ, IsTrue, IfOk, OnOk, is_err};
 ghost use Rattle.zst_outside.specs.Causes.{HasCause};
-ghost use Rattle.zst_outside.specs.Images.{bytes_at, IsSynced, Leaves, OnlyReads, WritesIn};
+ghost use Rattle.zst_outside.specs.Images.{IsSynced, Leaves, OnlyReads, WritesIn};
+ghost use Rattle.zst_outside.specs.Ranges.{bytes_at};
 ghost use Rattle.zst_space.specs.FreeSectors.{FreeSectors};
 ghost use Rattle.zst_block.specs.Blocks.{FitsDisk, KeepsBlocks};
 ghost use Rattle.zst_uber.specs.Body.{UberFits};

@@ -1,7 +1,8 @@
 // The latest body of a disk.
 ghost use Rattle.std.specs.Prelude.{◌≡◌, ◌↔◌, ◌≤◌, List, ℕ, Some, length, IsTrue, IfOk};
 ghost use Rattle.zst_outside.specs.Causes.{HasCause};
-ghost use Rattle.zst_outside.specs.Images.{bytes_at, IsSynced, OnlyReads};
+ghost use Rattle.zst_outside.specs.Images.{IsSynced, OnlyReads};
+ghost use Rattle.zst_outside.specs.Ranges.{bytes_at};
 ghost use Rattle.zst_uber.specs.Body.{IsBody, InRange, body_bytes};
 ghost use Rattle.zst_uber.specs.Slots.{latest as latest_of, latest_slot, body_sector, slot_at};
 ghost use Rattle.zst_uber.specs.Opening.{Answers, Decodes, GivesUber, HasDiskCause};

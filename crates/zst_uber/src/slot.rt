@@ -1,7 +1,8 @@
 // The slots in the first four sectors.
 ghost use Rattle.std.specs.Prelude.{◌≡◌, ◌≤◌, List, ℕ, length, IfOk, IsTrue};
 ghost use Rattle.zst_outside.specs.Causes.{HasCause};
-ghost use Rattle.zst_outside.specs.Images.{bytes_at, OnlyReads};
+ghost use Rattle.zst_outside.specs.Images.{OnlyReads};
+ghost use Rattle.zst_outside.specs.Ranges.{bytes_at};
 ghost use Rattle.zst_uber.specs.Slots.{gate_place, body_place, body_sector, counts, slot_at, greater, other};
 
 use crate::MAGIC;

@@ -1,2 +1,10 @@
-//! .
+//! Writes the records of a stream with their checksums.
 #![tactic(auto)]
+
+mod laws;
+#[cfg(test)]
+mod tests;
+mod writer;
+
+pub use laws::image_is_put;
+pub use writer::Writer;

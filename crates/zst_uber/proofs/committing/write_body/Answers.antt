@@ -1,5 +1,6 @@
 use Rattle.std.proofs.Common.{◌≡◌, List, ℕ, sym, ◌∙◌, ap, subst}
-use Rattle.zst_outside.specs.Images.{DiskState, WritesIn, OnlyReads, WritesIn-reads, WritesIn-then, bytes_at}
+use Rattle.zst_outside.specs.Images.{DiskState, WritesIn, OnlyReads, WritesIn-reads, WritesIn-then}
+use Rattle.zst_outside.specs.Ranges.{bytes_at}
 use Rattle.zst_uber.specs.Body.{body_bytes}
 use Rattle.zst_uber.specs.Slots.{slot_at, latest, latest_slot, other, body_place}
 use Rattle.zst_uber.specs.Commit.{HasOldOrNew, HeadSettled, Closes}

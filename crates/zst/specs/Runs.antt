@@ -1,0 +1,48 @@
+-- What a run does: the status, and what is noted.
+use Rattle.std.specs.Prelude.{ℕ, ◌≡◌, ◌⊎◌, List, [], ◌∷◌, ◌++◌, Option, Some, None, Result, Ok, Err, codes, decimal}
+use Rattle.zst_outside.specs.Causes.{Rose}
+use Rattle.zst_outside.specs.States.{SourceState, SinkState}
+use Rattle.zst_outside.specs.Printing.{Wrote}
+use Rattle.zst_model.specs.Refusal.{number_of, text_of}
+use Rattle.zst_model.specs.declared.refusal.Refusal.{Refusal}
+use Rattle.zst_model.specs.declared.refusal.Refusal.TheVariants as refusals
+use Rattle.zst.specs.Words.{usage_place}
+use Rattle.zst.specs.Dumps.{Dumps}
+
+-- the status that a refusal ends the program with
+abbrev pub status_of : Refusal → ℕ
+status_of (refusals.Usage place) = 2
+status_of (refusals.Grammar at flaw) = 4
+status_of (refusals.Checksum at stated found) = 4
+status_of (refusals.Unsupported at lack) = 4
+status_of (refusals.Truncated at) = 4
+status_of refusals.SourceFault = 5
+status_of refusals.SinkFault = 6
+status_of (refusals.Limit which number) = 9
+status_of refusals.OutOfMemory = 10
+
+-- the line that notes a refusal
+unfoldable pub note_of : Refusal → List ℕ
+note_of refusal = codes "zst: E" ++ (decimal (number_of refusal) ++ (codes " " ++ (text_of refusal ++ codes "\n")))
+
+-- a front of a text was noted, and all of it unless a fault was counted
+pub record Noted (note note' : SinkState) (text : List ℕ) : Type 0 where
+  pub front : (rest : List ℕ) × Wrote note note' text rest
+  pub whole : Wrote note note' text [] ⊎ Rose note.faults note'.faults
+
+-- The answer is told by the status, 0 where nothing was refused, and a refusal is noted.
+abbrev pub Told : SinkState → SinkState → ℕ → Result (Unit {0}) Refusal → Type 0
+Told note note' status (Ok done) = (status ≡ 0) × (note' ≡ note)
+Told note note' status (Err refusal) = (status ≡ status_of refusal) × Noted note note' (note_of refusal)
+
+-- What the words ask for is done: a line that is not in the grammar is refused with its place and changes nothing,
+-- and `dump` dumps.
+abbrev pub Does : Option ℕ → SourceState → SourceState → SinkState → SinkState → Result (Unit {0}) Refusal → Type 0
+Does (Some place) input input' out out' result = (result ≡ Err (refusals.Usage place)) × (input' ≡ input) × (out' ≡ out)
+Does None input input' out out' result = Dumps input input' out out' result
+
+-- A run of the program on these words.
+pub record Runs (words : List (List ℕ)) (input input' : SourceState) (out out' note note' : SinkState) (status : ℕ) : Type 0 where
+  pub result : Result (Unit {0}) Refusal
+  pub does : Does (usage_place words) input input' out out' result
+  pub told : Told note note' status result

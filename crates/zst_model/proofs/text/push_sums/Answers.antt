@@ -1,0 +1,8 @@
+use Rattle.zst_model.proofs.Appended.{appended}
+use Rattle.zst_model.proofs.text.push_sums.Goals as goal
+
+pub returns-clause-bytes : goal.returns-clause-bytes
+returns-clause-bytes c =
+    appended _ _ _ _ _ _ _ _ _ _ _ _
+    c.push_number.ensures.bytes c.push_str.ensures.bytes c.push_number-2.ensures.bytes c.push_str-2.ensures.bytes
+    c.push_number-3.ensures.bytes c.push_str-3.ensures.bytes c.push_number-4.ensures.bytes

@@ -1,0 +1,4 @@
+mod Judged
+mod Places
+mod Turns
+mod Stands

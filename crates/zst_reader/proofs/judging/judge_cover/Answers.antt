@@ -1,0 +1,25 @@
+use Rattle.std.proofs.Common.{◌≡◌, ◌+◌, ◌++◌, take, ap, ◌∙◌, arith}
+use Rattle.zst_fletcher.specs.WeightSum.{weight_sum}
+use Rattle.zst_record.specs.Heads.{size_of}
+use Rattle.zst_reader.proofs.Judged.{two-parts, whole-part, cover-refused, cover-right}
+use Rattle.zst_reader.proofs.judging.judge_cover.Goals as goal
+
+pub returns-in-Some-clause-rules : goal.returns-in-Some-clause-rules
+returns-in-Some-clause-rules c = λ before is.
+    let held = c.args.held.now in
+    let head = c.args.head in
+    let size = 312 + c.payload_len.result in
+    let same : size ≡ size_of head = ap (λ n. 312 + n) c.payload_len.ensures in
+    let with = c.add.ensures before is.words is.sum in
+    let found = c.add-2.ensures (before ++ take size held) (whole-part before held size is.words (omega arith) (omega arith)) with ∙ ap weight_sum (two-parts before held size) in
+    cover-refused before held head c.in-Some.fault (omega arith) (rw same at (c.in-Some.ensures before (size + 280) found is.at))
+
+pub returns-in-None-clause-rules : goal.returns-in-None-clause-rules
+returns-in-None-clause-rules c = λ before is.
+    let held = c.args.held.now in
+    let head = c.args.head in
+    let size = 312 + c.payload_len.result in
+    let same : size ≡ size_of head = ap (λ n. 312 + n) c.payload_len.ensures in
+    let with = c.add.ensures before is.words is.sum in
+    let found = c.add-2.ensures (before ++ take size held) (whole-part before held size is.words (omega arith) (omega arith)) with ∙ ap weight_sum (two-parts before held size) in
+    cover-right before held head (omega arith) (rw same at (c.in-None.ensures before (size + 280) found is.at))

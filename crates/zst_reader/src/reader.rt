@@ -1,0 +1,209 @@
+ghost use Rattle.std.specs.Prelude.{◌≡◌, ◌+◌, ◌*◌, ◌-◌, ◌^◌, ◌≤◌, length};
+ghost use Rattle.zst_reader.specs.Window.{items};
+
+use crate::CAPACITY;
+use crate::judging::{Verdict, judge};
+use crate::mark::Mark;
+use crate::place::Place;
+use crate::window::Window;
+use std::alloc::{AllocError, Global};
+use zst_fletcher::Sum;
+use zst_record::{Head, Record, StreamFault};
+
+/// What `next` found.
+#[derive(Clone, Copy)]
+pub enum Step<'a> {
+    /// The next covered record.
+    Record(Record<'a>),
+    /// The bytes that were pushed hold no further covered record.
+    NeedMore,
+    /// END was handed out.
+    End,
+}
+
+/// What `find` found. The record's head is the reader's, and its payload stands behind its 312 bytes, at the window's front.
+#[derive(Clone, Copy)]
+pub(crate) enum Found {
+    Record { at: u64, index: u64 },
+    NeedMore,
+    End,
+}
+
+/// Reads a stream in whatever pieces it comes, in one buffer of `CAPACITY` bytes.
+#[derive(Drop)]
+pub struct Reader {
+    window: Window,
+    /// The record that was handed out last. Before the first one nobody looks at it.
+    head: Head,
+    /// How many bytes at the window's front are of it.
+    taken: usize,
+    place: Place,
+    handed: u64,
+    pushed: u64,
+    mark: Mark,
+    ghost inside: { taken ≤ length (items window) },
+    ghost counted: { place.at + (length (items window) - taken) ≡ pushed },
+    ghost bounded: { pushed ≤ 2 ^ 62 },
+    ghost numbered: { 312 * handed ≤ place.at },
+}
+
+impl Reader {
+    ghost use Rattle.std.specs.Prelude.{List, ℕ, [], ◌++◌, ◌∷◌, ◌%◌, IfOk, take, min};
+    ghost use Rattle.std.specs.Borrow.{sem};
+    ghost use Rattle.zst_record.specs.Heads.{Covered, covered_of, size_of};
+    ghost use Rattle.zst_fletcher.specs.WeightSum.{weight_sum};
+    ghost use Rattle.zst_reader.specs.Mark.{finish_of};
+    ghost use Rattle.zst_reader.specs.Place.{IsPlaceAfter, IsWithin};
+    ghost use Rattle.zst_reader.specs.StandsFor.{StandsFor, held, pushed_of, handed_of, room_of, mark_of, place_of};
+    ghost use Rattle.zst_reader.specs.Stepping.{StepsOn, Counts, Finds, FindsIn, covered_in};
+
+    /// A reader of the empty text.
+    pub fn open(alloc: Global) -> Result<Reader, AllocError>
+        ensures stands { IfOk result (λ r. StandsFor r [] []) }
+        ensures mark { IfOk result (λ r. mark_of r ≡ Mark.Open) }
+    {
+        Ok(Reader {
+            window: Window::new(alloc)?,
+            head: Head::End {
+                sums: [0; 4],
+                to: 0,
+            },
+            taken: 0,
+            place: Place::first(),
+            handed: 0,
+            pushed: 0,
+            mark: Mark::Open,
+        })
+    }
+
+    /// Takes a front of a piece, as long as there is room.
+    pub fn push(&mut self, piece: &[u8]) -> usize
+        requires { pushed_of self.old + length piece.now ≤ 2 ^ 62 }
+        ensures count { result ≡ min (length piece.now) (room_of self.old) }
+        ensures pushed { pushed_of self.new ≡ pushed_of self.old + result }
+        ensures handed { handed_of self.new ≡ handed_of self.old }
+        ensures mark { mark_of self.new ≡ mark_of self.old }
+        ensures stands { (text : List ℕ) (handed : List Covered) → StandsFor self.old text handed
+            → StandsFor self.new (text ++ take result piece.now) handed }
+    {
+        self.settle();
+        let count = piece.len().min(self.room());
+        self.window.append(&piece[..count]);
+        self.pushed += count as u64;
+        count
+    }
+
+    /// How many more bytes it can take.
+    pub fn room(&self) -> usize
+        ensures { result ≡ room_of self.now }
+    {
+        CAPACITY - (self.window.as_slice().len() - self.taken)
+    }
+
+    /// How many bytes it has taken.
+    pub fn pushed(&self) -> u64
+        ensures { result ≡ pushed_of self.now }
+    {
+        self.pushed
+    }
+
+    /// What it means that the input ends here: the stream is truncated, unless it has ended or was refused.
+    pub fn finish(&self) -> Result<(), StreamFault>
+        ensures { result ≡ finish_of (mark_of self.now) (pushed_of self.now) }
+    {
+        match self.mark {
+            Mark::Open => Err(StreamFault::Truncated { at: self.pushed }),
+            Mark::Failed(fault) => Err(fault),
+            Mark::Ended => Ok(()),
+        }
+    }
+
+    // Gives up the record that was handed out last.
+    fn settle(&mut self)
+        ensures taken { self.new.taken ≡ 0 }
+        ensures items { items self.new.window ≡ held self.old }
+        ensures place { self.new.place ≡ self.old.place }
+        ensures handed { self.new.handed ≡ self.old.handed }
+        ensures pushed { self.new.pushed ≡ self.old.pushed }
+        ensures mark { self.new.mark ≡ self.old.mark }
+    {
+        let count = self.taken;
+        self.taken = 0;
+        self.window.consume(count);
+    }
+
+    // Takes the record at the window's front as handed out. The sum is that of the text with it.
+    fn advance(&mut self, head: Head, sum: Sum, mark: Mark)
+        requires settled { self.old.taken ≡ 0 }
+        requires within { IsWithin (length (items self.old.window)) (size_of head) }
+        ensures head { self.new.head ≡ head }
+        ensures taken { self.new.taken ≡ size_of head }
+        ensures window { self.new.window ≡ self.old.window }
+        ensures counts { Counts self.old self.new 1 mark }
+        ensures at { self.new.place.at ≡ self.old.place.at + size_of head }
+        ensures after { (before : List ℕ) → IsPlaceAfter before self.old.place → sum ≡ weight_sum (before ++ take (size_of head) (items self.old.window))
+            → IsPlaceAfter (before ++ take (size_of head) (items self.old.window)) self.new.place }
+    {
+        let size = 312 + head.payload_len() as usize;
+        self.place = self.place.after(self.window.as_slice(), size, sum);
+        self.head = head;
+        self.taken = size;
+        self.handed += 1;
+        self.mark = mark;
+    }
+
+    // Finds the next covered record, and takes it as handed out.
+    fn find(&mut self) -> Result<Found, StreamFault>
+        ensures moves { Finds self.old self.new result }
+        ensures finds { (text : List ℕ) (handed : List Covered) → StandsFor self.old text handed → FindsIn self.new text handed result }
+    {
+        match self.mark {
+            Mark::Failed(fault) => return Err(fault),
+            Mark::Ended => return Ok(Found::End),
+            Mark::Open => {}
+        }
+        self.settle();
+        let (at, index) = (self.place.at, self.handed);
+        match judge(self.window.as_slice(), &self.place) {
+            Verdict::Wait => Ok(Found::NeedMore),
+            Verdict::Refuse(fault) => {
+                self.mark = Mark::Failed(fault);
+                Err(fault)
+            }
+            Verdict::Last { head, sum } => {
+                self.advance(head, sum, Mark::Ended);
+                Ok(Found::Record { at, index })
+            }
+            Verdict::More { head, sum } => {
+                self.advance(head, sum, Mark::Open);
+                Ok(Found::Record { at, index })
+            }
+        }
+    }
+
+    // The record that was handed out last, of this place and number.
+    fn lent(&self, at: u64, index: u64) -> Record<'_>
+        requires { self.now.taken ≡ size_of self.now.head }
+        ensures { covered_of result ≡ covered_in self.now at index }
+    {
+        Record {
+            head: &self.head,
+            at,
+            index,
+            payload: &self.window.as_slice()[312..self.taken],
+        }
+    }
+
+    /// The next covered record, whose payload lies in the reader's buffer until the next call. A record is covered once
+    /// the next record's 312 bytes are there with the right checksum, END by itself. After a fault it answers that fault.
+    pub fn next(&mut self) -> Result<Step<'_>, StreamFault>
+        ensures* steps { sem 𝓛 (StepsOn self.entry result) }
+    {
+        match self.find() {
+            Ok(Found::Record { at, index }) => Ok(Step::Record(self.lent(at, index))),
+            Ok(Found::NeedMore) => Ok(Step::NeedMore),
+            Ok(Found::End) => Ok(Step::End),
+            Err(fault) => Err(fault),
+        }
+    }
+}

@@ -1,0 +1,5 @@
+use Rattle.zst_stream.specs.Whole.{pieces}
+use Rattle.zst_stream.proofs.covers_are_pieces.Goals as goal
+
+pub returns : goal.returns
+returns c = pieces

@@ -1,0 +1,5 @@
+use Rattle.zst_stream.specs.Findings.{Finds-reading}
+use Rattle.zst_stream.proofs.faults_are_found.Goals as goal
+
+pub returns : goal.returns
+returns c = Finds-reading

@@ -1,0 +1,5 @@
+use Rattle.zst_stream.specs.Growth.{front}
+use Rattle.zst_stream.proofs.fronts_agree.Goals as goal
+
+pub returns : goal.returns
+returns c = front

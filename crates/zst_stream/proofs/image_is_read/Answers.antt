@@ -1,0 +1,5 @@
+use Rattle.zst_stream.specs.Whole.{whole}
+use Rattle.zst_stream.proofs.image_is_read.Goals as goal
+
+pub returns : goal.returns
+returns c = whole

@@ -1,0 +1,2 @@
+mod Sealed
+mod Puts
