@@ -1,5 +1,5 @@
 // The commit: one body more, in the slot that isn't the latest.
-ghost use Rattle.std.specs.Prelude.{◌≡◌, ◌≤◌, ◌||◌, List, ℕ, IsTrue, IfOk, OnOk, is_err};
+ghost use Rattle.std.specs.Prelude.{◌≡◌, ◌+◌, ◌≤◌, ◌||◌, List, ℕ, IsTrue, IfOk, OnOk, is_err};
 ghost use Rattle.zst_outside.specs.Causes.{HasCause};
 ghost use Rattle.zst_outside.specs.Images.{IsSynced, Leaves, OnlyReads, WritesIn};
 ghost use Rattle.zst_outside.specs.Ranges.{bytes_at};
@@ -33,7 +33,9 @@ pub fn commit<D: Disk>(disk: &mut D, uber: &Uber) -> Result<(), UberFault>
 
     // The new body stands once it is done, and nothing is pending.
     ensures stands { IsTrue D.tells_reads → OnOk result (Stands uber.now (D.state disk.new).seen) }
+    ensures following { IsTrue D.tells_reads → OnOk result (IsNext (uber.now.number + 1) (latest (D.state disk.new).seen)) }
     ensures durable { OnOk result (IsSynced (D.state disk.new)) }
+    ensures head { OnOk result (HeadSettled (D.state disk.new)) }
     ensures fits { UberFits uber.now }
 
     ensures cause { HasDiskCause (D.state disk.old).faults (D.state disk.new).faults result }
@@ -58,7 +60,9 @@ pub fn commit_event<D: Disk>(io: &mut Io<'_, D>, uber: &Uber) -> Result<(), Uber
     ensures writes { WritesIn 0 4096 (D.state io.old.disk.now) (D.state io.new.disk.now) }
 
     ensures stands { IsTrue D.tells_reads → OnOk result (Stands uber.now (D.state io.new.disk.now).seen) }
+    ensures following { IsTrue D.tells_reads → OnOk result (IsNext (uber.now.number + 1) (latest (D.state io.new.disk.now).seen)) }
     ensures durable { OnOk result (IsSynced (D.state io.new.disk.now)) }
+    ensures head { OnOk result (HeadSettled (D.state io.new.disk.now)) }
     ensures uber_fits { UberFits uber.now }
 
     ensures cause { HasDiskCause (D.state io.old.disk.now).faults (D.state io.new.disk.now).faults result }
