@@ -5,6 +5,8 @@ mod committing;
 mod fault;
 mod opening;
 mod slot;
+#[cfg(test)]
+mod tests;
 mod uber;
 
 pub use committing::{commit, commit_event};
