@@ -4,6 +4,8 @@
 mod fault;
 mod io;
 mod ptr;
+#[cfg(test)]
+mod tests;
 
 pub use fault::BlockFault;
 pub use io::{Io, read, write};

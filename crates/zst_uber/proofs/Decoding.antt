@@ -1,10 +1,13 @@
 -- What a body says.
-use Rattle.std.proofs.Common.{◌≡◌, ℕ, ◌+◌, ◌≤◌, List, Option, Some, None, Result, Ok, Err, refl, sym, ◌∙◌, ap, subst, arith}
+use Rattle.std.proofs.Common.{◌≡◌, ℕ, ◌+◌, ◌^◌, ◌<◌, ◌≤◌, List, Option, Some, None, Result, Ok, Err, IfOk, refl, sym, ◌∙◌, ap, subst, arith}
 use Rattle.zst_bytes.specs.Bytes.{number_at}
 use Rattle.zst_outside.specs.Images.{DiskState, IsSynced, OnlyReads}
+use Rattle.zst_outside.specs.Ranges.{bytes_at}
 use Rattle.zst_uber.specs.Body.{IsBody, InRange, UberFits, body_bytes, uber_at}
-use Rattle.zst_uber.specs.BodyLaws.{uber_at-body_bytes, version-back}
-use Rattle.zst_uber.specs.Opening.{Decodes, GivesUber}
+use Rattle.zst_uber.specs.BodyLaws.{uber_at-body_bytes, version-back, number_back}
+use Rattle.zst_uber.specs.Slots.{latest, Stands, IsNext}
+use Rattle.zst_uber.specs.Commit.{HeadSettled}
+use Rattle.zst_uber.specs.Opening.{Decodes, GivesUber, IsLatest, TellsNext}
 use Rattle.zst_uber.specs.declared.TheConstants.{VERSION}
 use Rattle.zst_uber.specs.declared.uber.Uber.{Uber}
 use Rattle.zst_uber.specs.declared.fault.UberFault.{UberFault}
@@ -33,8 +36,29 @@ none_is size read body fields isnt uber is =
 pub still_synced : (old new : DiskState) → IsSynced old → OnlyReads old new → IsSynced new
 still_synced old new synced reads = λ c now. synced c (reads.crash c now) ∙ sym reads.seen
 
+-- the next number after an uber that stands
+pub next_after : (uber : Uber) (image : List ℕ) → uber.number < 2 ^ 64 → Stands uber image → IsNext (uber.number + 1) (latest image)
+next_after uber image fits stands = subst (λ (b : Option (List ℕ)). IsNext (uber.number + 1) b) (sym stands) (ap (λ (n : ℕ). n + 1) (sym (number_back uber fits)))
+
 -- so it is for the latest body, however the disk was read
-pub gives_latest : (size now place : ℕ) (uber : Uber) (read body : List ℕ) (result : Result Uber UberFault) → now ≡ size → Some read ≡ Some body → IsBody size uber body → Decodes now place read result → GivesUber uber result
-gives_latest size now place uber read body result same_size same is decodes =
-    let same_body : read ≡ body = cc in
-    gives now place uber read result (rw (same_size, same_body) is) decodes
+pub gives_latest : (size now place : ℕ) (uber : Uber) (read image : List ℕ) (result : Result Uber UberFault) → now ≡ size → Some read ≡ latest image → IsLatest size uber image → Decodes now place read result → GivesUber uber result
+gives_latest size now place uber read image result same_size same is decodes =
+    let spelled : Some read ≡ Some (body_bytes uber) = same ∙ is.stands in
+    let same_body : read ≡ body_bytes uber = cc in
+    gives now place uber read result (record { spelled = same_body; fits = is.fits; in_range = rw same_size is.in_range }) decodes
+
+pub stands_latest : (size now place : ℕ) (read image : List ℕ) (result : Result Uber UberFault) → now ≡ size → Some read ≡ latest image → Decodes now place read result → IfOk result (λ uber. IsLatest size uber image)
+stands_latest size now place read image (Ok uber) same_size same decodes =
+    record { stands = sym same ∙ ap (λ (l : List ℕ). Some l) decodes.spelled; fits = decodes.fits; in_range = rw same_size at decodes.in_range }
+stands_latest size now place read image (Err fault) same_size same decodes = tt
+
+pub next_latest : (size now place : ℕ) (read image : List ℕ) (result : Result Uber UberFault) → now ≡ size → Some read ≡ latest image → Decodes now place read result → TellsNext result (latest image)
+next_latest size now place read image (Ok uber) same_size same decodes = next_after uber image decodes.fits.number (sym same ∙ ap (λ (l : List ℕ). Some l) decodes.spelled)
+next_latest size now place read image (Err (Damaged sector stated found)) same_size same decodes = tt
+next_latest size now place read image (Err NoPool) same_size same decodes = absurd decodes
+next_latest size now place read image (Err (BadVersion version)) same_size same decodes = tt
+next_latest size now place read image (Err DiskFault) same_size same decodes = tt
+
+-- what was synced is settled in sectors 0 to 7
+pub synced_head : (disk : DiskState) → IsSynced disk → HeadSettled disk
+synced_head disk synced = λ d now p n le. ap (λ (l : List ℕ). bytes_at l p n) (synced d now)

@@ -7,29 +7,11 @@ use Rattle.zst_outside.specs.Ranges.{bytes_at, Torn}
 use Rattle.zst_uber.specs.Body.{body_bytes}
 use Rattle.zst_uber.specs.BodyLaws.{length-body, magic-back, number_back}
 use Rattle.zst_uber.specs.Slots.{gate_place, body_place, other, counts, in_slot, gate_of, slot_at, greater, latest, latest_slot, IsOpen, IsNext, Stands}
+use Rattle.zst_uber.specs.SlotsLaws.{of_slot, chosen, latest_is, same_slot}
 use Rattle.zst_uber.specs.declared.TheConstants.{MAGIC}
 use Rattle.zst_uber.specs.declared.uber.Uber.{Uber}
 use Rattle.zst_uber.specs.declared.slot.Slot.{Slot}
 use Rattle.zst_uber.specs.declared.slot.Slot.TheVariants.{First, Second}
-
--- the one of two in this slot
-abbrev pub of_slot : Slot → Option (List ℕ) → Option (List ℕ) → Option (List ℕ)
-of_slot First first second = first
-of_slot Second first second = second
-
--- the latest of two
-abbrev pub chosen : Option (List ℕ) → Option (List ℕ) → Option (List ℕ)
-chosen first second = of_slot (greater first second) first second
-
-slot_is : (image : List ℕ) (s : Slot) → slot_at image s ≡ of_slot s (slot_at image First) (slot_at image Second)
-slot_is image First = refl
-slot_is image Second = refl
-
-pub latest_is : (image : List ℕ) → latest image ≡ chosen (slot_at image First) (slot_at image Second)
-latest_is image = slot_is image (latest_slot image)
-
-pub same_slot : (a b : List ℕ) (t : Slot) → gate_of b t ≡ gate_of a t → bytes_at b (body_place t) 512 ≡ bytes_at a (body_place t) 512 → slot_at b t ≡ slot_at a t
-same_slot a b t gate body = ap (λ (g : List ℕ). in_slot g (bytes_at b (body_place t) 512)) gate ∙ ap (λ (x : List ℕ). in_slot (gate_of a t) x) body
 
 -- a write to a gate
 pub gate_other : (t : Slot) (a b : List ℕ) → Torn (gate_place t) 1 a b → slot_at b (other t) ≡ slot_at a (other t)
@@ -138,14 +120,6 @@ opened_stands t uber d c new next torn is_open =
 
     number : IsNext (number_at b 16 8) (slot_at d (other t))
     number = subst (λ n. IsNext n (slot_at d (other t))) (sym (new_number uber b new)) next
-
--- what stands in sectors 0 to 7 alone decides on the latest body
-pub same_head : (a b : List ℕ) → ((p n : ℕ) → p + n ≤ 4096 → bytes_at b p n ≡ bytes_at a p n) → latest b ≡ latest a
-same_head a b same =
-    latest_is b
-    ∙ ap (λ x. chosen x (slot_at b Second)) (same_slot a b First (same 0 1 (omega arith)) (same 512 512 (omega arith)))
-    ∙ ap (λ x. chosen (slot_at a First) x) (same_slot a b Second (same 1024 1 (omega arith)) (same 1536 512 (omega arith)))
-    ∙ sym (latest_is a)
 
 and_middle : (a b c : Bool) → b ≡ false → (a && (b && c)) ≡ false
 and_middle true b c fails = and_left b c fails

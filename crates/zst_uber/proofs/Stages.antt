@@ -2,13 +2,15 @@
 use Rattle.std.proofs.Common.{◌≡◌, ◌⊎◌, inl, inr, ⊎_elim, ℕ, ◌+◌, ◌^◌, ◌<◌, ◌≤◌, List, refl, sym, ◌∙◌, ap, subst, arith, slice_index, Result, Ok, Err, OnOk}
 use Rattle.zst_outside.specs.Images.{DiskState, TornImage, IsSynced, Leaves, OnlyReads, WritesIn, Leaves-weaker, Leaves-then, WritesIn-reads, WritesIn-then, WritesIn-wider}
 use Rattle.zst_outside.specs.Ranges.{bytes_at, Torn, Torn-same, Torn-then, Torn-wider}
+use Rattle.zst_block.specs.BlocksLaws.{Has-head}
 use Rattle.zst_uber.specs.Body.{body_bytes}
 use Rattle.zst_uber.specs.Slots.{gate_place, body_place, other, gate_of, slot_at, latest, IsOpen, IsNext, Stands}
-use Rattle.zst_uber.specs.Commit.{HasOldOrNew, HeadSettled, Closing, ClosedImage, Closes}
+use Rattle.zst_uber.specs.Commit.{HasOldOrNew, KeepsOldOrNew, HeadSettled, Closing, ClosedImage, Closes}
+use Rattle.zst_uber.specs.SlotsLaws.{same_slot, latest-head}
 use Rattle.zst_uber.specs.declared.uber.Uber.{Uber}
 use Rattle.zst_uber.specs.declared.slot.Slot.{Slot}
 use Rattle.zst_uber.specs.declared.slot.Slot.TheVariants.{First, Second}
-use Rattle.zst_uber.proofs.LatestLemmas.{same_slot, same_head, gate_other, body_other, torn_shut, torn_body, IsNew, torn_open, opened_stands}
+use Rattle.zst_uber.proofs.LatestLemmas.{gate_other, body_other, torn_shut, torn_body, IsNew, torn_open, opened_stands}
 
 -- in sectors 0 to 7 they are alike
 abbrev SameHead : List ℕ → List ℕ → Type 0
@@ -53,12 +55,12 @@ module _ (t : Slot) (uber : Uber) (old : DiskState) (settled : HeadSettled old) 
   closing d c now (inr torn) =
       let same = settled d now in
       let is_open = ap (λ (g : List ℕ). slice_index g 0) (same_gate t old.seen d same) ∙ torn.0 in
-      inl (d, now, torn_shut t d c (same_head old.seen d same ∙ idle ∙ sym (same_at (other t) old.seen d same)) is_open torn.1, gate_in t d c torn.1)
+      inl (d, now, torn_shut t d c (latest-head old.seen d same ∙ idle ∙ sym (same_at (other t) old.seen d same)) is_open torn.1, gate_in t d c torn.1)
 
   -- an image from before, and what the closing left
   module _ (d s1 : List ℕ) (now : old.images d) (closed : Closing t old.seen d s1) (torn1 : Torn (gate_place t) 1 old.seen s1) where
     old_is : slot_at s1 (other t) ≡ latest d
-    old_is = gate_other t old.seen s1 torn1 ∙ sym idle ∙ sym (same_head old.seen d (settled d now))
+    old_is = gate_other t old.seen s1 torn1 ∙ sym idle ∙ sym (latest-head old.seen d (settled d now))
 
     -- while the body is written
     filling : (c : List ℕ) → (IsOpen s1 t → ⊥) → Torn (body_place t) 512 s1 c → HasOldOrNew uber old c
@@ -130,3 +132,10 @@ images_now uber old new c leaves left only = ⊎_elim (λ before. at_start uber 
 pub on_ok : {T F : Type 0} (result : Result T F) (P Q : Type 0) → (P → Q) → OnOk result P → OnOk result Q
 on_ok (Ok value) P Q then p = then p
 on_ok (Err fault) P Q then p = p
+
+-- what stands behind sectors 0 to 7 stays in each image of a commit
+pub keeps_blocks : (uber : Uber) (old : DiskState) (c : List ℕ) → HasOldOrNew uber old c → KeepsOldOrNew uber old c
+keeps_blocks uber old c is = ⊎_elim
+    (λ past. inl (past.0, past.1, past.2, λ space ptr bytes has. Has-head space past.0 c ptr bytes past.3 has))
+    (λ new. inr (new.0, λ space ptr bytes has. Has-head space old.seen c ptr bytes new.1 has))
+    is

@@ -2,6 +2,8 @@
 use Rattle.std.specs.Prelude.{◌≡◌, ◌⊎◌, ℕ, ◌+◌, ◌≤◌, List}
 use Rattle.zst_outside.specs.Images.{DiskState, Leaves, Keeps}
 use Rattle.zst_outside.specs.Ranges.{bytes_at, Torn}
+use Rattle.zst_space.specs.FreeSectors.{FreeSectors}
+use Rattle.zst_block.specs.Blocks.{KeepsBlocks}
 use Rattle.zst_uber.specs.Slots.{latest, Stands, IsOpen, gate_place}
 use Rattle.zst_uber.specs.declared.slot.Slot.{Slot}
 use Rattle.zst_uber.specs.declared.uber.Uber.{Uber}
@@ -15,6 +17,12 @@ abbrev pub HasOldOrNew : Uber → DiskState → List ℕ → Type 0
 HasOldOrNew uber old c =
     ((d : List ℕ) × old.images d × (latest c ≡ latest d) × Torn 0 4096 d c)
     ⊎ (Stands uber c × Torn 0 4096 old.seen c)
+
+-- the old latest body with all blocks of an image from before, or the new one with all blocks that a read gave, whatever sectors are free
+abbrev pub KeepsOldOrNew : Uber → DiskState → List ℕ → Type 0
+KeepsOldOrNew uber old c =
+    ((d : List ℕ) × old.images d × (latest c ≡ latest d) × ((space : FreeSectors) → KeepsBlocks d space c space))
+    ⊎ (Stands uber c × ((space : FreeSectors) → KeepsBlocks old.seen space c space))
 
 -- the same image, or one with another gate where the gate was open
 abbrev pub Closing : Slot → List ℕ → List ℕ → List ℕ → Type 0

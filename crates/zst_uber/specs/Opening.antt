@@ -1,12 +1,12 @@
 -- What the opening of a pool answers, and where.
-use Rattle.std.specs.Prelude.{◌≡◌, ◌≢◌, ℕ, ◌≤◌, List, Option, Some, None, Result, Ok, Err}
+use Rattle.std.specs.Prelude.{◌≡◌, ◌≢◌, ℕ, ◌+◌, ◌≤◌, List, Option, Some, None, Result, Ok, Err}
 use Rattle.zst_bytes.specs.Bytes.{number_at, bytes_at}
 use Rattle.zst_fletcher.specs.WeightSum.{weight_sum, parts_of}
 use Rattle.zst_outside.specs.Causes.{Rose}
 use Rattle.zst_outside.specs.Images.{DiskState}
 use Rattle.zst_block.specs.Ptr.{sum_at}
-use Rattle.zst_uber.specs.Body.{IsBody}
-use Rattle.zst_uber.specs.Slots.{latest, latest_slot, body_sector}
+use Rattle.zst_uber.specs.Body.{IsBody, UberFits, InRange}
+use Rattle.zst_uber.specs.Slots.{latest, latest_slot, body_sector, Stands, IsNext}
 use Rattle.zst_uber.specs.declared.TheConstants.{VERSION}
 use Rattle.zst_uber.specs.declared.uber.Uber.{Uber}
 use Rattle.zst_uber.specs.declared.fault.UberFault.{UberFault}
@@ -36,7 +36,21 @@ Answers disk (Err (Damaged sector stated found)) = Opens disk (latest disk.seen)
 Answers disk (Err NoPool) = Opens disk (latest disk.seen) (Err NoPool)
 Answers disk (Err DiskFault) = Unit {0}
 
--- where this body stands, its uber is the answer, unless the disk failed
+-- the latest body of the image is that of this uber, and in its table's ranges on a disk of so many bytes
+pub record IsLatest (size : ℕ) (uber : Uber) (image : List ℕ) : Type 0 where
+  pub stands : Stands uber image
+  pub fits : UberFits uber
+  pub in_range : InRange size uber
+
+-- the number that the next commit has, where a pool was opened or none was found
+abbrev pub TellsNext : Result Uber UberFault → Option (List ℕ) → Type 0
+TellsNext (Ok uber) body = IsNext (uber.number + 1) body
+TellsNext (Err NoPool) body = IsNext 1 body
+TellsNext (Err (Damaged sector stated found)) body = Unit {0}
+TellsNext (Err (BadVersion version)) body = Unit {0}
+TellsNext (Err DiskFault) body = Unit {0}
+
+-- where this uber is the latest, it is the answer, unless the disk failed
 abbrev pub GivesUber : Uber → Result Uber UberFault → Type 0
 GivesUber uber (Ok found) = found ≡ uber
 GivesUber uber (Err (Damaged sector stated found)) = ⊥

@@ -1,16 +1,19 @@
 // The commit: one body more, in the slot that isn't the latest.
-ghost use Rattle.std.specs.Prelude.{◌≡◌, ◌≤◌, List, ℕ, IsTrue, IfOk, OnOk};
+ghost use Rattle.std.specs.Prelude.{◌≡◌, ◌+◌, ◌≤◌, ◌||◌, List, ℕ, IsTrue, IfOk, OnOk, is_err};
 ghost use Rattle.zst_outside.specs.Causes.{HasCause};
 ghost use Rattle.zst_outside.specs.Images.{IsSynced, Leaves, OnlyReads, WritesIn};
 ghost use Rattle.zst_outside.specs.Ranges.{bytes_at};
+ghost use Rattle.zst_space.specs.FreeSectors.{FreeSectors};
+ghost use Rattle.zst_block.specs.Blocks.{FitsDisk, KeepsBlocks};
 ghost use Rattle.zst_uber.specs.Body.{UberFits};
 ghost use Rattle.zst_uber.specs.Slots.{gate_place, body_place, IsOpen, IsNext, Stands, latest, latest_slot, other};
-ghost use Rattle.zst_uber.specs.Commit.{HeadSettled, HasOldOrNew, Closes};
+ghost use Rattle.zst_uber.specs.Commit.{HeadSettled, HasOldOrNew, KeepsOldOrNew, Closes};
 ghost use Rattle.zst_uber.specs.Opening.{HasDiskCause};
 
 use crate::fault::UberFault;
 use crate::slot::{OPEN, Slot, later_slot, read_slot};
 use crate::uber::Uber;
+use zst_block::Io;
 use zst_outside::{Disk, Fault, put};
 
 /// Makes this the latest body: in the slot that isn't the latest, the first one where there is
@@ -30,7 +33,9 @@ pub fn commit<D: Disk>(disk: &mut D, uber: &Uber) -> Result<(), UberFault>
 
     // The new body stands once it is done, and nothing is pending.
     ensures stands { IsTrue D.tells_reads → OnOk result (Stands uber.now (D.state disk.new).seen) }
+    ensures following { IsTrue D.tells_reads → OnOk result (IsNext (uber.now.number + 1) (latest (D.state disk.new).seen)) }
     ensures durable { OnOk result (IsSynced (D.state disk.new)) }
+    ensures head { OnOk result (HeadSettled (D.state disk.new)) }
     ensures fits { UberFits uber.now }
 
     ensures cause { HasDiskCause (D.state disk.old).faults (D.state disk.new).faults result }
@@ -40,6 +45,38 @@ pub fn commit<D: Disk>(disk: &mut D, uber: &Uber) -> Result<(), UberFault>
         Ok(()) => Ok(()),
         Err(Fault) => Err(UberFault::DiskFault),
     }
+}
+
+/// Commits an event: each image that a crash may leave then has the old latest body and all
+/// blocks of an image from before, or the new one and all blocks that a read gave.
+pub fn commit_event<D: Disk>(io: &mut Io<'_, D>, uber: &Uber) -> Result<(), UberFault>
+    requires fits { FitsDisk (D.state io.old.disk.now).size io.old.space }
+    requires next { IsTrue D.tells_reads → IsNext uber.now.number (latest (D.state io.old.disk.now).seen) }
+    requires settled { IsTrue D.tells_reads → HeadSettled (D.state io.old.disk.now) }
+
+    ensures moments { IsTrue D.tells_reads → Leaves (D.state io.old.disk.now) (D.state io.new.disk.now) (HasOldOrNew uber.now (D.state io.old.disk.now)) }
+    ensures images { (c : List ℕ) → IsTrue D.tells_reads → (D.state io.new.disk.now).images c → KeepsOldOrNew uber.now (D.state io.old.disk.now) c }
+    ensures kept { (space : FreeSectors) → KeepsBlocks (D.state io.old.disk.now).seen space (D.state io.new.disk.now).seen space }
+    ensures writes { WritesIn 0 4096 (D.state io.old.disk.now) (D.state io.new.disk.now) }
+
+    ensures stands { IsTrue D.tells_reads → OnOk result (Stands uber.now (D.state io.new.disk.now).seen) }
+    ensures following { IsTrue D.tells_reads → OnOk result (IsNext (uber.now.number + 1) (latest (D.state io.new.disk.now).seen)) }
+    ensures durable { OnOk result (IsSynced (D.state io.new.disk.now)) }
+    ensures head { OnOk result (HeadSettled (D.state io.new.disk.now)) }
+    ensures uber_fits { UberFits uber.now }
+
+    ensures cause { HasDiskCause (D.state io.old.disk.now).faults (D.state io.new.disk.now).faults result }
+    ensures only { (fault : UberFault) → result ≡ Err fault → fault ≡ UberFault.DiskFault }
+    ensures failed { io.new.failed ≡ (io.old.failed || is_err result) }
+    ensures space { io.new.space ≡ io.old.space }
+    ensures kept_fit { FitsDisk (D.state io.new.disk.now).size io.new.space }
+    ensures same { io.new.disk.ghost_name ≡ io.old.disk.ghost_name }
+{
+    let outcome = commit(io.disk, uber);
+    if outcome.is_err() {
+        io.failed = true;
+    }
+    outcome
 }
 
 fn write_body<D: Disk>(disk: &mut D, uber: &Uber) -> Result<(), Fault>

@@ -5,9 +5,11 @@ mod committing;
 mod fault;
 mod opening;
 mod slot;
+#[cfg(test)]
+mod tests;
 mod uber;
 
-pub use committing::commit;
+pub use committing::{commit, commit_event};
 pub use fault::UberFault;
 pub use opening::latest;
 pub use slot::Slot;

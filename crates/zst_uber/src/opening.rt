@@ -3,9 +3,10 @@ ghost use Rattle.std.specs.Prelude.{◌≡◌, ◌↔◌, ◌≤◌, List, ℕ, 
 ghost use Rattle.zst_outside.specs.Causes.{HasCause};
 ghost use Rattle.zst_outside.specs.Images.{IsSynced, OnlyReads};
 ghost use Rattle.zst_outside.specs.Ranges.{bytes_at};
-ghost use Rattle.zst_uber.specs.Body.{IsBody, InRange, body_bytes};
+ghost use Rattle.zst_uber.specs.Body.{InRange, body_bytes};
 ghost use Rattle.zst_uber.specs.Slots.{latest as latest_of, latest_slot, body_sector, slot_at};
-ghost use Rattle.zst_uber.specs.Opening.{Answers, Decodes, GivesUber, HasDiskCause};
+ghost use Rattle.zst_uber.specs.Commit.{HeadSettled};
+ghost use Rattle.zst_uber.specs.Opening.{Answers, Decodes, IsLatest, TellsNext, GivesUber, HasDiskCause};
 ghost use Rattle.zst_uber.specs.declared.uber.Uber.{Uber};
 
 use crate::VERSION;
@@ -23,9 +24,14 @@ use zst_outside::{Disk, Fault};
 pub fn latest<D: Disk>(disk: &mut D) -> Result<Uber, UberFault>
     // Each answer has its cause, and a body that stands is read.
     ensures answer { IsTrue D.tells_reads → Answers (D.state disk.old) result }
-    ensures there { (uber : Uber) (body : List ℕ) → IsTrue D.tells_reads → latest_of (D.state disk.old).seen ≡ Some body → IsBody (D.state disk.old).size uber body → GivesUber uber result }
+    ensures stands { IsTrue D.tells_reads → IfOk result (λ uber. IsLatest (D.state disk.old).size uber (D.state disk.old).seen) }
+    ensures there { (uber : Uber) → IsTrue D.tells_reads → IsLatest (D.state disk.old).size uber (D.state disk.old).seen → GivesUber uber result }
+    ensures next { IsTrue D.tells_reads → TellsNext result (latest_of (D.state disk.old).seen) }
 
+    // Then nothing is pending.
     ensures settled { ¬ (result ≡ Err UberFault.DiskFault) → IsSynced (D.state disk.new) }
+    ensures head { ¬ (result ≡ Err UberFault.DiskFault) → HeadSettled (D.state disk.new) }
+
     ensures reads { OnlyReads (D.state disk.old) (D.state disk.new) }
     ensures cause { HasDiskCause (D.state disk.old).faults (D.state disk.new).faults result }
 {
