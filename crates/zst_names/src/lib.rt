@@ -1,0 +1,14 @@
+//! The names of datasets, snapshots and bookmarks (zfsconcepts(7)), and where a text stops being one.
+#![tactic(auto)]
+
+mod bookmark;
+mod dataset;
+mod fault;
+mod scan;
+mod snapshot;
+mod split;
+
+pub use bookmark::BookName;
+pub use dataset::DatasetName;
+pub use fault::NameFault;
+pub use snapshot::SnapName;
