@@ -1,3 +1,4 @@
 pub mod Parts
 pub mod Steps
 pub mod Front
+pub mod Marked

@@ -7,6 +7,8 @@ mod fault;
 mod scan;
 mod snapshot;
 mod split;
+#[cfg(test)]
+mod tests;
 
 pub use bookmark::BookName;
 pub use dataset::DatasetName;
