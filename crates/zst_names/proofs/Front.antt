@@ -22,10 +22,11 @@ first_parts [] h = absurd h
 first_parts (p ∷ ps) h = ((component_of_tail p h.0, h.1), omega (arith, h.2))
 
 pub dataset_start : (text : List ℕ) → IsDataset text ↔ IsDatasetRest 1 0 0 text
-dataset_start text =
-    (λ h. (last_parts (parts text) (parts_some text) (recursion_from_All IsComponent (parts text) h.components) h.few, omega (arith, h.short)),
-      λ h. let first = first_parts (parts text) h.0 in
-      record { components = All-from_recursion IsComponent (parts text) first.0; few = first.1; short = omega (arith, h.1) })
+dataset_start text = (
+  λ h. (last_parts (parts text) (parts_some text) (recursion_from_All IsComponent (parts text) h.components) h.few, omega (arith, h.short)),
+  λ h. let first = first_parts (parts text) h.0 in
+      record { components = All-from_recursion IsComponent (parts text) first.0; few = first.1; short = omega (arith, h.1) },
+)
 
 pub start : (mark : Option ℕ) (text : List ℕ) → IsName mark text ↔ IsRest mark (InDataset 1 0) 0 text
 start None text = dataset_start text
@@ -74,9 +75,13 @@ completes_marked mark ne components zero place h =
     let front : dataset_of mark (48 ∷ text) ≡ 48 ∷ [] = before_first-skip (λ b. b == mark) 48 text other ∙ ap (λ ys. 48 ∷ ys) (dataset_at_mark mark (48 ∷ [])) in
     let last : component_of mark (48 ∷ text) ≡ 48 ∷ [] = after_first-skip (λ b. b == mark) 48 text other ∙ component_at_mark mark (48 ∷ []) in
     (48 ∷ text, (subst (IsDatasetRest components 0 place) (sym front) ((zero_is_tail, tt, omega (arith, h.0)), omega (arith, h.3 refl)), subst IsComponent (sym last) zero_is_component))
-completes_marked mark ne components (suc used) place h =
-    (mark ∷ 48 ∷ [], (subst (IsDatasetRest components (suc used) place) (sym (dataset_at_mark mark (48 ∷ []))) ((nothing_is_tail (suc used) (omega arith) h.1, tt, omega (arith, h.0)), omega (arith, h.2)),
-      subst IsComponent (sym (component_at_mark mark (48 ∷ []))) zero_is_component))
+completes_marked mark ne components (suc used) place h = (
+  mark ∷ 48 ∷ [],
+  (
+    subst (IsDatasetRest components (suc used) place) (sym (dataset_at_mark mark (48 ∷ []))) ((nothing_is_tail (suc used) (omega arith) h.1, tt, omega (arith, h.0)), omega (arith, h.2)),
+    subst IsComponent (sym (component_at_mark mark (48 ∷ []))) zero_is_component,
+  ),
+)
 
 pub completes : (mark : Option ℕ) → IfSome mark (λ m. m ≢ 48) → (position : Position) (place : ℕ) → IsOpen position place → (rest : List ℕ) × IsRest mark position place rest
 completes None ne (InDataset components used) place h = completes_dataset components used place h

@@ -93,8 +93,10 @@ byte_from components used byte (p ∷ ps) f h = (tail_before used byte p f h.0, 
 -- the same of a dataset name's end
 pub slash_rest : (components used place byte : ℕ) → byte ≡ 47 → 0 < used → used ≤ 64 → (rest : List ℕ) → IsDatasetRest components used place (byte ∷ rest) ↔ IsDatasetRest (components + 1) 0 (place + 1) rest
 slash_rest components used place byte e some short rest =
-    rw e (λ h. (slash_to components used (parts rest) (parts_some rest) h.0, omega (arith, h.1)),
-      λ h. (slash_from components used (parts rest) some short h.0, omega (arith, h.1)))
+    rw e (
+      λ h. (slash_to components used (parts rest) (parts_some rest) h.0, omega (arith, h.1)),
+      λ h. (slash_from components used (parts rest) some short h.0, omega (arith, h.1)),
+    )
 
 -- a `/` needs a byte before it, a component after it, and the room for that
 pub slash_needs : (components used place byte : ℕ) → byte ≡ 47 → (rest : List ℕ) → IsDatasetRest components used place (byte ∷ rest) → (0 < used) × (components < 8) × (place + 1 < 190)
@@ -104,8 +106,10 @@ slash_needs components used place byte e rest h0 =
 
 pub byte_rest : (components used place byte : ℕ) → (byte == 47) ≡ false → fits_component used byte ≡ true → (rest : List ℕ) → IsDatasetRest components used place (byte ∷ rest) ↔ IsDatasetRest components (used + 1) (place + 1) rest
 byte_rest components used place byte e f rest =
-    rw e (λ h. ((byte_to components used byte (parts rest) (parts_some rest) h.0).1, omega (arith, h.1)),
-      λ h. (byte_from components used byte (parts rest) f h.0, omega (arith, h.1)))
+    rw e (
+      λ h. ((byte_to components used byte (parts rest) (parts_some rest) h.0).1, omega (arith, h.1)),
+      λ h. (byte_from components used byte (parts rest) f h.0, omega (arith, h.1)),
+    )
 
 pub byte_needs : (components used place byte : ℕ) → (byte == 47) ≡ false → (rest : List ℕ) → IsDatasetRest components used place (byte ∷ rest) → (fits_component used byte ≡ true) × (place < 190)
 byte_needs components used place byte e rest h =

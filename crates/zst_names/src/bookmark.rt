@@ -1,4 +1,4 @@
-ghost use Rattle.std.specs.Prelude.{◌≡◌, ◌∷◌, ◌++◌, IfOk, IfErr, IsOk, Some, nat_eq, refl};
+ghost use Rattle.std.specs.Prelude.{◌≡◌, ◌∷◌, ◌++◌, IfOk, OnOk, IfErr, IsOk, Some, nat_eq, refl};
 ghost use Rattle.std.specs.Ordering.{nat_cmp};
 ghost use Rattle.std.specs.Cmp.{partial_equiv_from_equiv};
 ghost use Rattle.std.specs.Cmp.Lexicographic.{pointwise, slice_cmp, nat_list_eq_equiv, nat_list_cmp_total, texts_po, texts_ties};
@@ -17,7 +17,7 @@ const HASH: u8 = b'#';
 
 /// The name of a bookmark: a dataset's name, `#` and a component. Names are ordered by their
 /// bytes.
-#[derive(Debug, Drop)]
+#[derive(Clone, Debug, Drop)]
 pub struct BookName {
     text: ArrayString<255>,
 }
@@ -36,7 +36,8 @@ impl Model for BookName {
 impl BookName {
     /// The name that the text is, or E2 where it stops being one.
     pub fn parse(text: &str) -> Result<BookName, NameFault>
-        ensures found { IfOk result (λ name. (name ≡ text.now) × IsBookmark text.now) }
+        ensures same { IfOk result (λ name. name ≡ text.now) }
+        ensures found { OnOk result (IsBookmark text.now) }
         ensures exact { IsBookmark text.now → IsOk result }
         ensures cause { IfErr result (λ fault. StopsAt IsBookmark text.now fault.place) }
     {
@@ -44,6 +45,20 @@ impl BookName {
         let mut name = ArrayString::new();
         name.push_str(text);
         Ok(BookName { text: name })
+    }
+
+    /// The name of the bookmark that a dataset has under this component.
+    pub fn of(dataset: &DatasetName, component: &str) -> BookName
+        requires { IsComponent component.now }
+        ensures text { result ≡ dataset.now ++ 35 ∷ component.now }
+        ensures dataset { dataset_of 35 result ≡ dataset.now }
+        ensures component { component_of 35 result ≡ component.now }
+    {
+        let mut name = ArrayString::new();
+        name.push_str(dataset.text());
+        name.push_str("#");
+        name.push_str(component);
+        BookName { text: name }
     }
 
     /// Its text.

@@ -1,4 +1,4 @@
-ghost use Rattle.std.specs.Prelude.{◌≡◌, IfOk, IfErr, IsOk, Some, nat_eq, refl};
+ghost use Rattle.std.specs.Prelude.{◌≡◌, IfOk, OnOk, IfErr, IsOk, Some, nat_eq, refl};
 ghost use Rattle.std.specs.Ordering.{nat_cmp};
 ghost use Rattle.std.specs.Cmp.{partial_equiv_from_equiv};
 ghost use Rattle.std.specs.Cmp.Lexicographic.{pointwise, slice_cmp, nat_list_eq_equiv, nat_list_cmp_total, texts_po, texts_ties};
@@ -13,7 +13,7 @@ use std::marker::Model;
 /// The name of a dataset: 1 to 8 components joined by `/`, at most 190 bytes. A component is 1 to
 /// 64 letters, digits and `_`, `.`, `:` or `-`, and doesn't begin with `-`. Names are ordered by
 /// their bytes.
-#[derive(Debug, Drop)]
+#[derive(Clone, Debug, Drop)]
 pub struct DatasetName {
     text: ArrayString<190>,
 }
@@ -32,7 +32,8 @@ impl Model for DatasetName {
 impl DatasetName {
     /// The name that the text is, or E2 where it stops being one.
     pub fn parse(text: &str) -> Result<DatasetName, NameFault>
-        ensures found { IfOk result (λ name. (name ≡ text.now) × IsDataset text.now) }
+        ensures same { IfOk result (λ name. name ≡ text.now) }
+        ensures found { OnOk result (IsDataset text.now) }
         ensures exact { IsDataset text.now → IsOk result }
         ensures cause { IfErr result (λ fault. StopsAt IsDataset text.now fault.place) }
     {

@@ -1,4 +1,4 @@
-ghost use Rattle.std.specs.Prelude.{◌≡◌, ◌∷◌, ◌++◌, IfOk, IfErr, IsOk, Some, nat_eq, refl};
+ghost use Rattle.std.specs.Prelude.{◌≡◌, ◌∷◌, ◌++◌, IfOk, OnOk, IfErr, IsOk, Some, nat_eq, refl};
 ghost use Rattle.std.specs.Ordering.{nat_cmp};
 ghost use Rattle.std.specs.Cmp.{partial_equiv_from_equiv};
 ghost use Rattle.std.specs.Cmp.Lexicographic.{pointwise, slice_cmp, nat_list_eq_equiv, nat_list_cmp_total, texts_po, texts_ties};
@@ -17,7 +17,7 @@ const AT: u8 = b'@';
 
 /// The name of a snapshot: a dataset's name, `@` and a component. Names are ordered by their
 /// bytes.
-#[derive(Debug, Drop)]
+#[derive(Clone, Debug, Drop)]
 pub struct SnapName {
     text: ArrayString<255>,
 }
@@ -36,7 +36,8 @@ impl Model for SnapName {
 impl SnapName {
     /// The name that the text is, or E2 where it stops being one.
     pub fn parse(text: &str) -> Result<SnapName, NameFault>
-        ensures found { IfOk result (λ name. (name ≡ text.now) × IsSnapshot text.now) }
+        ensures same { IfOk result (λ name. name ≡ text.now) }
+        ensures found { OnOk result (IsSnapshot text.now) }
         ensures exact { IsSnapshot text.now → IsOk result }
         ensures cause { IfErr result (λ fault. StopsAt IsSnapshot text.now fault.place) }
     {
@@ -44,6 +45,20 @@ impl SnapName {
         let mut name = ArrayString::new();
         name.push_str(text);
         Ok(SnapName { text: name })
+    }
+
+    /// The name of the snapshot that a dataset has under this component.
+    pub fn of(dataset: &DatasetName, component: &str) -> SnapName
+        requires { IsComponent component.now }
+        ensures text { result ≡ dataset.now ++ 64 ∷ component.now }
+        ensures dataset { dataset_of 64 result ≡ dataset.now }
+        ensures component { component_of 64 result ≡ component.now }
+    {
+        let mut name = ArrayString::new();
+        name.push_str(dataset.text());
+        name.push_str("@");
+        name.push_str(component);
+        SnapName { text: name }
     }
 
     /// Its text.

@@ -23,19 +23,31 @@ fn components(alloc: Global, count: usize, length: usize) -> Result<String, Fail
 }
 
 fn dataset(rt: &impl Abort, text: &str) {
-    assert!(rt; DatasetName::parse(text).is_ok_and(|name| name.text() == text), "{text}");
+    assert!(rt;
+        DatasetName::parse(text).is_ok_and(|name| name.text() == text),
+        "{text}"
+    );
 }
 
 fn dataset_fault(rt: &impl Abort, text: &str, place: u64) {
-    assert!(rt; DatasetName::parse(text).is_err_and(|fault| fault.place == place), "{text}");
+    assert!(rt;
+        DatasetName::parse(text).is_err_and(|fault| fault.place == place),
+        "{text}"
+    );
 }
 
 fn snapshot_fault(rt: &impl Abort, text: &str, place: u64) {
-    assert!(rt; SnapName::parse(text).is_err_and(|fault| fault.place == place), "{text}");
+    assert!(rt;
+        SnapName::parse(text).is_err_and(|fault| fault.place == place),
+        "{text}"
+    );
 }
 
 fn bookmark_fault(rt: &impl Abort, text: &str, place: u64) {
-    assert!(rt; BookName::parse(text).is_err_and(|fault| fault.place == place), "{text}");
+    assert!(rt;
+        BookName::parse(text).is_err_and(|fault| fault.place == place),
+        "{text}"
+    );
 }
 
 #[test]
@@ -93,6 +105,8 @@ fn snapshots_have_a_dataset_and_a_component(rt: HostRuntime) -> Result<(), NameF
     assert_eq!(rt; name.text(), "tank/a@2024-01-31");
     assert_eq!(rt; name.dataset().text(), "tank/a");
     assert_eq!(rt; name.component(), "2024-01-31");
+    let sibling = SnapName::of(&DatasetName::parse("tank/b")?, name.component());
+    assert_eq!(rt; sibling.text(), "tank/b@2024-01-31");
     Ok(())
 }
 
@@ -131,6 +145,8 @@ fn bookmarks_have_a_dataset_and_a_component(rt: HostRuntime) -> Result<(), NameF
     assert_eq!(rt; name.text(), "tank/a#mark");
     assert_eq!(rt; name.dataset().text(), "tank/a");
     assert_eq!(rt; name.component(), "mark");
+    let sibling = BookName::of(&DatasetName::parse("tank/b")?, name.component());
+    assert_eq!(rt; sibling.text(), "tank/b#mark");
     bookmark_fault(&rt, "tank@mark", 4);
     bookmark_fault(&rt, "tank#a#b", 6);
     Ok(())
@@ -142,7 +158,7 @@ fn names_are_ordered_by_their_bytes(rt: HostRuntime) -> Result<(), NameFault> {
     let lower = DatasetName::parse("a")?;
     let longer = DatasetName::parse("a/b")?;
     assert!(rt; upper < lower && lower < longer);
-    assert!(rt; lower == lower.duplicate());
+    assert!(rt; lower == lower.duplicate() && lower != longer);
     let snapshot = SnapName::parse("a@s")?;
     assert!(rt; snapshot == snapshot.duplicate() && snapshot < SnapName::parse("a@t")?);
     let bookmark = BookName::parse("a#s")?;
