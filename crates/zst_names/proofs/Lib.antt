@@ -2,3 +2,4 @@ pub mod Parts
 pub mod Steps
 pub mod Front
 pub mod Marked
+pub mod Places

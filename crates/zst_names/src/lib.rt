@@ -4,6 +4,7 @@
 mod bookmark;
 mod dataset;
 mod fault;
+mod laws;
 mod scan;
 mod snapshot;
 mod split;
@@ -13,4 +14,5 @@ mod tests;
 pub use bookmark::BookName;
 pub use dataset::DatasetName;
 pub use fault::NameFault;
+pub use laws::one_place;
 pub use snapshot::SnapName;
