@@ -94,34 +94,49 @@ pub whole_goes_on : (IsOne : List ℕ → Type 0) (text : List ℕ) (place : ℕ
 whole_goes_on IsOne text place h = (drop place text, subst IsOne (sym (take-append-drop place text)) h)
 
 -- the front of the text, and the position that has the same ends
-pub record IsAt (mark : Option ℕ) (text : List ℕ) (position : Position) (place : ℕ) : Type 0 where
+pub record IsAt (mark : Option ℕ) (IsOne : List ℕ → Type 0) (text : List ℕ) (position : Position) (place : ℕ) : Type 0 where
   pub open_here : IsOpen position place
-  pub same_ends : (rest : List ℕ) → IsName mark (take place text ++ rest) ↔ IsRest mark position place rest
+  pub same_ends : (rest : List ℕ) → IsOne (take place text ++ rest) ↔ IsRest mark position place rest
 
-pub front_goes_on : (mark : Option ℕ) → IfSome mark (λ m. m ≢ 48) → (text : List ℕ) (position : Position) (place : ℕ) → IsAt mark text position place → CanGoOn (IsName mark) (take place text)
-front_goes_on mark ne text position place at =
+pub front_goes_on : (mark : Option ℕ) (IsOne : List ℕ → Type 0) → IfSome mark (λ m. m ≢ 48) → (text : List ℕ) (position : Position) (place : ℕ) → IsAt mark IsOne text position place → CanGoOn IsOne (take place text)
+front_goes_on mark IsOne ne text position place at =
     let end = completes mark ne position place at.open_here in
     (end.0, (at.same_ends end.0).1 end.1)
 
 -- with a byte that leads nowhere no name can go on
-pub byte_stops : (mark : Option ℕ) (text : List ℕ) (position : Position) (place : ℕ) → IsAt mark text position place → place < length text
+pub byte_stops : (mark : Option ℕ) (IsOne : List ℕ → Type 0) (text : List ℕ) (position : Position) (place : ℕ) → IsAt mark IsOne text position place → place < length text
     → ((rest : List ℕ) → IsRest mark position place (get_or text place 0 ∷ rest) → ⊥)
-    → CanGoOn (IsName mark) (take (place + 1) text) → ⊥
-byte_stops mark text position place at below none goes =
+    → CanGoOn IsOne (take (place + 1) text) → ⊥
+byte_stops mark IsOne text position place at below none goes =
     let cut : take (place + 1) text ++ goes.0 ≡ take place text ++ (get_or text place 0 ∷ goes.0) = rw (add-one, take-suc text place 0 below, append_assoc) refl in
-    none goes.0 ((at.same_ends (get_or text place 0 ∷ goes.0)).0 (subst (IsName mark) cut goes.1))
+    none goes.0 ((at.same_ends (get_or text place 0 ∷ goes.0)).0 (subst IsOne cut goes.1))
 
-pub stops_at_byte : (mark : Option ℕ) → IfSome mark (λ m. m ≢ 48) → (text : List ℕ) (position : Position) (place : ℕ) → IsAt mark text position place → place < length text
-    → ((rest : List ℕ) → IsRest mark position place (get_or text place 0 ∷ rest) → ⊥) → StopsAt (IsName mark) text place
-stops_at_byte mark ne text position place at below none =
-    record { goes = front_goes_on mark ne text position place at; stops = inl (below, byte_stops mark text position place at below none) }
+pub stops_at_byte : (mark : Option ℕ) (IsOne : List ℕ → Type 0) → IfSome mark (λ m. m ≢ 48) → (text : List ℕ) (position : Position) (place : ℕ) → IsAt mark IsOne text position place → place < length text
+    → ((rest : List ℕ) → IsRest mark position place (get_or text place 0 ∷ rest) → ⊥) → StopsAt IsOne text place
+stops_at_byte mark IsOne ne text position place at below none =
+    record { goes = front_goes_on mark IsOne ne text position place at; stops = inl (below, byte_stops mark IsOne text position place at below none) }
 
 -- a text that ends before a name does
-pub stops_at_end : (mark : Option ℕ) → IfSome mark (λ m. m ≢ 48) → (text : List ℕ) (position : Position) (place : ℕ) → IsAt mark text position place → place ≡ length text
-    → (IsRest mark position place [] → ⊥) → StopsAt (IsName mark) text (length text)
-stops_at_end mark ne text position place at e none =
+pub stops_at_end : (mark : Option ℕ) (IsOne : List ℕ → Type 0) → IfSome mark (λ m. m ≢ 48) → (text : List ℕ) (position : Position) (place : ℕ) → IsAt mark IsOne text position place → place ≡ length text
+    → (IsRest mark position place [] → ⊥) → StopsAt IsOne text (length text)
+stops_at_end mark IsOne ne text position place at e none =
     let whole : take place text ++ [] ≡ text = append-nil (take place text) ∙ (ap (λ n. take n text) e ∙ take-length text) in
     record {
-      goes = subst (λ (n : ℕ). CanGoOn (IsName mark) (take n text)) e (front_goes_on mark ne text position place at);
-      stops = inr (refl, λ h. none ((at.same_ends []).0 (subst (IsName mark) (sym whole) h)));
+      goes = subst (λ (n : ℕ). CanGoOn IsOne (take n text)) e (front_goes_on mark IsOne ne text position place at);
+      stops = inr (refl, λ h. none ((at.same_ends []).0 (subst IsOne (sym whole) h)));
     }
+
+-- two words for one kind of name stop at one place
+pub stops_alike : (IsOne IsOther : List ℕ → Type 0) → ((text : List ℕ) → IsOther text ↔ IsOne text) → (text : List ℕ) (place : ℕ) → StopsAt IsOne text place → StopsAt IsOther text place
+stops_alike IsOne IsOther alike text place h =
+    record {
+      goes = (h.goes.0, (alike (take place text ++ h.goes.0)).1 h.goes.1);
+      stops = elim h.stops as (λ _. ((place < length text) × (CanGoOn IsOther (take (place + 1) text) → ⊥)) ⊎ ((place ≡ length text) × (IsOther text → ⊥))) [
+        | inl s ↦ inl (s.0, λ goes. s.1 (goes.0, (alike (take (place + 1) text ++ goes.0)).0 goes.1))
+        | inr s ↦ inr (s.0, λ other. s.1 ((alike text).0 other))
+      ];
+    }
+
+-- a component is what is left at its start
+pub component_start : (text : List ℕ) → IsComponent text ↔ IsRest None (InComponent 0) 0 text
+component_start text = (tail_of_component text, component_of_tail text)

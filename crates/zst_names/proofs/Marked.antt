@@ -1,11 +1,11 @@
 -- Names that have a mark.
-use Rattle.std.proofs.Common.{◌≡◌, ℕ, ◌+◌, ◌<◌, ◌≤◌, Bool, true, false, cond, ◌==◌, List, [], ◌∷◌, ◌++◌, length, get_or, refl, ap, ◌∙◌, subst, inl, inr, arith, length-drop}
+use Rattle.std.proofs.Common.{◌≡◌, ℕ, ◌+◌, ◌<◌, true, false, ◌==◌, List, [], ◌∷◌, ◌++◌, length, get_or, refl, ap, ◌∙◌, inl, inr, arith, length-drop}
 use Rattle.std.proofs.lemmas.Bool.{eqb-true}
 use Rattle.std.proofs.lemmas.List.Sums.{split_at_first, passes_at_first}
 use Rattle.std.proofs.lemmas.List.Elements.{recursion_from_All}
-use Rattle.std.proofs.lemmas.Bool.Decides.{nat_tests, eqb_tells}
+use Rattle.std.proofs.lemmas.Bool.Decides.{eqb_tells}
 use Rattle.std.specs.List.{position_or_len, list_all, onto_first, AllByRecursion}
-use Rattle.zst_names.specs.Names.{is_component_byte, IsComponent, IsDataset, IsName, parts, dataset_of, component_of}
+use Rattle.zst_names.specs.Names.{is_component_byte, IsComponent, IsDataset, parts, dataset_of, component_of}
 use Rattle.zst_names.proofs.Parts.{both_true}
 use Rattle.zst_names.proofs.Steps.{before_first-skip, after_first-skip}
 use Rattle.zst_names.proofs.Front.{dataset_at_mark, component_at_mark}

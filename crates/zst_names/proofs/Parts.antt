@@ -1,7 +1,7 @@
 -- What a byte in front does to the parts of a text, and to what is left of a name.
-use Rattle.std.proofs.Common.{◌≡◌, ◌≢◌, ℕ, suc, ◌+◌, ◌<◌, ◌≤◌, Bool, true, false, cond, not, ◌&&◌, ◌||◌, ◌==◌, nat_lt, ◌↔◌, List, [], ◌∷◌, length, slice_index, refl, sym, ap, ◌∙◌, subst, arith}
+use Rattle.std.proofs.Common.{◌≡◌, ◌≢◌, ℕ, ◌+◌, ◌<◌, ◌≤◌, Bool, true, false, cond, not, ◌&&◌, ◌||◌, ◌==◌, nat_lt, ◌↔◌, List, [], ◌∷◌, length, refl, subst, arith}
 use Rattle.std.proofs.lemmas.Bool.Decides.{nat_tests}
-use Rattle.std.specs.List.{list_all, slice_split, onto_first, before_first, after_first, position_or_len, AllByRecursion}
+use Rattle.std.specs.List.{list_all, onto_first, AllByRecursion}
 use Rattle.zst_names.specs.Names.{is_component_byte, IsComponent, parts}
 use Rattle.zst_names.specs.Rest.{fits_component, IsTail, AreLastParts, IsDatasetRest}
 

@@ -1,5 +1,5 @@
 -- A text stops being a name at one place.
-use Rattle.std.proofs.Common.{◌≡◌, ℕ, ◌+◌, ◌<◌, ◌≤◌, ◌⊎◌, List, ◌++◌, length, take, drop, sym, ap, ◌∙◌, subst, inl, inr, arith, append_assoc, take-append-drop, length-take-le}
+use Rattle.std.proofs.Common.{◌≡◌, ℕ, ◌+◌, ◌<◌, ◌≤◌, List, ◌++◌, length, take, drop, sym, ap, ◌∙◌, subst, inl, inr, arith, append_assoc, take-append-drop, length-take-le}
 use Rattle.std.proofs.lemmas.List.{take-append-le}
 use Rattle.zst_names.specs.Names.{CanGoOn, StopsAt}
 

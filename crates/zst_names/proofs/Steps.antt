@@ -1,9 +1,9 @@
 -- From a dataset name's end to a name's.
-use Rattle.std.proofs.Common.{◌≡◌, ◌≢◌, ℕ, suc, ◌+◌, ◌<◌, ◌≤◌, Bool, true, false, cond, not, ◌==◌, ◌↔◌, Option, Some, None, List, [], ◌∷◌, length, take, drop, refl, sym, ap, ◌∙◌, subst, arith}
+use Rattle.std.proofs.Common.{◌≡◌, ℕ, suc, ◌+◌, Bool, false, ◌==◌, ◌↔◌, Option, Some, None, List, ◌∷◌, refl, arith}
 use Rattle.std.specs.List.{before_first, after_first, position_or_len}
-use Rattle.zst_names.specs.Names.{IsComponent, dataset_of, component_of}
+use Rattle.zst_names.specs.Names.{dataset_of}
 use Rattle.zst_names.specs.Rest.{is_mark, IsDatasetRest, IsRest}
-use Rattle.zst_names.specs.declared.scan.Position.TheVariants.{InDataset, InComponent}
+use Rattle.zst_names.specs.declared.scan.Position.TheVariants.{InDataset}
 
 pub before_first-skip : (p : ℕ → Bool) (x : ℕ) (xs : List ℕ) → p x ≡ false → before_first p (x ∷ xs) ≡ x ∷ before_first p xs
 before_first-skip p x xs h =

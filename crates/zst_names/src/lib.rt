@@ -15,4 +15,5 @@ pub use bookmark::BookName;
 pub use dataset::DatasetName;
 pub use fault::NameFault;
 pub use laws::one_place;
+pub use scan::check_component;
 pub use snapshot::SnapName;

@@ -1,6 +1,6 @@
-ghost use Rattle.std.specs.Prelude.{◌≡◌, ◌≢◌, ℕ, ◌<◌, List, IfOk, IfErr, IsOk, IfSome};
-ghost use Rattle.zst_names.specs.Names.{is_component_byte, IsName, StopsAt};
-ghost use Rattle.zst_names.specs.Rest.{fits_component, is_mark, IsOpen, Leads, Ends};
+ghost use Rattle.std.specs.Prelude.{◌≡◌, ◌≢◌, OnOk, IfErr, IsOk, IfSome};
+ghost use Rattle.zst_names.specs.Names.{is_component_byte, IsComponent, IsName, StopsAt};
+ghost use Rattle.zst_names.specs.Rest.{fits_component, is_mark, IsOpen, IsRest, Leads, Ends};
 
 use crate::fault::NameFault;
 
@@ -11,7 +11,7 @@ const COMPONENTS: usize = 8;
 const COMPONENT_BYTES: usize = 64;
 
 /// The most bytes of a dataset name.
-pub const DATASET_BYTES: usize = 190;
+const DATASET_BYTES: usize = 190;
 
 /// Where in a name the next byte stands.
 #[derive(Clone, Copy)]
@@ -113,17 +113,15 @@ fn is_whole(mark: Option<u8>, position: Position) -> bool
     }
 }
 
-/// Whether the text is a name of the kind that has this mark behind its dataset, or none.
-pub fn scan(mark: Option<u8>, text: &[u8]) -> Result<(), NameFault>
-    requires { IfSome mark (λ m. m ≢ 48) }
-    ensures found { IfOk result (λ _. IsName mark text.now) }
-    ensures exact { IsName mark text.now → IsOk result }
-    ensures cause { IfErr result (λ fault. StopsAt (IsName mark) text.now fault.place) }
+/// Whether the text is all that is left of a name from this position.
+fn walk(mark: Option<u8>, start: Position, text: &[u8]) -> Result<(), NameFault>
+    requires marked { IfSome mark (λ m. m ≢ 48) }
+    requires start_is_open { IsOpen start 0 }
+    ensures found { OnOk result (IsRest mark start 0 text.now) }
+    ensures exact { IsRest mark start 0 text.now → IsOk result }
+    ensures cause { IfErr result (λ fault. StopsAt (IsRest mark start 0) text.now fault.place) }
 {
-    let mut position = Position::InDataset {
-        components: 1,
-        used: 0,
-    };
+    let mut position = start;
     for (place, byte) in text.iter().enumerate() {
         match next(mark, position, place, *byte) {
             Some(after) => position = after,
@@ -141,4 +139,28 @@ pub fn scan(mark: Option<u8>, text: &[u8]) -> Result<(), NameFault>
             place: text.len() as u64,
         })
     }
+}
+
+/// Whether the text is a name of the kind that has this mark behind its dataset, or none.
+pub fn scan(mark: Option<u8>, text: &[u8]) -> Result<(), NameFault>
+    requires { IfSome mark (λ m. m ≢ 48) }
+    ensures found { OnOk result (IsName mark text.now) }
+    ensures exact { IsName mark text.now → IsOk result }
+    ensures cause { IfErr result (λ fault. StopsAt (IsName mark) text.now fault.place) }
+{
+    let start = Position::InDataset {
+        components: 1,
+        used: 0,
+    };
+    walk(mark, start, text)
+}
+
+/// Whether the bytes are a component: 1 to 64 letters, digits and `_`, `.`, `:` or `-`, the first
+/// of them no `-`. The fault's place is counted in these bytes.
+pub fn check_component(bytes: &[u8]) -> Result<(), NameFault>
+    ensures found { OnOk result (IsComponent bytes.now) }
+    ensures exact { IsComponent bytes.now → IsOk result }
+    ensures cause { IfErr result (λ fault. StopsAt IsComponent bytes.now fault.place) }
+{
+    walk(None, Position::InComponent { used: 0 }, bytes)
 }

@@ -1,4 +1,4 @@
-use crate::{BookName, DatasetName, NameFault, SnapName};
+use crate::{BookName, DatasetName, NameFault, SnapName, check_component};
 use std::alloc::Global;
 use std::process::Abort;
 use std::test::Fail;
@@ -122,6 +122,15 @@ fn places_of_faults_in_a_snapshot(rt: HostRuntime) {
     snapshot_fault(&rt, "tank/@s", 5);
     snapshot_fault(&rt, "tank@s#b", 6);
     snapshot_fault(&rt, "tank#s@b", 4);
+}
+
+#[test]
+fn components_stand_alone(rt: HostRuntime) {
+    assert!(rt; check_component(b"2024-01-31").is_ok());
+    assert!(rt; check_component(b"").is_err_and(|fault| fault.place == 0));
+    assert!(rt; check_component(b"-s").is_err_and(|fault| fault.place == 0));
+    assert!(rt; check_component(b"s@t").is_err_and(|fault| fault.place == 1));
+    assert!(rt; check_component(&[b's'; 65]).is_err_and(|fault| fault.place == 64));
 }
 
 #[test]

@@ -1,6 +1,6 @@
-use Rattle.std.proofs.Common.{◌≡◌, ◌+◌, ◌<◌, ◌≤◌, ◌==◌, true, false, sym, ◌∙◌, arith}
+use Rattle.std.proofs.Common.{◌≡◌, ◌+◌, ◌==◌, true, false, sym, ◌∙◌, arith}
 use Rattle.std.proofs.lemmas.Bool.Decides.{nat_tests}
-use Rattle.zst_names.specs.Rest.{is_mark, fits_component}
+use Rattle.zst_names.specs.Rest.{fits_component}
 use Rattle.zst_names.proofs.Parts.{fits_short, slash_rest, slash_needs, byte_rest, byte_needs}
 use Rattle.zst_names.proofs.Steps.{skip, skip_stops}
 use Rattle.zst_names.proofs.scan.next_in_dataset.Goals as goal

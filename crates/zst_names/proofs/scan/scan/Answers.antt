@@ -1,22 +1,17 @@
-use Rattle.std.proofs.Common.{◌≡◌, ◌+◌, ℕ, length, arith}
-use Rattle.zst_names.specs.Names.{IsName}
-use Rattle.zst_names.proofs.Front.{start, byte_stops, stops_at_byte, stops_at_end, whole_goes_on}
+use Rattle.std.proofs.lemmas.Result.{on_ok_weaker, IfErr-weaker}
+use Rattle.zst_names.specs.Names.{IsName, StopsAt}
+use Rattle.zst_names.specs.Rest.{IsRest}
+use Rattle.zst_names.specs.declared.scan.Position.TheVariants.{InDataset}
+use Rattle.zst_names.proofs.Front.{start, stops_alike}
 use Rattle.zst_names.proofs.scan.scan.Goals as goal
 
-pub loop-place-init : goal.loop-place-init
-loop-place-init c = record { open_here = (omega arith, omega arith, omega arith, λ _. omega arith); same_ends = start c.args.mark }
+pub returns-clause-found : goal.returns-clause-found
+returns-clause-found c = on_ok_weaker c.walk.result (start c.args.mark c.args.text.now).1 c.walk.ensures.found
 
-pub returns-in-None-clause-exact : goal.returns-in-None-clause-exact
-returns-in-None-clause-exact c =
-    λ h. absurd (byte_stops c.args.mark c.args.text.now c.loop-place.position c.loop-place.place c.loop-place.invariant c.loop-place-test.true c.in-None.ensures
-    (whole_goes_on (IsName c.args.mark) c.args.text.now (c.loop-place.place + 1) h))
+pub returns-clause-exact : goal.returns-clause-exact
+returns-clause-exact c = λ h. c.walk.ensures.exact ((start c.args.mark c.args.text.now).0 h)
 
-pub returns-in-None-clause-cause : goal.returns-in-None-clause-cause
-returns-in-None-clause-cause c =
-    stops_at_byte c.args.mark c.requires c.args.text.now c.loop-place.position c.loop-place.place c.loop-place.invariant c.loop-place-test.true c.in-None.ensures
-
-pub returns-else-is_whole-clause-cause : goal.returns-else-is_whole-clause-cause
-returns-else-is_whole-clause-cause c =
-    let ended : c.loop-place.place ≡ length c.args.text.now = omega arith in
-    stops_at_end c.args.mark c.requires c.args.text.now c.loop-place.position c.loop-place.place c.loop-place.invariant ended
-    (λ h. cc ((c.is_whole.ensures c.loop-place.place c.loop-place.invariant.open_here).1 h, c.if-is_whole.false))
+pub returns-clause-cause : goal.returns-clause-cause
+returns-clause-cause c =
+    IfErr-weaker c.walk.result _ (λ fault. StopsAt (IsName c.args.mark) c.args.text.now fault.place)
+    (λ fault h. stops_alike (IsRest c.args.mark (InDataset 1 0) 0) (IsName c.args.mark) (start c.args.mark) c.args.text.now fault.place h) c.walk.ensures.cause
