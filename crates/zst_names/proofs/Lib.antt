@@ -1,0 +1,5 @@
+pub mod Parts
+pub mod Steps
+pub mod Front
+pub mod Marked
+pub mod Places
