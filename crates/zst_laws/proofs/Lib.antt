@@ -1,0 +1,13 @@
+mod Runs
+mod Fold
+mod Joins
+mod Blocks
+mod Numbers
+mod Ends
+mod Exact
+mod Resume
+mod CutBlocks
+mod Cut
+mod Writer
+mod Walk
+mod More

@@ -1,0 +1,4 @@
+pub mod History
+pub mod Resuming
+pub mod Sending
+pub mod Walk

@@ -1,0 +1,56 @@
+-- What a walk over a view has left, and how it goes on.
+use Rattle.std.specs.Prelude.{◌≡◌, ℕ, ◌+◌, ◌*◌, ◌<◌, ◌≤◌, Bool, true, false, List, [], ◌∷◌, ◌++◌, flat_map, map, pred, Some, None, if◌then◌else◌, nat_lt, ◌==◌}
+use Rattle.zst_model.specs.declared.header.Point.{Point}
+use Rattle.zst_model.specs.declared.item.Item.{Item}
+use Rattle.zst_model.specs.declared.item.Item.TheVariants.{At, FreeObjects}
+use Rattle.zst_model.specs.State.{Block, is_number, number_bound}
+use Rattle.zst_model.specs.View.{View, ObjectView, Shown, Left, Gone, There}
+use Rattle.zst_model.specs.Items.{rising, number_items, block_changes, block_change, opening}
+
+-- what is left of the point's own number once its opening was given
+abbrev pub number_rest : ℕ → ℕ → Shown → List Item
+number_rest k offset Left = []
+number_rest k offset Gone = []
+number_rest k offset (There object) = map (At k) (block_changes object offset)
+
+-- what is left of a number: none of it below the point's, and the point's own with its slot, or without it
+abbrev pub left_at : View → Point → Bool → ℕ → List Item
+left_at view point slot k =
+    if nat_lt k point.object
+    then []
+    else (if k == point.object
+    then (if slot then number_items k point.offset (view.shown k) else number_rest k point.offset (view.shown k))
+    else number_items k 0 (view.shown k))
+
+-- the single items that are left at or after a point, with the slot of the point's own number or without it
+unfoldable pub walk_left : View → Point → Bool → List Item
+walk_left view point slot = flat_map (left_at view point slot) (rising 1 (pred number_bound))
+
+-- nothing is left below a number
+abbrev pub NothingBelow : View → Point → Bool → ℕ → Type 0
+NothingBelow view point slot k = (j : ℕ) → j < k → left_at view point slot j ≡ []
+
+-- where an object is the first that is left, its opening comes next, and its blocks are left
+abbrev pub ObjectIsNext : Type 0
+ObjectIsNext =
+    (view : View) (point : Point) (k : ℕ) (object : ObjectView)
+    → is_number k ≡ true → point.object ≤ k → NothingBelow view point true k → view.shown k ≡ There object
+    → let offset = if k == point.object then point.offset else 0 in
+    walk_left view point true ≡ map (At k) (opening object) ++ walk_left view (record { object = k; offset = offset }) false
+
+-- where an absent number is the first that is left, it comes next, and what follows it is left
+abbrev pub GoneIsNext : Type 0
+GoneIsNext =
+    (view : View) (point : Point) (slot : Bool) (k : ℕ)
+    → is_number k ≡ true → NothingBelow view point slot k → point.object ≤ k → (slot ≡ false → point.object < k) → view.shown k ≡ Gone
+    → walk_left view point slot ≡ FreeObjects k 1 ∷ walk_left view (record { object = k + 1; offset = 0 }) true
+
+-- where a block of the point's object is the first that is included, it comes next, and what follows it is left
+abbrev pub BlockIsNext : Type 0
+BlockIsNext =
+    (view : View) (point : Point) (object : ObjectView) (i : ℕ) (block : Block)
+    → is_number point.object ≡ true → view.shown point.object ≡ There object
+    → 0 < object.attr.block_size → i < object.end → point.offset ≤ i * object.attr.block_size
+    → ((j : ℕ) → j < i → point.offset ≤ j * object.attr.block_size → object.blocks j ≡ None) → object.blocks i ≡ Some block
+    → walk_left view point false ≡ map (At point.object) (block_change object.attr i (Some block))
+    ++ walk_left view (record { object = point.object; offset = (i + 1) * object.attr.block_size }) false
