@@ -11,7 +11,7 @@ use Rattle.zst_model.specs.Included.{Choice, Pairs, is_after, includes_pair, inc
 use Rattle.zst_model.specs.View.{View, Left, There, shown_block, object_view, shown_object, view_of, MayShow, IsShown, IsView}
 use Rattle.zst_model.specs.Items.{origin}
 use Rattle.zst_model.specs.Target.{redacted, redacted_object, MayRedact, CanRedact, BaseOk}
-use Rattle.zst_laws.specs.Sending.{full, FullIsExact, SendIsExact}
+use Rattle.zst_laws.specs.Sending.{RedactedIsState, SnapshotHasView, full, FullIsExact, SendIsExact}
 use Rattle.zst_laws.proofs.Fold.{swept}
 use Rattle.zst_laws.proofs.Blocks.{opened, block_from}
 use Rattle.zst_laws.proofs.Numbers.{made, made_from, items_apply}
@@ -173,7 +173,7 @@ module _ (snap : DatedState) (choice : Choice) (k : ℕ) (object : Object) (stan
   object_shown = (lawful.size, λ i l. may_show i)
 
 -- the view of a lawful snapshot can be sent
-pub view_is_view : (header : Header) (snap : DatedState) (choice : Choice) → IsState snap.state → CanRedact snap.state choice.redact → IsView (view_of header snap choice)
+pub view_is_view : SnapshotHasView
 view_is_view header snap choice lawful can = record {
   outside = λ k n. ap (λ t. if t then shown_object snap choice k (snap.state k) else Left) (outside_left snap choice k n);
   inside = λ k. go k (includes_number snap choice k) (snap.state k) refl;
@@ -254,3 +254,32 @@ nothing_lawful = record { zero = refl; bounded = λ k l. refl; objects = λ k. t
 
 pub full_exact : FullIsExact
 full_exact header snap redact lawful can = send_exact no_objects header snap (full redact) nothing_lawful lawful can (full_base snap redact lawful)
+
+-- a redacted object is lawful
+redacted_object_lawful : (object : Object) (pairs : ℕ → Bool) → IsObject object → MayRedact object pairs → IsObject (redacted_object pairs object)
+redacted_object_lawful object pairs o may = record {
+  size = o.size;
+  fits = λ i. fits i (pairs i);
+  odd = λ i l t. cond-false (pairs i) Redacted (object.blocks i) (unlisted i (o.odd i l t)) ∙ o.odd i l t;
+  bounded = λ i l. cond-false (pairs i) Redacted (object.blocks i) (unlisted i (o.bounded i l)) ∙ o.bounded i l;
+}
+  where
+    fits : (i : ℕ) (t : Bool) → BlockFits object.attr.block_size (if t then Redacted else object.blocks i)
+    fits i true = tt
+    fits i false = o.fits i
+
+    unlisted : (i : ℕ) → object.blocks i ≡ Hole → pairs i ≡ false
+    unlisted i h = false_from_ne_true _ (λ t.
+        let found = may.listed i t in
+        let both : Data found.1 ≡ Hole = sym found.2 ∙ h in absurd (cc))
+
+pub redacted_lawful : RedactedIsState
+redacted_lawful state pairs s can = record {
+  zero = ap (option_map (redacted_object (pairs 0))) s.zero;
+  bounded = λ k l. ap (option_map (redacted_object (pairs k))) (s.bounded k l);
+  objects = λ k. go k (state k) refl;
+}
+  where
+    go : (k : ℕ) (o : Option Object) → state k ≡ o → IsObjectOrNone (option_map (redacted_object (pairs k)) o)
+    go k None e = tt
+    go k (Some object) e = redacted_object_lawful object (pairs k) (subst IsObjectOrNone e (s.objects k)) (can k object e)

@@ -9,11 +9,12 @@ use Rattle.zst_model.specs.Included.{Choice, is_after, includes_pair, includes_n
 use Rattle.zst_model.specs.View.{Left, There, shown_block, shown_object}
 use Rattle.zst_model.specs.Items.{join, joined, before, before_item, single_items}
 use Rattle.zst_model.specs.Target.{redacted_object}
-use Rattle.zst_laws.specs.Sending.{DifferAt, ViewsAgree, NoneJoin, RunsAreMaximal}
+use Rattle.zst_laws.specs.Joining.{NoneJoin, RunsAreMaximal, HeldGoesOn}
+use Rattle.zst_laws.specs.Sending.{DifferAt, ViewsAgree}
 use Rattle.zst_laws.specs.History.{RedactedIsBase, BeforeIsBase}
 use Rattle.zst_laws.proofs.Ends.{any_passes}
 use Rattle.zst_laws.proofs.Exact.{absent_outside}
-use Rattle.zst_laws.proofs.Writer.{join_stop}
+use Rattle.zst_laws.proofs.Writer.{join_stop, before-joined, before-apart}
 
 none_before : (x : Item) (ys : List Item) → NoneJoin ys → NoneJoin (before x ys)
 none_before x [] n = tt
@@ -34,6 +35,9 @@ none_join (x ∷ xs) = none_before x (joined xs) (none_join xs)
 
 pub runs_maximal : RunsAreMaximal
 runs_maximal view point = none_join (single_items view point)
+
+pub held_on : HeldGoesOn
+held_on held next rest = ((λ both e. before-joined held next both (joined rest) e), (λ e. before-apart held next (joined rest) e))
 
 not_after : (number date : ℕ) → is_after (Some number) date ≡ false → date ≤ number
 not_after number date e = ltb-false number date e

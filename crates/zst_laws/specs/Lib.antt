@@ -1,4 +1,5 @@
 pub mod History
+pub mod Joining
 pub mod Resuming
 pub mod Sending
 pub mod Walk

@@ -2,9 +2,15 @@
 #![tactic(auto)]
 
 ghost use Rattle.zst_laws.specs.History.{BeforeIsBase, RedactedIsBase};
+ghost use Rattle.zst_laws.specs.Joining.{RunsAreMaximal, HeldGoesOn};
 ghost use Rattle.zst_laws.specs.Resuming.{ResumeIsExact, StartStands, CutStands};
-ghost use Rattle.zst_laws.specs.Sending.{SendIsExact, FullIsExact, ViewsAgree, RunsAreMaximal};
-ghost use Rattle.zst_laws.specs.Walk.{ObjectIsNext, GoneIsNext, BlockIsNext};
+ghost use Rattle.zst_laws.specs.Sending.{SnapshotHasView, SendIsExact, FullIsExact, RedactedIsState, ViewsAgree};
+ghost use Rattle.zst_laws.specs.Walk.{WalkBegins, WalkEnds, ObjectIsNext, GoneIsNext, GoneRunIsNext, BlockIsNext, BlockRunIsNext};
+
+/// A lawful snapshot with a lawful choice has a lawful view.
+pub fn snapshot_has_view()
+    ensures { SnapshotHasView }
+{}
 
 /// A send over a base that is fit for it gives exactly its snapshot, with exactly the listed pairs redacted.
 pub fn send_is_exact()
@@ -14,6 +20,11 @@ pub fn send_is_exact()
 /// A full stream gives exactly its snapshot from nothing, with exactly the listed pairs redacted.
 pub fn full_is_exact()
     ensures { FullIsExact }
+{}
+
+/// What a send gives is a lawful state again.
+pub fn redacted_is_state()
+    ensures { RedactedIsState }
 {}
 
 /// A resumed send completes each state that stands for its point.
@@ -51,6 +62,21 @@ pub fn runs_are_maximal()
     ensures { RunsAreMaximal }
 {}
 
+/// An item that is held back goes into the next where they touch, and otherwise stands by itself.
+pub fn held_goes_on()
+    ensures { HeldGoesOn }
+{}
+
+/// A walk from a point with its slot has the items from that point.
+pub fn walk_begins()
+    ensures { WalkBegins }
+{}
+
+/// A walk ends where nothing is left of any number.
+pub fn walk_ends()
+    ensures { WalkEnds }
+{}
+
 /// A walk to an object gives its opening, and then its blocks.
 pub fn object_is_next()
     ensures { ObjectIsNext }
@@ -61,7 +87,17 @@ pub fn gone_is_next()
     ensures { GoneIsNext }
 {}
 
+/// A walk to a run of absent numbers gives it as one item, and then what follows it.
+pub fn gone_run_is_next()
+    ensures { GoneRunIsNext }
+{}
+
 /// A walk to a block gives it, and then what follows it.
 pub fn block_is_next()
     ensures { BlockIsNext }
+{}
+
+/// A walk to a run of holes, of redacted blocks, or of one block of data gives it as one item, and then what follows it.
+pub fn block_run_is_next()
+    ensures { BlockRunIsNext }
 {}
