@@ -8,7 +8,7 @@ use Rattle.zst_model.specs.declared.header.Header.{Header}
 use Rattle.zst_model.specs.Apply.{within}
 use Rattle.zst_model.specs.Dated.{DatedState}
 use Rattle.zst_model.specs.Included.{Choice, Pairs, is_after, includes_pair, includes_number}
-use Rattle.zst_model.specs.View.{View, Left, There, shown_block, object_view, shown_object, view_of, MayShow, IsShown, IsView}
+use Rattle.zst_model.specs.View.{View, Left, There, shown_block, object_view, shown_object, view_of, MayShow, IsShown}
 use Rattle.zst_model.specs.Items.{origin}
 use Rattle.zst_model.specs.Target.{redacted, redacted_object, MayRedact, CanRedact, BaseOk}
 use Rattle.zst_laws.specs.Sending.{RedactedIsState, SnapshotHasView, full, FullIsExact, SendIsExact}
@@ -41,7 +41,7 @@ pair_number snap choice k i n l h =
     and_from (is_number k) _ n (or_right (is_after choice.from (snap.number_date k)) _
     (any_passes _ index_bound i l (or_left (includes_pair snap choice k i) _ h)))
 
-outside_left : (snap : DatedState) (choice : Choice) (k : ℕ) → is_number k ≡ false → includes_number snap choice k ≡ false
+pub outside_left : (snap : DatedState) (choice : Choice) (k : ℕ) → is_number k ≡ false → includes_number snap choice k ≡ false
 unfolding includes_number
 outside_left snap choice k n = and_left (is_number k) _ n
 
@@ -228,7 +228,7 @@ full_pair snap redact k i e = go (cases_lt i (end_at (snap.state k)))
     go (inl l) = absurd (true≢false (sym (and_from (nat_lt i (end_at (snap.state k))) _ (lt-ltb _ _ l) refl) ∙ e))
     go (inr g) = g
 
-full_number : (snap : DatedState) (redact : Pairs) (k : ℕ) → (t : Bool) → is_number k ≡ t → includes_number snap (full redact) k ≡ t
+pub full_number : (snap : DatedState) (redact : Pairs) (k : ℕ) → (t : Bool) → is_number k ≡ t → includes_number snap (full redact) k ≡ t
 unfolding includes_number
 full_number snap redact k true n = and_from (is_number k) _ n refl
 full_number snap redact k false n = and_left (is_number k) _ n

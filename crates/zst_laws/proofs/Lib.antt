@@ -11,3 +11,5 @@ mod Cut
 mod Writer
 mod Walk
 mod More
+mod OneObject
+mod Examples

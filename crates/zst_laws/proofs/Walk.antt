@@ -47,17 +47,17 @@ in_numbers k e =
     let parts = and_parts (nat_lt 0 k) (nat_lt k number_bound) e in
     (ltb-true 0 k parts.0, subst (λ n. k < n) (sym all_numbers) (ltb-true k number_bound parts.1))
 
-number_is : (k : ℕ) → 0 < k → k < number_bound → is_number k ≡ true
+pub number_is : (k : ℕ) → 0 < k → k < number_bound → is_number k ≡ true
 number_is k pos l = and_from (nat_lt 0 k) (nat_lt k number_bound) (lt-ltb _ _ pos) (lt-ltb _ _ l)
 
-left_below : (view : View) (point : Point) (slot : Bool) (j : ℕ) → j < point.object → left_at view point slot j ≡ []
+pub left_below : (view : View) (point : Point) (slot : Bool) (j : ℕ) → j < point.object → left_at view point slot j ≡ []
 left_below view point slot j l = cond-true (nat_lt j point.object) _ _ (lt-ltb _ _ l)
 
-left_own : (view : View) (point : Point) (slot : Bool) → left_at view point slot point.object ≡ (if slot then number_items point.object point.offset (view.shown point.object) else number_rest point.object point.offset (view.shown point.object))
+pub left_own : (view : View) (point : Point) (slot : Bool) → left_at view point slot point.object ≡ (if slot then number_items point.object point.offset (view.shown point.object) else number_rest point.object point.offset (view.shown point.object))
 left_own view point slot =
     cond-false (nat_lt point.object point.object) _ _ (le-ltb _ _ (omega arith)) ∙ cond-true (point.object == point.object) _ _ (eq-eqb point.object point.object refl)
 
-left_above : (view : View) (point : Point) (slot : Bool) (j : ℕ) → point.object < j → left_at view point slot j ≡ number_items j 0 (view.shown j)
+pub left_above : (view : View) (point : Point) (slot : Bool) (j : ℕ) → point.object < j → left_at view point slot j ≡ number_items j 0 (view.shown j)
 left_above view point slot j l =
     cond-false (nat_lt j point.object) _ _ (le-ltb _ _ (omega arith)) ∙ cond-false (j == point.object) _ _ (ne_eqb j point.object (λ e. omega (arith, e)))
 
@@ -82,10 +82,10 @@ object_next view point slot k object n none l m s =
     let next : Point = record { object = k; offset = offset } in
     let range = in_numbers k n in
     first_items (left_at view point slot) (left_at view next false) (map (At k) (opening object)) k (pred number_bound) 1 range.0 range.1
-      none (left_below view next false)
-      (left_first view point slot k l m ∙ ap (number_items k offset) s ∙ map-append (At k) (opening object) (block_changes object offset)
-        ∙ ap (λ r. map (At k) (opening object) ++ r) (sym (left_own view next false ∙ ap (number_rest k offset) s)))
-      (λ j t. left_above view point slot j (omega arith) ∙ sym (left_above view next false j t))
+    none (left_below view next false)
+    (left_first view point slot k l m ∙ ap (number_items k offset) s ∙ map-append (At k) (opening object) (block_changes object offset)
+    ∙ ap (λ r. map (At k) (opening object) ++ r) (sym (left_own view next false ∙ ap (number_rest k offset) s)))
+    (λ j t. left_above view point slot j (omega arith) ∙ sym (left_above view next false j t))
 
 pub gone_next : GoneIsNext
 unfolding walk_left
@@ -158,6 +158,7 @@ walk_starts view point = ap (λ f. flat_map f (rising 1 (pred number_bound))) (f
     inner : (k : ℕ) (t : Bool) → (if t then number_items k point.offset (view.shown k) else number_items k 0 (view.shown k)) ≡ number_items k (if t then point.offset else 0) (view.shown k)
     inner k true = refl
     inner k false = refl
+
     own : (k : ℕ) (t : Bool)
         → (if t then [] else (if k == point.object then number_items k point.offset (view.shown k) else number_items k 0 (view.shown k)))
         ≡ (if t then [] else number_items k (if k == point.object then point.offset else 0) (view.shown k))
@@ -165,7 +166,7 @@ walk_starts view point = ap (λ f. flat_map f (rising 1 (pred number_bound))) (f
     own k false = inner k (k == point.object)
 
 -- a pass that finds nothing
-all_none : {A : Type 0} (f : ℕ → List A) (n a : ℕ) → ((j : ℕ) → j < a + n → f j ≡ []) → flat_map f (rising a n) ≡ []
+pub all_none : {A : Type 0} (f : ℕ → List A) (n a : ℕ) → ((j : ℕ) → j < a + n → f j ≡ []) → flat_map f (rising a n) ≡ []
 unfolding rising
 all_none f zero a h = refl
 all_none f (suc n) a h = ap (λ l. l ++ flat_map f (rising (suc a) n)) (h a (omega arith)) ∙ all_none f n (suc a) (λ j m. h j (omega arith))
@@ -238,7 +239,7 @@ block_run view object block k (suc n) offset i is s pos high far none all h =
     ap joined (block_next view (record { object = k; offset = offset }) object i block is s pos (omega arith) far none (all i (omega arith) (omega arith)))
     ∙ ap (λ cs. joined (map (At k) cs ++ walk_left view (record { object = k; offset = (i + 1) * size }) false)) (one_run object.attr i block)
     ∙ ap (before (At k (run_change object.attr i 1 block)))
-      (block_run view object block k n ((i + 1) * size) (i + 1) is s pos (omega arith) (omega arith) (λ j m t. absurd (passed j m t)) (λ j a b. all j (omega arith) (omega arith)) (λ b e. absurd (omega (arith, h b e))))
+    (block_run view object block k n ((i + 1) * size) (i + 1) is s pos (omega arith) (omega arith) (λ j m t. absurd (passed j m t)) (λ j a b. all j (omega arith) (omega arith)) (λ b e. absurd (omega (arith, h b e))))
     ∙ before-joined (At k (run_change object.attr i 1 block)) (At k (run_change object.attr (i + 1) (suc n) block)) (At k (run_change object.attr i (suc (suc n)) block)) (joined rest) (longer_run k object.attr i n block (λ b e. omega (arith, h b e)))
     ∙ ap (λ o. before (At k (run_change object.attr i (suc (suc n)) block)) (joined (walk_left view (record { object = k; offset = o * size }) false))) sum
   where

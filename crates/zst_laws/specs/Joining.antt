@@ -1,5 +1,5 @@
 -- How runs are joined.
-use Rattle.std.specs.Prelude.{◌≡◌, ℕ, ◌+◌, ◌≤◌, Bool, true, false, not, List, [], ◌∷◌, Option, Some, None, Result, Ok, if◌then◌else◌, nat_lt, ◌&&◌}
+use Rattle.std.specs.Prelude.{◌≡◌, List, [], ◌∷◌, Some, None}
 use Rattle.zst_model.specs.declared.header.Point.{Point}
 use Rattle.zst_model.specs.declared.item.Item.{Item}
 use Rattle.zst_model.specs.View.{View}

@@ -90,4 +90,4 @@ BlockRunIsNext =
     → ((j : ℕ) → i ≤ j → j < i + count → object.blocks j ≡ Some block)
     → ((bytes : List ℕ) → block ≡ Data bytes → count ≡ 1)
     → joined (walk_left view point false)
-        ≡ joined (At point.object (run_change object.attr i count block) ∷ walk_left view (record { object = point.object; offset = (i + count) * object.attr.block_size }) false)
+    ≡ joined (At point.object (run_change object.attr i count block) ∷ walk_left view (record { object = point.object; offset = (i + count) * object.attr.block_size }) false)

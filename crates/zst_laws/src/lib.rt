@@ -1,6 +1,7 @@
 //! The laws of sends and receives: what the definitions of zst_model give together.
 #![tactic(auto)]
 
+ghost use Rattle.zst_laws.specs.Example.{SmallItems, RewrittenItems, ReallocatedItems, DistantItems};
 ghost use Rattle.zst_laws.specs.History.{BeforeIsBase, RedactedIsBase};
 ghost use Rattle.zst_laws.specs.Joining.{RunsAreMaximal, HeldGoesOn};
 ghost use Rattle.zst_laws.specs.Resuming.{ResumeIsExact, StartStands, CutStands};
@@ -100,4 +101,24 @@ pub fn block_is_next()
 /// A walk to a run of holes, of redacted blocks, or of one block of data gives it as one item, and then what follows it.
 pub fn block_run_is_next()
     ensures { BlockRunIsNext }
+{}
+
+/// A file with one block has OBJECT, FREE, WRITE and FREEOBJECTS, and without the WRITE where its block was received.
+pub fn small_has_its_items()
+    ensures { SmallItems }
+{}
+
+/// A block that was written with equal bytes is sent.
+pub fn rewritten_block_is_sent()
+    ensures { RewrittenItems }
+{}
+
+/// The holes of an object that was freed and made again are sent.
+pub fn reallocated_holes_are_sent()
+    ensures { ReallocatedItems }
+{}
+
+/// A hole of 2^30 blocks is one item.
+pub fn distant_block_has_one_hole()
+    ensures { DistantItems }
 {}
