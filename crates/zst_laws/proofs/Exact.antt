@@ -11,6 +11,7 @@ use Rattle.zst_model.specs.Included.{Choice, Pairs, is_after, includes_pair, inc
 use Rattle.zst_model.specs.View.{View, Left, There, shown_block, object_view, shown_object, view_of, MayShow, IsShown}
 use Rattle.zst_model.specs.Items.{origin}
 use Rattle.zst_model.specs.Target.{redacted, redacted_object, MayRedact, CanRedact, BaseOk}
+use Rattle.zst_laws.specs.History.{AnyIsFullBase}
 use Rattle.zst_laws.specs.Sending.{RedactedIsState, SnapshotHasView, full, FullIsExact, SendIsExact}
 use Rattle.zst_laws.proofs.Fold.{swept}
 use Rattle.zst_laws.proofs.Blocks.{opened, block_from}
@@ -233,27 +234,27 @@ unfolding includes_number
 full_number snap redact k true n = and_from (is_number k) _ n refl
 full_number snap redact k false n = and_left (is_number k) _ n
 
--- so that nothing is fit as its base
-full_base : (snap : DatedState) (redact : Pairs) → IsState snap.state → BaseOk no_objects snap (full redact)
-full_base snap redact lawful = record { numbers = λ k e. numbers k e (is_number k) refl; pairs = λ k i p q. pairs k i p q (is_number k) refl }
+-- so that each state is fit as its base
+pub full_base : AnyIsFullBase
+full_base base snap redact b lawful = record { numbers = λ k e. numbers k e (is_number k) refl; pairs = λ k i p q. pairs k i p q (is_number k) refl }
   where
-    numbers : (k : ℕ) → includes_number snap (full redact) k ≡ false → (t : Bool) → is_number k ≡ t → attr_at None ≡ attr_at (snap.state k)
+    numbers : (k : ℕ) → includes_number snap (full redact) k ≡ false → (t : Bool) → is_number k ≡ t → attr_at (base k) ≡ attr_at (snap.state k)
     numbers k e true n = absurd (true≢false (sym (full_number snap redact k true n) ∙ e))
-    numbers k e false n = sym (ap attr_at (absent_outside snap.state lawful k n))
+    numbers k e false n = ap attr_at (absent_outside base b k n ∙ sym (absent_outside snap.state lawful k n))
 
     pairs : (k i : ℕ) → includes_pair snap (full redact) k i ≡ false → (includes_number snap (full redact) k ≡ true → i < end_at (snap.state k))
-        → (t : Bool) → is_number k ≡ t → content_at None i ≡ content_at (snap.state k) i
+        → (t : Bool) → is_number k ≡ t → content_at (base k) i ≡ content_at (snap.state k) i
     pairs k i p q true n =
         let past : end_at (snap.state k) ≤ i = full_pair snap redact k i p in
         let before : i < end_at (snap.state k) = q (full_number snap redact k true n) in
         absurd (omega arith)
-    pairs k i p q false n = sym (ap (λ o. content_at o i) (absent_outside snap.state lawful k n))
+    pairs k i p q false n = ap (λ o. content_at o i) (absent_outside base b k n ∙ sym (absent_outside snap.state lawful k n))
 
 nothing_lawful : IsState no_objects
 nothing_lawful = record { zero = refl; bounded = λ k l. refl; objects = λ k. tt }
 
 pub full_exact : FullIsExact
-full_exact header snap redact lawful can = send_exact no_objects header snap (full redact) nothing_lawful lawful can (full_base snap redact lawful)
+full_exact header snap redact lawful can = send_exact no_objects header snap (full redact) nothing_lawful lawful can (full_base no_objects snap redact nothing_lawful lawful)
 
 -- a redacted object is lawful
 redacted_object_lawful : (object : Object) (pairs : ℕ → Bool) → IsObject object → MayRedact object pairs → IsObject (redacted_object pairs object)

@@ -12,7 +12,7 @@ use Rattle.zst_model.specs.View.{View, ObjectView, Left, Gone, There, object_vie
 use Rattle.zst_model.specs.Items.{before, joined, opening}
 use Rattle.zst_laws.specs.Sending.{full}
 use Rattle.zst_laws.specs.Walk.{walk_left}
-use Rattle.zst_laws.specs.Example.{file_of, file_put, one_file, padded, rest_gone, since, first_block, second_block, distant_blocks, small, rewritten, reallocated, distant, SmallItems, RewrittenItems, ReallocatedItems, DistantItems}
+use Rattle.zst_laws.specs.Example.{file_of, file_put, one_file, padded, rest_gone, since, first_block, second_block, distant_blocks, small, rewritten, reallocated, distant, SmallItems, SmallPoints, RewrittenItems, ReallocatedItems, DistantItems}
 use Rattle.zst_laws.proofs.Exact.{full_number, outside_left, pair_number, below_bound}
 use Rattle.zst_laws.proofs.Walk.{number_is, block_run_next}
 use Rattle.zst_laws.proofs.OneObject.{one_is, end_is, none_passes, from_start, from_inside, ends_gone, ends_left}
@@ -118,6 +118,10 @@ small_items header = (
 
     ended : joined (walk_left v (record { object = 1; offset = 512 }) false) ≡ rest_gone ∷ []
     ended = ends_gone v o out own 512 (λ j l h. absurd (omega (arith, first_end))) (full_gone header first_block small.number_date small.index_date)
+
+pub small_points : SmallPoints
+unfolding padded number_bound
+small_points = (refl, refl, refl, refl)
 
 -- dates of no other number
 one_number : (date k : ℕ) → 2 ≤ k → ◌≡◌ {A = ℕ} (if k == 1 then date else 0) 0

@@ -13,3 +13,4 @@ mod Walk
 mod More
 mod OneObject
 mod Examples
+mod Ranges

@@ -10,6 +10,7 @@ use Rattle.zst_model.specs.Dated.{DatedState}
 use Rattle.zst_model.specs.Included.{Choice, no_pairs}
 use Rattle.zst_model.specs.View.{view_of}
 use Rattle.zst_model.specs.Items.{items, origin}
+use Rattle.zst_model.specs.Points.{point_of}
 use Rattle.zst_laws.specs.Sending.{full}
 
 -- a file with blocks of 512 bytes, without a bonus or a spill
@@ -56,6 +57,14 @@ SmallItems =
     (items view origin ≡ file_put 0 ∷ At 1 (FreeFrom 512) ∷ At 1 (Write 0 19 (padded 170)) ∷ rest_gone ∷ [])
     × (items view (record { object = 1; offset = 0 }) ≡ file_put 0 ∷ At 1 (FreeFrom 512) ∷ At 1 (Write 0 19 (padded 170)) ∷ rest_gone ∷ [])
     × (items view (record { object = 1; offset = 512 }) ≡ file_put 0 ∷ At 1 (FreeFrom 512) ∷ rest_gone ∷ [])
+
+-- the points to which its items lead, one after another
+abbrev pub SmallPoints : Type 0
+SmallPoints =
+    (point_of origin (file_put 0 ∷ []) ≡ record { object = 1; offset = 0 })
+    × (point_of origin (file_put 0 ∷ At 1 (FreeFrom 512) ∷ []) ≡ record { object = 1; offset = 0 })
+    × (point_of origin (file_put 0 ∷ At 1 (FreeFrom 512) ∷ At 1 (Write 0 19 (padded 170)) ∷ []) ≡ record { object = 1; offset = 512 })
+    × (point_of origin (file_put 0 ∷ At 1 (FreeFrom 512) ∷ At 1 (Write 0 19 (padded 170)) ∷ rest_gone ∷ []) ≡ record { object = 281474976710656; offset = 0 })
 
 -- the same after commit 6 wrote equal bytes into block 0
 abbrev pub rewritten : DatedState

@@ -3,7 +3,12 @@ use Rattle.std.specs.Prelude.{◌≡◌, ℕ, ◌≤◌, true, ◌⊎◌, Some}
 use Rattle.zst_model.specs.State.{State, IsState, end_at}
 use Rattle.zst_model.specs.Dated.{DatedState}
 use Rattle.zst_model.specs.Included.{Pairs, Choice, includes_pair, includes_number}
+use Rattle.zst_laws.specs.Sending.{full}
 use Rattle.zst_model.specs.Target.{BaseOk, Remembers, redacted}
+
+-- each lawful state is fit as the base of a full stream
+abbrev pub AnyIsFullBase : Type 0
+AnyIsFullBase = (base : State) (snap : DatedState) (redact : Pairs) → IsState base → IsState snap.state → BaseOk base snap (full redact)
 
 -- a state that the snapshot remembers of the source's number is fit as a base
 abbrev pub BeforeIsBase : Type 0

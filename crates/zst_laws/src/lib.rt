@@ -1,9 +1,10 @@
 //! The laws of sends and receives: what the definitions of zst_model give together.
 #![tactic(auto)]
 
-ghost use Rattle.zst_laws.specs.Example.{SmallItems, RewrittenItems, ReallocatedItems, DistantItems};
-ghost use Rattle.zst_laws.specs.History.{BeforeIsBase, RedactedIsBase};
+ghost use Rattle.zst_laws.specs.Example.{SmallItems, SmallPoints, RewrittenItems, ReallocatedItems, DistantItems};
+ghost use Rattle.zst_laws.specs.History.{AnyIsFullBase, BeforeIsBase, RedactedIsBase};
 ghost use Rattle.zst_laws.specs.Joining.{RunsAreMaximal, HeldGoesOn};
+ghost use Rattle.zst_laws.specs.Ranges.{NumbersAreCut, IndicesAreCut};
 ghost use Rattle.zst_laws.specs.Resuming.{ResumeIsExact, StartStands, CutStands};
 ghost use Rattle.zst_laws.specs.Sending.{SnapshotHasView, SendIsExact, FullIsExact, RedactedIsState, ViewsAgree};
 ghost use Rattle.zst_laws.specs.Walk.{WalkBegins, WalkEnds, ObjectIsNext, GoneIsNext, GoneRunIsNext, BlockIsNext, BlockRunIsNext};
@@ -48,6 +49,11 @@ pub fn views_agree()
     ensures { ViewsAgree }
 {}
 
+/// Each lawful state is fit as the base of a full stream.
+pub fn any_is_full_base()
+    ensures { AnyIsFullBase }
+{}
+
 /// A state that a snapshot remembers of the source's number is fit as a base.
 pub fn before_is_base()
     ensures { BeforeIsBase }
@@ -56,6 +62,16 @@ pub fn before_is_base()
 /// A base stays fit with pairs redacted that the send writes anew.
 pub fn redacted_is_base()
     ensures { RedactedIsBase }
+{}
+
+/// FREEOBJECTS does what its range does without 0 and cut at 2^48.
+pub fn numbers_are_cut()
+    ensures { NumbersAreCut }
+{}
+
+/// A FREE does what its range does cut at index 2^43.
+pub fn indices_are_cut()
+    ensures { IndicesAreCut }
 {}
 
 /// Runs are as long as they can be.
@@ -106,6 +122,11 @@ pub fn block_run_is_next()
 /// A file with one block has OBJECT, FREE, WRITE and FREEOBJECTS, and without the WRITE where its block was received.
 pub fn small_has_its_items()
     ensures { SmallItems }
+{}
+
+/// Its items lead to the file, past its block, and to the end of the numbers.
+pub fn small_has_its_points()
+    ensures { SmallPoints }
 {}
 
 /// A block that was written with equal bytes is sent.
