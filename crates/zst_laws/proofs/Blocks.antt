@@ -54,6 +54,12 @@ odd_free : (odd : Bool) (size i a b : ℕ) → (0 < i → odd ≡ false) → (i 
 odd_free odd size zero a b h z = and_right odd _ (let l : b ≤ a = z refl in grind (arith, nat_tests))
 odd_free odd size (suc i) a b h z = and_left odd _ (h (omega arith))
 
+-- a range of no length takes none
+less_odd : (odd some far : Bool) → (odd && far) ≡ false → (odd && (some && far)) ≡ false
+less_odd false some far h = refl
+less_odd true false far h = refl
+less_odd true true far h = h
+
 pub one_block : (attr : Attr) (i : ℕ) (shown : Option Block) (f : ℕ → Block) → 0 < attr.block_size → IfSome shown (MayShow attr i)
     → apply_changes (block_change attr i shown) (Some (record { attr = attr; blocks = f }))
     ≡ Ok (Some (record { attr = attr; blocks = put_at f i (unwrap_or shown (f i)) }))
@@ -72,7 +78,7 @@ one_block attr i (Some Redacted) f pos h =
     (unless_from (not (is_user_data attr)) NotUserData _ (not_from_true _ h.0)
     ∙ unless_from (is_unaligned size (i * size) || is_unaligned size size) Unaligned _
     (or_from _ _ (aligned_from size (i * size) (mul-mod_left i size)) (aligned_from size size (mod_self size)))
-    ∙ unless_from (is_odd_size size && nat_lt size (i * size + size)) OddBlock _ (odd_free (is_odd_size size) size i size (i * size + size) h.1 small)
+    ∙ unless_from (is_odd_size size && (nat_lt 0 size && nat_lt size (i * size + size))) OddBlock _ (less_odd (is_odd_size size) (nat_lt 0 size) (nat_lt size (i * size + size)) (odd_free (is_odd_size size) size i size (i * size + size) h.1 small))
     ∙ ap (λ g. Ok (Some (record { attr = attr; blocks = g }))) (fun_ext (λ j. ap (λ b. cond b Redacted (f j)) (within_block size i j pos))))
 one_block attr i (Some (Data bytes)) f pos h =
     let size = attr.block_size in

@@ -2,6 +2,7 @@
 use Rattle.std.proofs.Common.{subst, not, ◌||◌, option_map, eqb-true, ◌≡◌, ℕ, ◌+◌, ◌*◌, Bool, true, false, List, [], ◌∷◌, Option, Some, None, Ok, refl, sym, ap, ◌∙◌, arith, ◌==◌, nat_lt, ◌&&◌, if◌then◌else◌}
 use Rattle.std.proofs.Math.Path.{fun_ext}
 use Rattle.std.proofs.lemmas.Bool.{or_parts, or_from}
+use Rattle.std.proofs.lemmas.Bool.Decides.{nat_tests}
 use Rattle.zst_model.specs.State.{State, Object, Hole, Redacted, is_user_data, is_odd_size}
 use Rattle.zst_model.specs.declared.item.Change.{Change}
 use Rattle.zst_model.specs.declared.item.Change.TheVariants.{Free, Redact}
@@ -38,23 +39,28 @@ frees_touch object x m y n p q touch a b =
     ∙ ap (λ f. Ok (Some (record { attr = object.attr; blocks = f }))) (fun_ext (λ i. range-range x m y n (i * size) Hole (object.blocks i) touch))
     ∙ second.1
 
+-- two ranges without an odd block have none together
+odd_touch : (odd : Bool) (size x m y n : ℕ) → x + m ≡ y → (odd && (nat_lt 0 m && nat_lt size (x + m))) ≡ false → (odd && (nat_lt 0 n && nat_lt size (y + n))) ≡ false
+    → (odd && (nat_lt 0 (m + n) && nat_lt size (x + (m + n)))) ≡ false
+odd_touch false size x m y n e a b = refl
+odd_touch true size x m y n e a b = grind (arith, nat_tests)
+
 redacts_touch : (object : Object) (x m y n : ℕ) (p q : Option Object) → x + m ≡ y → apply_change (Redact x m) (Some object) ≡ Ok p → apply_change (Redact y n) p ≡ Ok q → apply_change (Redact x (m + n)) (Some object) ≡ Ok q
 unfolding apply_change
 redacts_touch object x m y n p q touch a b =
     let size = object.attr.block_size in
     let users = unless_ok (not (is_user_data object.attr)) NotUserData _ p a in
     let first = unless_ok (is_unaligned size x || is_unaligned size m) Unaligned _ p users.1 in
-    let odd = unless_ok (is_odd_size size && nat_lt size (x + m)) OddBlock _ p first.1 in
+    let odd = unless_ok (is_odd_size size && (nat_lt 0 m && nat_lt size (x + m))) OddBlock _ p first.1 in
     let again = subst (λ r. apply_change (Redact y n) r ≡ Ok q) (sym (ok_inj _ p odd.1)) b in
     let users' = unless_ok (not (is_user_data object.attr)) NotUserData _ q again in
     let second = unless_ok (is_unaligned size y || is_unaligned size n) Unaligned _ q users'.1 in
-    let odd' = unless_ok (is_odd_size size && nat_lt size (y + n)) OddBlock _ q second.1 in
+    let odd' = unless_ok (is_odd_size size && (nat_lt 0 n && nat_lt size (y + n))) OddBlock _ q second.1 in
     let starts = or_parts (is_unaligned size x) (is_unaligned size m) first.0 in
     let ends = or_parts (is_unaligned size y) (is_unaligned size n) second.0 in
-    let same : y + n ≡ x + (m + n) = omega arith in
     unless_from _ NotUserData _ users.0
     ∙ unless_from (is_unaligned size x || is_unaligned size (m + n)) Unaligned _ (or_from _ _ starts.0 (aligned-add size m n starts.1 ends.1))
-    ∙ unless_from _ OddBlock _ (subst (λ z. (is_odd_size size && nat_lt size z) ≡ false) same odd'.0)
+    ∙ unless_from _ OddBlock _ (odd_touch (is_odd_size size) size x m y n touch odd.0 odd'.0)
     ∙ ap (λ f. Ok (Some (record { attr = object.attr; blocks = f }))) (fun_ext (λ i. range-range x m y n (i * size) Redacted (object.blocks i) touch))
     ∙ odd'.1
 

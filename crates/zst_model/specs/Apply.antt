@@ -62,7 +62,7 @@ apply_change (Redact offset length) (Some object) =
     let size = object.attr.block_size in
     unless (not (is_user_data object.attr)) NotUserData
     (unless (is_unaligned size offset || is_unaligned size length) Unaligned
-    (unless (is_odd_size size && nat_lt size (offset + length)) OddBlock
+    (unless (is_odd_size size && (nat_lt 0 length && nat_lt size (offset + length))) OddBlock
     (with_blocks object (λ i. if within offset length (i * size) then Redacted else object.blocks i))))
 apply_change (Write offset type bytes) None = Err NoObject
 apply_change (Write offset type bytes) (Some object) =
