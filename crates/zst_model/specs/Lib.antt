@@ -1,2 +1,12 @@
+pub mod Apply
+pub mod ApplyWords
+pub mod Dated
 pub mod Guids
+pub mod Included
+pub mod Items
+pub mod Points
 pub mod Refusal
+pub mod StandsFor
+pub mod State
+pub mod Target
+pub mod View

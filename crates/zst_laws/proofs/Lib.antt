@@ -1,0 +1,16 @@
+mod Runs
+mod Fold
+mod Joins
+mod Blocks
+mod Numbers
+mod Ends
+mod Exact
+mod Resume
+mod CutBlocks
+mod Cut
+mod Writer
+mod Walk
+mod More
+mod OneObject
+mod Examples
+mod Ranges

@@ -1,0 +1,5 @@
+use Rattle.zst_laws.proofs.More.{before_base}
+use Rattle.zst_laws.proofs.before_is_base.Goals as goal
+
+pub returns : goal.returns
+returns c = before_base

@@ -1,0 +1,5 @@
+use Rattle.zst_laws.proofs.Cut.{cut_stand}
+use Rattle.zst_laws.proofs.cut_stands.Goals as goal
+
+pub returns : goal.returns
+returns c = cut_stand

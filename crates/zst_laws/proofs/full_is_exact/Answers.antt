@@ -1,0 +1,5 @@
+use Rattle.zst_laws.proofs.Exact.{full_exact}
+use Rattle.zst_laws.proofs.full_is_exact.Goals as goal
+
+pub returns : goal.returns
+returns c = full_exact

@@ -1,0 +1,5 @@
+use Rattle.zst_laws.proofs.Walk.{gone_run_next}
+use Rattle.zst_laws.proofs.gone_run_is_next.Goals as goal
+
+pub returns : goal.returns
+returns c = gone_run_next

@@ -1,0 +1,5 @@
+use Rattle.zst_laws.proofs.More.{held_on}
+use Rattle.zst_laws.proofs.held_goes_on.Goals as goal
+
+pub returns : goal.returns
+returns c = held_on

@@ -1,0 +1,5 @@
+use Rattle.zst_laws.proofs.Examples.{reallocated_items}
+use Rattle.zst_laws.proofs.reallocated_holes_are_sent.Goals as goal
+
+pub returns : goal.returns
+returns c = reallocated_items

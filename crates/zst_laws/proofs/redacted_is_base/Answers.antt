@@ -1,0 +1,5 @@
+use Rattle.zst_laws.proofs.More.{redacted_base}
+use Rattle.zst_laws.proofs.redacted_is_base.Goals as goal
+
+pub returns : goal.returns
+returns c = redacted_base

@@ -1,0 +1,5 @@
+use Rattle.zst_laws.proofs.Exact.{redacted_lawful}
+use Rattle.zst_laws.proofs.redacted_is_state.Goals as goal
+
+pub returns : goal.returns
+returns c = redacted_lawful

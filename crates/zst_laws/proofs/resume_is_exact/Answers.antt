@@ -1,0 +1,5 @@
+use Rattle.zst_laws.proofs.Resume.{resume_exact}
+use Rattle.zst_laws.proofs.resume_is_exact.Goals as goal
+
+pub returns : goal.returns
+returns c = resume_exact

@@ -1,0 +1,5 @@
+use Rattle.zst_laws.proofs.More.{views_same}
+use Rattle.zst_laws.proofs.views_agree.Goals as goal
+
+pub returns : goal.returns
+returns c = views_same

@@ -1,0 +1,149 @@
+//! The laws of sends and receives: what the definitions of zst_model give together.
+#![tactic(auto)]
+
+ghost use Rattle.zst_laws.specs.Example.{SmallItems, SmallPoints, RewrittenItems, ReallocatedItems, DistantItems};
+ghost use Rattle.zst_laws.specs.History.{AnyIsFullBase, BeforeIsBase, RedactedIsBase};
+ghost use Rattle.zst_laws.specs.Joining.{RunsAreMaximal, HeldGoesOn};
+ghost use Rattle.zst_laws.specs.Ranges.{NumbersAreCut, IndicesAreCut};
+ghost use Rattle.zst_laws.specs.Resuming.{ResumeIsExact, StartStands, CutStands};
+ghost use Rattle.zst_laws.specs.Sending.{SnapshotHasView, SendIsExact, FullIsExact, RedactedIsState, ViewsAgree};
+ghost use Rattle.zst_laws.specs.Walk.{WalkBegins, WalkEnds, ObjectIsNext, GoneIsNext, GoneRunIsNext, BlockIsNext, BlockRunIsNext};
+
+mod points;
+
+pub use points::point_after;
+
+/// A lawful snapshot with a lawful choice has a lawful view.
+pub fn snapshot_has_view()
+    ensures { SnapshotHasView }
+{}
+
+/// A send over a base that is fit for it gives exactly its snapshot, with exactly the listed pairs redacted.
+pub fn send_is_exact()
+    ensures { SendIsExact }
+{}
+
+/// A full stream gives exactly its snapshot from nothing, with exactly the listed pairs redacted.
+pub fn full_is_exact()
+    ensures { FullIsExact }
+{}
+
+/// What a send gives is a lawful state again.
+pub fn redacted_is_state()
+    ensures { RedactedIsState }
+{}
+
+/// A resumed send completes each state that stands for its point.
+pub fn resume_is_exact()
+    ensures { ResumeIsExact }
+{}
+
+/// A receive begins as a state that stands for the start.
+pub fn start_stands()
+    ensures { StartStands }
+{}
+
+/// A send that is cut after any of its items leaves what stands for the point that it came to.
+pub fn cut_stands()
+    ensures { CutStands }
+{}
+
+/// Snapshots that differ in the bytes of redacted pairs alone are sent alike.
+pub fn views_agree()
+    ensures { ViewsAgree }
+{}
+
+/// Each lawful state is fit as the base of a full stream.
+pub fn any_is_full_base()
+    ensures { AnyIsFullBase }
+{}
+
+/// A state that a snapshot remembers of the source's number is fit as a base.
+pub fn before_is_base()
+    ensures { BeforeIsBase }
+{}
+
+/// A base stays fit with pairs redacted that the send writes anew.
+pub fn redacted_is_base()
+    ensures { RedactedIsBase }
+{}
+
+/// FREEOBJECTS does what its range does without 0 and cut at 2^48.
+pub fn numbers_are_cut()
+    ensures { NumbersAreCut }
+{}
+
+/// A FREE does what its range does cut at index 2^43.
+pub fn indices_are_cut()
+    ensures { IndicesAreCut }
+{}
+
+/// Runs are as long as they can be.
+pub fn runs_are_maximal()
+    ensures { RunsAreMaximal }
+{}
+
+/// An item that is held back goes into the next where they touch, and otherwise stands by itself.
+pub fn held_goes_on()
+    ensures { HeldGoesOn }
+{}
+
+/// A walk from a point with its slot has the items from that point.
+pub fn walk_begins()
+    ensures { WalkBegins }
+{}
+
+/// A walk ends where nothing is left of any number.
+pub fn walk_ends()
+    ensures { WalkEnds }
+{}
+
+/// A walk to an object gives its opening, and then its blocks.
+pub fn object_is_next()
+    ensures { ObjectIsNext }
+{}
+
+/// A walk to an absent number gives it, and then what follows it.
+pub fn gone_is_next()
+    ensures { GoneIsNext }
+{}
+
+/// A walk to a run of absent numbers gives it as one item, and then what follows it.
+pub fn gone_run_is_next()
+    ensures { GoneRunIsNext }
+{}
+
+/// A walk to a block gives it, and then what follows it.
+pub fn block_is_next()
+    ensures { BlockIsNext }
+{}
+
+/// A walk to a run of holes, of redacted blocks, or of one block of data gives it as one item, and then what follows it.
+pub fn block_run_is_next()
+    ensures { BlockRunIsNext }
+{}
+
+/// A file with one block has OBJECT, FREE, WRITE and FREEOBJECTS, and without the WRITE where its block was received.
+pub fn small_has_its_items()
+    ensures { SmallItems }
+{}
+
+/// Its items lead to the file, past its block, and to the end of the numbers.
+pub fn small_has_its_points()
+    ensures { SmallPoints }
+{}
+
+/// A block that was written with equal bytes is sent.
+pub fn rewritten_block_is_sent()
+    ensures { RewrittenItems }
+{}
+
+/// The holes of an object that was freed and made again are sent.
+pub fn reallocated_holes_are_sent()
+    ensures { ReallocatedItems }
+{}
+
+/// A hole of 2^30 blocks is one item.
+pub fn distant_block_has_one_hole()
+    ensures { DistantItems }
+{}

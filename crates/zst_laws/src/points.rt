@@ -1,0 +1,130 @@
+ghost use Rattle.std.specs.Prelude.{◌≡◌};
+ghost use Rattle.zst_laws.specs.Places.{HasPlace, ChangeHasPlace};
+ghost use Rattle.zst_model.specs.declared.item.Item.TheVariants.{At};
+ghost use Rattle.zst_model.specs.Points.{point_after};
+
+use zst_model::{Change, Item, Point};
+
+/// Object numbers stand below this.
+const NUMBER_BOUND: u64 = 1 << 48;
+
+/// Where a receiver stands after an item: past its range, whose end is a number of 64 bits.
+#[tactic(auto, unfolding(zst_model::specs::State::number_bound))]
+pub fn point_after(point: Point, item: &Item) -> Point
+    requires { HasPlace item.now }
+    ensures { result ≡ point_after point item.now }
+{
+    match item {
+        Item::FreeObjects { first, count } => Point {
+            object: first.saturating_add(*count).min(NUMBER_BOUND),
+            offset: 0,
+        },
+        Item::At { object, change } => point_after_change(point, *object, change),
+    }
+}
+
+fn point_after_change(point: Point, object: u64, change: &Change) -> Point
+    requires { ChangeHasPlace change.now }
+    ensures { result ≡ point_after point (At object change.now) }
+{
+    match change {
+        Change::Put {
+            head: _,
+            bonus: _,
+            keep_spill: _,
+            max_block: _,
+        } => {
+            if object == point.object {
+                point
+            } else {
+                Point { object, offset: 0 }
+            }
+        }
+        Change::Spill { bytes: _ } => point,
+        Change::FreeFrom { offset: _ } => point,
+        Change::Free { offset, length } => Point {
+            object,
+            offset: offset + length,
+        },
+        Change::Redact { offset, length } => Point {
+            object,
+            offset: offset + length,
+        },
+        Change::Write {
+            offset,
+            type_: _,
+            bytes,
+        } => Point {
+            object,
+            offset: offset + bytes.as_slice().len() as u64,
+        },
+    }
+}
+
+#[cfg(test)]
+mod tests {
+    use super::*;
+    use std::process::Abort;
+    use std::test::Fail;
+    use zst_model::{Bytes, ObjectHead};
+
+    fn check(rt: &impl Abort, start: (u64, u64), item: &Item, object: u64, offset: u64) {
+        let point = Point {
+            object: start.0,
+            offset: start.1,
+        };
+        assert_eq!(rt; point_after(point, item), Point { object, offset });
+    }
+
+    #[test]
+    fn a_write_moves_past_its_block(rt: HostRuntime) -> Result<(), Fail> {
+        let bytes = Bytes::new(vec![in rt.alloc(); 0xaa; 512]?);
+        let change = Change::Write {
+            offset: 0,
+            type_: 19,
+            bytes,
+        };
+        check(&rt, (1, 0), &Item::At { object: 1, change }, 1, 512);
+        Ok(())
+    }
+
+    #[test]
+    fn an_object_that_is_sent_again_keeps_the_point(rt: HostRuntime) -> Result<(), Fail> {
+        let head = ObjectHead {
+            type_: 19,
+            bonus_type: 0,
+            block_size: 512,
+        };
+        let bonus = Bytes::new(Vec::new(rt.alloc()));
+        let change = Change::Put {
+            head,
+            bonus,
+            keep_spill: false,
+            max_block: 0,
+        };
+        let item = Item::At { object: 1, change };
+        check(&rt, (1, 512), &item, 1, 512);
+        check(&rt, (0, 0), &item, 1, 0);
+        Ok(())
+    }
+
+    #[test]
+    fn a_range_of_numbers_is_cut(rt: HostRuntime) {
+        let all = Item::FreeObjects {
+            first: 2,
+            count: 281474976710654,
+        };
+        check(&rt, (1, 512), &all, 281474976710656, 0);
+        let wide = Item::FreeObjects {
+            first: 2,
+            count: u64::MAX,
+        };
+        check(&rt, (1, 512), &wide, 281474976710656, 0);
+    }
+
+    #[test]
+    fn a_tail_leaves_the_point(rt: HostRuntime) {
+        let change = Change::FreeFrom { offset: 512 };
+        check(&rt, (1, 0), &Item::At { object: 1, change }, 1, 0);
+    }
+}
