@@ -1,8 +1,9 @@
 ghost use Rattle.std.specs.Prelude.{◌≡◌, IfOk};
 ghost use Rattle.zst_block.specs.Blocks.{FitsDisk};
 
-use crate::{BlockFault, Io, read, write};
+use crate::{BlockFault, Io, Ptr, read, write};
 use std::alloc::{AllocError, Global};
+use zst_fletcher::Sum;
 use zst_outside::{Disk, MemDisk};
 use zst_space::Space;
 
@@ -80,6 +81,104 @@ fn flip_is_found(alloc: Global, at: u64) -> Result<bool, AllocError> {
 fn each_turned_byte_is_found(rt: HostRuntime) -> Result<(), AllocError> {
     for at in 0..512 {
         assert!(rt; flip_is_found(rt.alloc(), at)?, "at {at}");
+    }
+    Ok(())
+}
+
+#[test]
+fn a_pointer_past_the_disk_has_equal_sums(rt: HostRuntime) -> Result<(), AllocError> {
+    let mut disk = zeros(rt.alloc(), None)?;
+    let mut io = half_free(rt.alloc(), &mut disk)?;
+    let ptr = Ptr {
+        kind: 1,
+        level: 0,
+        length: 512,
+        sector: 16,
+        number: 1,
+        sum: Sum {
+            a: 1,
+            b: 2,
+            c: 3,
+            d: 4,
+        },
+    };
+    let mut into = [0; 512];
+    let sums = [1, 2, 3, 4];
+    assert!(rt;
+        read(&mut io, ptr, &mut into)
+            == Err(BlockFault::Damaged {
+                sector: 16,
+                stated: sums,
+                found: sums
+            })
+    );
+    assert_eq!(rt; io.disk.calls(), 0);
+    Ok(())
+}
+
+// Whether two writes and a read of the first block, in which the call of this number fails, tell it and keep the block.
+fn failure_is_told(alloc: Global, call: u64) -> Result<bool, AllocError> {
+    let mut disk = zeros(alloc, Some(call))?;
+    let mut io = half_free(alloc, &mut disk)?;
+    let Ok(first) = write(&mut io, &[7; 512], 0, 1) else {
+        return Ok(call == 0 && io.failed && io.disk.faults() == 1);
+    };
+    let second = write(&mut io, &[9; 512], 0, 2);
+    let mut into = [0; 512];
+    let outcome = read(&mut io, first, &mut into);
+    let told = second.is_err() == (call == 1) && outcome.is_err() == (call == 2);
+    let kept = call == 2 || into == [7; 512];
+    Ok(told && kept && io.failed == (call < 3) && io.disk.faults() == u64::from(call < 3))
+}
+
+#[test]
+fn each_call_of_a_write_and_a_read_may_fail(rt: HostRuntime) -> Result<(), AllocError> {
+    for call in 0..4 {
+        assert!(rt; failure_is_told(rt.alloc(), call)?, "at {call}");
+    }
+    Ok(())
+}
+
+// Whether a disk has 512 of this byte as the block of this pointer.
+fn has_block(alloc: Global, disk: &mut MemDisk, ptr: Ptr, byte: u8) -> Result<bool, AllocError>
+    requires { ptr.length ≡ 512 }
+{
+    if disk.bytes() != 8192 {
+        return Ok(false);
+    }
+    let mut io = half_free(alloc, disk)?;
+    let mut into = [0; 512];
+    Ok(read(&mut io, ptr, &mut into) == Ok(()) && into == [byte; 512])
+}
+
+// Whether each image of a second block's write, filled with this byte, has the first block.
+fn stops_keep_blocks(alloc: Global, fill: u8) -> Result<bool, AllocError> {
+    let mut disk = zeros(alloc, None)?;
+    let mut io = half_free(alloc, &mut disk)?;
+    let Ok(first) = write(&mut io, &[7; 512], 0, 1) else {
+        return Ok(false);
+    };
+    if io.disk.sync().is_err() {
+        return Ok(false);
+    }
+    let start = io.disk.calls();
+    if write(&mut io, &[9; 512], 0, 2).is_err() {
+        return Ok(false);
+    }
+    let end = io.disk.calls();
+    for moment in [start, end] {
+        let mut image = io.disk.image(alloc, moment, fill)?;
+        if !has_block(alloc, &mut image, first, 7)? {
+            return Ok(false);
+        }
+    }
+    Ok(end == start + 1)
+}
+
+#[test]
+fn every_stop_keeps_the_blocks_that_were_there(rt: HostRuntime) -> Result<(), AllocError> {
+    for fill in [0x00, 0x01, 0xa5, 0xff] {
+        assert!(rt; stops_keep_blocks(rt.alloc(), fill)?, "at {fill}");
     }
     Ok(())
 }
