@@ -68,7 +68,9 @@ mod tests {
     use std::test::Fail;
     use zst_model::{Bytes, ObjectHead};
 
-    fn check(rt: &impl Abort, start: (u64, u64), item: &Item, object: u64, offset: u64) {
+    fn check(rt: &impl Abort, start: (u64, u64), item: &Item, object: u64, offset: u64)
+        requires { HasPlace item.now }
+    {
         let point = Point {
             object: start.0,
             offset: start.1,

@@ -88,6 +88,40 @@ fn a_stream_in_pieces_of_any_size_is_two_records(rt: HostRuntime) {
     }
 }
 
+/// How many records the stream is in pieces whose sizes follow from the seed, from 1 to 320 bytes.
+fn records_in_uneven_pieces(rt: &impl Abort, alloc: Global, stream: &[u8], seed: u64) -> u64 {
+    let mut reader = open_reader(rt, alloc);
+    let mut records = 0u64;
+    let mut rest = stream;
+    let mut state = seed;
+    for _ in 0..624 {
+        state = state
+            .wrapping_mul(6_364_136_223_846_793_005)
+            .wrapping_add(1);
+        let count = rest.len().min(1 + ((state >> 40) % 320) as usize);
+        let (piece, left) = rest.split_at(count);
+        rest = left;
+        push_all(rt, &mut reader, piece);
+        match hand_out_all(&mut reader) {
+            Ok(count) => records = records.saturating_add(count),
+            Err(_) => assert!(rt; false, "a fault from the seed {seed}"),
+        }
+    }
+    assert!(rt; reader.finish() == Ok(()), "the seed {seed}");
+    records
+}
+
+#[test]
+fn a_stream_in_pieces_of_uneven_sizes_is_two_records(rt: HostRuntime) {
+    let stream = smallest_stream(&rt);
+    for seed in 1..100 {
+        assert!(rt;
+            records_in_uneven_pieces(&rt, rt.alloc(), &stream, seed) == 2,
+            "the seed {seed}"
+        );
+    }
+}
+
 #[test]
 fn begin_and_end_say_what_they_state(rt: HostRuntime) {
     let stream = smallest_stream(&rt);
