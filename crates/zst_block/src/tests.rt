@@ -151,7 +151,24 @@ fn has_block(alloc: Global, disk: &mut MemDisk, ptr: Ptr, byte: u8) -> Result<bo
     Ok(read(&mut io, ptr, &mut into) == Ok(()) && into == [byte; 512])
 }
 
-// Whether each image of a second block's write, filled with this byte, has the first block.
+// Whether the image that a stop at this moment leaves, filled with this byte, has 512 sevens as the block of this pointer.
+fn image_has_block(
+    alloc: Global,
+    disk: &MemDisk,
+    moment: u64,
+    fill: u8,
+    ptr: Ptr,
+) -> Result<bool, AllocError>
+    requires { ptr.length ≡ 512 }
+{
+    if disk.calls() < moment {
+        return Ok(false);
+    }
+    let mut image = disk.image(alloc, moment, fill)?;
+    has_block(alloc, &mut image, ptr, 7)
+}
+
+// Whether a stop before and after a second block's write leaves the first block.
 fn stops_keep_blocks(alloc: Global, fill: u8) -> Result<bool, AllocError> {
     let mut disk = zeros(alloc, None)?;
     let mut io = half_free(alloc, &mut disk)?;
@@ -166,13 +183,11 @@ fn stops_keep_blocks(alloc: Global, fill: u8) -> Result<bool, AllocError> {
         return Ok(false);
     }
     let end = io.disk.calls();
-    for moment in [start, end] {
-        let mut image = io.disk.image(alloc, moment, fill)?;
-        if !has_block(alloc, &mut image, first, 7)? {
-            return Ok(false);
-        }
-    }
-    Ok(end == start + 1)
+    Ok(
+        start < end
+            && image_has_block(alloc, io.disk, start, fill, first)?
+            && image_has_block(alloc, io.disk, end, fill, first)?,
+    )
 }
 
 #[test]
