@@ -1,0 +1,31 @@
+-- Which dates items give, and what a snapshot remembers under them.
+use Rattle.std.specs.Prelude.{◌≡◌, ℕ, ◌<◌, false, Ok, if◌then◌else◌}
+use Rattle.zst_model.specs.declared.item.Item.{Item}
+use Rattle.zst_model.specs.State.{State, IsState, attr_at, content_at, index_bound}
+use Rattle.zst_model.specs.Dated.{DatedState, touches_number, touches_index, apply_dated}
+use Rattle.zst_model.specs.Target.{Remembers}
+
+-- an item that is applied in a commit changes no content that it doesn't date
+abbrev pub ChangesAreDated : Type 0
+ChangesAreDated =
+    (number : ℕ) (item : Item) (snap after : DatedState) → IsState snap.state → apply_dated number item snap ≡ Ok after
+    → ((k : ℕ) → touches_number item k ≡ false → attr_at (after.state k) ≡ attr_at (snap.state k))
+    × ((k i : ℕ) → i < index_bound → touches_index item snap.state k i ≡ false → content_at (after.state k) i ≡ content_at (snap.state k) i)
+
+-- what an item dates has the commit's number as its date, and all else keeps its date
+abbrev pub DatesAreExact : Type 0
+DatesAreExact =
+    (number : ℕ) (item : Item) (snap after : DatedState) → apply_dated number item snap ≡ Ok after
+    → ((k : ℕ) → after.number_date k ≡ (if touches_number item k then number else snap.number_date k))
+    × ((k i : ℕ) → after.index_date k i ≡ (if touches_index item snap.state k i then number else snap.index_date k i))
+
+-- a snapshot remembers its own state at each number
+abbrev pub RemembersItself : Type 0
+RemembersItself = (snap : DatedState) (number : ℕ) → Remembers snap number snap.state
+
+-- a state that is remembered stays so under an item of a later commit
+abbrev pub RemembersOn : Type 0
+RemembersOn =
+    (snap after : DatedState) (number next : ℕ) (item : Item) (state : State)
+    → IsState snap.state → number < next → Remembers snap number state → apply_dated next item snap ≡ Ok after
+    → Remembers after number state
