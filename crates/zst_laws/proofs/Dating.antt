@@ -1,15 +1,17 @@
 -- Which dates items give, and what a snapshot remembers under them.
-use Rattle.std.proofs.Common.{◌≡◌, ℕ, ◌+◌, ◌*◌, ◌<◌, ◌≤◌, Bool, true, false, not, List, length, Option, Some, None, Ok, refl, sym, ap, ◌∙◌, arith, ◌==◌, nat_lt, nat_le, ◌&&◌, ◌||◌, if◌then◌else◌, eqb-true}
-use Rattle.std.proofs.lemmas.Bool.{true≢false, not-false, cond-false, lt-ltb}
+use Rattle.std.proofs.Common.{subst, ◌≡◌, ℕ, ◌+◌, ◌*◌, ◌<◌, ◌≤◌, Bool, true, false, not, List, length, Option, Some, None, Ok, refl, sym, ap, ◌∙◌, arith, ◌==◌, nat_lt, nat_le, ◌&&◌, ◌||◌, if◌then◌else◌, eqb-true, mul-le-mul_right}
+use Rattle.std.proofs.lemmas.Bool.{true≢false, not-false, cond-false, lt-ltb, le-ltb, and_right}
+use Rattle.std.proofs.lemmas.Bool.Decides.{nat_tests}
+use Rattle.zst_model.specs.declared.attr.Attr.{Attr}
 use Rattle.zst_model.specs.declared.item.Change.{Change}
 use Rattle.zst_model.specs.declared.item.Change.TheVariants.{Put, Spill, FreeFrom, Free, Redact, Write}
 use Rattle.zst_model.specs.declared.item.Item.{Item}
 use Rattle.zst_model.specs.declared.item.Item.TheVariants.{FreeObjects, At}
 use Rattle.zst_model.specs.declared.apply_fault.ApplyFault.TheVariants.{SizeDiffers, Unaligned, OddBlock, NotUserData}
-use Rattle.zst_model.specs.State.{State, Hole, Redacted, Data, Object, attr_at, content_at, block_content, IsState, is_odd_size, is_user_data, is_number, index_bound}
-use Rattle.zst_model.specs.Apply.{apply, apply_change, is_unaligned, within, put_at}
+use Rattle.zst_model.specs.State.{State, Block, BlockFits, IsObject, IsObjectOrNone, Hole, Redacted, Data, Object, attr_at, content_at, block_content, IsState, is_odd_size, is_user_data, is_number, number_bound, index_bound}
+use Rattle.zst_model.specs.Apply.{apply, apply_change, attr_with, is_unaligned, within, put_at}
 use Rattle.zst_model.specs.Dated.{DatedState, dates_number, dates_index, touches_number, touches_index, apply_dated}
-use Rattle.zst_laws.specs.Dating.{ChangesAreDated, DatesAreExact, RemembersItself, RemembersOn}
+use Rattle.zst_laws.specs.Dating.{ChangesAreDated, DatesAreExact, RemembersItself, RemembersOn, IsLawfulChange, IsLawfulItem, AppliedIsState}
 use Rattle.zst_laws.proofs.Runs.{bind_ok, unless_ok, ok_inj}
 use Rattle.zst_laws.proofs.Exact.{absent_outside}
 
@@ -170,3 +172,131 @@ remembered_on snap after number next item state s l h applied =
           let kept = kept_date (touches_index item snap.state k i) number next (snap.index_date k i) (after.index_date k i) l (dates.1 k i) d in
           h.indices k i n b kept.1 ∙ sym (changes.1 k i b kept.0);
     }
+
+-- a lawful object with a new block at some indices is lawful where the block may stand there
+set_lawful : (object : Object) (test : ℕ → Bool) (new : Block) → IsObject object → BlockFits object.attr.block_size new
+    → ((i : ℕ) → 0 < i → is_odd_size object.attr.block_size ≡ true → test i ≡ true → new ≡ Hole)
+    → ((i : ℕ) → index_bound ≤ i → test i ≡ true → new ≡ Hole)
+    → IsObject (record { attr = object.attr; blocks = λ i. if test i then new else object.blocks i })
+set_lawful object test new o f odd far = record {
+  size = o.size;
+  fits = λ i. fits i (test i);
+  odd = λ i l t. hole i (test i) refl (odd i l t) (o.odd i l t);
+  bounded = λ i l. hole i (test i) refl (far i l) (o.bounded i l);
+}
+  where
+    fits : (i : ℕ) (t : Bool) → BlockFits object.attr.block_size (if t then new else object.blocks i)
+    fits i true = f
+    fits i false = o.fits i
+
+    hole : (i : ℕ) (t : Bool) → test i ≡ t → (test i ≡ true → new ≡ Hole) → object.blocks i ≡ Hole → (if t then new else object.blocks i) ≡ Hole
+    hole i true e h old = h e
+    hole i false e h old = old
+
+-- a new object of holes is lawful, and one of equal block size keeps lawful blocks
+new_lawful : (attr : Attr) → 0 < attr.block_size → IsObject (record { attr = attr; blocks = λ i. Hole })
+new_lawful attr l = record { size = l; fits = λ i. tt; odd = λ i m t. refl; bounded = λ i m. refl }
+
+put_lawful : (attr : Attr) (object : Object) (t : Bool) → (object.attr.block_size == attr.block_size) ≡ t → 0 < attr.block_size → IsObject object
+    → IsObject (record { attr = attr; blocks = if t then object.blocks else λ i. Hole })
+put_lawful attr object true e l o =
+    let same : object.attr.block_size ≡ attr.block_size = eqb-true _ _ e in record {
+      size = l;
+      fits = λ i. subst (λ size. BlockFits size (object.blocks i)) same (o.fits i);
+      odd = λ i m t. o.odd i m (ap is_odd_size same ∙ t);
+      bounded = o.bounded;
+    }
+put_lawful attr object false e l o = new_lawful attr l
+
+spill_lawful : (object : Object) (bytes : List ℕ) → IsObject object → IsObject (record { attr = record object.attr { spill = Some bytes }; blocks = object.blocks })
+spill_lawful object bytes o = record { size = o.size; fits = o.fits; odd = o.odd; bounded = o.bounded }
+
+-- the place of an index over 0 is at or past the block size
+past_first : (size i : ℕ) → 0 < i → size ≤ i * size
+past_first size i l = let m : 1 * size ≤ i * size = mul-le-mul_right size l in omega (arith, m)
+
+odd_range : (size offset length place : ℕ) → size ≤ place → within offset length place ≡ true → (nat_lt 0 length && nat_lt size (offset + length)) ≡ true
+odd_range size offset length place l w = grind (arith, nat_tests)
+
+change_lawful : (change : Change) (o p : Option Object) → IsObjectOrNone o → IsLawfulChange change o → apply_change change o ≡ Ok p → IsObjectOrNone p
+unfolding apply_change
+change_lawful (Put head bonus keep_spill max_block) None p s l h = subst IsObjectOrNone (ok_inj _ _ h) (new_lawful (attr_with head bonus None) l)
+change_lawful (Put head bonus keep_spill max_block) (Some object) p s l h =
+    subst IsObjectOrNone (ok_inj _ _ h)
+    (put_lawful (attr_with head bonus (if keep_spill then object.attr.spill else None)) object (object.attr.block_size == head.block_size) refl l s)
+change_lawful (Spill bytes) None p s l h = absurd (cc)
+change_lawful (Spill bytes) (Some object) p s l h = subst IsObjectOrNone (ok_inj _ _ h) (spill_lawful object bytes s)
+change_lawful (FreeFrom offset) None p s l h = absurd (cc)
+change_lawful (FreeFrom offset) (Some object) p s l h =
+    subst IsObjectOrNone (ok_inj _ _ (unless_ok _ _ _ p h).1)
+    (set_lawful object (λ i. nat_le offset (i * object.attr.block_size)) Hole s tt (λ i m t w. refl) (λ i m w. refl))
+change_lawful (Free offset length) None p s l h = absurd (cc)
+change_lawful (Free offset length) (Some object) p s l h =
+    subst IsObjectOrNone (ok_inj _ _ (unless_ok _ _ _ p h).1)
+    (set_lawful object (λ i. within offset length (i * object.attr.block_size)) Hole s tt (λ i m t w. refl) (λ i m w. refl))
+change_lawful (Redact offset length) None p s l h = absurd (cc)
+change_lawful (Redact offset length) (Some object) p s l h =
+    let size = object.attr.block_size in
+    let given = redact_gives offset length object p h in
+    subst IsObjectOrNone given.1
+    (set_lawful object (λ i. within offset length (i * size)) Redacted s tt
+    (λ i m t w. absurd (true≢false (sym (odd_range size offset length (i * size) (past_first size i m) w) ∙ right_fails (is_odd_size size) (nat_lt 0 length && nat_lt size (offset + length)) given.0 t)))
+    (λ i m w. absurd (true≢false (sym w ∙ l i m))))
+change_lawful (Write offset type bytes) None p s l h = absurd (cc)
+change_lawful (Write offset type bytes) (Some object) p s l h =
+    let size = object.attr.block_size in
+    let given = write_gives offset type bytes object p h in
+    subst IsObjectOrNone given.2
+    (set_lawful object (λ i. i * size == offset) (Data bytes) s (eqb-true (length bytes) size (not-false _ given.0))
+    (λ i m t w.
+    let first : size ≤ i * size = past_first size i m in
+    let place : i * size ≡ offset = eqb-true (i * size) offset w in
+    let some : 0 < offset = subst (λ n. 0 < n) place (over_none size (i * size) s.size first) in
+    absurd (true≢false (sym (lt-ltb 0 offset some) ∙ right_fails (is_odd_size size) (nat_lt 0 offset) given.1 t)))
+    (λ i m w. absurd (true≢false (sym w ∙ l i m))))
+  where
+    over_none : (size place : ℕ) → 0 < size → size ≤ place → 0 < place
+    over_none size place a b = omega arith
+
+-- a lawful state with some numbers absent is lawful
+freed_lawful : (state : State) (test : ℕ → Bool) → IsState state → IsState (λ k. if test k then None else state k)
+freed_lawful state test s = record {
+  zero = none 0 (test 0) s.zero;
+  bounded = λ k l. none k (test k) (s.bounded k l);
+  objects = λ k. lawful k (test k);
+}
+  where
+    none : (k : ℕ) (t : Bool) → state k ≡ None → (if t then None else state k) ≡ None
+    none k true e = refl
+    none k false e = e
+
+    lawful : (k : ℕ) (t : Bool) → IsObjectOrNone (if t then None else state k)
+    lawful k true = tt
+    lawful k false = s.objects k
+
+-- a lawful state with a lawful object at a number that an object may have is lawful
+placed_lawful : (state : State) (j : ℕ) (x : Option Object) → IsState state → is_number j ≡ true → IsObjectOrNone x → IsState (put_at state j x)
+placed_lawful state j x s n o = record {
+  zero = none 0 refl (0 == j) refl s.zero;
+  bounded = λ k l. none k (and_right (nat_lt 0 k) _ (le-ltb k number_bound l)) (k == j) refl (s.bounded k l);
+  objects = λ k. lawful k (k == j);
+}
+  where
+    none : (k : ℕ) → is_number k ≡ false → (t : Bool) → (k == j) ≡ t → state k ≡ None → (if t then x else state k) ≡ None
+    none k out true e a = absurd (true≢false (sym n ∙ ap is_number (sym (eqb-true k j e)) ∙ out))
+    none k out false e a = a
+
+    lawful : (k : ℕ) (t : Bool) → IsObjectOrNone (if t then x else state k)
+    lawful k true = o
+    lawful k false = s.objects k
+
+item_lawful : (item : Item) (state after : State) → IsState state → IsLawfulItem item state → apply item state ≡ Ok after → IsState after
+unfolding apply
+item_lawful (FreeObjects first count) state after s l h = subst IsState (ok_inj _ _ h) (freed_lawful state (within first count) s)
+item_lawful (At j change) state after s l h =
+    let found = bind_ok (apply_change change (state j)) (λ o. Ok (put_at state j o)) after h in
+    subst IsState (ok_inj _ _ found.2)
+    (placed_lawful state j found.0 s l.0 (change_lawful change (state j) found.0 (s.objects j) l.1 found.1))
+
+pub applied_state : AppliedIsState
+applied_state number item snap after s l h = item_lawful item snap.state after.state s l (dated_parts number item snap after h).0

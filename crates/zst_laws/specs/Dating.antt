@@ -1,8 +1,12 @@
 -- Which dates items give, and what a snapshot remembers under them.
-use Rattle.std.specs.Prelude.{◌≡◌, ℕ, ◌<◌, false, Ok, if◌then◌else◌}
+use Rattle.std.specs.Prelude.{◌≡◌, ℕ, ◌*◌, ◌<◌, ◌≤◌, true, false, Option, Ok, ◌==◌, if◌then◌else◌}
+use Rattle.zst_model.specs.declared.item.Change.{Change}
+use Rattle.zst_model.specs.declared.item.Change.TheVariants.{Put, Spill, FreeFrom, Free, Redact, Write}
 use Rattle.zst_model.specs.declared.item.Item.{Item}
-use Rattle.zst_model.specs.State.{State, IsState, attr_at, content_at, index_bound}
-use Rattle.zst_model.specs.Dated.{DatedState, touches_number, touches_index, apply_dated}
+use Rattle.zst_model.specs.declared.item.Item.TheVariants.{FreeObjects, At}
+use Rattle.zst_model.specs.State.{State, Object, IsState, attr_at, content_at, is_number, index_bound}
+use Rattle.zst_model.specs.Apply.{within}
+use Rattle.zst_model.specs.Dated.{DatedState, touches_number, touches_index, size_at, apply_dated}
 use Rattle.zst_model.specs.Target.{Remembers}
 
 -- an item that is applied in a commit changes no content that it doesn't date
@@ -29,3 +33,24 @@ RemembersOn =
     (snap after : DatedState) (number next : ℕ) (item : Item) (state : State)
     → IsState snap.state → number < next → Remembers snap number state → apply_dated next item snap ≡ Ok after
     → Remembers after number state
+
+-- a change that is lawful where it comes: an OBJECT has a block size, and a REDACT or WRITE takes no index from the bound on
+abbrev pub IsLawfulChange : Change → Option Object → Type 0
+IsLawfulChange (Put head bonus keep_spill max_block) object = 0 < head.block_size
+IsLawfulChange (Spill bytes) object = Unit {0}
+IsLawfulChange (FreeFrom offset) object = Unit {0}
+IsLawfulChange (Free offset length) object = Unit {0}
+IsLawfulChange (Redact offset length) object = (i : ℕ) → index_bound ≤ i → within offset length (i * size_at object) ≡ false
+IsLawfulChange (Write offset type bytes) object = (i : ℕ) → index_bound ≤ i → (i * size_at object == offset) ≡ false
+
+-- an item that is lawful where it comes: its number is one that an object may have, and its change is lawful
+abbrev pub IsLawfulItem : Item → State → Type 0
+IsLawfulItem (FreeObjects first count) state = Unit {0}
+IsLawfulItem (At k change) state = (is_number k ≡ true) × IsLawfulChange change (state k)
+
+-- a lawful item leaves a lawful state
+abbrev pub AppliedIsState : Type 0
+AppliedIsState =
+    (number : ℕ) (item : Item) (snap after : DatedState)
+    → IsState snap.state → IsLawfulItem item snap.state → apply_dated number item snap ≡ Ok after
+    → IsState after.state

@@ -1,4 +1,4 @@
-ghost use Rattle.zst_laws.specs.Dating.{ChangesAreDated, DatesAreExact, RemembersItself, RemembersOn};
+ghost use Rattle.zst_laws.specs.Dating.{ChangesAreDated, DatesAreExact, RemembersItself, RemembersOn, AppliedIsState};
 
 /// An item that is applied in a commit changes no content that it doesn't date.
 pub fn changes_are_dated()
@@ -18,4 +18,9 @@ pub fn remembers_itself()
 /// A state that is remembered stays so under an item of a later commit.
 pub fn remembers_on()
     ensures { RemembersOn }
+{}
+
+/// A lawful item leaves a lawful state.
+pub fn applied_is_state()
+    ensures { AppliedIsState }
 {}

@@ -12,7 +12,9 @@ ghost use Rattle.zst_laws.specs.Walk.{WalkBegins, WalkEnds, ObjectIsNext, GoneIs
 mod dates;
 mod points;
 
-pub use dates::{changes_are_dated, dates_are_exact, remembers_itself, remembers_on};
+pub use dates::{
+    applied_is_state, changes_are_dated, dates_are_exact, remembers_itself, remembers_on,
+};
 pub use points::point_after;
 
 /// A lawful snapshot with a lawful choice has a lawful view.
