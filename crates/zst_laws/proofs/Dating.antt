@@ -1,5 +1,5 @@
 -- Which dates items give, and what a snapshot remembers under them.
-use Rattle.std.proofs.Common.{subst, ◌≡◌, ℕ, ◌+◌, ◌*◌, ◌<◌, ◌≤◌, Bool, true, false, not, List, length, Option, Some, None, Ok, refl, sym, ap, ◌∙◌, arith, ◌==◌, nat_lt, nat_le, ◌&&◌, ◌||◌, if◌then◌else◌, eqb-true, mul-le-mul_right}
+use Rattle.std.proofs.Common.{subst, ◌≡◌, ℕ, ◌+◌, ◌*◌, ◌<◌, ◌≤◌, Bool, true, false, not, List, [], ◌∷◌, length, Option, Some, None, Ok, refl, sym, ap, ◌∙◌, arith, ◌==◌, nat_lt, nat_le, ◌&&◌, ◌||◌, if◌then◌else◌, eqb-true, mul-le-mul_right}
 use Rattle.std.proofs.lemmas.Bool.{true≢false, not-false, cond-false, lt-ltb, le-ltb, and_right}
 use Rattle.std.proofs.lemmas.Bool.Decides.{nat_tests}
 use Rattle.zst_model.specs.declared.attr.Attr.{Attr}
@@ -11,7 +11,8 @@ use Rattle.zst_model.specs.declared.apply_fault.ApplyFault.TheVariants.{SizeDiff
 use Rattle.zst_model.specs.State.{State, Block, BlockFits, IsObject, IsObjectOrNone, Hole, Redacted, Data, Object, attr_at, content_at, block_content, IsState, is_odd_size, is_user_data, is_number, number_bound, index_bound}
 use Rattle.zst_model.specs.Apply.{apply, apply_change, attr_with, is_unaligned, within, put_at}
 use Rattle.zst_model.specs.Dated.{DatedState, dates_number, dates_index, touches_number, touches_index, apply_dated}
-use Rattle.zst_laws.specs.Dating.{ChangesAreDated, DatesAreExact, RemembersItself, RemembersOn, IsLawfulChange, IsLawfulItem, AppliedIsState}
+use Rattle.zst_model.specs.Target.{Remembers}
+use Rattle.zst_laws.specs.Dating.{ChangesAreDated, DatesAreExact, RemembersItself, RemembersOn, IsLawfulChange, IsLawfulItem, AppliedIsState, apply_all_dated, AreLawfulItems, RemembersThrough}
 use Rattle.zst_laws.proofs.Runs.{bind_ok, unless_ok, ok_inj}
 use Rattle.zst_laws.proofs.Exact.{absent_outside}
 
@@ -300,3 +301,12 @@ item_lawful (At j change) state after s l h =
 
 pub applied_state : AppliedIsState
 applied_state number item snap after s l h = item_lawful item snap.state after.state s l (dated_parts number item snap after h).0
+
+pub remembered_through : RemembersThrough
+remembered_through snap after number next [] state s lawful l h applied =
+    subst (λ d. IsState d.state × Remembers d number state) (ok_inj _ _ applied) (s, h)
+remembered_through snap after number next (item ∷ rest) state s lawful l h applied =
+    let found = bind_ok (apply_dated next item snap) (apply_all_dated next rest) after applied in
+    let stepped = dated_parts next item snap found.0 found.1 in
+    remembered_through found.0 after number next rest state (applied_state next item snap found.0 s lawful.0 found.1) (lawful.1 found.0.state stepped.0) l
+    (remembered_on snap found.0 number next item state s l h found.1) found.2

@@ -1,11 +1,12 @@
 -- Which dates items give, and what a snapshot remembers under them.
-use Rattle.std.specs.Prelude.{◌≡◌, ℕ, ◌*◌, ◌<◌, ◌≤◌, true, false, Option, Ok, ◌==◌, if◌then◌else◌}
+use Rattle.std.specs.Prelude.{◌≡◌, ℕ, ◌*◌, ◌<◌, ◌≤◌, true, false, List, [], ◌∷◌, Option, Result, Ok, ◌==◌, if◌then◌else◌}
 use Rattle.zst_model.specs.declared.item.Change.{Change}
 use Rattle.zst_model.specs.declared.item.Change.TheVariants.{Put, Spill, FreeFrom, Free, Redact, Write}
 use Rattle.zst_model.specs.declared.item.Item.{Item}
 use Rattle.zst_model.specs.declared.item.Item.TheVariants.{FreeObjects, At}
+use Rattle.zst_model.specs.declared.apply_fault.ApplyFault.{ApplyFault}
 use Rattle.zst_model.specs.State.{State, Object, IsState, attr_at, content_at, is_number, index_bound}
-use Rattle.zst_model.specs.Apply.{within}
+use Rattle.zst_model.specs.Apply.{apply, within, ◌>>=◌}
 use Rattle.zst_model.specs.Dated.{DatedState, touches_number, touches_index, size_at, apply_dated}
 use Rattle.zst_model.specs.Target.{Remembers}
 
@@ -54,3 +55,20 @@ AppliedIsState =
     (number : ℕ) (item : Item) (snap after : DatedState)
     → IsState snap.state → IsLawfulItem item snap.state → apply_dated number item snap ≡ Ok after
     → IsState after.state
+
+-- items of one commit, one after another, up to the first fault
+abbrev pub apply_all_dated : ℕ → List Item → DatedState → Result DatedState ApplyFault
+apply_all_dated number [] snap = Ok snap
+apply_all_dated number (item ∷ rest) snap = apply_dated number item snap >>= apply_all_dated number rest
+
+-- items each of which is lawful where it comes
+abbrev pub AreLawfulItems : List Item → State → Type 0
+AreLawfulItems [] state = Unit {0}
+AreLawfulItems (item ∷ rest) state = IsLawfulItem item state × ((after : State) → apply item state ≡ Ok after → AreLawfulItems rest after)
+
+-- the lawful items of a later commit leave a lawful state, and what is remembered stays so under them
+abbrev pub RemembersThrough : Type 0
+RemembersThrough =
+    (snap after : DatedState) (number next : ℕ) (items : List Item) (state : State)
+    → IsState snap.state → AreLawfulItems items snap.state → number < next → Remembers snap number state → apply_all_dated next items snap ≡ Ok after
+    → IsState after.state × Remembers after number state

@@ -1,4 +1,4 @@
-ghost use Rattle.zst_laws.specs.Dating.{ChangesAreDated, DatesAreExact, RemembersItself, RemembersOn, AppliedIsState};
+ghost use Rattle.zst_laws.specs.Dating.{ChangesAreDated, DatesAreExact, RemembersItself, RemembersOn, AppliedIsState, RemembersThrough};
 
 /// An item that is applied in a commit changes no content that it doesn't date.
 pub fn changes_are_dated()
@@ -23,4 +23,9 @@ pub fn remembers_on()
 /// A lawful item leaves a lawful state.
 pub fn applied_is_state()
     ensures { AppliedIsState }
+{}
+
+/// The lawful items of a later commit leave a lawful state, and what is remembered stays so under them.
+pub fn remembers_through()
+    ensures { RemembersThrough }
 {}
