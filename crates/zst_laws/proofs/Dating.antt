@@ -12,7 +12,7 @@ use Rattle.zst_model.specs.State.{State, Block, BlockFits, IsObject, IsObjectOrN
 use Rattle.zst_model.specs.Apply.{apply, apply_change, attr_with, is_unaligned, within, put_at}
 use Rattle.zst_model.specs.Dated.{DatedState, dates_number, dates_index, touches_number, touches_index, apply_dated}
 use Rattle.zst_model.specs.Target.{Remembers}
-use Rattle.zst_laws.specs.Dating.{ChangesAreDated, DatesAreExact, RemembersItself, RemembersOn, IsLawfulChange, IsLawfulItem, AppliedIsState, apply_all_dated, AreLawfulItems, RemembersThrough}
+use Rattle.zst_laws.specs.Dating.{ChangesAreDated, DatesAreExact, RemembersItself, RemembersOn, IsLawfulChange, IsLawfulItem, AppliedIsState, apply_all_dated, RemembersThrough}
 use Rattle.zst_laws.proofs.Runs.{bind_ok, unless_ok, ok_inj}
 use Rattle.zst_laws.proofs.Exact.{absent_outside}
 

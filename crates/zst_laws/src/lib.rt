@@ -14,6 +14,7 @@ mod points;
 
 pub use dates::{
     applied_is_state, changes_are_dated, dates_are_exact, remembers_itself, remembers_on,
+    remembers_through,
 };
 pub use points::point_after;
 
