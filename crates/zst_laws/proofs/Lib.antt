@@ -14,3 +14,4 @@ mod More
 mod OneObject
 mod Examples
 mod Ranges
+mod Dating

@@ -1,3 +1,4 @@
+pub mod Dating
 pub mod Example
 pub mod History
 pub mod Joining

@@ -9,8 +9,13 @@ ghost use Rattle.zst_laws.specs.Resuming.{ResumeIsExact, StartStands, CutStands}
 ghost use Rattle.zst_laws.specs.Sending.{SnapshotHasView, SendIsExact, FullIsExact, RedactedIsState, ViewsAgree};
 ghost use Rattle.zst_laws.specs.Walk.{WalkBegins, WalkEnds, ObjectIsNext, GoneIsNext, GoneRunIsNext, BlockIsNext, BlockRunIsNext};
 
+mod dates;
 mod points;
 
+pub use dates::{
+    applied_is_state, changes_are_dated, dates_are_exact, remembers_itself, remembers_on,
+    remembers_through,
+};
 pub use points::point_after;
 
 /// A lawful snapshot with a lawful choice has a lawful view.

@@ -1,0 +1,5 @@
+use Rattle.zst_laws.proofs.Dating.{remembered_through}
+use Rattle.zst_laws.proofs.dates.remembers_through.Goals as goal
+
+pub returns : goal.returns
+returns c = remembered_through
