@@ -15,3 +15,4 @@ mod OneObject
 mod Examples
 mod Ranges
 mod Dating
+mod Increments

@@ -1,3 +1,4 @@
+pub mod Commits
 pub mod Dating
 pub mod Example
 pub mod History

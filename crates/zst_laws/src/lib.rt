@@ -9,9 +9,11 @@ ghost use Rattle.zst_laws.specs.Resuming.{ResumeIsExact, StartStands, CutStands}
 ghost use Rattle.zst_laws.specs.Sending.{SnapshotHasView, SendIsExact, FullIsExact, RedactedIsState, ViewsAgree};
 ghost use Rattle.zst_laws.specs.Walk.{WalkBegins, WalkEnds, ObjectIsNext, GoneIsNext, GoneRunIsNext, BlockIsNext, BlockRunIsNext};
 
+mod commits;
 mod dates;
 mod points;
 
+pub use commits::{history_remembers, increment_is_exact};
 pub use dates::{
     applied_is_state, changes_are_dated, dates_are_exact, remembers_itself, remembers_on,
     remembers_through,

@@ -1,0 +1,5 @@
+use Rattle.zst_laws.proofs.Increments.{history_remembered}
+use Rattle.zst_laws.proofs.commits.history_remembers.Goals as goal
+
+pub returns : goal.returns
+returns c = history_remembered

@@ -1,0 +1,5 @@
+use Rattle.zst_laws.proofs.Increments.{increment_exact}
+use Rattle.zst_laws.proofs.commits.increment_is_exact.Goals as goal
+
+pub returns : goal.returns
+returns c = increment_exact
