@@ -16,3 +16,4 @@ mod Examples
 mod Ranges
 mod Dating
 mod Increments
+mod Receives

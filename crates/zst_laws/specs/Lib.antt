@@ -7,4 +7,5 @@ pub mod Places
 pub mod Ranges
 pub mod Resuming
 pub mod Sending
+pub mod Sessions
 pub mod Walk

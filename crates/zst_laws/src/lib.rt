@@ -12,6 +12,7 @@ ghost use Rattle.zst_laws.specs.Walk.{WalkBegins, WalkEnds, ObjectIsNext, GoneIs
 mod commits;
 mod dates;
 mod points;
+mod sessions;
 
 pub use commits::{history_remembers, increment_is_exact};
 pub use dates::{
@@ -19,6 +20,7 @@ pub use dates::{
     remembers_through,
 };
 pub use points::point_after;
+pub use sessions::{cuts_are_exact, cuts_complete, full_cuts_are_exact, increment_cuts_are_exact};
 
 /// A lawful snapshot with a lawful choice has a lawful view.
 pub fn snapshot_has_view()

@@ -1,0 +1,5 @@
+use Rattle.zst_laws.proofs.Receives.{cuts_completed}
+use Rattle.zst_laws.proofs.sessions.cuts_complete.Goals as goal
+
+pub returns : goal.returns
+returns c = cuts_completed
