@@ -1,10 +1,12 @@
 -- What a whole send gives.
 use Rattle.std.specs.Prelude.{◌≡◌, ℕ, Bool, true, false, Option, Some, None, Ok}
 use Rattle.zst_model.specs.declared.header.Header.{Header}
+use Rattle.zst_model.specs.declared.header.Point.{Point}
 use Rattle.zst_model.specs.State.{Object, State, IsState, is_hole, no_objects}
 use Rattle.zst_model.specs.Dated.{DatedState}
 use Rattle.zst_model.specs.Included.{Pairs, Choice, no_pairs}
 use Rattle.zst_model.specs.View.{IsView, view_of}
+use Rattle.zst_model.specs.Items.{items}
 use Rattle.zst_model.specs.Target.{target, redacted, CanRedact, BaseOk}
 
 -- over a base that is fit for it, a send gives exactly its snapshot, with the listed pairs redacted and no other changed
@@ -50,3 +52,9 @@ abbrev pub ViewsAgree : Type 0
 ViewsAgree =
     (header : Header) (a b : DatedState) (choice : Choice) → a.number_date ≡ b.number_date → a.index_date ≡ b.index_date
     → ((k : ℕ) → DifferAt (choice.redact k) (a.state k) (b.state k)) → view_of header a choice ≡ view_of header b choice
+
+-- so they are sent alike: the same items stand in their streams from every point on
+abbrev pub StreamsAgree : Type 0
+StreamsAgree =
+    (header : Header) (a b : DatedState) (choice : Choice) (point : Point) → a.number_date ≡ b.number_date → a.index_date ≡ b.index_date
+    → ((k : ℕ) → DifferAt (choice.redact k) (a.state k) (b.state k)) → items (view_of header a choice) point ≡ items (view_of header b choice) point

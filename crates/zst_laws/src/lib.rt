@@ -6,7 +6,7 @@ ghost use Rattle.zst_laws.specs.History.{AnyIsFullBase, BeforeIsBase, RedactedIs
 ghost use Rattle.zst_laws.specs.Joining.{RunsAreMaximal, HeldGoesOn};
 ghost use Rattle.zst_laws.specs.Ranges.{NumbersAreCut, IndicesAreCut};
 ghost use Rattle.zst_laws.specs.Resuming.{ResumeIsExact, StartStands, CutStands};
-ghost use Rattle.zst_laws.specs.Sending.{SnapshotHasView, SendIsExact, FullIsExact, RedactedIsState, ViewsAgree};
+ghost use Rattle.zst_laws.specs.Sending.{SnapshotHasView, SendIsExact, FullIsExact, RedactedIsState, StreamsAgree, ViewsAgree};
 ghost use Rattle.zst_laws.specs.Walk.{WalkBegins, WalkEnds, ObjectIsNext, GoneIsNext, GoneRunIsNext, BlockIsNext, BlockRunIsNext};
 
 mod commits;
@@ -60,6 +60,11 @@ pub fn cut_stands()
 /// Snapshots that differ in the bytes of redacted pairs alone are sent alike.
 pub fn views_agree()
     ensures { ViewsAgree }
+{}
+
+/// So the same items stand in their streams, from every point on.
+pub fn streams_agree()
+    ensures { StreamsAgree }
 {}
 
 /// Each lawful state is fit as the base of a full stream.
