@@ -1,4 +1,5 @@
 // A file as a disk, of whose content nothing is told.
+ghost use Rattle.std.specs.Prelude.{◌↔◌, IsOk};
 ghost use Rattle.zst_outside.specs.Causes.{HasCause};
 
 use std::fs::File;
@@ -30,7 +31,8 @@ impl FileDisk {
 
 // Counts a fault where the system told one.
 fn judge(outcome: io::Result<()>, faults: &mut u64) -> Result<(), Fault>
-    ensures { HasCause faults.old faults.new result }
+    ensures told { IsOk result ↔ IsOk outcome }
+    ensures cause { HasCause faults.old faults.new result }
 {
     if outcome.is_ok() {
         return Ok(());
