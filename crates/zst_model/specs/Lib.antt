@@ -1,12 +1,16 @@
 pub mod Apply
 pub mod ApplyWords
 pub mod Dated
+pub mod Faults
 pub mod Guids
 pub mod Included
 pub mod Items
+pub mod Named
+pub mod PlanFault
 pub mod Points
 pub mod Refusal
 pub mod StandsFor
 pub mod State
 pub mod Target
+pub mod Texts
 pub mod View

@@ -10,6 +10,8 @@ mod guids;
 mod header;
 mod item;
 mod name;
+mod named;
+mod plan_fault;
 mod refusal;
 mod text;
 
@@ -22,4 +24,7 @@ pub use guids::GuidSet;
 pub use header::{Header, Point};
 pub use item::{Change, Item};
 pub use name::NameText;
+pub use named::{Holder, Missing, Name, Present, ResumePlace};
+pub use plan_fault::PlanFault;
 pub use refusal::Refusal;
+pub use text::{Text, guid_text};
