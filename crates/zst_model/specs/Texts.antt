@@ -9,7 +9,7 @@ unfoldable pub guid_text : ℕ → List ℕ
 guid_text guid = encode_lower (to_be_bytes w64 guid)
 
 -- four sums, with blanks between them
-abbrev pub sums_text : List ℕ → List ℕ
+unfoldable pub sums_text : List ℕ → List ℕ
 sums_text sums =
     concat (decimal (slice_index sums 0) ∷ codes " " ∷ decimal (slice_index sums 1) ∷ codes " "
     ∷ decimal (slice_index sums 2) ∷ codes " " ∷ decimal (slice_index sums 3) ∷ [])

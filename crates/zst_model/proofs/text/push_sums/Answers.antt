@@ -1,7 +1,9 @@
+use Rattle.zst_model.specs.Texts.{sums_text}
 use Rattle.zst_model.proofs.Appended.{appended}
 use Rattle.zst_model.proofs.text.push_sums.Goals as goal
 
 pub returns-clause-bytes : goal.returns-clause-bytes
+unfolding sums_text
 returns-clause-bytes c =
     appended _ _ _ _ _ _ _ _ _ _ _ _
     c.push_number.ensures.bytes c.push_str.ensures.bytes c.push_number-2.ensures.bytes c.push_str-2.ensures.bytes
