@@ -31,17 +31,3 @@ impl ApplyFault {
         }
     }
 }
-
-#[cfg(test)]
-mod tests {
-    use super::*;
-
-    #[test]
-    fn each_fault_has_its_words(rt: HostRuntime) {
-        assert_eq!(rt; ApplyFault::NoObject.word(), "no object");
-        assert_eq!(rt; ApplyFault::SizeDiffers.word(), "size differs");
-        assert_eq!(rt; ApplyFault::Unaligned.word(), "unaligned");
-        assert_eq!(rt; ApplyFault::OddBlock.word(), "odd block");
-        assert_eq!(rt; ApplyFault::NotUserData.word(), "not user data");
-    }
-}
