@@ -40,7 +40,7 @@ Ends text input input' out out' (Err (refusals.Limit which number)) = (which ≡
 Ends text input input' out out' (Err refusals.SourceFault) = Rose input.faults input'.faults
 Ends text input input' out out' (Err refusals.SinkFault) = Rose out.faults out'.faults
 Ends text input input' out out' (Err refusals.OutOfMemory) = Unit {0}
-Ends text input input' out out' (Err (refusals.Usage place)) = ⊥
+Ends text input input' out out' (Err other) = ⊥
 
 -- a text past the limit is refused for that
 abbrev pub IsWithin : List ℕ → Result (Unit {0}) Refusal → Type 0

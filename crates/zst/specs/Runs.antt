@@ -1,24 +1,42 @@
 -- What a run does: the status, and what is noted.
-use Rattle.std.specs.Prelude.{ℕ, ◌≡◌, ◌⊎◌, List, [], ◌∷◌, ◌++◌, Option, Some, None, Result, Ok, Err, codes, decimal}
+use Rattle.std.specs.Prelude.{ℕ, ◌≡◌, ◌⊎◌, ◌==◌, if◌then◌else◌, List, [], ◌∷◌, ◌++◌, Option, Some, None, Result, Ok, Err, codes, decimal}
 use Rattle.zst_outside.specs.Causes.{Rose}
 use Rattle.zst_outside.specs.States.{SourceState, SinkState}
 use Rattle.zst_outside.specs.Printing.{Wrote}
 use Rattle.zst_model.specs.Refusal.{number_of, text_of}
+use Rattle.zst_model.specs.declared.plan_fault.PlanFault.{PlanFault}
+use Rattle.zst_model.specs.declared.plan_fault.PlanFault.TheVariants as plans
 use Rattle.zst_model.specs.declared.refusal.Refusal.{Refusal}
 use Rattle.zst_model.specs.declared.refusal.Refusal.TheVariants as refusals
 use Rattle.zst.specs.Words.{usage_place}
 use Rattle.zst.specs.Dumps.{Dumps}
 
--- the status that a refusal ends the program with
+-- the status that a plan's fault ends the program with
+abbrev pub plan_status : PlanFault → ℕ
+plan_status (plans.BadName place) = 2
+plan_status (plans.Limit which number) = 9
+plan_status fault = 3
+
+-- the status that a refusal ends the program with: that of a command's record, which is 0, is another than that of a stream's
 abbrev pub status_of : Refusal → ℕ
 status_of (refusals.Usage place) = 2
+status_of (refusals.Plan fault) = plan_status fault
+status_of (refusals.BadToken place) = 2
 status_of (refusals.Grammar at flaw) = 4
 status_of (refusals.Checksum at stated found) = 4
 status_of (refusals.Unsupported at lack) = 4
 status_of (refusals.Truncated at) = 4
+status_of (refusals.CannotApply place fault) = if place == 0 then 3 else 4
+status_of (refusals.Redacted object block) = 3
+status_of (refusals.Limit which number) = 9
+status_of (refusals.Full need largest) = 9
+status_of (refusals.Damaged sector stated found) = 8
+status_of refusals.NoPool = 8
+status_of (refusals.BadVersion number) = 8
+status_of refusals.DiskFault = 7
 status_of refusals.SourceFault = 5
 status_of refusals.SinkFault = 6
-status_of (refusals.Limit which number) = 9
+status_of refusals.Failed = 7
 status_of refusals.OutOfMemory = 10
 
 -- the line that notes a refusal

@@ -1,25 +1,41 @@
 ghost use Rattle.std.specs.Prelude.{◌≡◌, decimal};
 ghost use Rattle.zst_model.specs.Refusal.{text_of};
 ghost use Rattle.zst_outside.specs.Printing.{Prints};
-ghost use Rattle.zst.specs.Runs.{Noted, note_of, status_of};
+ghost use Rattle.zst.specs.Runs.{Noted, note_of, plan_status, status_of};
 
 use itoa::Buffer;
-use zst_model::Refusal;
+use zst_model::{PlanFault, Refusal};
 use zst_outside::{Fault, Sink, write_all};
+
+/// The status that a plan's fault ends the program with.
+fn plan_status(fault: &PlanFault) -> u8
+    ensures { result ≡ plan_status fault.now }
+{
+    match fault {
+        PlanFault::BadName { .. } => 2,
+        PlanFault::Limit { .. } => 9,
+        _ => 3,
+    }
+}
 
 /// The status that a refusal ends the program with.
 pub(crate) fn status_of(refusal: &Refusal) -> u8
     ensures { result ≡ status_of refusal.now }
 {
     match refusal {
-        Refusal::Usage { .. } => 2,
-        Refusal::Grammar { .. } => 4,
-        Refusal::Checksum { .. } => 4,
-        Refusal::Unsupported { .. } => 4,
-        Refusal::Truncated { .. } => 4,
+        Refusal::Usage { .. } | Refusal::BadToken { .. } => 2,
+        Refusal::Plan(fault) => plan_status(fault),
+        Refusal::Redacted { .. } => 3,
+        // BEGIN is record 0 of a stream and is never applied, so that this number is a command's.
+        Refusal::CannotApply { record: 0, .. } => 3,
+        Refusal::CannotApply { .. } => 4,
+        Refusal::Grammar { .. } | Refusal::Checksum { .. } => 4,
+        Refusal::Unsupported { .. } | Refusal::Truncated { .. } => 4,
         Refusal::SourceFault => 5,
         Refusal::SinkFault => 6,
-        Refusal::Limit { .. } => 9,
+        Refusal::DiskFault | Refusal::Failed => 7,
+        Refusal::NoPool | Refusal::BadVersion { .. } | Refusal::Damaged { .. } => 8,
+        Refusal::Limit { .. } | Refusal::Full { .. } => 9,
         Refusal::OutOfMemory => 10,
     }
 }

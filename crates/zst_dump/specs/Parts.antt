@@ -1,13 +1,9 @@
 -- The parts of a line: words, numbers, guids, names and lengths.
 use Rattle.std.specs.Prelude.{ℕ, ◌-◌, ◌^◌, Bool, ◌==◌, ◌&&◌, not, nat_le, if◌then◌else◌, List, [], ◌∷◌, ◌++◌, flat_map, codes, decimal}
-use Rattle.std.specs.Int.{w64, to_be_bytes}
 use Rattle.hex.specs.Hex.{encode_lower}
+use Rattle.zst_model.specs.Texts.{guid_text}
 use Rattle.zst_dump.specs.declared.part.Part.{Part}
 use Rattle.zst_dump.specs.declared.part.Part.TheVariants as parts
-
--- a guid: sixteen hexadecimal digits, the most significant first
-unfoldable pub guid_text : ℕ → List ℕ
-guid_text guid = encode_lower (to_be_bytes w64 guid)
 
 -- a byte of a name that stands as it is: one that is printed, but no backslash
 abbrev pub is_plain : ℕ → Bool

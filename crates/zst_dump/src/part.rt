@@ -1,9 +1,10 @@
 ghost use Rattle.std.specs.Prelude.{◌≡◌, decimal, flat_map};
 ghost use Rattle.zst_outside.specs.Printing.{Prints};
-ghost use Rattle.zst_dump.specs.Parts.{guid_text, is_plain, code_of, escaped, name_text, length_text, part_text};
+ghost use Rattle.zst_dump.specs.Parts.{is_plain, code_of, escaped, name_text, length_text, part_text};
 
 use hex::encode_to_slice;
 use itoa::Buffer;
+use zst_model::guid_text;
 use zst_outside::{Fault, Sink, write_all};
 
 /// A part of a line.
@@ -14,15 +15,6 @@ pub(crate) enum Part<'a> {
     Guid(u64),
     Name(&'a [u8]),
     Length(u64),
-}
-
-#[tactic(auto, unfolding(crate::specs::Parts::guid_text))]
-fn guid_digits(guid: u64) -> [u8; 16]
-    ensures { result ≡ guid_text guid }
-{
-    let mut digits = [0; 16];
-    encode_to_slice(guid.to_be_bytes().as_slice(), &mut digits).unwrap();
-    digits
 }
 
 fn is_plain(byte: u8) -> bool
@@ -82,7 +74,7 @@ fn print_part<K: Sink>(part: &Part<'_>, out: &mut K) -> Result<(), Fault>
     match *part {
         Part::Words(words) => write_all(out, words),
         Part::Number(number) => print_number(number, out),
-        Part::Guid(guid) => write_all(out, &guid_digits(guid)),
+        Part::Guid(guid) => write_all(out, guid_text(guid).as_str().as_bytes()),
         Part::Name(name) => print_name(name, out),
         Part::Length(count) => print_length(count, out),
     }
