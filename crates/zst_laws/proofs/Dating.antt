@@ -10,9 +10,9 @@ use Rattle.zst_model.specs.declared.item.Item.TheVariants.{FreeObjects, At}
 use Rattle.zst_model.specs.declared.apply_fault.ApplyFault.TheVariants.{SizeDiffers, Unaligned, OddBlock, NotUserData}
 use Rattle.zst_model.specs.State.{State, Block, BlockFits, IsObject, IsObjectOrNone, Hole, Redacted, Data, Object, attr_at, content_at, block_content, IsState, is_odd_size, is_user_data, is_number, number_bound, index_bound}
 use Rattle.zst_model.specs.Apply.{apply, apply_change, attr_with, is_unaligned, within, put_at}
-use Rattle.zst_model.specs.Dated.{DatedState, dates_number, dates_index, touches_number, touches_index, apply_dated}
+use Rattle.zst_model.specs.Dated.{DatedState, dates_number, dates_index, touches_number, touches_index, apply_dated, apply_all_dated}
 use Rattle.zst_model.specs.Target.{Remembers}
-use Rattle.zst_laws.specs.Dating.{ChangesAreDated, DatesAreExact, RemembersItself, RemembersOn, IsLawfulChange, IsLawfulItem, AppliedIsState, apply_all_dated, RemembersThrough}
+use Rattle.zst_laws.specs.Dating.{ChangesAreDated, DatesAreExact, RemembersItself, RemembersOn, IsLawfulChange, IsLawfulItem, AppliedIsState, RemembersThrough}
 use Rattle.zst_laws.proofs.Runs.{bind_ok, unless_ok, ok_inj}
 use Rattle.zst_laws.proofs.Exact.{absent_outside}
 

@@ -4,7 +4,7 @@ use Rattle.zst_model.specs.State.{State, IsState}
 use Rattle.zst_model.specs.Dated.{DatedState}
 use Rattle.zst_model.specs.Included.{Choice}
 use Rattle.zst_model.specs.Target.{Remembers}
-use Rattle.zst_laws.specs.Dating.{apply_all_dated}
+use Rattle.zst_model.specs.Dated.{apply_all_dated}
 use Rattle.zst_laws.specs.Commits.{Commit, apply_commits, AreLater, HistoryRemembers, IncrementIsExact}
 use Rattle.zst_laws.proofs.Dating.{remembered_itself, remembered_through}
 use Rattle.zst_laws.proofs.Exact.{send_exact}

@@ -5,11 +5,11 @@ use Rattle.zst_model.specs.declared.header.Header.{Header}
 use Rattle.zst_model.specs.declared.item.Item.{Item}
 use Rattle.zst_model.specs.State.{IsState}
 use Rattle.zst_model.specs.Apply.{◌>>=◌}
-use Rattle.zst_model.specs.Dated.{DatedState}
+use Rattle.zst_model.specs.Dated.{DatedState, apply_all_dated}
 use Rattle.zst_model.specs.Included.{Pairs}
 use Rattle.zst_model.specs.View.{view_of}
 use Rattle.zst_model.specs.Target.{target, redacted, CanRedact, Remembers}
-use Rattle.zst_laws.specs.Dating.{apply_all_dated, AreLawfulItems}
+use Rattle.zst_laws.specs.Dating.{AreLawfulItems}
 
 -- a commit: its number, and the items that it applies
 pub record Commit : Type 0 where

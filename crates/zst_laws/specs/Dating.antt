@@ -7,7 +7,7 @@ use Rattle.zst_model.specs.declared.item.Item.TheVariants.{FreeObjects, At}
 use Rattle.zst_model.specs.declared.apply_fault.ApplyFault.{ApplyFault}
 use Rattle.zst_model.specs.State.{State, Object, IsState, attr_at, content_at, is_number, index_bound}
 use Rattle.zst_model.specs.Apply.{apply, within, ◌>>=◌}
-use Rattle.zst_model.specs.Dated.{DatedState, touches_number, touches_index, size_at, apply_dated}
+use Rattle.zst_model.specs.Dated.{DatedState, touches_number, touches_index, size_at, apply_dated, apply_all_dated}
 use Rattle.zst_model.specs.Target.{Remembers}
 
 -- an item that is applied in a commit changes no content that it doesn't date
@@ -55,11 +55,6 @@ AppliedIsState =
     (number : ℕ) (item : Item) (snap after : DatedState)
     → IsState snap.state → IsLawfulItem item snap.state → apply_dated number item snap ≡ Ok after
     → IsState after.state
-
--- items of one commit, one after another, up to the first fault
-abbrev pub apply_all_dated : ℕ → List Item → DatedState → Result DatedState ApplyFault
-apply_all_dated number [] snap = Ok snap
-apply_all_dated number (item ∷ rest) snap = apply_dated number item snap >>= apply_all_dated number rest
 
 -- items each of which is lawful where it comes
 abbrev pub AreLawfulItems : List Item → State → Type 0

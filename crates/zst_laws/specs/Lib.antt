@@ -8,4 +8,5 @@ pub mod Ranges
 pub mod Resuming
 pub mod Sending
 pub mod Sessions
+pub mod Stepping
 pub mod Walk

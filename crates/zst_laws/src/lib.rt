@@ -13,6 +13,7 @@ mod commits;
 mod dates;
 mod points;
 mod sessions;
+mod stepping;
 
 pub use commits::{history_remembers, increment_is_exact};
 pub use dates::{
@@ -21,6 +22,7 @@ pub use dates::{
 };
 pub use points::point_after;
 pub use sessions::{cuts_are_exact, cuts_complete, full_cuts_are_exact, increment_cuts_are_exact};
+pub use stepping::{steps_keep_pools, steps_keep_sound};
 
 /// A lawful snapshot with a lawful choice has a lawful view.
 pub fn snapshot_has_view()

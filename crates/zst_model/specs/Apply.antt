@@ -12,12 +12,12 @@ use Rattle.zst_model.specs.State.{Block, Hole, Redacted, Data, Object, State, is
 
 -- what comes next of a value, where there was no fault
 infixl 10 ◌>>=◌
-abbrev pub ◌>>=◌ : {A B : Type 0} → Result A ApplyFault → (A → Result B ApplyFault) → Result B ApplyFault
+abbrev pub ◌>>=◌ : {A B E : Type 0} → Result A E → (A → Result B E) → Result B E
 (Ok x) >>= f = f x
 (Err fault) >>= f = Err fault
 
 -- the fault where the test holds, and otherwise the rest: of faults that are nested, the outermost comes first
-abbrev pub unless : {A : Type 0} → Bool → ApplyFault → Result A ApplyFault → Result A ApplyFault
+abbrev pub unless : {A E : Type 0} → Bool → E → Result A E → Result A E
 unless true fault rest = Err fault
 unless false fault rest = rest
 

@@ -1,5 +1,5 @@
 -- Dates: the number of the commit that last touched a number or an index.
-use Rattle.std.specs.Prelude.{ℕ, ◌*◌, Bool, true, false, not, Option, Some, None, Result, Ok, if◌then◌else◌, nat_le, nat_lt, ◌==◌, ◌&&◌}
+use Rattle.std.specs.Prelude.{ℕ, ◌*◌, Bool, true, false, not, List, [], ◌∷◌, Option, Some, None, Result, Ok, if◌then◌else◌, nat_le, nat_lt, ◌==◌, ◌&&◌}
 use Rattle.zst_model.specs.declared.attr.ObjectHead.{ObjectHead}
 use Rattle.zst_model.specs.declared.item.Change.{Change}
 use Rattle.zst_model.specs.declared.item.Change.TheVariants.{Put, Spill, FreeFrom, Free, Redact, Write}
@@ -61,3 +61,8 @@ apply_dated number item snap =
       number_date = λ k. if touches_number item k then number else snap.number_date k;
       index_date = λ k i. if touches_index item snap.state k i then number else snap.index_date k i;
     })
+
+-- items of one commit, one after another, up to the first fault
+abbrev pub apply_all_dated : ℕ → List Item → DatedState → Result DatedState ApplyFault
+apply_all_dated number [] snap = Ok snap
+apply_all_dated number (item ∷ rest) snap = apply_dated number item snap >>= apply_all_dated number rest

@@ -1,5 +1,5 @@
 -- What a snapshot, a head or a partial state has, without any date.
-use Rattle.std.specs.Prelude.{◌≡◌, ℕ, zero, suc, ◌^◌, ◌≤◌, ◌<◌, Bool, true, false, not, List, length, count_ones, Option, Some, None, if◌then◌else◌, nat_lt, ◌==◌, ◌||◌, ◌&&◌}
+use Rattle.std.specs.Prelude.{◌≡◌, ℕ, zero, suc, ◌^◌, ◌%◌, ◌≤◌, ◌<◌, Bool, true, false, not, List, length, count_ones, Option, Some, None, if◌then◌else◌, nat_lt, nat_le, ◌==◌, ◌||◌, ◌&&◌}
 use Rattle.zst_model.specs.declared.attr.Attr.{Attr}
 
 -- what stands at an index of an object: a hole, a redacted block, or data
@@ -82,6 +82,10 @@ is_user_data attr = attr.type_ == 19 || attr.type_ == 23
 -- a block size that is no power of two: such an object has index 0 alone
 abbrev pub is_odd_size : ℕ → Bool
 is_odd_size size = not (count_ones size == 1)
+
+-- a block size: a multiple of 512 from 512 to 131,072 (SPA_MINBLOCKSIZE and SPA_OLD_MAXBLOCKSIZE of spa.h)
+unfoldable pub is_block_size : ℕ → Bool
+is_block_size size = nat_le 512 size && nat_le size 131072 && (size % 512 == 0)
 
 -- data fills its block
 abbrev pub BlockFits : ℕ → Block → Type 0
