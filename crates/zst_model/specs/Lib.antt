@@ -4,6 +4,7 @@ pub mod Dated
 pub mod Guids
 pub mod Included
 pub mod Items
+pub mod Lists
 pub mod Points
 pub mod Refusal
 pub mod StandsFor
