@@ -7,6 +7,7 @@ pub mod Guids
 pub mod Included
 pub mod Items
 pub mod Lines
+pub mod Lists
 pub mod Named
 pub mod PlanFault
 pub mod Points
