@@ -1,7 +1,5 @@
-//! Words and texts, read one after the other.
-ghost use Rattle.std.specs.Prelude.{◌≡◌, ◌^◌, ◌<◌, ◌↔◌, ℕ, List, [], ◌++◌, length, IsTrue, IfSome, IsSomeAnd};
+ghost use Rattle.std.specs.Prelude.{◌≡◌, ◌^◌, ◌<◌, ◌↔◌, ℕ, List, [], ◌++◌, length, IsTrue, IfSome, IsSomeAnd, All};
 ghost use Rattle.std.specs.Option.{option_copied};
-ghost use Rattle.zst_bytes.specs.Fields.{zeros};
 ghost use Rattle.zst_bytes.specs.Words.{word, text_bytes};
 
 use crate::words::padding;
@@ -19,9 +17,18 @@ impl<'a> Model for Cursor<'a> {
     ghost view = { λ cursor. cursor.rest.now };
 }
 
-/// Whether each byte is zero.
+// The number in the first 8 bytes, and the bytes behind it.
+fn split_word(bytes: &[u8]) -> Option<(u64, &[u8])>
+    ensures found { IfSome result (λ parts. bytes.now ≡ word parts.0 ++ parts.1.now) }
+    ensures exact { (n : ℕ) (rest : List ℕ) → n < 2 ^ 64 → bytes.now ≡ word n ++ rest → IsSomeAnd result (λ parts. (parts.0 ≡ n) × (parts.1.now ≡ rest)) }
+{
+    let (front, rest) = bytes.split_first_chunk::<8>()?;
+    Some((u64::from_le_bytes(*front), rest))
+}
+
+// Whether each byte is zero.
 fn is_zeros(bytes: &[u8]) -> bool
-    ensures { IsTrue result ↔ (bytes.now ≡ zeros (length bytes.now)) }
+    ensures { IsTrue result ↔ All (λ byte. byte ≡ 0) bytes.now }
 {
     bytes.iter().all(|byte| *byte == 0)
 }
@@ -55,9 +62,9 @@ impl<'a> Cursor<'a> {
         ensures exact { (n : ℕ) (rest : List ℕ) → n < 2 ^ 64 → self.old ≡ word n ++ rest → (result ≡ Some n) × (self.new ≡ rest) }
         ensures none { result ≡ None → self.new ≡ self.old }
     {
-        let (bytes, rest) = self.rest.split_first_chunk::<8>()?;
+        let (number, rest) = split_word(self.rest)?;
         self.rest = rest;
-        Some(u64::from_le_bytes(*bytes))
+        Some(number)
     }
 
     /// The next `count` bytes, or none where fewer are left.
@@ -80,13 +87,13 @@ impl<'a> Cursor<'a> {
         ensures none { result ≡ None → self.new ≡ self.old }
     {
         let mut after = Cursor::new(self.rest);
-        let text = after.unchecked_text()?;
+        let text = after.read_text()?;
         self.rest = after.rest;
         Some(text)
     }
 
-    // The next text, with no promise on the bytes that are left where there is none.
-    fn unchecked_text(&mut self) -> Option<&'a [u8]>
+    // The next text. Where there is none, it may have passed some bytes.
+    fn read_text(&mut self) -> Option<&'a [u8]>
         ensures found { IfSome result (λ text. self.old ≡ text_bytes text.now ++ self.new) }
         ensures exact { (text rest : List ℕ) → length text < 2 ^ 63 → self.old ≡ text_bytes text ++ rest → (option_copied result ≡ Some text) × (self.new ≡ rest) }
     {

@@ -1,6 +1,4 @@
-//! Words, texts and lists of numbers, written behind what a vector holds.
-ghost use Rattle.std.specs.Prelude.{◌≡◌, ◌+◌, ◌<◌, ◌++◌, length, flat_map, OnOk};
-ghost use Rattle.zst_bytes.specs.Bytes.{number_bytes};
+ghost use Rattle.std.specs.Prelude.{◌≡◌, ◌<◌, ◌++◌, length, OnOk};
 ghost use Rattle.zst_bytes.specs.Fields.{zeros};
 ghost use Rattle.zst_bytes.specs.Words.{word, filling, padding, text_bytes, words_bytes};
 
@@ -13,7 +11,16 @@ pub(crate) fn padding(len: usize) -> usize
     (8 - len % 8) % 8
 }
 
+// Appends the zeros that follow a text of so many bytes.
+#[tactic(auto, unfolding(crate::specs::Fields::zeros))]
+fn push_padding(out: &mut Vec<u8>, len: usize) -> Result<(), AllocError>
+    ensures { OnOk result (out.new.items ≡ out.old.items ++ zeros (padding len)) }
+{
+    out.extend_from_slice(&[0; 8][..padding(len)])
+}
+
 /// Appends a number in 8 bytes, the lowest first.
+#[tactic(auto, unfolding(crate::specs::Bytes::number_bytes))]
 pub fn push_word(out: &mut Vec<u8>, number: u64) -> Result<(), AllocError>
     ensures { OnOk result (out.new.items ≡ out.old.items ++ word number) }
 {
@@ -27,7 +34,7 @@ pub fn push_text(out: &mut Vec<u8>, text: &[u8]) -> Result<(), AllocError>
 {
     push_word(out, text.len() as u64)?;
     out.extend_from_slice(text)?;
-    out.extend_from_slice(&[0; 8][..padding(text.len())])
+    push_padding(out, text.len())
 }
 
 /// Appends numbers: their count as a word, and each as a word. After an error a part of them may
