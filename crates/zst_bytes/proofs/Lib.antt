@@ -1,2 +1,5 @@
 mod Digits
+mod Filling
+mod Reading
 mod Tail
+mod Texts

@@ -63,7 +63,8 @@ length-lay size (text q v bytes ∷ fields) old long inside fills =
     let i = and_parts (leb (q + v) size) (is_inside size fields) inside in
     length-lay size fields (written q v bytes old) (length-written q v bytes old fills.0 (rw long (leb-true _ _ i.0)) ∙ long) i.1 fills.1
 
-length-zeros : (size : ℕ) → length (zeros size) ≡ size
+-- so many zeros are so many
+pub length-zeros : (size : ℕ) → length (zeros size) ≡ size
 unfolding zeros
 length-zeros size = length-replicate {A = ℕ} size 0
 
