@@ -136,7 +136,7 @@ with_dates number item snap state = record {
 }
 
 -- an item that is applied with its dates is applied, and has its dates
-dated_parts : (number : ℕ) (item : Item) (snap after : DatedState) → apply_dated number item snap ≡ Ok after
+pub dated_parts : (number : ℕ) (item : Item) (snap after : DatedState) → apply_dated number item snap ≡ Ok after
     → (apply item snap.state ≡ Ok after.state) × (with_dates number item snap after.state ≡ after)
 dated_parts number item snap after h =
     let found = bind_ok (apply item snap.state) (λ state. Ok (with_dates number item snap state)) after h in
@@ -158,9 +158,9 @@ pub remembered_itself : RemembersItself
 remembered_itself snap number = record { numbers = λ k n d. refl; indices = λ k i n l d. refl }
 
 -- what has a date at or below the number was not dated later, and has its old date
-kept_date : (t : Bool) (number next old date : ℕ) → number < next → date ≡ (if t then next else old) → date ≤ number → (t ≡ false) × (old ≤ number)
+pub kept_date : (t : Bool) (number next old date : ℕ) → number < next → date ≡ (if t then next else old) → date ≤ number → (t ≡ false) × (old ≤ number) × (date ≡ old)
 kept_date true number next old date l e d = absurd (omega arith)
-kept_date false number next old date l e d = (refl, omega arith)
+kept_date false number next old date l e d = (refl, omega arith, e)
 
 pub remembered_on : RemembersOn
 remembered_on snap after number next item state s l h applied =

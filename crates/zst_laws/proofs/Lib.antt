@@ -17,3 +17,15 @@ mod Ranges
 mod Dating
 mod Increments
 mod Receives
+mod Standing
+mod Agreement
+mod Rows
+mod Ordered
+mod Accepted
+mod OtherDatasets
+mod SoundHeads
+mod SoundDatasets
+mod SoundSnapshots
+mod SoundSteps
+mod LawfulHeads
+mod LawfulPools

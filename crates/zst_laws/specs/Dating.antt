@@ -1,12 +1,11 @@
 -- Which dates items give, and what a snapshot remembers under them.
-use Rattle.std.specs.Prelude.{◌≡◌, ℕ, ◌*◌, ◌<◌, ◌≤◌, true, false, List, [], ◌∷◌, Option, Result, Ok, ◌==◌, if◌then◌else◌}
+use Rattle.std.specs.Prelude.{◌≡◌, ℕ, ◌*◌, ◌<◌, ◌≤◌, true, false, List, [], ◌∷◌, Option, Ok, ◌==◌, if◌then◌else◌}
 use Rattle.zst_model.specs.declared.item.Change.{Change}
 use Rattle.zst_model.specs.declared.item.Change.TheVariants.{Put, Spill, FreeFrom, Free, Redact, Write}
 use Rattle.zst_model.specs.declared.item.Item.{Item}
 use Rattle.zst_model.specs.declared.item.Item.TheVariants.{FreeObjects, At}
-use Rattle.zst_model.specs.declared.apply_fault.ApplyFault.{ApplyFault}
 use Rattle.zst_model.specs.State.{State, Object, IsState, attr_at, content_at, is_number, index_bound}
-use Rattle.zst_model.specs.Apply.{apply, within, ◌>>=◌}
+use Rattle.zst_model.specs.Apply.{apply, within}
 use Rattle.zst_model.specs.Dated.{DatedState, touches_number, touches_index, size_at, apply_dated, apply_all_dated}
 use Rattle.zst_model.specs.Target.{Remembers}
 

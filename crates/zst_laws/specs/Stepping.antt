@@ -1,5 +1,5 @@
 -- What commands keep of a pool.
-use Rattle.std.specs.Prelude.{◌≡◌, ◌⊎◌, ℕ, ◌+◌, Result, Ok}
+use Rattle.std.specs.Prelude.{◌≡◌, ◌⊎◌, ℕ, ◌+◌, Ok}
 use Rattle.zst_model.specs.declared.command.Command.{Command}
 use Rattle.zst_model.specs.Pool.{Pool, IsPool}
 use Rattle.zst_model.specs.Sound.{Sound}

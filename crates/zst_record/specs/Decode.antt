@@ -8,6 +8,7 @@ use Rattle.zst_model.specs.declared.header.Header.{Header}
 use Rattle.zst_model.specs.declared.faults.Flaw.TheVariants as flaws
 use Rattle.zst_model.specs.declared.faults.Lack.{Lack}
 use Rattle.zst_model.specs.declared.faults.Lack.TheVariants as lacks
+use Rattle.zst_model.specs.State.{is_block_size}
 use Rattle.zst_record.specs.declared.TheConstants.{MAGIC, OTHER_FEATURES, LARGE_BLOCKS, RESUMING, REDACTED}
 use Rattle.zst_record.specs.declared.head.Head.{Head}
 use Rattle.zst_record.specs.declared.head.Head.TheVariants as heads
@@ -30,10 +31,6 @@ sums_at bytes place =
 -- an object's number is 1 to 2^48 - 1
 unfoldable pub is_object : ℕ → Bool
 is_object object = nat_lt 0 object && nat_lt object (2 ^ 48)
-
--- a block size is a multiple of 512 from 512 to 131,072
-unfoldable pub is_block_size : ℕ → Bool
-is_block_size size = nat_le 512 size && nat_le size 131072 && (size % 512 == 0)
 
 -- a range of bytes ends below 2^64
 unfoldable pub is_range : ℕ → ℕ → Bool

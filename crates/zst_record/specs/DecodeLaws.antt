@@ -2,11 +2,12 @@
 use Rattle.std.proofs.Common.{◌≡◌, ℕ, ◌+◌, ◌%◌, ◌^◌, ◌<◌, ◌==◌, ◌&&◌, true, ltb, leb, List, ◌++◌, slice_index, Ok, refl, sym, ap, arith}
 use Rattle.std.proofs.lemmas.Bool.{ne_eqb, leb-true, ltb-true, and_parts, le-leb}
 use Rattle.zst_bytes.specs.Bytes.{bytes_at, number_at}
+use Rattle.zst_model.specs.State.{is_block_size}
 use Rattle.zst_record.specs.declared.head.Head.{Head}
 use Rattle.zst_record.specs.declared.head.Head.TheVariants as heads
 use Rattle.zst_record.specs.Fields.{blank}
 use Rattle.zst_record.specs.Table.{sum_fields, fields_of, head_bytes, sealed_bytes}
-use Rattle.zst_record.specs.Decode.{Decoded, is_object, is_block_size, is_range, decoded, typed, object_with, write_with, free_with, spill_with, redact_with}
+use Rattle.zst_record.specs.Decode.{Decoded, is_object, is_range, decoded, typed, object_with, write_with, free_with, spill_with, redact_with}
 use Rattle.zst_record.specs.Fits.{Fits, IsLater, SumsFit, ObjectFits, WriteFits, FreeFits, SpillFits, RedactFits}
 use Rattle.zst_record.specs.FieldsLaws.{number-back, gap-back}
 

@@ -2,10 +2,11 @@
 use Rattle.std.specs.Prelude.{ℕ, ◌-◌, ◌^◌, ◌<◌, ◌≤◌, ◌≡◌, ◌==◌, ◌||◌, true, false, List, [], ◌∷◌, None, length, slice_index, bit_and, not}
 use Rattle.std.specs.List.{position_or_len}
 use Rattle.zst_model.specs.declared.header.Header.{Header}
+use Rattle.zst_model.specs.State.{is_block_size}
 use Rattle.zst_record.specs.declared.TheConstants.{LARGE_BLOCKS, REDACTED}
 use Rattle.zst_record.specs.declared.head.Head.{Head}
 use Rattle.zst_record.specs.declared.head.Head.TheVariants as heads
-use Rattle.zst_record.specs.Decode.{is_object, is_block_size, is_range, is_payload_len, needs_payload, others_of}
+use Rattle.zst_record.specs.Decode.{is_object, is_range, is_payload_len, needs_payload, others_of}
 
 -- four numbers of 64 bits
 pub record SumsFit (sums : List ℕ) : Type 0 where

@@ -4,11 +4,12 @@ use Rattle.std.proofs.lemmas.Bool.{leb-true, eqb-true, and_parts}
 use Rattle.std.specs.Prelude.{bit_and}
 use Rattle.zst_bytes.specs.Bytes.{number_at}
 use Rattle.zst_model.specs.declared.header.Header.{Header}
+use Rattle.zst_model.specs.State.{is_block_size}
 use Rattle.zst_record.specs.declared.head.Head.{Head}
 use Rattle.zst_record.specs.declared.head.Head.TheVariants as heads
 use Rattle.zst_record.specs.declared.fault.StreamFault.{StreamFault}
 use Rattle.zst_record.specs.declared.TheConstants.{MAGIC, LARGE_BLOCKS, REDACTED}
-use Rattle.zst_record.specs.Decode.{Decoded, check, is_object, is_block_size, is_range, is_payload_len, needs_payload, others_of, decoded, begin_of, begin_with, snapshot_with, named, name_in, typed, object_with, write_with, free_with, spill_with, redact_with}
+use Rattle.zst_record.specs.Decode.{Decoded, check, is_object, is_range, is_payload_len, needs_payload, others_of, decoded, begin_of, begin_with, snapshot_with, named, name_in, typed, object_with, write_with, free_with, spill_with, redact_with}
 use Rattle.zst_record.specs.Laws.{IsBounded}
 
 -- what holds of each head that is answered

@@ -1,6 +1,7 @@
 -- The small stream can be stated.
 use Rattle.std.proofs.Common.{◌^◌, ◌-◌, refl, lit<, lit≤}
-use Rattle.zst_record.specs.Decode.{is_object, is_block_size, is_range, is_payload_len, needs_payload}
+use Rattle.zst_model.specs.State.{is_block_size}
+use Rattle.zst_record.specs.Decode.{is_object, is_range, is_payload_len, needs_payload}
 use Rattle.zst_record.specs.Fits.{BeginFits, ObjectFits, WriteFits, FreeFits}
 use Rattle.zst_stream.specs.Reading.{opened}
 use Rattle.zst_stream.specs.Image.{PiecesFit}

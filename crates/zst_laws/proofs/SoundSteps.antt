@@ -1,0 +1,115 @@
+-- Each command makes a sound pool of a sound pool.
+use Rattle.std.proofs.Common.{◌≡◌, ℕ, ◌+◌, ◌*◌, ◌<◌, true, List, [], ◌∷◌, Option, Result, Ok, refl, subst, sym, arith}
+use Rattle.std.proofs.lemmas.List.Elements.{All-contains}
+use Rattle.zst_names.specs.Names.{dataset_of}
+use Rattle.zst_model.specs.declared.attr.ObjectHead.{ObjectHead}
+use Rattle.zst_model.specs.declared.command.Command.TheVariants as commands
+use Rattle.zst_model.specs.declared.faults.Quantity.TheVariants as quantities
+use Rattle.zst_model.specs.declared.item.Change.TheVariants.{Free, Write}
+use Rattle.zst_model.specs.declared.item.Item.{Item}
+use Rattle.zst_model.specs.declared.item.Item.TheVariants.{FreeObjects, At}
+use Rattle.zst_model.specs.declared.refusal.Refusal.{Refusal}
+use Rattle.zst_model.specs.State.{IsState, is_block_size, number_bound, index_bound}
+use Rattle.zst_model.specs.Apply.{◌>>=◌}
+use Rattle.zst_model.specs.Guids.{IsGuidSet}
+use Rattle.zst_model.specs.Dated.{DatedState, size_at, apply_all_dated}
+use Rattle.zst_model.specs.Pool.{Pool, IsKind, IsPool}
+use Rattle.zst_model.specs.Sound.{Sound}
+use Rattle.zst_model.specs.Step.{Stepped, stepped, in_numbers, in_indices, applied, filled, written, punched, on_head, with_dataset, with_snapshot, snapshot_of}
+use Rattle.zst_laws.specs.Stepping.{StepsKeepSound}
+use Rattle.zst_laws.proofs.Runs.{bind_ok, ok_inj}
+use Rattle.zst_laws.proofs.Rows.{named_found, none_named, of_applying_ok, limited_ok, committed_ok, on_head_ok}
+use Rattle.zst_laws.proofs.Accepted.{with_dataset_ok, with_snapshot_ok, read_keeps, list_keeps, list_objects_keeps}
+use Rattle.zst_laws.proofs.LawfulHeads.{number_from, object_items, object_items_are_lawful, block_size_over_none}
+use Rattle.zst_laws.proofs.Agreement.{Keeps, keeps_one, keeps_all}
+use Rattle.zst_laws.proofs.SoundHeads.{head_sound}
+use Rattle.zst_laws.proofs.SoundDatasets.{dataset_sound}
+use Rattle.zst_laws.proofs.SoundSnapshots.{snapshot_sound}
+
+-- fs and volume
+new_sound : (kind : ℕ) (name : List ℕ) (pool : Pool) (after : Stepped) → IsPool pool → Sound pool → with_dataset kind name pool ≡ Ok after → Sound after.pool
+new_sound kind name pool after is sound h =
+    let new = with_dataset_ok kind name pool after h in
+    subst (λ s. Sound s.pool) (committed_ok _ after new.made).1
+    (dataset_sound pool kind name is.linked (λ (d, there, named). none_named (λ d. d.name) name pool.datasets new.absent d there named) sound)
+
+-- a snapshot
+taken_sound : (now : ℕ) (name : List ℕ) (pool : Pool) (after : Stepped) → IsPool pool → Sound pool → with_snapshot now name pool ≡ Ok after → Sound after.pool
+taken_sound now name pool after is sound h =
+    let new = with_snapshot_ok now name pool after h in
+    let found = named_found (λ d. d.name) (dataset_of 64 name) pool.datasets new.dataset new.there in
+    subst (λ s. Sound s.pool) (committed_ok _ after new.made).1
+    (snapshot_sound pool (snapshot_of now name pool new.dataset) new.dataset (record {
+      number = refl;
+      there = found.0;
+      named = found.1;
+      objects = refl;
+      name_free = λ (s, there, named). none_named (λ s. s.name) name pool.snapshots new.absent s there named;
+      not_received = λ p there target. none_named (λ p. p.target) (dataset_of 64 name) pool.partials new.free p there target;
+    }) is.named is.linked sound)
+
+-- a command whose change keeps what agrees with the head that it changes
+changed_sound : (name : List ℕ) (pool : Pool) (change : DatedState → Result DatedState Refusal) (after : Stepped) → IsPool pool → Sound pool
+    → ((head made : DatedState) → IsState head.state → change head ≡ Ok made → Keeps (pool.number + 1) head made)
+    → on_head name pool change ≡ Ok after → Sound after.pool
+changed_sound name pool change after is sound keeps h =
+    let (dataset, head, named, free, changed, made) = on_head_ok name pool change after h in
+    let found = named_found (λ d. d.name) name pool.datasets dataset named in
+    let lawful = All-contains (λ d. IsKind d.kind × IsGuidSet d.redact × IsState d.head.state) pool.datasets dataset is.datasets found.0 in
+    subst (λ s. Sound s.pool) (committed_ok _ after made).1
+    (head_sound pool name head dataset found.0 found.1 (keeps dataset.head head lawful.2 changed) sound)
+
+-- object: OBJECT and SPILL, which are lawful
+object_keeps : (pool : Pool) (k : ℕ) (object : ObjectHead) (bonus : List ℕ) (spill : Option (List ℕ)) (head after : DatedState)
+    → IsState head.state → 0 < k → is_block_size object.block_size ≡ true → in_numbers (k + 1) (applied pool (object_items k object bonus spill) head) ≡ Ok after
+    → Keeps (pool.number + 1) head after
+object_keeps pool k object bonus spill head after s some size h =
+    let below = limited_ok quantities.Object number_bound (k + 1) (applied pool (object_items k object bonus spill) head) after h in
+    let number = number_from k some (omega (arith, below.0)) in
+    keeps_all (pool.number + 1) (object_items k object bonus spill) head after s
+    (object_items_are_lawful k object bonus spill head.state number (block_size_over_none object.block_size size))
+    (of_applying_ok (apply_all_dated (pool.number + 1) (object_items k object bonus spill) head) after below.1)
+
+-- free: one item, which keeps what agrees whether it is lawful or not
+one_keeps : (pool : Pool) (item : Item) (head after : DatedState) → IsState head.state → applied pool (item ∷ []) head ≡ Ok after → Keeps (pool.number + 1) head after
+one_keeps pool item head after s h =
+    keeps_one (pool.number + 1) item head after s (of_applying_ok (apply_all_dated (pool.number + 1) (item ∷ []) head) after h)
+
+free_keeps : (pool : Pool) (first count : ℕ) (head after : DatedState)
+    → IsState head.state → in_numbers (first + count) (applied pool (FreeObjects first count ∷ []) head) ≡ Ok after → Keeps (pool.number + 1) head after
+free_keeps pool first count head after s h =
+    one_keeps pool (FreeObjects first count) head after s (limited_ok quantities.Object number_bound (first + count) (applied pool (FreeObjects first count ∷ []) head) after h).1
+
+-- write and punch: one item, and a range of indices that ends within the bound
+within_keeps : (pool : Pool) (item : Item) (past : ℕ) (head after : DatedState) → IsState head.state
+    → (applied pool (item ∷ []) head >>= λ made. in_indices past (Ok made)) ≡ Ok after → Keeps (pool.number + 1) head after
+within_keeps pool item past head after s h =
+    let made = bind_ok (applied pool (item ∷ []) head) (λ made. in_indices past (Ok made)) after h in
+    let below = limited_ok quantities.Block index_bound past (Ok made.0) after made.2 in
+    subst (Keeps (pool.number + 1) head) (ok_inj made.0 after below.1) (one_keeps pool item head made.0 s made.1)
+
+write_keeps : (pool : Pool) (k i : ℕ) (bytes : List ℕ) (head after : DatedState) → IsState head.state → written pool k i bytes head ≡ Ok after → Keeps (pool.number + 1) head after
+write_keeps pool k i bytes head after s h =
+    let size = size_at (head.state k) in within_keeps pool (At k (Write (i * size) 0 (filled size bytes))) (i + 1) head after s h
+
+punch_keeps : (pool : Pool) (k first count : ℕ) (head after : DatedState) → IsState head.state → punched pool k first count head ≡ Ok after → Keeps (pool.number + 1) head after
+punch_keeps pool k first count head after s h =
+    let size = size_at (head.state k) in within_keeps pool (At k (Free (first * size) (count * size))) (first + count) head after s h
+
+pub steps_sound : StepsKeepSound
+unfolding stepped
+steps_sound now (commands.Fs name) pool after command is sound h = new_sound 2 name pool after is sound h
+steps_sound now (commands.Volume name) pool after command is sound h = new_sound 3 name pool after is sound h
+steps_sound now (commands.Object name k object bonus spill) pool after command is sound h =
+    changed_sound name pool (λ d. in_numbers (k + 1) (applied pool (object_items k object bonus spill) d)) after is sound
+    (λ head made s g. object_keeps pool k object bonus spill head made s command.1 command.3 g) h
+steps_sound now (commands.Write name k i bytes) pool after command is sound h =
+    changed_sound name pool (written pool k i bytes) after is sound (write_keeps pool k i bytes) h
+steps_sound now (commands.Punch name k first count) pool after command is sound h =
+    changed_sound name pool (punched pool k first count) after is sound (punch_keeps pool k first count) h
+steps_sound now (commands.Free name first count) pool after command is sound h =
+    changed_sound name pool (λ d. in_numbers (first + count) (applied pool (FreeObjects first count ∷ []) d)) after is sound (free_keeps pool first count) h
+steps_sound now (commands.Snapshot name) pool after command is sound h = taken_sound now name pool after is sound h
+steps_sound now (commands.Read name k i) pool after command is sound h = subst Sound (sym (read_keeps now name k i pool after h)) sound
+steps_sound now commands.List pool after command is sound h = subst Sound (sym (list_keeps now pool after h)) sound
+steps_sound now (commands.ListObjects name) pool after command is sound h = subst Sound (sym (list_objects_keeps now name pool after h)) sound

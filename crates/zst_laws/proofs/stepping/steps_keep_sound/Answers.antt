@@ -1,0 +1,5 @@
+use Rattle.zst_laws.proofs.SoundSteps.{steps_sound}
+use Rattle.zst_laws.proofs.stepping.steps_keep_sound.Goals as goal
+
+pub returns : goal.returns
+returns c = steps_sound
