@@ -11,17 +11,17 @@ use Rattle.zst_model.specs.Included.{Pairs}
 use Rattle.zst_model.specs.Lists.{Runs, is_in_run, has_pair, is_run, stands_before, is_run_list, IsRunList, ends_by, IsAtOrAfter, IsLeastFrom, HasNoneFrom}
 
 -- the rest of a lawful list is lawful
-pub rest_is_lawful : (run : Run) (rest : Runs) → is_run_list (run ∷ rest) ≡ true → is_run_list rest ≡ true
+rest_is_lawful : (run : Run) (rest : Runs) → is_run_list (run ∷ rest) ≡ true → is_run_list rest ≡ true
 rest_is_lawful run [] lawful = refl
 rest_is_lawful run (next ∷ rest) lawful = (and_parts _ _ (and_parts _ _ lawful).1).1
 
 -- its first run is lawful
-pub first_is_lawful : (run : Run) (rest : Runs) → is_run_list (run ∷ rest) ≡ true → is_run run ≡ true
+first_is_lawful : (run : Run) (rest : Runs) → is_run_list (run ∷ rest) ≡ true → is_run run ≡ true
 first_is_lawful run [] lawful = lawful
 first_is_lawful run (next ∷ rest) lawful = (and_parts _ _ lawful).0
 
 -- its first run stands before the second
-pub next_is_apart : (run next : Run) (rest : Runs) → is_run_list (run ∷ next ∷ rest) ≡ true → stands_before run next ≡ true
+next_is_apart : (run next : Run) (rest : Runs) → is_run_list (run ∷ next ∷ rest) ≡ true → stands_before run next ≡ true
 next_is_apart run next rest lawful = (and_parts _ _ (and_parts _ _ lawful).1).0
 
 -- a lawful list from a place on: the run in front, and that it stands before the run at the place
@@ -47,7 +47,7 @@ past_first run (next ∷ rest) l j lawful has =
     ]
 
 -- a pair of a run that ends by a pair stands before it
-before_end : (object block : ℕ) (run : Run) (l j : ℕ) → ends_by object block run ≡ true → IsAtOrAfter object block l j → is_in_run run l j ≡ false
+before_end : (object block : ℕ) (run : Run) (l j : ℕ) → ends_by run object block ≡ true → IsAtOrAfter object block l j → is_in_run run l j ≡ false
 before_end object block run l j ends after = grind (arith, nat_tests)
 
 -- a pair of a run stands at or after its first
@@ -61,17 +61,17 @@ past_end run l j after = grind arith
 -- what is known of the first run that doesn't end by a pair: the list has its pairs, and no pair at or after the pair stands before it
 pub record IsFound (runs : Runs) (object block : ℕ) (run : Run) : Type 0 where
   pub lawful : is_run run ≡ true
-  pub behind : ends_by object block run ≡ false
+  pub behind : ends_by run object block ≡ false
   pub has : (l j : ℕ) → is_in_run run l j ≡ true → has_pair runs l j ≡ true
   pub least : (l j : ℕ) → has_pair runs l j ≡ true → IsAtOrAfter object block l j → IsAtOrAfter run.object run.first l j
 
 -- a search finds the first run that doesn't end by a pair, or that no pair at or after it is there
-pub search_finds : (object block : ℕ) (runs : Runs) → IsRunList runs
-    → MatchOption (find (λ run. not (ends_by object block run)) runs) (HasNoneFrom (has_pair runs) object block) (IsFound runs object block)
+search_finds : (object block : ℕ) (runs : Runs) → IsRunList runs
+    → MatchOption (find (λ run. not (ends_by run object block)) runs) (HasNoneFrom (has_pair runs) object block) (IsFound runs object block)
 search_finds object block [] lawful = λ k i after. refl
-search_finds object block (run ∷ rest) lawful = by_end (ends_by object block run) refl (search_finds object block rest (rest_is_lawful run rest lawful))
+search_finds object block (run ∷ rest) lawful = by_end (ends_by run object block) refl (search_finds object block rest (rest_is_lawful run rest lawful))
   where
-    no_more : ends_by object block run ≡ true → (found : Option Run)
+    no_more : ends_by run object block ≡ true → (found : Option Run)
         → MatchOption found (HasNoneFrom (has_pair rest) object block) (IsFound rest object block)
         → MatchOption found (HasNoneFrom (has_pair (run ∷ rest)) object block) (IsFound (run ∷ rest) object block)
     no_more ends None none = λ k i after. or_from _ _ (before_end object block run k i ends after) (none k i after)
@@ -85,9 +85,9 @@ search_finds object block (run ∷ rest) lawful = by_end (ends_by object block r
       ]) after;
     }
 
-    by_end : (ends : Bool) → ends_by object block run ≡ ends
-        → MatchOption (find (λ next. not (ends_by object block next)) rest) (HasNoneFrom (has_pair rest) object block) (IsFound rest object block)
-        → MatchOption (cond (not ends) (Some run) (find (λ next. not (ends_by object block next)) rest)) (HasNoneFrom (has_pair (run ∷ rest)) object block) (IsFound (run ∷ rest) object block)
+    by_end : (ends : Bool) → ends_by run object block ≡ ends
+        → MatchOption (find (λ next. not (ends_by next object block)) rest) (HasNoneFrom (has_pair rest) object block) (IsFound rest object block)
+        → MatchOption (cond (not ends) (Some run) (find (λ next. not (ends_by next object block)) rest)) (HasNoneFrom (has_pair (run ∷ rest)) object block) (IsFound (run ∷ rest) object block)
     by_end true ends found = no_more ends _ found
     by_end false ends found = record {
       lawful = first_is_lawful run rest lawful;
@@ -100,16 +100,16 @@ search_finds object block (run ∷ rest) lawful = by_end (ends_by object block r
     }
 
 -- the same of what a search gave
-pub searched : (object block : ℕ) (runs : Runs) (found : Option Run) → found ≡ find (λ run. not (ends_by object block run)) runs → IsRunList runs
+pub searched : (object block : ℕ) (runs : Runs) (found : Option Run) → found ≡ find (λ run. not (ends_by run object block)) runs → IsRunList runs
     → MatchOption found (HasNoneFrom (has_pair runs) object block) (IsFound runs object block)
 searched object block runs found e lawful = rw e (search_finds object block runs lawful)
 
 -- a run that stands before one that ends by a pair ends by it too
-ends_before : (object block : ℕ) (run next : Run) → stands_before run next ≡ true → ends_by object block next ≡ true → ends_by object block run ≡ true
+ends_before : (object block : ℕ) (run next : Run) → stands_before run next ≡ true → ends_by next object block ≡ true → ends_by run object block ≡ true
 ends_before object block run next before ends = grind (arith, nat_tests)
 
 -- the first run ends by a pair where a later one does
-first_ends : (object block : ℕ) (run : Run) (rest : Runs) (j : ℕ) (d : Run) → is_run_list (run ∷ rest) ≡ true → j < length rest → ends_by object block (get_or rest j d) ≡ true → ends_by object block run ≡ true
+first_ends : (object block : ℕ) (run : Run) (rest : Runs) (j : ℕ) (d : Run) → is_run_list (run ∷ rest) ≡ true → j < length rest → ends_by (get_or rest j d) object block ≡ true → ends_by run object block ≡ true
 first_ends object block run [] j d lawful inside ends = absurd (omega arith)
 first_ends object block run (next ∷ rest) zero d lawful inside ends = ends_before object block run next (next_is_apart run next rest lawful) ends
 first_ends object block run (next ∷ rest) (suc j) d lawful inside ends =
@@ -117,7 +117,7 @@ first_ends object block run (next ∷ rest) (suc j) d lawful inside ends =
     (first_ends object block next rest j d (rest_is_lawful run (next ∷ rest) lawful) (omega arith) ends)
 
 -- the runs that end by a pair stand before those that don't
-pub ends_are_first : (object block : ℕ) (runs : Runs) → IsRunList runs → IsPartitionedBy (ends_by object block) runs
+pub ends_are_first : (object block : ℕ) (runs : Runs) → IsRunList runs → IsPartitionedBy (λ run. ends_by run object block) runs
 ends_are_first object block [] lawful i j d le inside ends = absurd (omega arith)
 ends_are_first object block (run ∷ rest) lawful zero zero d le inside ends = ends
 ends_are_first object block (run ∷ rest) lawful zero (suc j) d le inside ends = first_ends object block run rest j d lawful (omega arith) ends
@@ -126,9 +126,9 @@ ends_are_first object block (run ∷ rest) lawful (suc i) (suc j) d le inside en
     ends_are_first object block rest (rest_is_lawful run rest lawful) i j d (omega arith) (omega arith) ends
 
 -- what stands at the place that parts a list is the first element that fails the test
-pub partition-find : (test : Run → Bool) (runs : Runs) (place : ℕ) → place ≤ length runs → IsPartitionPoint (λ run. test run ≡ true) (λ run. test run ≡ false) runs place
+pub find_at_point : (test : Run → Bool) (runs : Runs) (place : ℕ) → place ≤ length runs → IsPartitionPoint (λ run. test run ≡ true) (λ run. test run ≡ false) runs place
     → slice_get runs place ≡ find (λ run. not (test run)) runs
-partition-find test runs place bound point = sym (find_at (λ run. not (test run)) runs ∙ ap (slice_get runs) here)
+find_at_point test runs place bound point = sym (find_at (λ run. not (test run)) runs ∙ ap (slice_get runs) here)
   where
     d : Run
     d = record { object = 0; first = 0; count = 0 }
@@ -144,10 +144,10 @@ pub found_has : (runs : Runs) (object block : ℕ) (run : Run) → IsFound runs 
 found_has runs object block run found = by_test (run.object == object && nat_le run.first block) refl
   where
     here : (run.object == object && nat_le run.first block) ≡ true → is_in_run run object block ≡ true
-    here starts = let behind : ends_by object block run ≡ false = found.behind in grind (arith, nat_tests)
+    here starts = let behind : ends_by run object block ≡ false = found.behind in grind (arith, nat_tests)
 
     starts : IsAtOrAfter run.object run.first object block → (run.object == object && nat_le run.first block) ≡ true
-    starts after = let behind : ends_by object block run ≡ false = found.behind in grind (arith, nat_tests)
+    starts after = let behind : ends_by run object block ≡ false = found.behind in grind (arith, nat_tests)
 
     by_test : (test : Bool) → (run.object == object && nat_le run.first block) ≡ test → test ≡ has_pair runs object block
     by_test true e = sym (found.has object block (here e))
@@ -167,7 +167,7 @@ least_here runs object block run found same = record {
 }
   where
     here : is_in_run run run.object (max run.first block) ≡ true
-    here = let lawful : is_run run ≡ true = found.lawful in let behind : ends_by object block run ≡ false = found.behind in grind (arith, nat_tests)
+    here = let lawful : is_run run ≡ true = found.lawful in let behind : ends_by run object block ≡ false = found.behind in grind (arith, nat_tests)
 
     past : (l j : ℕ) → IsAtOrAfter run.object run.first l j → IsAtOrAfter object block l j → IsAtOrAfter run.object (max run.first block) l j
     past l j from_run from_pair = grind arith
@@ -185,7 +185,7 @@ least_later runs object block run found other = record {
     here = let lawful : is_run run ≡ true = found.lawful in grind (arith, nat_tests)
 
     higher : object < run.object
-    higher = let behind : ends_by object block run ≡ false = found.behind in grind (arith, nat_tests)
+    higher = let behind : ends_by run object block ≡ false = found.behind in grind (arith, nat_tests)
 
 -- a set that has a least pair from a pair on isn't without one
 pub some_from : (pairs : Pairs) (object block k i : ℕ) → IsLeastFrom pairs object block k i → HasNoneFrom pairs object block → ⊥

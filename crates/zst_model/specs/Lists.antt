@@ -17,7 +17,7 @@ is_in_run run k i = run.object == k && (nat_le run.first i && nat_lt i (run.firs
 abbrev pub has_pair : Runs → Pairs
 has_pair runs k i = list_any (λ run. is_in_run run k i) runs
 
--- a run that a list may have: its object has a number, and it has an index and ends at or below the bound of indices
+-- a run that a list may have: of an object that may be, not empty, and ending at or below the bound of indices
 abbrev pub is_run : Run → Bool
 is_run run = is_number run.object && (nat_lt 0 run.count && nat_le (run.first + run.count) index_bound)
 
@@ -35,9 +35,9 @@ is_run_list (run ∷ next ∷ rest) = is_run run && (stands_before run next && i
 abbrev pub IsRunList : Runs → Type 0
 IsRunList runs = is_run_list runs ≡ true
 
--- each pair of a run stands before a pair, by object, then by index
-abbrev pub ends_by : ℕ → ℕ → Run → Bool
-ends_by object block run = nat_lt run.object object || (run.object == object && nat_le (run.first + run.count) block)
+-- a run ends by a pair: its own pairs all stand before it, by object, then by index
+abbrev pub ends_by : Run → ℕ → ℕ → Bool
+ends_by run object block = nat_lt run.object object || (run.object == object && nat_le (run.first + run.count) block)
 
 -- a pair (k, i) stands at or after another, by object, then by index
 abbrev pub IsAtOrAfter : ℕ → ℕ → ℕ → ℕ → Type 0

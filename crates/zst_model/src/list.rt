@@ -27,7 +27,7 @@ impl Model for List {
 }
 
 impl List {
-    /// The list of these runs, or none where they rise not or touch, or where one is empty or out of bounds.
+    /// The list of these runs: none where one is empty or out of bounds, or where they fall, overlap or touch.
     pub fn new(runs: Vec<Run>) -> Option<List>
         ensures lawful { IsSome result ↔ IsRunList runs.items }
         ensures same { IfSome result (λ list. list ≡ runs.items) }
@@ -90,7 +90,7 @@ impl List {
 
     /// The first run that doesn't end by this pair: of all runs it alone may have the pair.
     fn first_behind(&self, object: u64, block: u64) -> Option<Run>
-        ensures first { result ≡ find (λ run. not (ends_by object block run)) self.now }
+        ensures first { result ≡ find (λ run. not (ends_by run object block)) self.now }
         ensures lawful { IsRunList self.now }
     {
         let runs = self.runs.as_slice();
@@ -101,7 +101,7 @@ impl List {
 
 /// Whether each pair of a run stands before this one.
 fn ends_by(run: &Run, object: u64, block: u64) -> bool
-    ensures { result ≡ ends_by object block run.now }
+    ensures { result ≡ ends_by run.now object block }
 {
     // A difference, since the sum of the run's numbers may not fit.
     run.object < object
