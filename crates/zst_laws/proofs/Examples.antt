@@ -1,18 +1,19 @@
 -- The items of snapshots of one file.
-use Rattle.std.proofs.Common.{◌≡◌, ℕ, suc, ◌*◌, ◌<◌, ◌≤◌, true, false, List, [], ◌∷◌, ◌++◌, map, Some, None, refl, ap, ◌∙◌, arith, subst, nat_lt, nat_le, ◌==◌, if◌then◌else◌, ne_eqb}
-use Rattle.std.proofs.lemmas.Bool.{cond-true, cond-false, lt-ltb, le-ltb, and_from, and_left, and_right, or_from, or_left}
+use Rattle.std.proofs.Common.{◌≡◌, ℕ, suc, ◌*◌, ◌<◌, ◌≤◌, Bool, true, false, List, [], ◌∷◌, ◌++◌, map, Some, None, refl, ap, ◌∙◌, arith, subst, nat_lt, nat_le, ◌==◌, ◌||◌, if◌then◌else◌, ne_eqb}
+use Rattle.std.proofs.lemmas.Bool.{cond-true, cond-false, lt-ltb, le-ltb, and_from, and_left, and_right, or_from, or_left, or_right, le-leb}
 use Rattle.zst_model.specs.declared.header.Header.{Header}
 use Rattle.zst_model.specs.declared.item.Change.TheVariants.{FreeFrom, Free, Write}
 use Rattle.zst_model.specs.declared.item.Item.{Item}
 use Rattle.zst_model.specs.declared.item.Item.TheVariants.{At}
-use Rattle.zst_model.specs.State.{Block, Hole, Data, number_bound, index_bound, is_number, past_last, end_at}
+use Rattle.zst_model.specs.State.{Block, Hole, Redacted, Data, number_bound, index_bound, is_number, past_last, end_at}
 use Rattle.zst_model.specs.Dated.{DatedState}
-use Rattle.zst_model.specs.Included.{Choice, no_pairs, is_late_pair, includes_pair, includes_number}
+use Rattle.zst_model.specs.Included.{Pairs, Choice, no_pairs, is_late_pair, includes_pair, includes_number}
 use Rattle.zst_model.specs.View.{View, ObjectView, Left, Gone, There, object_view, shown_object, view_of}
 use Rattle.zst_model.specs.Items.{before, joined, opening}
 use Rattle.zst_laws.specs.Sending.{full}
 use Rattle.zst_laws.specs.Walk.{walk_left}
-use Rattle.zst_laws.specs.Example.{file_of, file_put, one_file, padded, rest_gone, since, first_block, second_block, distant_blocks, small, rewritten, reallocated, distant, SmallItems, SmallPoints, RewrittenItems, ReallocatedItems, DistantItems}
+use Rattle.zst_laws.specs.Example.{file_of, file_put, one_file, padded, rest_gone, since, first_block, second_block, distant_blocks, small, rewritten, shortened, reallocated, distant, SmallItems, SmallPoints, RewrittenItems, ShortenedItems, ReallocatedItems, DistantItems}
+use Rattle.zst_laws.proofs.Ends.{any_passes}
 use Rattle.zst_laws.proofs.Exact.{full_number, outside_left, pair_number, below_bound}
 use Rattle.zst_laws.proofs.Walk.{number_is, block_run_next}
 use Rattle.zst_laws.proofs.OneObject.{one_is, end_is, none_passes, from_start, from_inside, ends_gone, ends_left}
@@ -35,25 +36,26 @@ module _ (header : Header) (blocks : ℕ → Block) (number_date : ℕ → ℕ) 
     abbrev object : ObjectView
     object = object_view snap choice 1 (file_of blocks)
 
-    none_outside : view.shown 0 ≡ Left
+    pub none_outside : view.shown 0 ≡ Left
     none_outside = ap (λ t. if t then shown_object snap choice 0 (snap.state 0) else Left) (outside_left snap choice 0 refl)
 
     -- the opening of a file whose end is known
-    opening_is : (last : ℕ) → past_last blocks index_bound ≡ suc last → (rest : List Item)
+    pub opening_is : (last : ℕ) → past_last blocks index_bound ≡ suc last → (rest : List Item)
         → joined (map (At 1) (opening object) ++ rest) ≡ before (file_put last) (before (At 1 (FreeFrom (suc last * 512))) (joined rest))
     opening_is last ends rest = ap (λ e. joined (map (At 1) (opening (record object { end = e })) ++ rest)) ends
 
-  -- the full stream
-  full_own : (view (full no_pairs)).shown 1 ≡ There (object (full no_pairs))
-  full_own = ap (λ t. if t then shown_object snap (full no_pairs) 1 (snap.state 1) else Left) (full_number snap no_pairs 1 true one_is)
+  -- the full stream, with these pairs redacted
+  module _ (redact : Pairs) where
+    pub full_own : (view (full redact)).shown 1 ≡ There (object (full redact))
+    full_own = ap (λ t. if t then shown_object snap (full redact) 1 (snap.state 1) else Left) (full_number snap redact 1 true one_is)
 
-  full_gone : (k : ℕ) → 2 ≤ k → k < number_bound → (view (full no_pairs)).shown k ≡ Gone
-  full_gone k low high =
-      ap (λ t. if t then shown_object snap (full no_pairs) k (snap.state k) else Left) (full_number snap no_pairs k true (number_is k (omega arith) high))
-      ∙ ap (shown_object snap (full no_pairs) k) (absent k low)
+    pub full_gone : (k : ℕ) → 2 ≤ k → k < number_bound → (view (full redact)).shown k ≡ Gone
+    full_gone k low high =
+        ap (λ t. if t then shown_object snap (full redact) k (snap.state k) else Left) (full_number snap redact k true (number_is k (omega arith) high))
+        ∙ ap (shown_object snap (full redact) k) (absent k low)
 
-  full_block : (i : ℕ) → i < past_last blocks index_bound → (object (full no_pairs)).blocks i ≡ Some (blocks i)
-  full_block i l = cond-true (includes_pair snap (full no_pairs) 1 i) _ _ (and_from (nat_lt i (past_last blocks index_bound)) _ (lt-ltb _ _ l) refl)
+    pub full_block : (i : ℕ) → i < past_last blocks index_bound → (object (full redact)).blocks i ≡ Some (if redact 1 i then Redacted else blocks i)
+    full_block i l = cond-true (includes_pair snap (full redact) 1 i) _ _ (and_from (nat_lt i (past_last blocks index_bound)) _ (lt-ltb _ _ l) refl)
 
   -- an increment
   module _ (number : ℕ) where
@@ -102,14 +104,14 @@ small_items header = (
     out = none_outside header first_block small.number_date small.index_date (full no_pairs)
 
     own : v.shown 1 ≡ There o
-    own = full_own header first_block small.number_date small.index_date
+    own = full_own header first_block small.number_date small.index_date no_pairs
 
     opened : joined (map (At 1) (opening o) ++ walk_left v (record { object = 1; offset = 0 }) false)
         ≡ before (file_put 0) (before (At 1 (FreeFrom 512)) (joined (walk_left v (record { object = 1; offset = 0 }) false)))
     opened = opening_is header first_block small.number_date small.index_date (full no_pairs) 0 first_end (walk_left v (record { object = 1; offset = 0 }) false)
 
     block : (i : ℕ) → i < past_last first_block index_bound → o.blocks i ≡ Some (first_block i)
-    block = full_block header first_block small.number_date small.index_date
+    block = full_block header first_block small.number_date small.index_date no_pairs
 
     written : joined (walk_left v (record { object = 1; offset = 0 }) false) ≡ before (At 1 (Write 0 19 (padded 170))) (joined (walk_left v (record { object = 1; offset = 512 }) false))
     written = block_run_next v (record { object = 1; offset = 0 }) o 0 1 (Data (padded 170)) one_is own (omega arith) (omega arith) (omega (arith, first_end)) (omega arith)
@@ -117,17 +119,18 @@ small_items header = (
         (λ j a l. subst (λ i. o.blocks i ≡ Some (Data (padded 170))) (only_zero j l) (block 0 (omega (arith, first_end)))) (λ b e. refl)
 
     ended : joined (walk_left v (record { object = 1; offset = 512 }) false) ≡ rest_gone ∷ []
-    ended = ends_gone v o out own 512 (λ j l h. absurd (omega (arith, first_end))) (full_gone header first_block small.number_date small.index_date)
+    ended = ends_gone v o out own 512 (λ j l h. absurd (omega (arith, first_end))) (full_gone header first_block small.number_date small.index_date no_pairs)
 
 pub small_points : SmallPoints
 unfolding padded number_bound
-small_points = (refl, refl, refl, refl)
+small_points = (refl, refl, refl, refl, refl)
 
 -- dates of no other number
 one_number : (date k : ℕ) → 2 ≤ k → ◌≡◌ {A = ℕ} (if k == 1 then date else 0) 0
 one_number date k l = cond-false (k == 1) _ _ (ne_eqb k 1 (λ e. omega (arith, e)))
 
 pub rewritten_items : RewrittenItems
+unfolding index_bound
 rewritten_items header =
     from_start v o out own
     ∙ opening_is header first_block rewritten.number_date rewritten.index_date (since 5) 0 first_end (walk_left v (record { object = 1; offset = 0 }) false)
@@ -152,12 +155,48 @@ rewritten_items header =
 
     ended : walk_left v (record { object = 1; offset = 512 }) false ≡ []
     ended = ends_left v o out own 512 (λ j l h. absurd (omega (arith, first_end)))
-        (since_left header first_block rewritten.number_date rewritten.index_date 5 (λ k l. one_number 3 k l) (λ k i l. one_number (if i == 0 then 6 else 3) k l))
+        (since_left header first_block rewritten.number_date rewritten.index_date 5 (λ k l. one_number 3 k l) (λ k i l. one_number (if nat_lt i index_bound then (if i == 0 then 6 else 3) else 0) k l))
+
+pub shortened_items : ShortenedItems
+unfolding index_bound includes_number
+shortened_items header =
+    from_start v o out own
+    ∙ opening_is header first_block shortened.number_date shortened.index_date (since 5) 0 first_end (walk_left v (record { object = 1; offset = 0 }) false)
+    ∙ ap (λ l. before (file_put 0) (before (At 1 (FreeFrom 512)) (joined l))) ended
+  where
+    v : View
+    v = view_of header shortened (since 5)
+
+    o : ObjectView
+    o = object_view shortened (since 5) 1 (file_of first_block)
+
+    out : v.shown 0 ≡ Left
+    out = none_outside header first_block shortened.number_date shortened.index_date (since 5)
+
+    late : is_late_pair shortened (since 5) 1 1 ≡ true
+    late = and_from (nat_le (end_at (Some (file_of first_block))) 1) _ (le-leb _ _ (omega (arith, first_end))) refl
+
+    passes : ℕ → Bool
+    passes i = includes_pair shortened (since 5) 1 i || is_late_pair shortened (since 5) 1 i
+
+    own : v.shown 1 ≡ There o
+    own =
+        ap (λ t. if t then shown_object shortened (since 5) 1 (Some (file_of first_block)) else Left)
+        (and_from (is_number 1) _ one_is (or_right (nat_lt 5 (shortened.number_date 1)) _ (any_passes passes index_bound 1 (omega (arith, index_far)) (or_right (includes_pair shortened (since 5) 1 1) _ late))))
+
+    old : (j : ℕ) → j < 1 → o.blocks j ≡ None
+    old j l = subst (λ i. o.blocks i ≡ None) (only_zero j l) (cond-false (includes_pair shortened (since 5) 1 0) _ _ (and_right (nat_lt 0 (end_at (Some (file_of first_block)))) _ refl))
+
+    ended : walk_left v (record { object = 1; offset = 0 }) false ≡ []
+    ended = ends_left v o out own 0 (λ j l h. old j (omega (arith, first_end)))
+        (since_left header first_block shortened.number_date shortened.index_date 5 (λ k l. one_number 3 k l)
+        (λ k i l. one_number (if nat_lt i index_bound then (if i == 0 then 4 else (if i == 1 then 6 else 3)) else 0) k l))
 
 second_end : past_last second_block index_bound ≡ 2
 second_end = end_is second_block 1 index_bound (omega (arith, index_far)) refl (λ i l. cond-false (i == 1) _ _ (ne_eqb i 1 (λ e. omega (arith, e))))
 
 pub reallocated_items : ReallocatedItems
+unfolding index_bound
 reallocated_items header =
     from_start v o out own
     ∙ opening_is header second_block reallocated.number_date reallocated.index_date (since 8) 1 second_end (walk_left v (record { object = 1; offset = 0 }) false)
@@ -194,7 +233,7 @@ reallocated_items header =
 
     ended : walk_left v (record { object = 1; offset = 1024 }) false ≡ []
     ended = ends_left v o out own 1024 (λ j l h. absurd (omega (arith, second_end)))
-        (since_left header second_block reallocated.number_date reallocated.index_date 8 (λ k l. one_number 10 k l) (λ k i l. one_number (if i == 1 then 11 else 10) k l))
+        (since_left header second_block reallocated.number_date reallocated.index_date 8 (λ k l. one_number 10 k l) (λ k i l. one_number (if nat_lt i index_bound then (if i == 1 then 11 else 10) else 0) k l))
 
 distant_hole : (i : ℕ) → (i ≡ 0 → ⊥) → (i ≡ 1073741825 → ⊥) → distant_blocks i ≡ Hole
 distant_hole i a b = cond-false (i == 0) _ _ (ne_eqb i 0 a) ∙ cond-false (i == 1073741825) _ _ (ne_eqb i 1073741825 b)
@@ -221,10 +260,10 @@ distant_items header =
     out = none_outside header distant_blocks distant.number_date distant.index_date (full no_pairs)
 
     own : v.shown 1 ≡ There o
-    own = full_own header distant_blocks distant.number_date distant.index_date
+    own = full_own header distant_blocks distant.number_date distant.index_date no_pairs
 
     block : (i : ℕ) → i < past_last distant_blocks index_bound → o.blocks i ≡ Some (distant_blocks i)
-    block = full_block header distant_blocks distant.number_date distant.index_date
+    block = full_block header distant_blocks distant.number_date distant.index_date no_pairs
 
     first : joined (walk_left v (record { object = 1; offset = 0 }) false) ≡ before (At 1 (Write 0 19 (padded 170))) (joined (walk_left v (record { object = 1; offset = 512 }) false))
     first = block_run_next v (record { object = 1; offset = 0 }) o 0 1 (Data (padded 170)) one_is own (omega arith) (omega arith) (omega (arith, distant_end)) (omega arith)
@@ -245,4 +284,4 @@ distant_items header =
         (λ j a l. subst (λ i. o.blocks i ≡ Some (Data (padded 187))) (only_last j a l) (block 1073741825 (omega (arith, distant_end)))) (λ b e. refl)
 
     ended : joined (walk_left v (record { object = 1; offset = 549755814912 }) false) ≡ rest_gone ∷ []
-    ended = ends_gone v o out own 549755814912 (λ j l h. absurd (omega (arith, distant_end))) (full_gone header distant_blocks distant.number_date distant.index_date)
+    ended = ends_gone v o out own 549755814912 (λ j l h. absurd (omega (arith, distant_end))) (full_gone header distant_blocks distant.number_date distant.index_date no_pairs)

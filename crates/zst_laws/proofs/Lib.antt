@@ -29,3 +29,6 @@ mod SoundSnapshots
 mod SoundSteps
 mod LawfulHeads
 mod LawfulPools
+mod StepExamples
+mod Refused
+mod RedactExamples

@@ -1,11 +1,11 @@
 -- Snapshots of one object, and the items of their views.
-use Rattle.std.specs.Prelude.{◌≡◌, ℕ, false, List, [], ◌∷◌, Some, None, replicate, if◌then◌else◌, ◌==◌}
+use Rattle.std.specs.Prelude.{◌≡◌, ℕ, false, List, [], ◌∷◌, Some, None, replicate, if◌then◌else◌, ◌==◌, nat_lt}
 use Rattle.zst_model.specs.declared.attr.Attr.{Attr}
 use Rattle.zst_model.specs.declared.header.Header.{Header}
 use Rattle.zst_model.specs.declared.item.Change.TheVariants.{Put, FreeFrom, Free, Write}
 use Rattle.zst_model.specs.declared.item.Item.{Item}
 use Rattle.zst_model.specs.declared.item.Item.TheVariants.{FreeObjects, At}
-use Rattle.zst_model.specs.State.{Block, Hole, Data, Object, State}
+use Rattle.zst_model.specs.State.{Block, Hole, Data, Object, State, index_bound}
 use Rattle.zst_model.specs.Dated.{DatedState}
 use Rattle.zst_model.specs.Included.{Choice, no_pairs}
 use Rattle.zst_model.specs.View.{view_of}
@@ -29,6 +29,10 @@ file_of blocks = record { attr = file; blocks = blocks }
 abbrev pub one_file : (ℕ → Block) → State
 one_file blocks k = if k == 1 then Some (file_of blocks) else None
 
+-- dates of the indices of the file alone, which stand below the bound
+abbrev pub file_dates : (ℕ → ℕ) → ℕ → ℕ → ℕ
+file_dates dates k i = if k == 1 then (if nat_lt i index_bound then dates i else 0) else 0
+
 -- its record OBJECT, with the greatest index that it states
 abbrev pub file_put : ℕ → Item
 file_put max_block = At 1 (Put (record { type_ = 19; bonus_type = 0; block_size = 512 }) [] false max_block)
@@ -46,7 +50,7 @@ abbrev pub small : DatedState
 small = record {
   state = one_file first_block;
   number_date = λ k. if k == 1 then 3 else 0;
-  index_date = λ k i. if k == 1 then (if i == 0 then 4 else 3) else 0;
+  index_date = file_dates (λ i. if i == 0 then 4 else 3);
 }
 
 -- its full stream, whole, and resumed in the file before and after its block
@@ -58,17 +62,18 @@ SmallItems =
     × (items view (record { object = 1; offset = 0 }) ≡ file_put 0 ∷ At 1 (FreeFrom 512) ∷ At 1 (Write 0 19 (padded 170)) ∷ rest_gone ∷ [])
     × (items view (record { object = 1; offset = 512 }) ≡ file_put 0 ∷ At 1 (FreeFrom 512) ∷ rest_gone ∷ [])
 
--- the points to which its items lead, one after another
+-- the points to which its items lead, one after another, and the point at which the rest of them was sent again from behind the block
 abbrev pub SmallPoints : Type 0
 SmallPoints =
     (point_of origin (file_put 0 ∷ []) ≡ record { object = 1; offset = 0 })
     × (point_of origin (file_put 0 ∷ At 1 (FreeFrom 512) ∷ []) ≡ record { object = 1; offset = 0 })
     × (point_of origin (file_put 0 ∷ At 1 (FreeFrom 512) ∷ At 1 (Write 0 19 (padded 170)) ∷ []) ≡ record { object = 1; offset = 512 })
     × (point_of origin (file_put 0 ∷ At 1 (FreeFrom 512) ∷ At 1 (Write 0 19 (padded 170)) ∷ rest_gone ∷ []) ≡ record { object = 281474976710656; offset = 0 })
+    × (point_of (record { object = 1; offset = 512 }) (file_put 0 ∷ At 1 (FreeFrom 512) ∷ []) ≡ record { object = 1; offset = 512 })
 
 -- the same after commit 6 wrote equal bytes into block 0
 abbrev pub rewritten : DatedState
-rewritten = record small { index_date = λ k i. if k == 1 then (if i == 0 then 6 else 3) else 0 }
+rewritten = record small { index_date = file_dates (λ i. if i == 0 then 6 else 3) }
 
 -- the increment from the snapshot with this number
 abbrev pub since : ℕ → Choice
@@ -80,6 +85,14 @@ RewrittenItems =
     (header : Header)
     → items (view_of header rewritten (since 5)) origin ≡ file_put 0 ∷ At 1 (FreeFrom 512) ∷ At 1 (Write 0 19 (padded 170)) ∷ []
 
+-- the file after commit 6 punched a block 1 that a snapshot with the number 5 had
+abbrev pub shortened : DatedState
+shortened = record small { index_date = file_dates (λ i. if i == 0 then 4 else (if i == 1 then 6 else 3)) }
+
+-- what was punched at or past the end is cleared by the FREE behind the end
+abbrev pub ShortenedItems : Type 0
+ShortenedItems = (header : Header) → items (view_of header shortened (since 5)) origin ≡ file_put 0 ∷ At 1 (FreeFrom 512) ∷ []
+
 -- data in block 1 alone
 abbrev pub second_block : ℕ → Block
 second_block i = if i == 1 then Data (padded 187) else Hole
@@ -89,7 +102,7 @@ abbrev pub reallocated : DatedState
 reallocated = record {
   state = one_file second_block;
   number_date = λ k. if k == 1 then 10 else 0;
-  index_date = λ k i. if k == 1 then (if i == 1 then 11 else 10) else 0;
+  index_date = file_dates (λ i. if i == 1 then 11 else 10);
 }
 
 -- the holes of an object that was made again are sent: block 0, and all behind the end
@@ -108,7 +121,7 @@ abbrev pub distant : DatedState
 distant = record {
   state = one_file distant_blocks;
   number_date = λ k. if k == 1 then 3 else 0;
-  index_date = λ k i. if k == 1 then (if i == 0 then 4 else (if i == 1073741825 then 5 else 3)) else 0;
+  index_date = file_dates (λ i. if i == 0 then 4 else (if i == 1073741825 then 5 else 3));
 }
 
 -- a hole of 2^30 blocks is one item

@@ -5,8 +5,11 @@ pub mod History
 pub mod Joining
 pub mod Places
 pub mod Ranges
+pub mod RedactExample
 pub mod Resuming
 pub mod Sending
 pub mod Sessions
+pub mod StepExample
+pub mod StepRefusals
 pub mod Stepping
 pub mod Walk

@@ -1,7 +1,7 @@
 //! The laws of sends and receives: what the definitions of zst_model give together.
 #![tactic(auto)]
 
-ghost use Rattle.zst_laws.specs.Example.{SmallItems, SmallPoints, RewrittenItems, ReallocatedItems, DistantItems};
+ghost use Rattle.zst_laws.specs.Example.{SmallItems, SmallPoints, RewrittenItems, ShortenedItems, ReallocatedItems, DistantItems};
 ghost use Rattle.zst_laws.specs.History.{AnyIsFullBase, BeforeIsBase, RedactedIsBase};
 ghost use Rattle.zst_laws.specs.Joining.{RunsAreMaximal, HeldGoesOn};
 ghost use Rattle.zst_laws.specs.Ranges.{NumbersAreCut, IndicesAreCut};
@@ -12,7 +12,10 @@ ghost use Rattle.zst_laws.specs.Walk.{WalkBegins, WalkEnds, ObjectIsNext, GoneIs
 mod commits;
 mod dates;
 mod points;
+mod redact_example;
 mod sessions;
+mod step_examples;
+mod step_refusals;
 mod stepping;
 
 pub use commits::{history_remembers, increment_is_exact};
@@ -21,7 +24,13 @@ pub use dates::{
     remembers_through,
 };
 pub use points::point_after;
+pub use redact_example::two_clones_list_one_block;
 pub use sessions::{cuts_are_exact, cuts_complete, full_cuts_are_exact, increment_cuts_are_exact};
+pub use step_examples::{rewritten_is_made, small_is_changed, small_is_made, small_is_put_again};
+pub use step_refusals::{
+    heads_are_refused, new_datasets_are_refused, numbers_are_refused, punches_are_refused,
+    reads_are_refused, snapshots_are_refused, writes_are_refused,
+};
 pub use stepping::{steps_keep_pools, steps_keep_sound};
 
 /// A lawful snapshot with a lawful choice has a lawful view.
@@ -152,6 +161,11 @@ pub fn small_has_its_points()
 /// A block that was written with equal bytes is sent.
 pub fn rewritten_block_is_sent()
     ensures { RewrittenItems }
+{}
+
+/// A file whose last block was punched is sent, with nothing but its new end.
+pub fn shortened_file_is_sent()
+    ensures { ShortenedItems }
 {}
 
 /// The holes of an object that was freed and made again are sent.

@@ -1,0 +1,5 @@
+use Rattle.zst_laws.proofs.StepExamples.{rewritten_step}
+use Rattle.zst_laws.proofs.step_examples.rewritten_is_made.Goals as goal
+
+pub returns : goal.returns
+returns c = rewritten_step
