@@ -35,6 +35,15 @@ impl GuidSet {
     {
         self.guids.as_slice()
     }
+
+    /// The same set, which takes no memory.
+    pub fn duplicate(&self) -> GuidSet
+        ensures { result ≡ self.now }
+    {
+        let mut guids = ArrayVec::new();
+        let _ = guids.try_extend_from_slice(self.guids.as_slice());
+        GuidSet { guids }
+    }
 }
 
 #[cfg(test)]

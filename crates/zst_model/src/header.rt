@@ -32,3 +32,25 @@ pub struct Header {
     /// The guids of the redaction snapshots of a source that is a redaction bookmark.
     pub from_redact: GuidSet,
 }
+
+impl Header {
+    ghost use Rattle.std.specs.Prelude.{◌≡◌};
+
+    /// The same header, which takes no memory.
+    pub fn duplicate(&self) -> Header
+        ensures { result ≡ self.now }
+    {
+        Header {
+            kind: self.kind,
+            flags: self.flags,
+            features: self.features,
+            time: self.time,
+            to: self.to,
+            from: self.from,
+            name: self.name.duplicate(),
+            resume: self.resume,
+            redact: self.redact.duplicate(),
+            from_redact: self.from_redact.duplicate(),
+        }
+    }
+}

@@ -35,6 +35,13 @@ impl NameText {
     {
         self.bytes.as_slice()
     }
+
+    /// The same name, which takes no memory.
+    pub fn duplicate(&self) -> NameText
+        ensures { result ≡ self.now }
+    {
+        NameText::new(self.as_bytes())
+    }
 }
 
 #[cfg(test)]
