@@ -1,30 +1,32 @@
 -- Which commands are refused, and with what.
-use Rattle.std.proofs.Common.{◌≡◌, ℕ, ◌+◌, ◌*◌, ◌-◌, ◌<◌, ◌≤◌, Bool, true, false, not, List, [], ◌∷◌, length, replicate, cond, count_by, Option, Some, None, is_some, Result, Ok, Err, refl, sym, ap, ◌∙◌, arith, subst, ◌==◌, nat_lt, ◌&&◌, ◌||◌, if◌then◌else◌, eq-eqb, ne_eqb, length-append, mul-le-mul_right}
+use Rattle.std.proofs.Common.{◌≡◌, ℕ, ◌+◌, ◌*◌, ◌-◌, ◌<◌, ◌≤◌, Bool, true, false, not, List, [], ◌∷◌, length, map, replicate, cond, count_by, Option, Some, None, is_some, Result, Ok, Err, refl, sym, ap, ◌∙◌, arith, subst, ◌==◌, nat_lt, ◌&&◌, ◌||◌, if◌then◌else◌, eq-eqb, ne_eqb, length-append, mul-le-mul_right}
 use Rattle.std.proofs.Math.Nat.{mul-mod_left}
 use Rattle.std.proofs.lemmas.Bool.{lt-ltb, le-ltb, or_from, and_from, and_left, not_from_true}
 use Rattle.std.proofs.lemmas.List.{length-replicate}
 use Rattle.std.proofs.lemmas.List.Sums.{count_by-le-length}
 use Rattle.zst_model.specs.declared.apply_fault.ApplyFault.TheVariants.{NoObject, SizeDiffers, Unaligned, OddBlock}
+use Rattle.zst_model.specs.declared.attr.ObjectHead.{ObjectHead}
 use Rattle.zst_model.specs.declared.command.Command.{Command}
 use Rattle.zst_model.specs.declared.command.Command.TheVariants as commands
 use Rattle.zst_model.specs.declared.faults.Quantity.{Quantity}
 use Rattle.zst_model.specs.declared.faults.Quantity.TheVariants as quantities
 use Rattle.zst_model.specs.declared.apply_fault.ApplyFault.{ApplyFault}
 use Rattle.zst_model.specs.declared.item.Change.{Change}
-use Rattle.zst_model.specs.declared.item.Change.TheVariants.{Free, Write}
+use Rattle.zst_model.specs.declared.item.Change.TheVariants.{Put, Spill, Free, Write}
 use Rattle.zst_model.specs.declared.named.Name.{Name}
 use Rattle.zst_model.specs.declared.item.Item.TheVariants.{FreeObjects, At}
 use Rattle.zst_model.specs.declared.named.Name.TheVariants as names
 use Rattle.zst_model.specs.declared.refusal.Refusal.{Refusal}
 use Rattle.zst_model.specs.declared.refusal.Refusal.TheVariants as refusals
-use Rattle.zst_model.specs.State.{State, Object, IsObjectOrNone, is_odd_size, number_bound, index_bound}
-use Rattle.zst_model.specs.Apply.{apply, apply_change, unless, is_unaligned, put_at, ◌>>=◌}
+use Rattle.zst_model.specs.State.{State, Object, IsObjectOrNone, is_odd_size, number_bound, index_bound, Hole, Data}
+use Rattle.zst_model.specs.Apply.{apply, apply_change, unless, is_unaligned, within, with_blocks, put_at, ◌>>=◌}
 use Rattle.zst_model.specs.Dated.{DatedState, size_at, apply_all_dated, touches_number, touches_index}
 use Rattle.zst_model.specs.Pool.{Pool, Dataset, Partial, dataset_named, snapshot_named, partial_of, is_before, inserted, snapshot_is_before}
 use Rattle.zst_model.specs.Step.{Stepped, stepped, no_such, exists_already, busy_partial, cannot_apply, or_else, of_applying, last_number, last_guid, most_datasets, most_snapshots, limited, in_numbers, in_indices, committed, with_head, count_datasets, new_dataset, with_dataset, on_dataset, on_head, applied, filled, written, punched, snapshot_of, state_named, answered, block_read}
 use Rattle.zst_model.specs.Lines.{object_lines}
-use Rattle.zst_laws.proofs.Runs.{aligned_from}
-use Rattle.zst_laws.specs.StepRefusals.{made_by, taken_by, dataset_before, IsUnused, HasFree, IsTakeable, DatasetIsThere, TargetIsThere, DatasetsAreFull, TargetsCount, DatasetHasNoNumber, DatasetIsAbsent, DatasetIsBusy, NumberIsFar, NumbersAreFar, FreeHasNoNumber, WriteWantsObject, WriteIsLong, WriteIsOdd, WriteIsFar, OddSizes, PunchWantsObject, PunchIsFar, SnapshotIsThere, SnapshotsAreFull, GuidsAreOver, SnapshotHasNoNumber, NameIsAbsent, ReadWantsObject, ReadIsRedacted, ReadIsFar}
+use Rattle.zst_model.specs.Items.{spill_change}
+use Rattle.zst_laws.proofs.Runs.{aligned_from, put_here}
+use Rattle.zst_laws.specs.StepRefusals.{made_by, taken_by, dataset_before, IsUnused, HasFree, IsTakeable, DatasetIsThere, TargetIsThere, DatasetsAreFull, TargetsCount, DatasetHasNoNumber, DatasetIsAbsent, DatasetIsBusy, NumberIsFar, NumbersAreFar, ObjectHasNoNumber, WriteHasNoNumber, PunchHasNoNumber, FreeHasNoNumber, WriteWantsObject, WriteIsLong, WriteIsOdd, WriteIsFar, OddSizes, PunchWantsObject, PunchIsFar, SnapshotIsThere, SnapshotsAreFull, GuidsAreOver, SnapshotHasNoNumber, NameIsAbsent, ReadWantsObject, ReadIsRedacted, ReadIsFar}
 
 -- a test that holds refuses, and one that fails goes on
 refused : {A E : Type 0} (t : Bool) (e : E) (r : Result A E) → t ≡ true → unless t e r ≡ Err e
@@ -212,6 +214,46 @@ beyond : (r : Result DatedState Refusal) (after : DatedState) (past : ℕ) → r
 unfolding index_bound
 beyond r after past h l = ap (λ r. r >>= λ after. in_indices past (Ok after)) h ∙ over quantities.Block 8796093022208 past (Ok after) l
 
+-- a range within the limit, after a change that is made
+inside : (r : Result DatedState Refusal) (after : DatedState) (past : ℕ) → r ≡ Ok after → past ≤ 8796093022208 → (r >>= λ after. in_indices past (Ok after)) ≡ Ok after
+unfolding index_bound
+inside r after past h l = ap (λ r. r >>= λ after. in_indices past (Ok after)) h ∙ within_limit quantities.Block 8796093022208 past (Ok after) l
+
+-- an object, with its spill or without one, is always put
+put_made : (head : ObjectHead) (bonus : List ℕ) (o : Option Object) → (object : Object) × (apply_change (Put head bonus false 0) o ≡ Ok (Some object))
+unfolding apply_change
+put_made head bonus None = (_, refl)
+put_made head bonus (Some old) = (_, refl)
+
+spill_made : (bytes : List ℕ) (object : Object) → (spilled : Object) × (apply_change (Spill bytes) (Some object) ≡ Ok (Some spilled))
+unfolding apply_change
+spill_made bytes object = (_, refl)
+
+module _ (pool : Pool) (k : ℕ) (head : ObjectHead) (bonus : List ℕ) (d : DatedState) where
+  abbrev the_put : Change
+  the_put = Put head bonus false 0
+
+  abbrev object_put : Object
+  object_put = (put_made head bonus (d.state k)).0
+
+  abbrev after_put : DatedState
+  after_put = dated_with pool k the_put d (put_at d.state k (Some object_put))
+
+  put_first : (bytes : List ℕ) → applied pool (At k the_put ∷ At k (Spill bytes) ∷ []) d ≡ applied pool (At k (Spill bytes) ∷ []) after_put
+  unfolding apply
+  put_first bytes =
+      ap (λ r. of_applying (((r >>= λ object. Ok (put_at d.state k object)) >>= λ state. Ok (dated_with pool k the_put d state)) >>= apply_all_dated (pool.number + 1) (At k (Spill bytes) ∷ [])))
+      (put_made head bonus (d.state k)).1
+
+  all_put : (spill : Option (List ℕ)) → (after : DatedState) × (applied pool (map (At k) (the_put ∷ spill_change spill)) d ≡ Ok after)
+  all_put None = (after_put, outcome_is pool k the_put d (Ok (Some object_put)) (put_made head bonus (d.state k)).1)
+  all_put (Some bytes) =
+      let spilled = spill_made bytes object_put in (
+        dated_with pool k (Spill bytes) after_put (put_at after_put.state k (Some spilled.0)),
+        put_first bytes
+            ∙ outcome_is pool k (Spill bytes) after_put (Ok (Some spilled.0)) (ap (apply_change (Spill bytes)) (put_here d.state k (Some object_put)) ∙ spilled.1),
+      )
+
 pub number_far : NumberIsFar
 unfolding stepped number_bound
 number_far pool name dataset k head bonus spill f l now =
@@ -221,6 +263,14 @@ pub numbers_far : NumbersAreFar
 unfolding stepped number_bound
 numbers_far pool name dataset first count f l now =
     head_refused pool name dataset f _ (refusals.Limit quantities.Object 281474976710656) (over quantities.Object 281474976710656 (first + count) _ l)
+
+pub object_number : ObjectHasNoNumber
+unfolding stepped number_bound
+object_number pool name dataset k head bonus spill f l e now =
+    let put = all_put pool k head bonus dataset.head spill in
+    head_made pool name dataset f (λ d. in_numbers (k + 1) (applied pool (map (At k) (Put head bonus false 0 ∷ spill_change spill)) d)) put.0
+    (within_limit quantities.Object 281474976710656 (k + 1) _ (omega arith) ∙ put.1)
+    ∙ no_number _ e
 
 pub free_number : FreeHasNoNumber
 unfolding stepped apply number_bound
@@ -256,6 +306,25 @@ module _ (pool : Pool) (name : List ℕ) (dataset : Dataset) (k i : ℕ) (bytes 
       head_refused pool name dataset free (written pool k i bytes) (refusals.Limit quantities.Block 8796093022208)
       (beyond _ _ (i + 1) (outcome_is pool k (block_write (dataset.head.state k)) dataset.head (Ok made) (ap write_result h ∙ e)) (omega arith))
 
+  write_last : (o made : Option Object) → dataset.head.state k ≡ o → write_result o ≡ Ok made → i < 8796093022208 → pool.number ≡ 9223372036854775808
+      → stepped now (commands.Write name k i bytes) pool ≡ Err (refusals.Limit quantities.Number 9223372036854775808)
+  unfolding stepped
+  write_last o made h e l n =
+      head_made pool name dataset free (written pool k i bytes) _
+      (inside _ _ (i + 1) (outcome_is pool k (block_write (dataset.head.state k)) dataset.head (Ok made) (ap write_result h ∙ e)) (omega arith))
+      ∙ no_number _ n
+
+-- a write that fits is made
+write_made : (i : ℕ) (bytes : List ℕ) (object : Object) → length bytes ≤ object.attr.block_size → is_odd_size object.attr.block_size ≡ false
+    → apply_change (Write (i * object.attr.block_size) 0 (filled object.attr.block_size bytes)) (Some object)
+    ≡ with_blocks object (λ j. if j * object.attr.block_size == i * object.attr.block_size then Data (filled object.attr.block_size bytes) else object.blocks j)
+unfolding apply_change
+write_made i bytes object l even =
+    let size = object.attr.block_size in
+    passed (not (length (filled size bytes) == size)) SizeDiffers _ (fits_filled size bytes l)
+    ∙ passed (is_unaligned size (i * size)) Unaligned _ (aligned_from size (i * size) (mul-mod_left i size))
+    ∙ passed (is_odd_size size && nat_lt 0 (i * size)) OddBlock _ (and_left (is_odd_size size) _ even)
+
 pub write_object : WriteWantsObject
 unfolding apply_change
 write_object pool name dataset k i bytes f h now = write_fails pool name dataset k i bytes f now None NoObject h refl
@@ -278,13 +347,10 @@ write_odd pool name dataset k i bytes object f h pos l odd some now =
     ∙ refused (is_odd_size size && nat_lt 0 (i * size)) OddBlock _ (and_from (is_odd_size size) _ odd (lt-ltb _ _ (omega arith))))
 
 pub write_far : WriteIsFar
-unfolding apply_change
-write_far pool name dataset k i bytes object f h l even far now =
-    let size = object.attr.block_size in
-    write_beyond pool name dataset k i bytes f now (Some object) _ h
-    (passed (not (length (filled size bytes) == size)) SizeDiffers _ (fits_filled size bytes l)
-    ∙ passed (is_unaligned size (i * size)) Unaligned _ (aligned_from size (i * size) (mul-mod_left i size))
-    ∙ passed (is_odd_size size && nat_lt 0 (i * size)) OddBlock _ (and_left (is_odd_size size) _ even)) far
+write_far pool name dataset k i bytes object f h l even far now = write_beyond pool name dataset k i bytes f now (Some object) _ h (write_made i bytes object l even) far
+
+pub write_number : WriteHasNoNumber
+write_number pool name dataset k i bytes object f h l even low e now = write_last pool name dataset k i bytes f now (Some object) _ h (write_made i bytes object l even) low e
 
 pub odd_sizes : OddSizes
 unfolding lib.Count.ones
@@ -311,17 +377,33 @@ module _ (pool : Pool) (name : List ℕ) (dataset : Dataset) (k first count : �
       head_refused pool name dataset free (punched pool k first count) (refusals.Limit quantities.Block 8796093022208)
       (beyond _ _ (first + count) (outcome_is pool k (block_free (dataset.head.state k)) dataset.head (Ok made) (ap punch_result h ∙ e)) l)
 
+  punch_last : (o made : Option Object) → dataset.head.state k ≡ o → punch_result o ≡ Ok made → first + count ≤ 8796093022208 → pool.number ≡ 9223372036854775808
+      → stepped now (commands.Punch name k first count) pool ≡ Err (refusals.Limit quantities.Number 9223372036854775808)
+  unfolding stepped
+  punch_last o made h e l n =
+      head_made pool name dataset free (punched pool k first count) _
+      (inside _ _ (first + count) (outcome_is pool k (block_free (dataset.head.state k)) dataset.head (Ok made) (ap punch_result h ∙ e)) l)
+      ∙ no_number _ n
+
+-- a punch is always made
+punch_made : (first count : ℕ) (object : Object)
+    → apply_change (Free (first * object.attr.block_size) (count * object.attr.block_size)) (Some object)
+    ≡ with_blocks object (λ i. if within (first * object.attr.block_size) (count * object.attr.block_size) (i * object.attr.block_size) then Hole else object.blocks i)
+unfolding apply_change
+punch_made first count object =
+    let size = object.attr.block_size in
+    passed (is_unaligned size (first * size) || is_unaligned size (count * size)) Unaligned _
+    (or_from _ _ (aligned_from size (first * size) (mul-mod_left first size)) (aligned_from size (count * size) (mul-mod_left count size)))
+
 pub punch_object : PunchWantsObject
 unfolding apply_change
 punch_object pool name dataset k first count f h now = punch_fails pool name dataset k first count f now None NoObject h refl
 
 pub punch_far : PunchIsFar
-unfolding apply_change
-punch_far pool name dataset k first count object f h far now =
-    let size = object.attr.block_size in
-    punch_beyond pool name dataset k first count f now (Some object) _ h
-    (passed (is_unaligned size (first * size) || is_unaligned size (count * size)) Unaligned _
-    (or_from _ _ (aligned_from size (first * size) (mul-mod_left first size)) (aligned_from size (count * size) (mul-mod_left count size)))) far
+punch_far pool name dataset k first count object f h far now = punch_beyond pool name dataset k first count f now (Some object) _ h (punch_made first count object) far
+
+pub punch_number : PunchHasNoNumber
+punch_number pool name dataset k first count object f h low e now = punch_last pool name dataset k first count f now (Some object) _ h (punch_made first count object) low e
 
 -- snapshots
 there_already : (pool : Pool) (name : List ℕ) (dataset : Dataset) (now : ℕ) → HasFree pool (dataset_before name) dataset → stepped now (commands.Snapshot name) pool ≡ to_snapshot now name pool dataset

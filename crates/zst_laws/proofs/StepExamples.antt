@@ -326,10 +326,15 @@ hole_read : (now made : ℕ) → let pool = after_snapshot made 8 freed in stepp
 unfolding stepped index_bound
 hole_read now made = refl
 
+last_read : (now made : ℕ) → let pool = after_snapshot made 8 freed in stepped now (commands.Read (names.Dataset (codes "tank/a")) 1 8796093022207) pool ≡ gives (codes "hole") pool
+unfolding stepped index_bound
+last_read now made = refl
+
 pub changed_reads : ChangedReads
 unfolding stepped
 changed_reads now made = (
   hole_read now made,
+  last_read now made,
   ap (answered pool) (lines_are fourth_block 4 freed.number_date freed.index_date fourth_end ∙ ap (λ line. line ∷ []) line_of_four),
   ap (answered pool) (lines_are first_block 1 small.number_date small.index_date first_end ∙ ap (λ line. line ∷ []) line_of_one),
 )

@@ -111,11 +111,12 @@ ChangedSteps =
     × (stepped now (commands.Punch (codes "tank/a") 1 0 1) (after_snapshot made 6 zeroed) ≡ gives (codes "ok 7") (after_snapshot made 7 punched_file))
     × (stepped now (commands.Free (codes "tank/a") 7 2) (after_snapshot made 7 punched_file) ≡ gives (codes "ok 8") (after_snapshot made 8 freed))
 
--- what is read of the head and of the snapshot afterwards: the head's block 0 is a hole, and its end counts the block of zeros
+-- what is read afterwards: the head's block 0 is a hole, as is its last index, and its end counts the block of zeros; the snapshot is as it was
 abbrev pub ChangedReads : Type 0
 ChangedReads =
     (now made : ℕ) → let pool = after_snapshot made 8 freed in
     (stepped now (commands.Read (names.Dataset (codes "tank/a")) 1 0) pool ≡ gives (codes "hole") pool)
+    × (stepped now (commands.Read (names.Dataset (codes "tank/a")) 1 8796093022207) pool ≡ gives (codes "hole") pool)
     × (stepped now (commands.ListObjects (names.Dataset (codes "tank/a"))) pool
     ≡ gives (codes "object 1 type 19 size 512 bonustype 0 bonus 0 spill none end 4") pool)
     × (stepped now (commands.ListObjects (names.Snapshot (codes "tank/a@s"))) pool

@@ -170,21 +170,43 @@ GuidsAreOver =
     → IsTakeable pool name dataset → length pool.snapshots + length pool.partials < 1024 → pool.guids ≡ 4294967295
     → Refuses pool (commands.Snapshot name) (refusals.Limit quantities.Guids 4294967295)
 
--- E23 of a snapshot: the pool's number is at most 2^63
+-- E23 of a snapshot, after all else: the pool's number is at most 2^63
 abbrev pub SnapshotHasNoNumber : Type 0
 SnapshotHasNoNumber =
     (pool : Pool) (name : List ℕ) (dataset : Dataset)
     → IsTakeable pool name dataset → length pool.snapshots + length pool.partials < 1024 → pool.guids < 4294967295 → pool.number ≡ 9223372036854775808
     → Refuses pool (commands.Snapshot name) (refusals.Limit quantities.Number 9223372036854775808)
 
--- E23 of a new dataset
+-- E23 of a new dataset, after all else
 abbrev pub DatasetHasNoNumber : Type 0
 DatasetHasNoNumber =
     (pool : Pool) (command : Command) (name : List ℕ)
     → made_by command ≡ Some name → IsUnused pool name → length pool.datasets + length pool.partials < 256 → pool.number ≡ 9223372036854775808
     → Refuses pool command (refusals.Limit quantities.Number 9223372036854775808)
 
--- E23 of numbers that are freed
+-- E23 of an object, after all else
+abbrev pub ObjectHasNoNumber : Type 0
+ObjectHasNoNumber =
+    (pool : Pool) (name : List ℕ) (dataset : Dataset) (k : ℕ) (head : ObjectHead) (bonus : List ℕ) (spill : Option (List ℕ))
+    → HasFree pool name dataset → k < 281474976710656 → pool.number ≡ 9223372036854775808
+    → Refuses pool (commands.Object name k head bonus spill) (refusals.Limit quantities.Number 9223372036854775808)
+
+-- E23 of a write, after all else
+abbrev pub WriteHasNoNumber : Type 0
+WriteHasNoNumber =
+    (pool : Pool) (name : List ℕ) (dataset : Dataset) (k i : ℕ) (bytes : List ℕ) (object : Object)
+    → HasFree pool name dataset → dataset.head.state k ≡ Some object → length bytes ≤ object.attr.block_size
+    → is_odd_size object.attr.block_size ≡ false → i < 8796093022208 → pool.number ≡ 9223372036854775808
+    → Refuses pool (commands.Write name k i bytes) (refusals.Limit quantities.Number 9223372036854775808)
+
+-- E23 of a punch, after all else
+abbrev pub PunchHasNoNumber : Type 0
+PunchHasNoNumber =
+    (pool : Pool) (name : List ℕ) (dataset : Dataset) (k first count : ℕ) (object : Object)
+    → HasFree pool name dataset → dataset.head.state k ≡ Some object → first + count ≤ 8796093022208 → pool.number ≡ 9223372036854775808
+    → Refuses pool (commands.Punch name k first count) (refusals.Limit quantities.Number 9223372036854775808)
+
+-- E23 of numbers that are freed, after all else
 abbrev pub FreeHasNoNumber : Type 0
 FreeHasNoNumber =
     (pool : Pool) (name : List ℕ) (dataset : Dataset) (first count : ℕ)

@@ -1,6 +1,6 @@
 ghost use Rattle.zst_laws.specs.StepRefusals.{DatasetIsThere, TargetIsThere, DatasetsAreFull, TargetsCount, DatasetHasNoNumber};
-ghost use Rattle.zst_laws.specs.StepRefusals.{DatasetIsAbsent, DatasetIsBusy, NumberIsFar, NumbersAreFar, FreeHasNoNumber};
-ghost use Rattle.zst_laws.specs.StepRefusals.{WriteWantsObject, WriteIsLong, WriteIsOdd, WriteIsFar, OddSizes, PunchWantsObject, PunchIsFar};
+ghost use Rattle.zst_laws.specs.StepRefusals.{DatasetIsAbsent, DatasetIsBusy, NumberIsFar, NumbersAreFar, ObjectHasNoNumber, FreeHasNoNumber};
+ghost use Rattle.zst_laws.specs.StepRefusals.{WriteWantsObject, WriteIsLong, WriteIsOdd, WriteIsFar, WriteHasNoNumber, OddSizes, PunchWantsObject, PunchIsFar, PunchHasNoNumber};
 ghost use Rattle.zst_laws.specs.StepRefusals.{SnapshotIsThere, SnapshotsAreFull, GuidsAreOver, SnapshotHasNoNumber};
 ghost use Rattle.zst_laws.specs.StepRefusals.{NameIsAbsent, ReadWantsObject, ReadIsRedacted, ReadIsFar};
 
@@ -19,26 +19,29 @@ pub fn heads_are_refused()
     ensures busy { DatasetIsBusy }
 {}
 
-/// Objects are made and freed below 2^48 alone, and not at the last number.
+/// Objects are made and freed below 2^48 alone, and then not at the last number.
 pub fn numbers_are_refused()
     ensures object { NumberIsFar }
     ensures free { NumbersAreFar }
-    ensures number { FreeHasNoNumber }
+    ensures object_number { ObjectHasNoNumber }
+    ensures free_number { FreeHasNoNumber }
 {}
 
-/// A write is refused for want of an object, then for its length, then for an odd size, and then past index 2^43 - 1.
+/// A write is refused for want of an object, for its length, for an odd size, past index 2^43 - 1, and at the last number, in this order.
 pub fn writes_are_refused()
     ensures object { WriteWantsObject }
     ensures long { WriteIsLong }
     ensures odd { WriteIsOdd }
     ensures far { WriteIsFar }
+    ensures number { WriteHasNoNumber }
     ensures sizes { OddSizes }
 {}
 
-/// A punch is refused for want of an object, and then where it ends past index 2^43.
+/// A punch is refused for want of an object, where it ends past index 2^43, and at the last number, in this order.
 pub fn punches_are_refused()
     ensures object { PunchWantsObject }
     ensures far { PunchIsFar }
+    ensures number { PunchHasNoNumber }
 {}
 
 /// A snapshot is refused where it is there, at the limit of snapshots, at the last guid, and at the last number, in this order.

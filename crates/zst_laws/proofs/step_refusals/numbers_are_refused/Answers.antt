@@ -1,5 +1,5 @@
-use Rattle.zst_laws.proofs.Refused.{number_far, numbers_far, free_number}
+use Rattle.zst_laws.proofs.Refused.{number_far, numbers_far, object_number, free_number}
 use Rattle.zst_laws.proofs.step_refusals.numbers_are_refused.Goals as goal
 
 pub returns : goal.returns
-returns c = record { object = number_far; free = numbers_far; number = free_number }
+returns c = record { object = number_far; free = numbers_far; object_number = object_number; free_number = free_number }
