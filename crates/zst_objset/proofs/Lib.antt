@@ -1,0 +1,10 @@
+pub mod Applied
+mod Behind
+pub mod Ends
+pub mod Finding
+pub mod Made
+pub mod MadeObjects
+pub mod MadeSpills
+pub mod Ranges
+mod Runs
+mod Spelled

@@ -1,0 +1,15 @@
+use Rattle.std.proofs.Common.{ap, subst, sym, ◌∙◌}
+use Rattle.std.proofs.lemmas.Result.{on_ok_weaker}
+use Rattle.zst_block.specs.Blocks.{Has}
+use Rattle.zst_objset.specs.Meaning.{SetIs}
+use Rattle.zst_objset.proofs.Made.{punch_made, with_index_row}
+use Rattle.zst_objset.proofs.flat.Flat.punch.Goals as goal
+
+pub returns-clause-made : goal.returns-clause-made
+returns-clause-made c =
+    on_ok_weaker c.put_indices.result
+    (λ done image space snap after s h.
+    subst (λ lists. SetIs (Has image space) lists after)
+    (sym (done ∙ ap (with_index_row c.args.self.now c.args.object c.args.first c.args.count) c.hole.ensures))
+    (punch_made c.applied_is_state.ensures (Has image space) c.args.self.now c.args.object c.args.first c.args.count c.args.number snap after c.requires.past s h))
+    c.put_indices.ensures.done

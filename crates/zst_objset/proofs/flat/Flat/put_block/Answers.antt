@@ -1,0 +1,14 @@
+use Rattle.std.proofs.Common.{subst, sym}
+use Rattle.std.proofs.lemmas.Result.{on_ok_weaker}
+use Rattle.zst_block.specs.Blocks.{Has}
+use Rattle.zst_objset.specs.Meaning.{SetIs}
+use Rattle.zst_objset.proofs.Made.{block_made}
+use Rattle.zst_objset.proofs.flat.Flat.put_block.Goals as goal
+
+pub returns-clause-made : goal.returns-clause-made
+returns-clause-made c =
+    on_ok_weaker c.put_indices.result
+    (λ done image space type bytes snap after is s h.
+    subst (λ lists. SetIs (Has image space) lists after) (sym done)
+    (block_made c.applied_is_state.ensures (Has image space) c.args.self.now c.args.object c.args.index type bytes c.args.block snap after c.requires.index c.requires.kind is s h))
+    c.put_indices.ensures.done

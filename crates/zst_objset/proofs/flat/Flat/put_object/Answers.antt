@@ -1,0 +1,69 @@
+use Rattle.std.proofs.Common.{ap, subst, sym, ◌∙◌, arith, rules}
+use Rattle.std.proofs.lemmas.Result.{on_ok_weaker}
+use Rattle.zst_block.specs.Blocks.{Has}
+use Rattle.zst_block.specs.declared.ptr.Ptr.{Ptr}
+use Rattle.zst_objset.specs.Meaning.{SetIs}
+use Rattle.zst_objset.specs.Rows.{with_numbers, with_indices}
+use Rattle.zst_objset.proofs.MadeObjects.{object_made, object_made_anew, with_object, with_object_anew, object_row_of, stored_with}
+use Rattle.zst_objset.proofs.flat.Flat.put_object.Goals as goal
+
+pub put_numbers-requires : goal.put_numbers-requires
+put_numbers-requires c = record {
+  first = c.requires.first;
+  count = omega arith;
+  past = omega (arith, c.requires.bound);
+  date = search rules;
+  one = search rules;
+  stored = record {
+    type_fits = search rules;
+    bonus_type_fits = search rules;
+    size = c.requires.size;
+    bonus = c.requires.bonus;
+    bonus_bytes = rw (← c.as_slice.ensures) c.are_bytes.ensures;
+    spill = c.kept_spill-spill.ensures.fits;
+    spill_kind = c.kept_spill-spill.ensures.kind;
+  };
+}
+
+pub put_rows-requires-clause-numbers : goal.put_rows-requires-clause-numbers
+put_rows-requires-clause-numbers c = record {
+  first = c.requires.first;
+  count = omega arith;
+  past = omega (arith, c.requires.bound);
+  date = search rules;
+  one = search rules;
+  stored = record {
+    type_fits = search rules;
+    bonus_type_fits = search rules;
+    size = c.requires.size;
+    bonus = c.requires.bonus;
+    bonus_bytes = rw (← c.as_slice.ensures) c.are_bytes.ensures;
+    spill = c.kept_spill-spill.ensures.fits;
+    spill_kind = c.kept_spill-spill.ensures.kind;
+  };
+}
+
+pub returns-then-keeps_blocks-clause-made : goal.returns-then-keeps_blocks-clause-made
+returns-then-keeps_blocks-clause-made c =
+    let stored = stored_with c.args.head c.args.bonus in
+    on_ok_weaker c.put_numbers.result
+    (λ done max_block image space snap after s h.
+    subst (λ lists. SetIs (Has image space) lists after)
+    (sym (done ∙ ap (λ spill. with_object c.args.self.now c.args.object c.args.number (stored spill)) c.kept_spill-spill.ensures.kept))
+    (object_made c.applied_is_state.ensures (Has image space) c.args.self.now c.args.object c.args.number max_block c.args.head c.args.bonus c.args.keep_spill snap after
+    c.requires.first c.requires.bound c.requires.size (sym c.has_size-keeps_blocks.ensures ∙ c.if-keeps_blocks.true) s h))
+    c.put_numbers.ensures.done
+
+pub returns-else-keeps_blocks-clause-made : goal.returns-else-keeps_blocks-clause-made
+returns-else-keeps_blocks-clause-made c =
+    let stored = stored_with c.args.head c.args.bonus in
+    let numbers = λ (spill : Ptr). with_numbers (object_row_of c.args.object c.args.number (stored spill)) c.args.self.now.objects in
+    on_ok_weaker c.put_rows.result
+    (λ done max_block image space snap after s h.
+    subst (λ lists. SetIs (Has image space) lists after)
+    (sym (done
+    ∙ ap (λ row. record { objects = numbers c.kept_spill-spill.result; indices = with_indices row c.args.self.now.indices }) c.all_holes.ensures.row
+    ∙ ap (λ spill. with_object_anew c.args.self.now c.args.object c.args.number (stored spill)) c.kept_spill-spill.ensures.kept))
+    (object_made_anew c.applied_is_state.ensures (Has image space) c.args.self.now c.args.object c.args.number max_block c.args.head c.args.bonus c.args.keep_spill snap after
+    c.put_rows.ensures.ranges c.requires.first c.requires.bound c.requires.size (sym c.has_size-keeps_blocks.ensures ∙ c.if-keeps_blocks.false) s h))
+    c.put_rows.ensures.done
