@@ -39,6 +39,15 @@ impl<'d, D: Disk> Io<'d, D> {
             failed: false,
         })
     }
+
+    /// Gives the disk back.
+    pub fn into_disk(self) -> &'d mut D
+        ensures same { result.ghost_name ≡ self.entry.disk.ghost_name }
+        ensures disk { result.now ≡ self.entry.disk.now }
+    {
+        let Io { disk, .. } = self;
+        disk
+    }
 }
 
 /// Reads the block that a pointer names.
