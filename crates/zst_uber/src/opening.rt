@@ -28,6 +28,8 @@ pub fn latest<D: Disk>(disk: &mut D) -> Result<Uber, UberFault>
     ensures there { (uber : Uber) → IsTrue D.tells_reads → IsLatest (D.state disk.old).size uber (D.state disk.old).seen → GivesUber uber result }
     ensures next { IsTrue D.tells_reads → TellsNext result (latest_of (D.state disk.old).seen) }
 
+    ensures in_range { IfOk result (λ uber. InRange (D.state disk.new).size uber) }
+
     // Then nothing is pending.
     ensures settled { ¬ (result ≡ Err UberFault.DiskFault) → IsSynced (D.state disk.new) }
     ensures head { ¬ (result ≡ Err UberFault.DiskFault) → HeadSettled (D.state disk.new) }
