@@ -1,0 +1,14 @@
+use Rattle.std.proofs.Common.{rules, tests, ◌≡◌, ◌∙◌, Bool}
+use Rattle.std.specs.Str.{bytes_eq}
+use Rattle.std.proofs.lemmas.Iterator.{YieldsList-from_slice}
+use Rattle.std.proofs.lemmas.Iterator.Consumers.{count_from_yields_List}
+use Rattle.std.proofs.lemmas.Iterator.Search.{YieldsList-from_take_while}
+use Rattle.std.proofs.lemmas.List.Folds.{length-prefix_len}
+use Rattle.zst_dir.proofs.SnapshotRuns.{is_of}
+use Rattle.zst_dir.proofs.encoding.count_in_front.Goals as goal
+
+pub returns : goal.returns
+returns c =
+    count_from_yields_List c.take_while.result _ c.count.ensures.ran
+    (YieldsList-from_take_while _ (is_of c.args.dataset.now) (YieldsList-from_slice c.args.snapshots.now (cc)) c.take_while.ensures.closure c.take_while.ensures.done (λ x b q k. search (rules, tests)))
+    ∙ length-prefix_len (is_of c.args.dataset.now) c.args.snapshots.now

@@ -1,0 +1,7 @@
+use Rattle.zst_dir.specs.Reading.{IsSnapshotOf}
+use Rattle.zst_dir.specs.Spelling.{snapshot_bytes}
+use Rattle.zst_dir.proofs.Loops.{Reading}
+use Rattle.zst_dir.proofs.lists.read_snapshots.Given as goal
+
+abbrev pub invariant-loop : goal.invariant-loop
+invariant-loop l = Reading snapshot_bytes (IsSnapshotOf l.dataset) l.fn.cursor l.fn.snapshots.items l.count l.counter l.snapshots.items l.cursor

@@ -1,0 +1,212 @@
+ghost use Rattle.std.specs.Prelude.{◌≡◌, true, false, AllPairs, ◌≢◌, ◌++◌, ◌∷◌, ◌==◌, position, bytes_eq, filter, not, All, IfOk, IfSome, OnOk, OnErr};
+ghost use Rattle.std.specs.List.{position_or_len};
+ghost use Rattle.zst_model.specs.Pool.{is_before, inserted};
+ghost use Rattle.zst_names.specs.Names.{dataset_of};
+ghost use Rattle.zst_tree.specs.Sets.{SetFits};
+ghost use Rattle.zst_dir.specs.Rows.{Rows, no_rows, snapshot_is_before, HasDataset, HasSnapshot, IsDatasetRow, IsSnapshotRow, IsLawful, with_head};
+ghost use Rattle.zst_dir.specs.declared.rows.Dataset.{Dataset};
+ghost use Rattle.zst_dir.specs.declared.rows.Snapshot.{Snapshot};
+
+use crate::rows::{Bookmark, Dataset, Partial, Snapshot};
+use std::alloc::{AllocError, Global};
+use std::marker::Model;
+use zst_names::{BookName, DatasetName, SnapName};
+use zst_tree::ObjSet;
+
+/// The directory of a pool: datasets, bookmarks and partial states by name, and snapshots by
+/// dataset, then by number. It is always lawful: its rows stand in order, names differ, and what
+/// they name is there.
+#[derive(Drop)]
+pub struct Dir {
+    pub(crate) datasets: Vec<Dataset>,
+    pub(crate) snapshots: Vec<Snapshot>,
+    pub(crate) bookmarks: Vec<Bookmark>,
+    pub(crate) partials: Vec<Partial>,
+}
+
+impl Model for Dir {
+    ghost use Rattle.zst_dir.specs.Rows.{Rows, IsLawful};
+
+    ghost Value = { Rows };
+
+    ghost view = { λ d. record { datasets = d.datasets.items; snapshots = d.snapshots.items; bookmarks = d.bookmarks.items; partials = d.partials.items } };
+
+    ghost invariant = { λ d. IsLawful (record { datasets = d.datasets.items; snapshots = d.snapshots.items; bookmarks = d.bookmarks.items; partials = d.partials.items }) };
+}
+
+impl Dir {
+    /// A directory without rows.
+    pub fn new(alloc: Global) -> Dir
+        ensures { result ≡ no_rows }
+    {
+        Dir {
+            datasets: Vec::new(alloc),
+            snapshots: Vec::new(alloc),
+            bookmarks: Vec::new(alloc),
+            partials: Vec::new(alloc),
+        }
+    }
+
+    /// The datasets, by name.
+    pub fn datasets(&self) -> &[Dataset]
+        ensures same { result.now ≡ self.now.datasets }
+        ensures lawful { IsLawful self.now }
+    {
+        self.datasets.as_slice()
+    }
+
+    /// The snapshots, by dataset, then by number.
+    pub fn snapshots(&self) -> &[Snapshot]
+        ensures { result.now ≡ self.now.snapshots }
+    {
+        self.snapshots.as_slice()
+    }
+
+    /// The bookmarks, by name.
+    pub fn bookmarks(&self) -> &[Bookmark]
+        ensures { result.now ≡ self.now.bookmarks }
+    {
+        self.bookmarks.as_slice()
+    }
+
+    /// The partial states, by target.
+    pub fn partials(&self) -> &[Partial]
+        ensures { result.now ≡ self.now.partials }
+    {
+        self.partials.as_slice()
+    }
+
+    /// The place of the dataset of this name.
+    pub fn dataset(&self, name: &DatasetName) -> Option<usize>
+        ensures { result ≡ position (λ dataset. bytes_eq dataset.name name.now) self.now.datasets }
+    {
+        self.datasets
+            .iter()
+            .position(|dataset| dataset.name == *name)
+    }
+
+    /// The place of the snapshot of this name.
+    pub fn snapshot(&self, name: &SnapName) -> Option<usize>
+        ensures { result ≡ position (λ snapshot. bytes_eq snapshot.name name.now) self.now.snapshots }
+    {
+        self.snapshots
+            .iter()
+            .position(|snapshot| snapshot.name == *name)
+    }
+
+    /// The place of the bookmark of this name.
+    pub fn bookmark(&self, name: &BookName) -> Option<usize>
+        ensures { result ≡ position (λ bookmark. bytes_eq bookmark.name name.now) self.now.bookmarks }
+    {
+        self.bookmarks
+            .iter()
+            .position(|bookmark| bookmark.name == *name)
+    }
+
+    /// The place of the partial state of this target.
+    pub fn partial(&self, name: &DatasetName) -> Option<usize>
+        ensures { result ≡ position (λ partial. bytes_eq partial.target name.now) self.now.partials }
+    {
+        self.partials
+            .iter()
+            .position(|partial| partial.target == *name)
+    }
+
+    /// The place of the first snapshot with this guid.
+    pub fn by_guid(&self, guid: u64) -> Option<usize>
+        ensures { result ≡ position (λ snapshot. snapshot.guid == guid) self.now.snapshots }
+    {
+        self.snapshots
+            .iter()
+            .position(|snapshot| snapshot.guid == guid)
+    }
+
+    /// Adds a dataset at its place. Without memory nothing is added.
+    pub fn add_dataset(&mut self, dataset: Dataset) -> Result<(), AllocError>
+        requires row { IsDatasetRow dataset }
+        requires new { HasDataset self.old dataset.name → ⊥ }
+        requires origin { IfSome dataset.origin (HasSnapshot self.old) }
+        ensures added { OnOk result (self.new ≡ record self.old { datasets = inserted (λ a b. is_before a.name b.name) dataset self.old.datasets }) }
+        ensures same { OnErr result (self.new ≡ self.old) }
+    {
+        let place = place_of_dataset(self.datasets.as_slice(), &dataset.name);
+        self.datasets.insert(place, dataset)?;
+        Ok(())
+    }
+
+    /// Leaves out the partial state of this target, where there is one.
+    pub fn drop_partial(&mut self, name: &DatasetName)
+        ensures { self.new ≡ record self.old { partials = filter (λ partial. not (bytes_eq partial.target name.now)) self.old.partials } }
+    {
+        self.partials.retain(|partial| partial.target != *name);
+    }
+
+    /// Gives the dataset of this name another head.
+    pub fn set_head(&mut self, name: &DatasetName, head: ObjSet)
+        requires { SetFits head }
+        ensures { self.new ≡ record self.old { datasets = with_head name.now head self.old.datasets } }
+    {
+        set_head(self.datasets.as_mut_slice(), name, head);
+    }
+
+    /// Adds a snapshot at its place. Without memory nothing is added.
+    pub fn add_snapshot(&mut self, snapshot: Snapshot) -> Result<(), AllocError>
+        requires row { IsSnapshotRow snapshot }
+        requires new { HasSnapshot self.old snapshot.name → ⊥ }
+        requires dataset { HasDataset self.old (dataset_of 64 snapshot.name) }
+        requires component { All (λ partial. partial.target ++ 64 ∷ partial.snapshot ≢ snapshot.name) self.old.partials }
+        ensures added { OnOk result (self.new ≡ record self.old { snapshots = inserted snapshot_is_before snapshot self.old.snapshots }) }
+        ensures same { OnErr result (self.new ≡ self.old) }
+    {
+        let place = place_of_snapshot(self.snapshots.as_slice(), &snapshot);
+        self.snapshots.insert(place, snapshot)?;
+        Ok(())
+    }
+
+    /// The same directory.
+    pub fn copy(&self, alloc: Global) -> Result<Dir, AllocError>
+        ensures { IfOk result (λ dir. dir ≡ self.now) }
+    {
+        Ok(Dir {
+            datasets: self.datasets.iter().map(Dataset::duplicate).collect(alloc)?,
+            snapshots: self
+                .snapshots
+                .iter()
+                .map(Snapshot::duplicate)
+                .collect(alloc)?,
+            bookmarks: self
+                .bookmarks
+                .iter()
+                .map(Bookmark::duplicate)
+                .collect(alloc)?,
+            partials: self.partials.iter().map(Partial::duplicate).collect(alloc)?,
+        })
+    }
+}
+
+// The place of the first dataset that one of this name stands before, or the end.
+fn place_of_dataset(datasets: &[Dataset], name: &DatasetName) -> usize
+    requires { AllPairs (λ a b. is_before a.name b.name ≡ true) datasets.now }
+    ensures { result ≡ position_or_len (λ other. is_before name.now other.name) datasets.now }
+{
+    datasets.partition_point(|other| other.name <= *name)
+}
+
+// The place of the first snapshot that this one stands before, or the end.
+fn place_of_snapshot(snapshots: &[Snapshot], snapshot: &Snapshot) -> usize
+    requires { AllPairs (λ a b. snapshot_is_before b a ≡ false) snapshots.now }
+    ensures { result ≡ position_or_len (snapshot_is_before snapshot.now) snapshots.now }
+{
+    snapshots.partition_point(|other| !snapshot.is_before(other))
+}
+
+// Gives the dataset of this name another head.
+fn set_head(datasets: &mut [Dataset], name: &DatasetName, head: ObjSet)
+    ensures { datasets.new ≡ with_head name.now head datasets.old }
+{
+    for dataset in datasets.iter_mut() {
+        if dataset.name == *name {
+            dataset.head = head;
+        }
+    }
+}

@@ -1,0 +1,169 @@
+//! The fields of the rows of a directory, read from the bytes in front.
+ghost use Rattle.std.specs.Prelude.{◌≡◌, ◌<◌, ◌≤◌, ◌^◌, ◌++◌, ℕ, Bool, List, Some, IfSome, All, length};
+ghost use Rattle.std.specs.Option.{option_copied};
+ghost use Rattle.zst_bytes.specs.Words.{word, text_bytes, words_bytes};
+ghost use Rattle.zst_model.specs.Guids.{IsGuidSet};
+ghost use Rattle.zst_model.specs.Pool.{IsKind};
+ghost use Rattle.zst_names.specs.Names.{IsDataset, IsSnapshot, IsBookmark, IsComponent, dataset_of, component_of};
+ghost use Rattle.zst_dir.specs.Reading.{ReadsBack, IsPlain, AreGuids};
+ghost use Rattle.zst_dir.specs.Spelling.{flag, name_bytes};
+
+use std::str;
+use zst_bytes::Cursor;
+use zst_model::{GuidSet, NameText};
+use zst_names::{BookName, DatasetName, SnapName, check_component};
+
+/// A number of 32 bits.
+pub(crate) fn read_u32(cursor: &mut Cursor<'_>) -> Option<u32>
+    ensures fits { IfSome result (λ n. n < 2 ^ 32) }
+    ensures exact { ReadsBack word (λ n. n < 2 ^ 32) cursor.old cursor.new result }
+{
+    u32::try_from(cursor.word()?).ok()
+}
+
+/// The kind of a dataset.
+pub(crate) fn read_kind(cursor: &mut Cursor<'_>) -> Option<u32>
+    ensures kind { IfSome result IsKind }
+    ensures exact { ReadsBack word IsKind cursor.old cursor.new result }
+{
+    match cursor.word()? {
+        2 => Some(2),
+        3 => Some(3),
+        _ => None,
+    }
+}
+
+/// A yes or no.
+pub(crate) fn read_flag(cursor: &mut Cursor<'_>) -> Option<bool>
+    ensures exact { (yes : Bool) (rest : List ℕ) → cursor.old ≡ word (flag yes) ++ rest → (result ≡ Some yes) × (cursor.new ≡ rest) }
+{
+    match cursor.word()? {
+        0 => Some(false),
+        1 => Some(true),
+        _ => None,
+    }
+}
+
+/// A text of ASCII, or of UTF-8.
+fn read_str<'a>(cursor: &mut Cursor<'a>) -> Option<&'a str>
+    ensures exact { (text rest : List ℕ) → IsPlain text → cursor.old ≡ text_bytes text ++ rest → (option_copied result ≡ Some text) × (cursor.new ≡ rest) }
+{
+    str::from_utf8(cursor.text()?).ok()
+}
+
+/// The name of a dataset.
+#[tactic(auto, using(crate::proofs::Texts::plain_dataset))]
+pub(crate) fn read_dataset_name(cursor: &mut Cursor<'_>) -> Option<DatasetName>
+    ensures name { IfSome result IsDataset }
+    ensures exact { ReadsBack text_bytes IsDataset cursor.old cursor.new result }
+{
+    DatasetName::parse(read_str(cursor)?).ok()
+}
+
+/// The name of a bookmark.
+#[tactic(auto, using(crate::proofs::Texts::plain_bookmark))]
+pub(crate) fn read_book_name(cursor: &mut Cursor<'_>) -> Option<BookName>
+    ensures name { IfSome result IsBookmark }
+    ensures exact { ReadsBack text_bytes IsBookmark cursor.old cursor.new result }
+{
+    BookName::parse(read_str(cursor)?).ok()
+}
+
+/// The name of a snapshot, or an empty text where there is none.
+#[tactic(auto, using(crate::proofs::Texts::plain_snapshot))]
+pub(crate) fn read_snap_name(cursor: &mut Cursor<'_>) -> Option<Option<SnapName>>
+    ensures name { IfSome result (λ name. IfSome name IsSnapshot) }
+    ensures exact { ReadsBack name_bytes (λ name. IfSome name IsSnapshot) cursor.old cursor.new result }
+{
+    let text = read_str(cursor)?;
+    if text.is_empty() {
+        return Some(None);
+    }
+    Some(Some(SnapName::parse(text).ok()?))
+}
+
+/// The name of a snapshot of this dataset, of which only the component stands there.
+#[tactic(auto, using(crate::proofs::Texts::plain_component, crate::proofs::Texts::snapshot_of_parts))]
+pub(crate) fn read_component(
+    cursor: &mut Cursor<'_>,
+    dataset: &DatasetName,
+) -> Option<SnapName>
+    ensures name { IfSome result IsSnapshot }
+    ensures dataset { IfSome result (λ name. dataset_of 64 name ≡ dataset.now) }
+    ensures exact { ReadsBack (λ name. text_bytes (component_of 64 name)) (λ name. IsSnapshot name × (dataset_of 64 name ≡ dataset.now)) cursor.old cursor.new result }
+{
+    let component = read_str(cursor)?;
+    check_component(component.as_bytes()).ok()?;
+    Some(SnapName::of(dataset, component))
+}
+
+// The name of these bytes.
+fn name_of(bytes: &[u8]) -> NameText
+    requires { length bytes.now ≤ 255 }
+    ensures same { result ≡ bytes.now }
+    ensures bytes { All (λ byte. byte < 2 ^ 8) result }
+{
+    NameText::new(bytes)
+}
+
+/// A name of at most 255 bytes of any value.
+pub(crate) fn read_name_text(cursor: &mut Cursor<'_>) -> Option<NameText>
+    ensures short { IfSome result (λ name. length name ≤ 255) }
+    ensures bytes { IfSome result (All (λ byte. byte < 2 ^ 8)) }
+    ensures exact { ReadsBack text_bytes (λ name. length name ≤ 255) cursor.old cursor.new result }
+{
+    let bytes = cursor.text()?;
+    if bytes.len() > 255 {
+        return None;
+    }
+    Some(name_of(bytes))
+}
+
+/// The component of a snapshot's name, without its dataset.
+pub(crate) fn read_name_component(cursor: &mut Cursor<'_>) -> Option<NameText>
+    ensures component { IfSome result IsComponent }
+    ensures exact { ReadsBack text_bytes IsComponent cursor.old cursor.new result }
+{
+    let bytes = cursor.text()?;
+    check_component(bytes).ok()?;
+    Some(NameText::new(bytes))
+}
+
+/// A set of guids.
+pub(crate) fn read_guids(cursor: &mut Cursor<'_>) -> Option<GuidSet>
+    ensures guids { IfSome result AreGuids }
+    ensures exact { ReadsBack words_bytes AreGuids cursor.old cursor.new result }
+{
+    let count = cursor.word()?;
+    let mut guids = GuidSet::empty();
+    for _ in 0..count {
+        let guid = cursor.word()?;
+        if !guids.insert_last(guid) {
+            return None;
+        }
+    }
+    Some(guids)
+}
+
+/// The levels of a tree, at most 7.
+pub(crate) fn read_levels(cursor: &mut Cursor<'_>) -> Option<u8>
+    ensures few { IfSome result (λ levels. levels ≤ 7) }
+    ensures exact { ReadsBack word (λ levels. levels ≤ 7) cursor.old cursor.new result }
+{
+    let levels = cursor.word()?;
+    if levels > 7 {
+        return None;
+    }
+    Some(levels as u8)
+}
+
+/// Three numbers.
+pub(crate) fn read_three(cursor: &mut Cursor<'_>) -> Option<(u64, u64, u64)>
+    ensures fit { IfSome result (λ n. (n.0 < 2 ^ 64) × (n.1 < 2 ^ 64) × (n.2 < 2 ^ 64)) }
+    ensures exact { (a b c : ℕ) (rest : List ℕ) → a < 2 ^ 64 → b < 2 ^ 64 → c < 2 ^ 64 → cursor.old ≡ word a ++ (word b ++ (word c ++ rest)) → (result ≡ Some (a, b, c)) × (cursor.new ≡ rest) }
+{
+    let first = cursor.word()?;
+    let second = cursor.word()?;
+    let third = cursor.word()?;
+    Some((first, second, third))
+}

@@ -1,0 +1,132 @@
+//! The rows of a directory, read from the bytes in front. Whether they make a lawful directory is
+//! not looked at here.
+ghost use Rattle.std.specs.Prelude.{IfSome};
+ghost use Rattle.zst_dir.specs.Reading.{ReadsBack, HeaderFits, IsSnapshotOf, dataset_front};
+ghost use Rattle.zst_dir.specs.Rows.{IsDatasetRow, IsBookmarkRow, IsPartialRow};
+ghost use Rattle.zst_dir.specs.Spelling.{snapshot_bytes, bookmark_bytes, header_bytes, partial_bytes};
+
+use crate::fields::{
+    read_book_name, read_component, read_dataset_name, read_flag, read_guids, read_kind, read_levels,
+    read_name_component, read_name_text, read_snap_name, read_three, read_u32,
+};
+use crate::rows::{Bookmark, Dataset, Partial, Snapshot};
+use zst_bytes::Cursor;
+use zst_model::{Header, Point};
+use zst_names::DatasetName;
+use zst_tree::{read_ptr, read_set};
+
+/// The next dataset, up to its snapshots.
+#[tactic(auto, using(crate::proofs::Parts::front_parts))]
+pub(crate) fn read_dataset(cursor: &mut Cursor<'_>) -> Option<Dataset>
+    ensures row { IfSome result IsDatasetRow }
+    ensures exact { ReadsBack dataset_front IsDatasetRow cursor.old cursor.new result }
+{
+    let name = read_dataset_name(cursor)?;
+    let kind = read_kind(cursor)?;
+    let origin = read_snap_name(cursor)?;
+    let head = read_set(cursor)?;
+    let redact = read_guids(cursor)?;
+    Some(Dataset {
+        name,
+        kind,
+        origin,
+        head,
+        redact,
+    })
+}
+
+/// The next snapshot of this dataset.
+#[tactic(auto, using(crate::proofs::Parts::snapshot_parts))]
+pub(crate) fn read_snapshot(cursor: &mut Cursor<'_>, dataset: &DatasetName) -> Option<Snapshot>
+    ensures row { IfSome result (IsSnapshotOf dataset.now) }
+    ensures exact { ReadsBack snapshot_bytes (IsSnapshotOf dataset.now) cursor.old cursor.new result }
+{
+    let name = read_component(cursor, dataset)?;
+    let (guid, time, number) = read_three(cursor)?;
+    let objects = read_set(cursor)?;
+    let redact = read_guids(cursor)?;
+    Some(Snapshot {
+        name,
+        guid,
+        time,
+        number,
+        objects,
+        redact,
+    })
+}
+
+/// The next bookmark.
+#[tactic(auto, using(crate::proofs::Parts::bookmark_parts))]
+pub(crate) fn read_bookmark(cursor: &mut Cursor<'_>) -> Option<Bookmark>
+    ensures row { IfSome result IsBookmarkRow }
+    ensures exact { ReadsBack bookmark_bytes IsBookmarkRow cursor.old cursor.new result }
+{
+    let name = read_book_name(cursor)?;
+    let (guid, time, number) = read_three(cursor)?;
+    let redact = read_guids(cursor)?;
+    let runs = cursor.word()?;
+    let levels = read_levels(cursor)?;
+    let root = read_ptr(cursor)?;
+    Some(Bookmark {
+        name,
+        guid,
+        time,
+        number,
+        redact,
+        runs,
+        levels,
+        root,
+    })
+}
+
+/// A stream's header, without a resume point.
+#[tactic(auto, using(crate::proofs::Parts::header_parts))]
+fn read_header(cursor: &mut Cursor<'_>) -> Option<Header>
+    ensures fits { IfSome result HeaderFits }
+    ensures exact { ReadsBack header_bytes HeaderFits cursor.old cursor.new result }
+{
+    let kind = read_kind(cursor)?;
+    let flags = read_u32(cursor)?;
+    let features = read_u32(cursor)?;
+    let (time, to, from) = read_three(cursor)?;
+    let name = read_name_text(cursor)?;
+    let redact = read_guids(cursor)?;
+    let from_redact = read_guids(cursor)?;
+    Some(Header {
+        kind,
+        flags,
+        features,
+        time,
+        to,
+        from,
+        name,
+        resume: None,
+        redact,
+        from_redact,
+    })
+}
+
+/// The next partial state.
+#[tactic(auto, using(crate::proofs::Parts::partial_parts, crate::proofs::Parts::fits_of_partial))]
+pub(crate) fn read_partial(cursor: &mut Cursor<'_>) -> Option<Partial>
+    ensures row { IfSome result IsPartialRow }
+    ensures exact { ReadsBack partial_bytes IsPartialRow cursor.old cursor.new result }
+{
+    let target = read_dataset_name(cursor)?;
+    let snapshot = read_name_component(cursor)?;
+    let keep = read_flag(cursor)?;
+    let header = read_header(cursor)?;
+    let base = read_snap_name(cursor)?;
+    let objects = read_set(cursor)?;
+    let object = cursor.word()?;
+    let offset = cursor.word()?;
+    Some(Partial {
+        target,
+        snapshot,
+        keep,
+        header,
+        base,
+        objects,
+        point: Point { object, offset },
+    })
+}
