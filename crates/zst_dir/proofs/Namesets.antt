@@ -53,7 +53,7 @@ collected_more snapshots snapshot names more collected absent updated = record {
     ],
   );
   differ = all_pairs_push (λ a b. a.name ≢ b.name) snapshots snapshot collected.differ
-    (λ k d below same. true≢false (sym ((collected.names_of snapshot.name).1 (get_or snapshots k d, Contains-get_or snapshots k d below, same)) ∙ absent));
+      (λ k d below same. true≢false (sym ((collected.names_of snapshot.name).1 (get_or snapshots k d, Contains-get_or snapshots k d below, same)) ∙ absent));
 }
   where
     either : (t : Bool) → cond t true true ≡ true

@@ -35,7 +35,7 @@ pub record ReadingAll (start : List ℕ) (datasets : List Dataset) (snapshots : 
   pub each : All IsDatasetRow read
   pub under : Appends (IsSnapshotIn after) snapshots later
   pub stands : (rows : List Dataset) (all : List Snapshot) (rest : List ℕ) → AreRows IsDatasetRow rows → AreRows IsSnapshotRow all → start ≡ rows_bytes (dataset_bytes all) rows ++ rest
-    → (count ≡ length rows) × Stands (dataset_bytes all) rows rest read cursor × (later ≡ snapshots ++ snapshots_under all read)
+      → (count ≡ length rows) × Stands (dataset_bytes all) rows rest read cursor × (later ≡ snapshots ++ snapshots_under all read)
 
 -- what reading one dataset says
 abbrev pub ReadsOne : List ℕ → List ℕ → List Dataset → List Dataset → List Snapshot → List Snapshot → Bool → Type 0
@@ -82,8 +82,8 @@ under_more datasets dataset snapshots later last under of_it = record {
   rows = under.rows ++ of_it.rows;
   is = of_it.is ∙ ap (λ rows. rows ++ of_it.rows) under.is ∙ append_assoc snapshots under.rows of_it.rows;
   each = All-append (IsSnapshotIn (datasets ++ dataset ∷ [])) under.rows of_it.rows
-    (All-weaker (IsSnapshotIn datasets) (IsSnapshotIn (datasets ++ dataset ∷ [])) (in_more datasets dataset) under.rows under.each)
-    (All-weaker (IsSnapshotOf dataset.name) (IsSnapshotIn (datasets ++ dataset ∷ [])) (in_last datasets dataset) of_it.rows of_it.each);
+      (All-weaker (IsSnapshotIn datasets) (IsSnapshotIn (datasets ++ dataset ∷ [])) (in_more datasets dataset) under.rows under.each)
+      (All-weaker (IsSnapshotOf dataset.name) (IsSnapshotIn (datasets ++ dataset ∷ [])) (in_last datasets dataset) of_it.rows of_it.each);
 }
 
 snapshots_under-push : (all : List Snapshot) (datasets : List Dataset) (dataset : Dataset) → snapshots_under all (datasets ++ dataset ∷ []) ≡ snapshots_under all datasets ++ snapshots_of dataset.name all
@@ -104,15 +104,14 @@ all_more start datasets snapshots count counter after more later last cursor beh
       let bytes = dataset_bytes all in
       let next = stands_next bytes rows rest reading.read cursor stood.1 (omega (arith, reading.at, stood.0)) in
       let spelled = back next.row all (flat_map bytes next.left ++ rest) (fits_next IsDatasetRow bytes rows rest reading.read cursor are.each next) are_all next.spelled in
-      let same : next.row ≡ one.dataset = last_is after next.row one.dataset (sym spelled.1 ∙ one.is) in
-      (
+      let same : next.row ≡ one.dataset = last_is after next.row one.dataset (sym spelled.1 ∙ one.is) in (
         stood.0,
         subst (λ row. Stands bytes rows rest (reading.read ++ row ∷ []) behind) same (stands_more bytes rows rest reading.read cursor behind next spelled.3),
         spelled.2
-        ∙ ap (λ rows. rows ++ snapshots_of next.row.name all) stood.2
-        ∙ append_assoc snapshots (snapshots_under all reading.read) (snapshots_of next.row.name all)
-        ∙ ap (λ rows. snapshots ++ rows) (sym (snapshots_under-push all reading.read next.row))
-        ∙ ap (λ row. snapshots ++ snapshots_under all (reading.read ++ row ∷ [])) same,
+            ∙ ap (λ rows. rows ++ snapshots_of next.row.name all) stood.2
+            ∙ append_assoc snapshots (snapshots_under all reading.read) (snapshots_of next.row.name all)
+            ∙ ap (λ rows. snapshots ++ rows) (sym (snapshots_under-push all reading.read next.row))
+            ∙ ap (λ row. snapshots ++ snapshots_under all (reading.read ++ row ∷ [])) same,
       );
 }
 

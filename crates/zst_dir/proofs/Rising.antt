@@ -37,11 +37,10 @@ pub rises : {A : Type 0} (test : A → A → Bool) (R : A → A → Type 0) → 
 rises test R to from chain rows true all =
     (λ same. pairs_of_neighbours R chain rows (λ k d below. to (get_or rows k d) (get_or rows (k + 1) d) (sym (all k d below))), λ pairs. refl)
 rises test R to from chain [] false none = absurd (omega (arith, none.1))
-rises test R to from chain (row ∷ rows) false none =
-    (
-      λ same. absurd (true≢false (sym same)),
-      λ pairs. none.2 row ∙ from (get_or (row ∷ rows) none.0 row) (get_or (row ∷ rows) (none.0 + 1) row) (pairs none.0 (none.0 + 1) row (omega arith) none.1),
-    )
+rises test R to from chain (row ∷ rows) false none = (
+  λ same. absurd (true≢false (sym same)),
+  λ pairs. none.2 row ∙ from (get_or (row ∷ rows) none.0 row) (get_or (row ∷ rows) (none.0 + 1) row) (pairs none.0 (none.0 + 1) row (omega arith) none.1),
+)
 
 -- names that rise
 pub names_rise : {A : Type 0} (name : A → List ℕ) (rows : List A) (answer : Bool) → IsAllAdjacentAnswer (λ x y b. b ≡ is_before (name x) (name y)) rows answer → (answer ≡ true) ↔ AllPairs (λ a b. is_before (name a) (name b) ≡ true) rows

@@ -78,7 +78,7 @@ sections rows bytes short is =
     let spelled : bytes ≡ datasets ++ (bookmarks ++ (partials ++ [])) = is.spelled ∙ sections_are rows in
     let under : snapshots_under all rows.datasets ≡ all = sym (snapshots_are_runs rows is.lawful) in
     let whole : length datasets + (length bookmarks + length partials) ≡ length bytes =
-        omega (arith, ap length spelled, length-append datasets (bookmarks ++ (partials ++ [])), length-append bookmarks (partials ++ []), length-append partials []) in
+    omega (arith, ap length spelled, length-append datasets (bookmarks ++ (partials ++ [])), length-append bookmarks (partials ++ []), length-append partials []) in
     record {
       spelled = spelled;
       datasets = record {
@@ -107,7 +107,7 @@ all_of_none IsRow before after none appended = subst (All IsRow) (sym (appended.
 -- what is known once the datasets have been read
 pub datasets_read : (rows : Rows) (bytes start cursor : List ℕ) (datasets after : List Dataset) (snapshots later : List Snapshot) (done : Bool) → AreSections rows bytes → start ≡ bytes → datasets ≡ [] → snapshots ≡ []
     → ((rows : List Dataset) (all : List Snapshot) (rest : List ℕ) → AreRows IsDatasetRow rows → AreRows IsSnapshotRow all → start ≡ rows_bytes (dataset_bytes all) rows ++ rest
-      → (done ≡ true) × (after ≡ datasets ++ rows) × (later ≡ snapshots ++ snapshots_under all rows) × (cursor ≡ rest))
+    → (done ≡ true) × (after ≡ datasets ++ rows) × (later ≡ snapshots ++ snapshots_under all rows) × (cursor ≡ rest))
     → (done ≡ true) × (after ≡ rows.datasets) × (later ≡ rows.snapshots) × (cursor ≡ rows_bytes bookmark_bytes rows.bookmarks ++ (rows_bytes partial_bytes rows.partials ++ []))
 datasets_read rows bytes start cursor datasets after snapshots later done are same no_datasets no_snapshots exact =
     let read = exact rows.datasets rows.snapshots (rows_bytes bookmark_bytes rows.bookmarks ++ (rows_bytes partial_bytes rows.partials ++ [])) are.datasets are.snapshots (same ∙ are.spelled) in

@@ -38,7 +38,7 @@ module _ (rows : Rows) (names : BTreeSet (List ℕ)) (are : AreNamesOf rows.snap
       origins = All-weaker (λ (dataset : Dataset). IsIn dataset.origin) (λ dataset. IsNamed dataset.origin) (λ dataset. named dataset.origin) rows.datasets link.origins;
       bases = All-weaker (λ (partial : Partial). IsIn partial.base) (λ partial. IsNamed partial.base) (λ partial. named partial.base) rows.partials link.bases;
       components = All-weaker (λ (partial : Partial). has names (name_to_be partial) ≡ false) (λ partial. HasSnapshot rows (name_to_be partial) → ⊥)
-        (λ partial free there. true≢false (sym ((are (name_to_be partial)).1 there) ∙ free)) rows.partials link.components;
+          (λ partial free there. true≢false (sym ((are (name_to_be partial)).1 there) ∙ free)) rows.partials link.components;
     };
     datasets = read.datasets;
     snapshots = All-weaker (IsSnapshotIn rows.datasets) IsSnapshotRow (λ snapshot is_of. is_of.row) rows.snapshots read.snapshots;
@@ -53,7 +53,7 @@ module _ (rows : Rows) (names : BTreeSet (List ℕ)) (are : AreNamesOf rows.snap
     origins = All-weaker (λ (dataset : Dataset). IsNamed dataset.origin) (λ dataset. IsIn dataset.origin) (λ dataset. is_in dataset.origin) rows.datasets law.linked.origins;
     bases = All-weaker (λ (partial : Partial). IsNamed partial.base) (λ partial. IsIn partial.base) (λ partial. is_in partial.base) rows.partials law.linked.bases;
     components = All-weaker (λ (partial : Partial). HasSnapshot rows (name_to_be partial) → ⊥) (λ partial. has names (name_to_be partial) ≡ false)
-      (λ partial absent. false_from_ne_true (has names (name_to_be partial)) (λ has_it. absent ((are (name_to_be partial)).0 has_it))) rows.partials law.linked.components;
+        (λ partial absent. false_from_ne_true (has names (name_to_be partial)) (λ has_it. absent ((are (name_to_be partial)).0 has_it))) rows.partials law.linked.components;
   }
 
 -- lawful rows rise

@@ -84,10 +84,7 @@ pub(crate) fn read_snap_name(cursor: &mut Cursor<'_>) -> Option<Option<SnapName>
 
 /// The name of a snapshot of this dataset, of which only the component stands there.
 #[tactic(auto, using(crate::proofs::Texts::plain_component, crate::proofs::Texts::snapshot_of_parts))]
-pub(crate) fn read_component(
-    cursor: &mut Cursor<'_>,
-    dataset: &DatasetName,
-) -> Option<SnapName>
+pub(crate) fn read_component(cursor: &mut Cursor<'_>, dataset: &DatasetName) -> Option<SnapName>
     ensures name { IfSome result IsSnapshot }
     ensures dataset { IfSome result (λ name. dataset_of 64 name ≡ dataset.now) }
     ensures exact { ReadsBack (λ name. text_bytes (component_of 64 name)) (λ name. IsSnapshot name × (dataset_of 64 name ≡ dataset.now)) cursor.old cursor.new result }

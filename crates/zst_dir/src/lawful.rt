@@ -148,6 +148,7 @@ pub(crate) fn is_lawful(
     let Some(names) = distinct_names(alloc, snapshots)? else {
         return Ok(false);
     };
-    let lawful = rise(datasets, snapshots, bookmarks, partials) && link_to(&names, datasets, partials);
+    let lawful = rise(datasets, snapshots, bookmarks, partials)
+        && link_to(&names, datasets, partials);
     Ok(lawful)
 }

@@ -9,6 +9,8 @@ mod lawful;
 mod lists;
 mod reading;
 mod rows;
+#[cfg(test)]
+mod tests;
 
 pub use dir::Dir;
 pub use rows::{Bookmark, Dataset, Partial, Snapshot};

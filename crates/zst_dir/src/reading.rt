@@ -6,8 +6,8 @@ ghost use Rattle.zst_dir.specs.Rows.{IsDatasetRow, IsBookmarkRow, IsPartialRow};
 ghost use Rattle.zst_dir.specs.Spelling.{snapshot_bytes, bookmark_bytes, header_bytes, partial_bytes};
 
 use crate::fields::{
-    read_book_name, read_component, read_dataset_name, read_flag, read_guids, read_kind, read_levels,
-    read_name_component, read_name_text, read_snap_name, read_three, read_u32,
+    read_book_name, read_component, read_dataset_name, read_flag, read_guids, read_kind,
+    read_levels, read_name_component, read_name_text, read_snap_name, read_three, read_u32,
 };
 use crate::rows::{Bookmark, Dataset, Partial, Snapshot};
 use zst_bytes::Cursor;

@@ -12,8 +12,7 @@ pub returns-then-not-branch-clause-differ : goal.returns-then-not-branch-clause-
 returns-then-not-branch-clause-differ c =
     let snapshot = c.snapshot-item.result in
     let names = c.loop-snapshot.names in
-    let added : has names snapshot.name ≡ true = not-false (has names snapshot.name) (ap (λ name. not (has names name)) (sym c.duplicate.ensures) ∙ sym c.in_ok-insert.ensures.added ∙ c.if-not-branch.true) in
-    (
+    let added : has names snapshot.name ≡ true = not-false (has names snapshot.name) (ap (λ name. not (has names name)) (sym c.duplicate.ensures) ∙ sym c.in_ok-insert.ensures.added ∙ c.if-not-branch.true) in (
       λ same. absurd (true≢false (sym same)),
       λ differ. absurd (not_differ c.args.snapshots.now names c.loop-snapshot.snapshot-index snapshot c.loop-snapshot.invariant (omega arith) c.snapshot-item.is added differ),
     )

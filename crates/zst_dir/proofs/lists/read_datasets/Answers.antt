@@ -8,16 +8,16 @@ loop-init c = all_first c.args.cursor.now c.word.new.self c.args.datasets.now.it
 pub returns-then-not-branch-clause-exact : goal.returns-then-not-branch-clause-exact
 returns-then-not-branch-clause-exact c = λ rows all rest are are_all is.
     absurd (all_stops c.args.cursor.now c.args.datasets.now.items c.args.snapshots.now.items c.in-Some.count c.loop.counter c.loop.datasets.items c.read_one.new.datasets.items c.loop.snapshots.items c.read_one.new.snapshots.items
-      c.loop.cursor c.read_one.new.cursor c.in_ok-read_one.field-0 c.loop.invariant c.loop-test.true c.if-not-branch.true c.in_ok-read_one.ensures.exact rows all rest are are_all is)
+    c.loop.cursor c.read_one.new.cursor c.in_ok-read_one.field-0 c.loop.invariant c.loop-test.true c.if-not-branch.true c.in_ok-read_one.ensures.exact rows all rest are are_all is)
 
 pub loop-preserved : goal.loop-preserved
 loop-preserved c =
     let one = rw c.if-not-branch.false at c.in_ok-read_one.ensures.rows in
     all_more c.args.cursor.now c.args.datasets.now.items c.args.snapshots.now.items c.in-Some.count c.loop.counter c.loop.datasets.items c.read_one.new.datasets.items c.loop.snapshots.items c.read_one.new.snapshots.items
-      c.loop.cursor c.read_one.new.cursor c.in_ok-read_one.field-0 c.loop.invariant c.loop-test.true one c.in_ok-read_one.ensures.exact
+    c.loop.cursor c.read_one.new.cursor c.in_ok-read_one.field-0 c.loop.invariant c.loop-test.true one c.in_ok-read_one.ensures.exact
 
 pub returns-clause-exact : goal.returns-clause-exact
 returns-clause-exact c = λ rows all rest are are_all is.
     let last = all_last c.args.cursor.now c.args.datasets.now.items c.args.snapshots.now.items c.in-Some.count c.loop.counter c.loop.datasets.items c.loop.snapshots.items c.loop.cursor
-        c.loop.invariant (omega arith) rows all rest are are_all is in
+    c.loop.invariant (omega arith) rows all rest are are_all is in
     (refl, last.0, last.1, last.2)

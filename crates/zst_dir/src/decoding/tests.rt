@@ -1,0 +1,220 @@
+use crate::dir::Dir;
+use std::alloc::{AllocError, Global};
+use std::process::Abort;
+use std::test::Fail;
+use zst_block::Ptr;
+use zst_bytes::{push_text, push_word, push_words};
+use zst_tree::{ObjSet, push_ptr, push_set};
+
+// Spells a dataset: its origin, no objects, a guid, and its snapshots by component and number.
+fn push_dataset(
+    out: &mut Vec<u8>,
+    name: &str,
+    origin: &str,
+    snapshots: &[(&str, u64)],
+) -> Result<(), AllocError> {
+    push_text(out, name.as_bytes())?;
+    push_word(out, 2)?;
+    push_text(out, origin.as_bytes())?;
+    push_set(out, &ObjSet::empty())?;
+    push_words(out, &[7])?;
+    push_word(out, snapshots.len() as u64)?;
+    for (component, number) in snapshots {
+        push_text(out, component.as_bytes())?;
+        push_word(out, 100)?;
+        push_word(out, 1_700_000_000)?;
+        push_word(out, *number)?;
+        push_set(out, &ObjSet::empty())?;
+        push_words(out, &[3, u64::MAX])?;
+    }
+    Ok(())
+}
+
+// Spells a bookmark of one run.
+fn push_bookmark(out: &mut Vec<u8>, name: &str) -> Result<(), AllocError> {
+    push_text(out, name.as_bytes())?;
+    push_word(out, 100)?;
+    push_word(out, 1_700_000_000)?;
+    push_word(out, 1)?;
+    push_words(out, &[3, 4])?;
+    push_word(out, 1)?;
+    push_word(out, 0)?;
+    push_ptr(out, &Ptr::hole(5))
+}
+
+// Spells a partial state of an increment from a snapshot.
+fn push_partial(
+    out: &mut Vec<u8>,
+    target: &str,
+    component: &str,
+    base: &str,
+) -> Result<(), AllocError> {
+    push_text(out, target.as_bytes())?;
+    push_text(out, component.as_bytes())?;
+    push_word(out, 1)?;
+    for number in [3, 0x4, 0x14, 1_700_000_001, 101, 100] {
+        push_word(out, number)?;
+    }
+    push_text(out, b"a/b@\xff")?;
+    push_words(out, &[])?;
+    push_words(out, &[9])?;
+    push_text(out, base.as_bytes())?;
+    push_set(out, &ObjSet::empty())?;
+    push_word(out, 1 << 47)?;
+    push_word(out, 4096)
+}
+
+// Two datasets, the second a clone, with three snapshots, a bookmark and a partial state.
+fn sample(alloc: Global) -> Result<Vec<u8>, AllocError> {
+    let mut out = Vec::new(alloc);
+    push_word(&mut out, 2)?;
+    push_dataset(&mut out, "t", "", &[("b", 1), ("a", 2)])?;
+    push_dataset(&mut out, "t/c", "t@b", &[("a", 2)])?;
+    push_word(&mut out, 1)?;
+    push_bookmark(&mut out, "t#b")?;
+    push_word(&mut out, 1)?;
+    push_partial(&mut out, "t", "c", "t@a")?;
+    Ok(out)
+}
+
+// Datasets with neither bookmarks nor partial states.
+fn datasets(alloc: Global, rows: &[(&str, &str, &[(&str, u64)])]) -> Result<Vec<u8>, AllocError> {
+    let mut out = Vec::new(alloc);
+    push_word(&mut out, rows.len() as u64)?;
+    for (name, origin, snapshots) in rows {
+        push_dataset(&mut out, name, origin, snapshots)?;
+    }
+    push_word(&mut out, 0)?;
+    push_word(&mut out, 0)?;
+    Ok(out)
+}
+
+fn is_dir(alloc: Global, bytes: &[u8]) -> Result<bool, AllocError> {
+    Ok(Dir::decode(alloc, bytes)?.is_some())
+}
+
+#[test]
+fn an_empty_directory_is_three_counts(rt: HostRuntime) -> Result<(), Fail> {
+    let dir = Dir::decode(rt.alloc(), &[0; 24])?;
+    assert!(rt; dir.is_some_and(|dir| dir.datasets().is_empty() && dir.partials().is_empty()));
+    Ok(())
+}
+
+#[test]
+fn rows_are_read_as_they_were_spelled(rt: HostRuntime) -> Result<(), Fail> {
+    let bytes = sample(rt.alloc())?;
+    let Some(dir) = Dir::decode(rt.alloc(), &bytes)? else {
+        assert!(rt; false, "no directory");
+        return Ok(());
+    };
+    assert!(rt; dir.datasets().len() == 2 && dir.snapshots().len() == 3);
+    assert!(rt; dir.bookmarks().len() == 1 && dir.partials().len() == 1);
+    let [first, second, third] = dir.snapshots() else {
+        return Ok(());
+    };
+    assert_eq!(rt; first.name.text(), "t@b");
+    assert_eq!(rt; second.name.text(), "t@a");
+    assert_eq!(rt; third.name.text(), "t/c@a");
+    assert!(rt; second.number == 2 && second.time == 1_700_000_000);
+    assert!(rt; second.redact.as_slice() == [3, u64::MAX].as_slice());
+    let [partial] = dir.partials() else {
+        return Ok(());
+    };
+    assert!(rt; partial.keep && partial.header.kind == 3 && partial.header.features == 0x14);
+    assert!(rt; partial.header.name.as_bytes() == b"a/b@\xff".as_slice());
+    assert!(rt; partial.point.object == 1 << 47 && partial.point.offset == 4096);
+    assert!(rt; dir.encode(rt.alloc())?.as_slice() == bytes.as_slice());
+    Ok(())
+}
+
+#[test]
+fn a_text_cut_short_or_with_more_is_none(rt: HostRuntime) -> Result<(), Fail> {
+    let mut bytes = sample(rt.alloc())?;
+    for end in 0..bytes.len() {
+        assert!(rt; !is_dir(rt.alloc(), &bytes[..end])?, "cut at {end}");
+    }
+    bytes.push(0)?;
+    assert!(rt; !is_dir(rt.alloc(), &bytes)?);
+    Ok(())
+}
+
+#[test]
+fn another_byte_makes_another_directory_or_none(rt: HostRuntime) -> Result<(), Fail> {
+    let alloc = rt.alloc();
+    let bytes = sample(alloc)?;
+    for place in 0..bytes.len() {
+        let flipped: Vec<u8> = bytes
+            .iter()
+            .enumerate()
+            .map(|(at, byte)| if at == place { *byte ^ 1 } else { *byte })
+            .collect(alloc)?;
+        if let Some(dir) = Dir::decode(alloc, &flipped)? {
+            assert!(rt;
+                dir.encode(alloc)?.as_slice() == flipped.as_slice(),
+                "at {place}"
+            );
+        }
+    }
+    Ok(())
+}
+
+#[test]
+fn rows_out_of_order_are_none(rt: HostRuntime) -> Result<(), Fail> {
+    let alloc = rt.alloc();
+    let one: &[(&str, u64)] = &[("a", 1)];
+    assert!(rt; is_dir(alloc, &datasets(alloc, &[("a", "", one), ("b", "", one)])?)?);
+    assert!(rt; !is_dir(alloc, &datasets(alloc, &[("b", "", one), ("a", "", one)])?)?);
+    assert!(rt; !is_dir(alloc, &datasets(alloc, &[("a", "", one), ("a", "", one)])?)?);
+    assert!(rt;
+        is_dir(
+            alloc,
+            &datasets(alloc, &[("a", "", &[("c", 1), ("b", 1)])])?
+        )?
+    );
+    assert!(rt;
+        !is_dir(
+            alloc,
+            &datasets(alloc, &[("a", "", &[("b", 2), ("c", 1)])])?
+        )?
+    );
+    assert!(rt;
+        !is_dir(
+            alloc,
+            &datasets(alloc, &[("a", "", &[("b", 1), ("b", 2)])])?
+        )?
+    );
+    Ok(())
+}
+
+#[test]
+fn names_that_are_not_there_are_none(rt: HostRuntime) -> Result<(), Fail> {
+    let alloc = rt.alloc();
+    let one: &[(&str, u64)] = &[("a", 1)];
+    assert!(rt;
+        is_dir(
+            alloc,
+            &datasets(alloc, &[("a", "b@a", &[]), ("b", "", one)])?
+        )?
+    );
+    assert!(rt;
+        !is_dir(
+            alloc,
+            &datasets(alloc, &[("a", "b@b", &[]), ("b", "", one)])?
+        )?
+    );
+    for (component, base, lawful) in [
+        ("b", "", true),
+        ("b", "t@a", true),
+        ("b", "t@c", false),
+        ("a", "t@a", false),
+    ] {
+        let mut out = Vec::new(alloc);
+        push_word(&mut out, 1)?;
+        push_dataset(&mut out, "t", "", one)?;
+        push_word(&mut out, 0)?;
+        push_word(&mut out, 1)?;
+        push_partial(&mut out, "t", component, base)?;
+        assert_eq!(rt; is_dir(alloc, &out)?, lawful, "{component} on {base}");
+    }
+    Ok(())
+}
