@@ -1,0 +1,169 @@
+-- No words have two answers.
+use Rattle.std.proofs.Common.{◌≡◌, ◌≢◌, ◌⊎◌, ℕ, ◌+◌, ◌<◌, List, [], ◌∷◌, ◌++◌, length, get_or, take, drop, Some, Ok, Err, Result, if◌then◌else◌, bytes_eq, codes, refl, sym, ap, ◌∙◌, inl, inr}
+use Rattle.std.proofs.lemmas.List.{take-append-drop}
+use Rattle.std.specs.List.{AllZip}
+use Rattle.zst_names.specs.Names.{IsDataset, IsSnapshot, StopsAt}
+use Rattle.zst_names.proofs.Places.{same_place}
+use Rattle.zst_line.specs.declared.kind.Kind.{Kind}
+use Rattle.zst_line.specs.declared.kind.Kind.TheVariants.{Dump, Create, Fs, Volume, Object, Write, Punch, Free, Snapshot}
+use Rattle.zst_line.specs.declared.line.Line.{Line}
+use Rattle.zst_line.specs.declared.line.LineFault.{LineFault}
+use Rattle.zst_line.specs.declared.line.LineFault.TheVariants as faults
+use Rattle.zst_line.specs.declared.slot.Slot.{Slot}
+use Rattle.zst_line.specs.declared.slot.Slot.TheVariants.{Image, DatasetName, SnapshotName, Number, BlockSize, Bonus, Spill, HexBytes}
+use Rattle.zst_line.specs.Grammar.{Fits, Stops, IsNameFor, NameStopsAt, NameStops, HasUnbuilt, OfLine, UsageAt, BadNameAt, IsUnbuiltLine, IsLine, word_of, slots_of, word_at}
+use Rattle.zst_line.specs.Lines.{LineAnswers, OneAnswer}
+
+-- the kind that a first word names
+abbrev kind_named : List ℕ → Kind
+kind_named word =
+    if bytes_eq word (codes "dump") then Dump
+    else (if bytes_eq word (codes "create") then Create
+    else (if bytes_eq word (codes "fs") then Fs
+    else (if bytes_eq word (codes "volume") then Volume
+    else (if bytes_eq word (codes "object") then Object
+    else (if bytes_eq word (codes "write") then Write
+    else (if bytes_eq word (codes "punch") then Punch
+    else (if bytes_eq word (codes "free") then Free
+    else Snapshot)))))))
+
+named_back : (kind : Kind) → kind_named (word_of kind) ≡ kind
+named_back Dump = refl
+named_back Create = refl
+named_back Fs = refl
+named_back Volume = refl
+named_back Object = refl
+named_back Write = refl
+named_back Punch = refl
+named_back Free = refl
+named_back Snapshot = refl
+
+-- words are of one kind, and what one fact says of the others it says beside another
+same_kind : (a b : Kind) (x y : List (List ℕ)) → word_of a ∷ x ≡ word_of b ∷ y → a ≡ b
+same_kind a b x y e = sym (named_back a) ∙ (ap (λ words. kind_named (word_at words 0)) e ∙ named_back b)
+
+moved : (P Q : List Slot → List (List ℕ) → Type 0) (words : List (List ℕ)) (p : OfLine P words) → OfLine Q words → Q (slots_of p.kind) p.rest
+moved P Q words p q =
+    let e : word_of p.kind ∷ p.rest ≡ word_of q.kind ∷ q.rest = sym p.spelled ∙ q.spelled in
+    let rest : p.rest ≡ q.rest = ap (λ words. drop 1 words) e in
+    rw (same_kind p.kind q.kind p.rest q.rest e, rest) q.fact
+
+-- places and names stop once
+fit_and_stop : (slots : List Slot) (words : List (List ℕ)) (place at : ℕ) → AllZip Fits slots words → Stops place slots words at → ⊥
+fit_and_stop [] [] place at fits stops = stops
+fit_and_stop [] (word ∷ words) place at fits stops = fits
+fit_and_stop (slot ∷ slots) [] place at fits stops = fits
+fit_and_stop (slot ∷ slots) (word ∷ words) place at fits (inl here) = here.0 fits.0
+fit_and_stop (slot ∷ slots) (word ∷ words) place at fits (inr later) = fit_and_stop slots words (place + 1) at fits.1 later.1
+
+stop_once : (slots : List Slot) (words : List (List ℕ)) (place a b : ℕ) → Stops place slots words a → Stops place slots words b → a ≡ b
+stop_once [] [] place a b p q = absurd p
+stop_once [] (word ∷ words) place a b p q = p ∙ sym q
+stop_once (slot ∷ slots) [] place a b p q = p ∙ sym q
+stop_once (slot ∷ slots) (word ∷ words) place a b (inl p) (inl q) = p.1 ∙ sym q.1
+stop_once (slot ∷ slots) (word ∷ words) place a b (inl p) (inr q) = absurd (p.0 q.0)
+stop_once (slot ∷ slots) (word ∷ words) place a b (inr p) (inl q) = absurd (q.0 p.0)
+stop_once (slot ∷ slots) (word ∷ words) place a b (inr p) (inr q) = stop_once slots words (place + 1) a b p.1 q.1
+
+is_and_stops : (IsOne : List ℕ → Type 0) (word : List ℕ) (at : ℕ) → IsOne word → StopsAt IsOne word at → ⊥
+is_and_stops IsOne word at is stops =
+    elim stops.stops [
+      | inl here ↦ here.1 (drop (at + 1) word, rw take-append-drop is)
+      | inr end ↦ end.1 is
+    ]
+
+name_and_stops : (slot : Slot) (word : List ℕ) (at : ℕ) → IsNameFor slot word → NameStopsAt slot word at → ⊥
+name_and_stops Image word at is stops = stops
+name_and_stops DatasetName word at is stops = is_and_stops IsDataset word at is stops
+name_and_stops SnapshotName word at is stops = is_and_stops IsSnapshot word at is stops
+name_and_stops (Number low high) word at is stops = stops
+name_and_stops BlockSize word at is stops = stops
+name_and_stops Bonus word at is stops = stops
+name_and_stops Spill word at is stops = stops
+name_and_stops (HexBytes most) word at is stops = stops
+
+name_stops_once : (slot : Slot) (word : List ℕ) (a b : ℕ) → NameStopsAt slot word a → NameStopsAt slot word b → a ≡ b
+name_stops_once Image word a b p q = absurd p
+name_stops_once DatasetName word a b p q = same_place IsDataset word a b p q
+name_stops_once SnapshotName word a b p q = same_place IsSnapshot word a b p q
+name_stops_once (Number low high) word a b p q = absurd p
+name_stops_once BlockSize word a b p q = absurd p
+name_stops_once Bonus word a b p q = absurd p
+name_stops_once Spill word a b p q = absurd p
+name_stops_once (HexBytes most) word a b p q = absurd p
+
+names_and_stop : (slots : List Slot) (words : List (List ℕ)) (at : ℕ) → AllZip IsNameFor slots words → NameStops slots words at → ⊥
+names_and_stop [] words at names stops = stops
+names_and_stop (slot ∷ slots) [] at names stops = stops
+names_and_stop (slot ∷ slots) (word ∷ words) at names (inl here) = name_and_stops slot word at names.0 here
+names_and_stop (slot ∷ slots) (word ∷ words) at names (inr later) = names_and_stop slots words at names.1 later.1
+
+names_stop_once : (slots : List Slot) (words : List (List ℕ)) (a b : ℕ) → NameStops slots words a → NameStops slots words b → a ≡ b
+names_stop_once [] words a b p q = absurd p
+names_stop_once (slot ∷ slots) [] a b p q = absurd p
+names_stop_once (slot ∷ slots) (word ∷ words) a b (inl p) (inl q) = name_stops_once slot word a b p q
+names_stop_once (slot ∷ slots) (word ∷ words) a b (inl p) (inr q) = absurd (name_and_stops slot word a q.0 p)
+names_stop_once (slot ∷ slots) (word ∷ words) a b (inr p) (inl q) = absurd (name_and_stops slot word b p.0 q)
+names_stop_once (slot ∷ slots) (word ∷ words) a b (inr p) (inr q) = names_stop_once slots words a b p.1 q.1
+
+-- what each answer says of the places
+abbrev StopsFact : ℕ → List Slot → List (List ℕ) → Type 0
+StopsFact at slots rest = Stops 1 slots rest at
+
+abbrev NameFact : ℕ → List Slot → List (List ℕ) → Type 0
+NameFact at slots rest = AllZip Fits slots rest × NameStops slots rest at
+
+abbrev UnbuiltFact : List Slot → List (List ℕ) → Type 0
+UnbuiltFact slots rest = AllZip Fits slots rest × AllZip IsNameFor slots rest × HasUnbuilt slots rest
+
+abbrev LineFact : List Slot → List (List ℕ) → Type 0
+LineFact slots rest = AllZip Fits slots rest × AllZip IsNameFor slots rest × ¬ (HasUnbuilt slots rest)
+
+-- words that all fit their places have no fault of usage
+fit_is_no_usage : (P : List Slot → List (List ℕ) → Type 0) (words : List (List ℕ)) (at : ℕ) → ((slots : List Slot) (rest : List (List ℕ)) → P slots rest → AllZip Fits slots rest)
+    → OfLine P words → UsageAt words at → ⊥
+fit_is_no_usage P words at fit p (inl none) = none.0 p.kind p.rest p.spelled
+fit_is_no_usage P words at fit p (inr q) = fit_and_stop (slots_of p.kind) p.rest 1 at (fit (slots_of p.kind) p.rest p.fact) (moved P (StopsFact at) words p q)
+
+usage_once : (words : List (List ℕ)) (a b : ℕ) → UsageAt words a → UsageAt words b → a ≡ b
+usage_once words a b (inl p) (inl q) = p.1 ∙ sym q.1
+usage_once words a b (inl p) (inr q) = absurd (p.0 q.kind q.rest q.spelled)
+usage_once words a b (inr p) (inl q) = absurd (q.0 p.kind p.rest p.spelled)
+usage_once words a b (inr p) (inr q) = stop_once (slots_of p.kind) p.rest 1 a b p.fact (moved (StopsFact a) (StopsFact b) words p q)
+
+bad_name_once : (words : List (List ℕ)) (a b : ℕ) → BadNameAt words a → BadNameAt words b → a ≡ b
+bad_name_once words a b p q = names_stop_once (slots_of p.kind) p.rest a b p.fact.1 (moved (NameFact a) (NameFact b) words p q).1
+
+names_are_none : (P : List Slot → List (List ℕ) → Type 0) (words : List (List ℕ)) (at : ℕ) → ((slots : List Slot) (rest : List (List ℕ)) → P slots rest → AllZip IsNameFor slots rest)
+    → OfLine P words → BadNameAt words at → ⊥
+names_are_none P words at names p q = names_and_stop (slots_of p.kind) p.rest at (names (slots_of p.kind) p.rest p.fact) (moved P (NameFact at) words p q).1
+
+line_or_unbuilt : (words : List (List ℕ)) → IsLine words → IsUnbuiltLine words → ⊥
+line_or_unbuilt words p q = p.fact.2 (moved LineFact UnbuiltFact words p q).2
+
+line_has_no_fault : (words : List (List ℕ)) (fault : LineFault) → IsLine words → LineAnswers words (Err fault) → fault ≢ faults.Memory → ⊥
+line_has_no_fault words (faults.Usage at) line answer other = fit_is_no_usage LineFact words at (λ slots rest h. h.0) line answer
+line_has_no_fault words (faults.BadName at) line answer other = names_are_none LineFact words at (λ slots rest h. h.1) line answer
+line_has_no_fault words faults.NotBuilt line answer other = line_or_unbuilt words line answer
+line_has_no_fault words faults.Memory line answer other = other refl
+
+one_fault : (words : List (List ℕ)) (one two : LineFault) → LineAnswers words (Err one) → LineAnswers words (Err two) → one ≢ faults.Memory → two ≢ faults.Memory → one ≡ two
+one_fault words (faults.Usage a) (faults.Usage b) p q m n = ap faults.Usage (usage_once words a b p q)
+one_fault words (faults.Usage a) (faults.BadName b) p q m n = absurd (fit_is_no_usage (NameFact b) words a (λ slots rest h. h.0) q p)
+one_fault words (faults.Usage a) faults.NotBuilt p q m n = absurd (fit_is_no_usage UnbuiltFact words a (λ slots rest h. h.0) q p)
+one_fault words (faults.BadName a) (faults.Usage b) p q m n = absurd (fit_is_no_usage (NameFact a) words b (λ slots rest h. h.0) p q)
+one_fault words (faults.BadName a) (faults.BadName b) p q m n = ap faults.BadName (bad_name_once words a b p q)
+one_fault words (faults.BadName a) faults.NotBuilt p q m n = absurd (names_are_none UnbuiltFact words a (λ slots rest h. h.1) q p)
+one_fault words faults.NotBuilt (faults.Usage b) p q m n = absurd (fit_is_no_usage UnbuiltFact words b (λ slots rest h. h.0) p q)
+one_fault words faults.NotBuilt (faults.BadName b) p q m n = absurd (names_are_none UnbuiltFact words b (λ slots rest h. h.1) p q)
+one_fault words faults.NotBuilt faults.NotBuilt p q m n = refl
+one_fault words faults.Memory two p q m n = absurd (m refl)
+one_fault words (faults.Usage a) faults.Memory p q m n = absurd (n refl)
+one_fault words (faults.BadName a) faults.Memory p q m n = absurd (n refl)
+one_fault words faults.NotBuilt faults.Memory p q m n = absurd (n refl)
+
+pub one_answer : OneAnswer
+one_answer words (Ok one) (Ok other) p q m n = refl
+one_answer words (Ok one) (Err fault) p q m n = absurd (line_has_no_fault words fault p.0 q (λ e. n (ap Err e)))
+one_answer words (Err fault) (Ok other) p q m n = absurd (line_has_no_fault words fault q.0 p (λ e. m (ap Err e)))
+one_answer words (Err one) (Err two) p q m n = ap Some (one_fault words one two p q (λ e. m (ap Err e)) (λ e. n (ap Err e)))
