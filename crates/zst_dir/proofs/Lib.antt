@@ -9,7 +9,7 @@ mod Parts
 mod Places
 mod Rising
 mod Sections
-mod SnapshotRuns
+pub mod SnapshotRuns
 mod SpelledRows
 mod Standing
 mod Texts
@@ -17,3 +17,4 @@ mod Verdict
 mod Inserted
 mod Orders
 mod Dropped
+pub mod Lookups
