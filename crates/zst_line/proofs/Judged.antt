@@ -1,11 +1,11 @@
 -- Names and blocks that aren't built, by the places of a line.
-use Rattle.std.proofs.Common.{◌≡◌, ◌≢◌, ◌⊎◌, ℕ, List, [], ◌∷◌, ◌++◌, length, drop, refl, inl, inr, codes}
+use Rattle.std.proofs.Common.{ℕ, List, [], ◌∷◌, ◌++◌, length, drop, refl, inl, inr}
 use Rattle.std.specs.List.{AllZip}
 use Rattle.zst_names.specs.Names.{IsDataset, IsSnapshot, StopsAt}
 use Rattle.zst_line.specs.declared.slot.Slot.{Slot}
 use Rattle.zst_line.specs.declared.slot.Slot.TheVariants.{Image, DatasetName, SnapshotName, Number, BlockSize, Bonus, Spill, HexBytes}
 use Rattle.zst_line.specs.declared.kind.Kind.{Kind}
-use Rattle.zst_line.specs.Grammar.{Fits, IsNameFor, IsUnbuilt, HasUnbuilt, NameStops, OfLine, IsLine, BadNameAt, IsUnbuiltLine, word_at, word_of, slots_of}
+use Rattle.zst_line.specs.Grammar.{Fits, IsNameFor, IsUnbuilt, HasUnbuilt, NameStops, IsLine, BadNameAt, IsUnbuiltLine, word_at, word_of, slots_of}
 
 -- a place that takes no name
 abbrev pub IsNameless : Slot → Type 0

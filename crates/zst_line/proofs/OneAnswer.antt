@@ -1,12 +1,11 @@
 -- No words have two answers.
-use Rattle.std.proofs.Common.{◌≡◌, ◌≢◌, ◌⊎◌, ℕ, ◌+◌, ◌<◌, List, [], ◌∷◌, ◌++◌, length, get_or, take, drop, Some, Ok, Err, Result, if◌then◌else◌, bytes_eq, codes, refl, sym, ap, ◌∙◌, inl, inr}
+use Rattle.std.proofs.Common.{◌≡◌, ◌≢◌, ℕ, ◌+◌, List, [], ◌∷◌, drop, Some, Ok, Err, if◌then◌else◌, bytes_eq, codes, refl, sym, ap, ◌∙◌, inl, inr}
 use Rattle.std.proofs.lemmas.List.{take-append-drop}
 use Rattle.std.specs.List.{AllZip}
 use Rattle.zst_names.specs.Names.{IsDataset, IsSnapshot, StopsAt}
 use Rattle.zst_names.proofs.Places.{same_place}
 use Rattle.zst_line.specs.declared.kind.Kind.{Kind}
 use Rattle.zst_line.specs.declared.kind.Kind.TheVariants.{Dump, Create, Fs, Volume, Object, Write, Punch, Free, Snapshot}
-use Rattle.zst_line.specs.declared.line.Line.{Line}
 use Rattle.zst_line.specs.declared.line.LineFault.{LineFault}
 use Rattle.zst_line.specs.declared.line.LineFault.TheVariants as faults
 use Rattle.zst_line.specs.declared.slot.Slot.{Slot}

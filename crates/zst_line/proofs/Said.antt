@@ -1,5 +1,5 @@
 -- What the words of each line say, where they fit their places.
-use Rattle.std.proofs.Common.{◌≡◌, ◌≢◌, ◌⊎◌, ℕ, ◌+◌, ◌*◌, ◌-◌, ◌^◌, ◌/◌, ◌<◌, ◌≤◌, List, [], ◌∷◌, true, None, Ok, Err, length, drop, decimal, arith, lit<, lit≤, refl, inl, inr, ap, sym, ◌∙◌, codes}
+use Rattle.std.proofs.Common.{◌≡◌, ◌≢◌, ◌⊎◌, ℕ, ◌-◌, ◌^◌, ◌<◌, List, [], ◌∷◌, true, None, Ok, Err, drop, decimal, arith, lit<, lit≤, refl, inl, inr, sym, ◌∙◌, codes}
 use Rattle.std.proofs.lemmas.Fmt.{decimal_injective}
 use Rattle.std.proofs.lemmas.Slice.Zip.{AllZip-long}
 use Rattle.std.specs.List.{AllZip}
@@ -7,16 +7,15 @@ use Rattle.hex.specs.Hex.{decode_of}
 use Rattle.hex.proofs.HexLemmas.{decode_of-ok}
 use Rattle.zst_names.specs.Names.{IsDataset, IsSnapshot, StopsAt}
 use Rattle.zst_model.specs.State.{is_block_size}
-use Rattle.zst_model.specs.declared.attr.ObjectHead.{ObjectHead}
 use Rattle.zst_model.specs.declared.command.Command.TheVariants as commands
 use Rattle.zst_line.specs.declared.kind.Kind.{Kind}
 use Rattle.zst_line.specs.declared.kind.Kind.TheVariants as kinds
-use Rattle.zst_line.specs.declared.line.Line.TheVariants.{Dump, Create, Step}
+use Rattle.zst_line.specs.declared.line.Line.TheVariants.{Create, Step}
 use Rattle.zst_line.specs.declared.line.LineFault.{LineFault}
 use Rattle.zst_line.specs.declared.line.LineFault.TheVariants as faults
 use Rattle.zst_line.specs.declared.slot.Slot.{Slot}
-use Rattle.zst_line.specs.declared.slot.Slot.TheVariants.{Image, DatasetName, SnapshotName, Bonus, Spill, Number, BlockSize, HexBytes}
-use Rattle.zst_line.specs.Grammar.{Fits, IsSize, IsHex, IsNameFor, HasUnbuilt, IsLine, slots_of, word_of, word_at, count, index}
+use Rattle.zst_line.specs.declared.slot.Slot.TheVariants.{Image, DatasetName, Bonus, Spill, Number, BlockSize, HexBytes}
+use Rattle.zst_line.specs.Grammar.{Fits, IsSize, IsHex, IsNameFor, HasUnbuilt, slots_of, word_of, word_at, count, index}
 use Rattle.zst_line.specs.Lines.{LineAnswers}
 use Rattle.zst_line.proofs.Judged.{AreNameless, AreBuilt, is_line, is_bad, is_unbuilt, all_names, all_built, block_behind, dataset_names, dataset_stops, snapshot_names, snapshot_stops}
 use Rattle.zst_line.proofs.Shapes.{words_from, words_are, words_drop, fit_at, in_range}
@@ -32,12 +31,7 @@ pub bad_snapshot : (words : List (List ℕ)) (at : ℕ) → AllZip Fits (slots_o
     → LineAnswers (word_of kinds.Snapshot ∷ words) (Err (faults.BadName at))
 bad_snapshot words at fits stops = is_bad kinds.Snapshot words at fits (snapshot_stops words at fits stops)
 
--- lines with no name
-pub dump_said : (words : List (List ℕ)) → AllZip Fits (slots_of kinds.Dump) words → LineAnswers (word_of kinds.Dump ∷ words) (Ok Dump)
-dump_said words fits =
-    let are : words ≡ [] = words_are (slots_of kinds.Dump) words fits in
-    (is_line kinds.Dump words fits (all_names [] words tt fits) (all_built [] words tt), ap (λ rest. codes "dump" ∷ rest) are)
-
+-- the line with no name
 pub create_said : (words : List (List ℕ)) (sectors id : ℕ) → AllZip Fits (slots_of kinds.Create) words
     → word_at words 1 ≡ decimal sectors → sectors < 2 ^ 64 → word_at words 2 ≡ decimal id → id < 2 ^ 64
     → LineAnswers (word_of kinds.Create ∷ words) (Ok (Create sectors id))
@@ -78,8 +72,8 @@ snapshot_said words name fits same is =
     )
 
 -- a word in the place of a count isn't 0
-over_none : (slots : List Slot) (words : List (List ℕ)) (i n : ℕ) → Fits count (word_at words i) → word_at words i ≡ decimal n → n < 2 ^ 64 → 0 < n
-over_none slots words i n fits e small = let range = in_range (word_at words i) n 1 (2 ^ 64 - 1) fits (lit< tt) small e in omega (arith, range.0)
+over_none : (words : List (List ℕ)) (i n : ℕ) → Fits count (word_at words i) → word_at words i ≡ decimal n → n < 2 ^ 64 → 0 < n
+over_none words i n fits e small = let range = in_range (word_at words i) n 1 (2 ^ 64 - 1) fits (lit< tt) small e in omega (arith, range.0)
 
 -- lines on an object's blocks and on objects
 pub punch_said : (words : List (List ℕ)) (name : List ℕ) (k first number : ℕ) → AllZip Fits (slots_of kinds.Punch) words → name ≡ word_at words 1 → IsDataset name
@@ -91,7 +85,7 @@ punch_said words name k first number fits same is of_k fit_k of_first of_number 
     let built : AreBuilt slots = (tt, (tt, (tt, (tt, (tt, tt))))) in
     let nameless : AreNameless (count ∷ index ∷ count ∷ []) = (tt, (tt, (tt, tt))) in (
       is_line kinds.Punch words fits (dataset_names (count ∷ index ∷ count ∷ []) words nameless fits (rw same at is)) (all_built slots words built),
-      ((word_at words 0, cc), (is, over_none slots words 2 k (fit_at slots words 2 fits (lit< tt)) of_k fit_k, over_none slots words 4 number (fit_at slots words 4 fits (lit< tt)) of_number fit_number)),
+      ((word_at words 0, cc), (is, over_none words 2 k (fit_at slots words 2 fits (lit< tt)) of_k fit_k, over_none words 4 number (fit_at slots words 4 fits (lit< tt)) of_number fit_number)),
     )
 
 pub free_said : (words : List (List ℕ)) (name : List ℕ) (first number : ℕ) → AllZip Fits (slots_of kinds.Free) words → name ≡ word_at words 1 → IsDataset name
@@ -103,7 +97,7 @@ free_said words name first number fits same is of_first fit_first of_number fit_
     let built : AreBuilt slots = (tt, (tt, (tt, (tt, tt)))) in
     let nameless : AreNameless (count ∷ count ∷ []) = (tt, (tt, tt)) in (
       is_line kinds.Free words fits (dataset_names (count ∷ count ∷ []) words nameless fits (rw same at is)) (all_built slots words built),
-      ((word_at words 0, cc), (is, over_none slots words 2 first (fit_at slots words 2 fits (lit< tt)) of_first fit_first, over_none slots words 3 number (fit_at slots words 3 fits (lit< tt)) of_number fit_number)),
+      ((word_at words 0, cc), (is, over_none words 2 first (fit_at slots words 2 fits (lit< tt)) of_first fit_first, over_none words 3 number (fit_at slots words 3 fits (lit< tt)) of_number fit_number)),
     )
 
 pub write_said : (words : List (List ℕ)) (name : List ℕ) (k i : ℕ) (bytes : List ℕ) → AllZip Fits (slots_of kinds.Write) words → name ≡ word_at words 1 → IsDataset name
@@ -121,7 +115,7 @@ write_said words name k i bytes fits same is of_k fit_k of_i of_bytes =
       is_line kinds.Write words fits (dataset_names (count ∷ index ∷ HexBytes (2 ^ 20) ∷ []) words nameless fits (rw same at is)) (all_built slots words built),
       (
         (word_at words 0, (word_at words 4, (of_bytes, cc))),
-        (is, over_none slots words 2 k (fit_at slots words 2 fits (lit< tt)) of_k fit_k, omega arith, omega arith),
+        (is, over_none words 2 k (fit_at slots words 2 fits (lit< tt)) of_k fit_k, omega arith, omega arith),
       ),
     )
 
@@ -168,7 +162,7 @@ object_said words name k kind size bonus_kind fits same is of_k fit_k of_kind fi
         (word_at words 0, (refl, refl, cc)),
         (
           is,
-          over_none slots words 2 k (fit_at slots words 2 fits (lit< tt)) of_k fit_k,
+          over_none words 2 k (fit_at slots words 2 fits (lit< tt)) of_k fit_k,
           omega (arith, kinds_range.0),
           size_is_block (word_at words 4) size (fit_at slots words 4 fits (lit< tt)) of_size fit_size,
           lit≤ tt,

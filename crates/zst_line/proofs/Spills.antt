@@ -1,9 +1,8 @@
 -- The halves of a spill block's word.
-use Rattle.std.proofs.Common.{◌≡◌, ◌≢◌, ℕ, ◌+◌, ◌^◌, ◌<◌, ◌≤◌, List, ◌∷◌, ◌++◌, length, get_or, Option, Some, None, Bor, decimal, true, arith, lit<}
+use Rattle.std.proofs.Common.{◌≡◌, ◌≢◌, ℕ, ◌^◌, ◌<◌, List, length, get_or, Some, None, Bor, decimal, arith, lit<}
 use Rattle.std.proofs.lemmas.Fmt.{decimal_is_IsNumeral}
 use Rattle.std.proofs.lemmas.Str.Parse.{digit_at}
 use Rattle.std.proofs.lemmas.Str.Pattern.{IsSplitOnceResult, split_after}
-use Rattle.zst_model.specs.State.{is_block_size}
 use Rattle.zst_line.specs.Grammar.{IsSpill}
 use Rattle.zst_line.proofs.Sizes.{block_size_below}
 

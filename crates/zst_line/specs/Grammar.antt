@@ -41,7 +41,7 @@ pub record IsSpill (word : List ℕ) : Type 0 where
   pub block : is_block_size size ≡ true
   pub digits : IsHex 0 size bytes
 
--- a word that may stand at a place; a name with `@` is a snapshot's and one with `#` alone a bookmark's, and whether it is one is judged behind all places
+-- a word that may stand at a place: `@` makes a name a snapshot's, `#` alone a bookmark's, and whether it is a name is judged after all places
 abbrev pub Fits : Slot → List ℕ → Type 0
 Fits Image word = (0 < length word) × ¬ (IsOption word)
 Fits DatasetName word = ¬ (IsOption word) × ¬ (Contains word 64) × ¬ (Contains word 35)

@@ -1,7 +1,7 @@
-use Rattle.std.proofs.Common.{map, length, arith, ◌<◌, ◌≡◌, subst, sym}
+use Rattle.std.proofs.Common.{map, length, arith, ◌≡◌}
 use Rattle.std.proofs.lemmas.List.{length-map}
 use Rattle.std.specs.String.{string_bytes}
-use Rattle.zst_line.proofs.Places.{Decided, stops_behind}
+use Rattle.zst_line.proofs.Places.{stops_behind}
 use Rattle.zst_line.proofs.parsing.first_misplaced.Goals as goal
 
 pub returns-then-words-slots : goal.returns-then-words-slots

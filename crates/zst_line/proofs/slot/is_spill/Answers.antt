@@ -1,4 +1,4 @@
-use Rattle.std.proofs.Common.{◌≡◌, ◌^◌, ◌<◌, ◌++◌, ◌∷◌, Some, decimal, sym, ◌∙◌, arith, lit<}
+use Rattle.std.proofs.Common.{◌≡◌, Some, decimal, sym, ◌∙◌, arith, lit<}
 use Rattle.std.proofs.lemmas.Bool.{false≢true}
 use Rattle.std.proofs.lemmas.Str.Pattern.{split_parts}
 use Rattle.zst_line.specs.Grammar.{IsHex}

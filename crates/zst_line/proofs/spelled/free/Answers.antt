@@ -2,7 +2,7 @@ use Rattle.std.proofs.Common.{map, arith, [], ◌∷◌, ◌^◌, ◌-◌, refl,
 use Rattle.std.proofs.lemmas.Result.{err_from_is_err_and}
 use Rattle.std.specs.String.{string_bytes}
 use Rattle.zst_line.specs.declared.kind.Kind.TheVariants as kinds
-use Rattle.zst_line.specs.Grammar.{slots_of, count, index}
+use Rattle.zst_line.specs.Grammar.{slots_of, count}
 use Rattle.zst_line.proofs.Said.{free_said, bad_dataset}
 use Rattle.zst_line.proofs.Shapes.{count_of, number_at}
 use Rattle.zst_line.proofs.spelled.free.Goals as goal

@@ -3,7 +3,7 @@ use Rattle.std.specs.String.{string_bytes}
 use Rattle.zst_line.specs.declared.kind.Kind.TheVariants as kinds
 use Rattle.zst_line.specs.Grammar.{slots_of}
 use Rattle.zst_line.proofs.Said.{snapshot_said, bad_snapshot}
-use Rattle.zst_line.proofs.Shapes.{count_of, number_at}
+use Rattle.zst_line.proofs.Shapes.{count_of}
 use Rattle.zst_line.proofs.spelled.snapshot.Goals as goal
 
 pub word-requires : goal.word-requires
