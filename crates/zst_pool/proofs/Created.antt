@@ -1,0 +1,81 @@
+-- What making a pool leaves.
+use Rattle.std.specs.Prelude.{Option, None, Result, Ok, Err, IfOk}
+use Rattle.std.proofs.Common.{◌≡◌, ◌⊎◌, inl, inr, ⊎_elim, ℕ, ◌*◌, ◌<◌, ◌^◌, List, refl, sym, ◌∙◌, ap, subst, arith}
+use Rattle.std.proofs.lemmas.List.Elements.{All-nil}
+use Rattle.zst_outside.specs.Images.{DiskState, Leaves, OnlyReads, Leaves-weaker, Leaves-then}
+use Rattle.zst_space.specs.FreeSectors.{FreeSectors}
+use Rattle.zst_uber.specs.Slots.{latest}
+use Rattle.zst_uber.specs.declared.uber.Uber.{Uber}
+use Rattle.zst_model.specs.Pool.{Pool, IsPool}
+use Rattle.zst_dir.specs.Rows.{Rows, no_rows}
+use Rattle.zst_objset.specs.Meaning.{Blocks}
+use Rattle.zst_pool.specs.Making.{CreateAnswers}
+use Rattle.zst_pool.specs.Reads.{Reads, RowsAre, new_pool}
+use Rattle.zst_pool.specs.Work.{NextIs, OldOrNext, CommitAnswer}
+use Rattle.zst_pool.specs.declared.fault.PoolFault.{PoolFault}
+use Rattle.zst_pool.specs.declared.fault.PoolFault.TheVariants.{Plan, CannotApply, Redacted, Full, Damaged, NoPool, BadVersion, DiskFault, Failed, OutOfMemory}
+use Rattle.zst_pool.specs.declared.kept.Kept.{Kept}
+
+IsPool-new : (id : ℕ) → (0 < id) × (id < 2 ^ 31) → IsPool (new_pool id)
+IsPool-new id is = record {
+  id = is;
+  number = omega arith;
+  guids = omega arith;
+  named = record {
+    dataset_names = All-nil _;
+    datasets = λ i j d below inside. absurd (omega (arith, inside));
+    snapshot_names = All-nil _;
+    snapshots = λ i j d below inside. absurd (omega (arith, inside));
+    snapshots_differ = λ i j d below inside. absurd (omega (arith, inside));
+    bookmark_names = All-nil _;
+    bookmarks = λ i j d below inside. absurd (omega (arith, inside));
+    targets = All-nil _;
+    partials = λ i j d below inside. absurd (omega (arith, inside));
+  };
+  linked = record { snapshots = All-nil _; origins = All-nil _; bases = All-nil _; components = All-nil _ };
+  datasets = All-nil _;
+  snapshots = All-nil _;
+  bookmarks = All-nil _;
+  partials = All-nil _;
+}
+
+RowsAre-new : (has : Blocks) (id : ℕ) → RowsAre has no_rows (new_pool id)
+RowsAre-new has id = record { datasets = tt; snapshots = tt; bookmarks = tt; partials = tt }
+
+-- a directory without rows is the new pool, behind a body without a number
+pub NextIs-new : (has : Blocks) (body : Uber) (rows : Rows) (id : ℕ) → (0 < id) × (id < 2 ^ 31) → body.id ≡ id → body.number ≡ 0 → rows ≡ no_rows → NextIs has body 0 rows (new_pool id)
+NextIs-new has body rows id is same none same_rows = record {
+  id = sym same;
+  number = omega (arith, none);
+  guid_counter = refl;
+  rows_are = subst (λ (r : Rows). RowsAre has r (new_pool id)) (sym same_rows) (RowsAre-new has id);
+  lawful = IsPool-new id is;
+}
+
+-- what is answered once no pool was found
+pub CreateAnswers-commit : (size : ℕ) (body : Option (List ℕ)) (sectors : ℕ) (after : Kept → Type 0) (before : Type 0) (result : Result Kept PoolFault) → body ≡ None → ¬ (size < 512 * sectors)
+    → CommitAnswer after before result → CreateAnswers size body sectors result
+CreateAnswers-commit size body sectors after before (Ok kept) none room is = (none, room)
+CreateAnswers-commit size body sectors after before (Err (Plan fault)) none room is = absurd is.0
+CreateAnswers-commit size body sectors after before (Err (CannotApply fault)) none room is = is.0
+CreateAnswers-commit size body sectors after before (Err (Redacted object block)) none room is = is.0
+CreateAnswers-commit size body sectors after before (Err (Full need largest)) none room is = is.0
+CreateAnswers-commit size body sectors after before (Err (Damaged sector stated found)) none room is = is.0
+CreateAnswers-commit size body sectors after before (Err NoPool) none room is = is.0
+CreateAnswers-commit size body sectors after before (Err (BadVersion number)) none room is = is.0
+CreateAnswers-commit size body sectors after before (Err DiskFault) none room is = tt
+CreateAnswers-commit size body sectors after before (Err Failed) none room is = is.0
+CreateAnswers-commit size body sectors after before (Err OutOfMemory) none room is = tt
+
+pub IfOk-commit : (after : Kept → Type 0) (before : Type 0) (result : Result Kept PoolFault) → CommitAnswer after before result → IfOk result after
+IfOk-commit after before (Ok kept) is = is
+IfOk-commit after before (Err fault) is = tt
+
+-- each image from the first sync on has a latest body from before it, or reads as the pool
+pub create-moments : (old mid new last : DiskState) (space : FreeSectors) (pool : Pool) → new ≡ last → OnlyReads old mid → Leaves mid new (OldOrNext space mid pool)
+    → Leaves old last (λ c. ((d : List ℕ) × old.images d × (latest c ≡ latest d)) ⊎ Reads pool c)
+create-moments old mid new last space pool same reads leaves =
+    let Fits : List ℕ → Type 0 = λ c. ((d : List ℕ) × old.images d × (latest c ≡ latest d)) ⊎ Reads pool c in
+    subst (λ (now : DiskState). Leaves old now Fits) same (Leaves-then old mid new Fits (OldOrNext space mid pool)
+    (Leaves-weaker old mid old.images Fits reads.time (λ c image. inl (c, image, refl))) leaves
+    (λ c is. ⊎_elim (λ past. inl (past.0, reads.crash past.0 past.1, past.2.latest_stays)) (λ next. inr next) is))

@@ -1,0 +1,15 @@
+pub mod Causes
+pub mod Changing
+pub mod Committed
+pub mod Created
+pub mod DirRuns
+pub mod Doing
+pub mod Growing
+pub mod Judging
+pub mod Matching
+pub mod NextPools
+pub mod Opened
+pub mod Parts
+pub mod Replying
+pub mod Runs
+pub mod Working

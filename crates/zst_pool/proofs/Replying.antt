@@ -1,0 +1,98 @@
+-- An accepted command that is built answers the number of its commit.
+use Rattle.std.specs.Prelude.{Result, Ok, Err, IfOk}
+use Rattle.std.proofs.Common.{◌≡◌, ℕ, ◌+◌, ◌≤◌, ◌<◌, ◌^◌, Bool, true, false, List, [], ◌∷◌, Option, Some, None, is_some, length, not, nat_lt, refl, sym, ap, ◌∙◌, arith}
+use Rattle.std.proofs.lemmas.Bool.{true≢false}
+use Rattle.std.proofs.lemmas.Bool.Decides.{nat_tests}
+use Rattle.std.proofs.lemmas.Result.{IfOk-at_ok}
+use Rattle.zst_model.specs.declared.command.Command.{Command}
+use Rattle.zst_model.specs.declared.command.Command.TheVariants as commands
+use Rattle.zst_model.specs.declared.faults.Quantity.TheVariants as quantities
+use Rattle.zst_model.specs.declared.refusal.Refusal.{Refusal}
+use Rattle.zst_model.specs.declared.refusal.Refusal.TheVariants as refusals
+use Rattle.zst_model.specs.Apply.{unless, ◌>>=◌}
+use Rattle.zst_model.specs.Dated.{DatedState}
+use Rattle.zst_model.specs.Lines.{ok_line}
+use Rattle.zst_names.specs.Names.{dataset_of}
+use Rattle.zst_model.specs.declared.named.Name.TheVariants as names
+use Rattle.zst_model.specs.Pool.{Pool, Dataset, dataset_named, partial_of, snapshot_named}
+use Rattle.zst_model.specs.Step.{Stepped, stepped, busy_partial, committed, count_datasets, exists_already, last_guid, last_number, limited, most_datasets, most_snapshots, no_such, or_else, on_head, punched, written, with_dataset, with_snapshot}
+use Rattle.zst_pool.specs.Checks.{freed, put_in, if_guid_left, if_new_snapshot, next_of, with_head_of, with_new, with_taken}
+use Rattle.zst_pool.specs.Stepping.{is_built}
+
+-- where it is accepted, its answer is the next number, and that isn't past the last one
+pub record IsReply (number : ℕ) (done : Stepped) : Type 0 where
+  pub line : done.reply ≡ ok_line (number + 1) ∷ []
+  pub below : number < 2 ^ 63
+
+module _ (number : ℕ) where
+  on_unless : (b : Bool) (e : Refusal) (r : Result Stepped Refusal) → IfOk r (IsReply number) → IfOk (unless b e r) (IsReply number)
+  on_unless true e r is = tt
+  on_unless false e r is = is
+
+  on_or_else : {A : Type 0} (e : Refusal) (o : Option A) (next : A → Result Stepped Refusal) → ((x : A) → IfOk (next x) (IsReply number)) → IfOk (or_else e o next) (IsReply number)
+  on_or_else e None next is = tt
+  on_or_else e (Some x) next is = is x
+
+  on_bind : {A : Type 0} (r : Result A Refusal) (next : A → Result Stepped Refusal) → ((x : A) → IfOk (next x) (IsReply number)) → IfOk (r >>= next) (IsReply number)
+  on_bind (Ok x) next is = is x
+  on_bind (Err e) next is = tt
+
+  on_committed : (pool : Pool) → pool.number ≡ number → IfOk (committed pool) (IsReply number)
+  unfolding last_number
+  on_committed pool same = go (nat_lt (2 ^ 63) (pool.number + 1)) refl
+    where
+      go : (b : Bool) → nat_lt (2 ^ 63) (pool.number + 1) ≡ b → IfOk (unless b (refusals.Limit quantities.Number (2 ^ 63)) (Ok (next_of pool))) (IsReply number)
+      go true e = tt
+      go false e = let le : pool.number + 1 ≤ 2 ^ 63 = grind (arith, nat_tests) in record { line = ap (λ n. ok_line (n + 1) ∷ []) same; below = omega (arith, le, same) }
+
+of_dataset : (kind : ℕ) (name : List ℕ) (pool : Pool) → IfOk (with_dataset kind name pool) (IsReply pool.number)
+of_dataset kind name pool =
+    let taken = exists_already (names.Dataset name) in
+    let made = committed (with_new kind name pool) in
+    let few = limited quantities.Datasets most_datasets (count_datasets pool + 1) made in
+    on_unless pool.number (is_some (dataset_named name pool)) taken (unless (is_some (partial_of name pool)) taken few)
+    (on_unless pool.number (is_some (partial_of name pool)) taken few
+    (on_unless pool.number (nat_lt most_datasets (count_datasets pool + 1)) (refusals.Limit quantities.Datasets most_datasets) made
+    (on_committed pool.number (with_new kind name pool) refl)))
+
+of_head : (name : List ℕ) (pool : Pool) (change : DatedState → Result DatedState Refusal) → IfOk (on_head name pool change) (IsReply pool.number)
+of_head name pool change =
+    let made = λ (dataset : Dataset). change dataset.head >>= λ (head : DatedState). committed (with_head_of name head pool) in
+    on_or_else pool.number (no_such (names.Dataset name)) (dataset_named name pool) (λ dataset. unless (is_some (partial_of name pool)) (busy_partial name) (made dataset))
+    (λ dataset. on_unless pool.number (is_some (partial_of name pool)) (busy_partial name) (made dataset)
+    (on_bind pool.number (change dataset.head) (λ head. committed (with_head_of name head pool)) (λ head. on_committed pool.number (with_head_of name head pool) refl)))
+
+of_snapshot : (now : ℕ) (name : List ℕ) (pool : Pool) → IfOk (with_snapshot now name pool) (IsReply pool.number)
+of_snapshot now name pool =
+    let of = dataset_of 64 name in
+    let made = λ (dataset : Dataset). committed (with_taken now name dataset pool) in
+    let left = λ (dataset : Dataset). if_guid_left pool.guids (made dataset) in
+    let count = length pool.snapshots + length pool.partials + 1 in
+    let few = λ (dataset : Dataset). limited quantities.Snapshots most_snapshots count (left dataset) in
+    on_or_else pool.number (no_such (names.Dataset of)) (dataset_named of pool) (λ dataset. unless (is_some (partial_of of pool)) (busy_partial of) (if_new_snapshot name pool (left dataset)))
+    (λ dataset. on_unless pool.number (is_some (partial_of of pool)) (busy_partial of) (if_new_snapshot name pool (left dataset))
+    (on_unless pool.number (is_some (snapshot_named name pool)) (exists_already (names.Snapshot name)) (few dataset)
+    (on_unless pool.number (nat_lt most_snapshots count) (refusals.Limit quantities.Snapshots most_snapshots) (left dataset)
+    (on_unless pool.number (nat_lt last_guid (pool.guids + 1)) (refusals.Limit quantities.Guids last_guid) (made dataset)
+    (on_committed pool.number (with_taken now name dataset pool) refl)))))
+
+of_step : (now : ℕ) (command : Command) (pool : Pool) → is_built command ≡ true → IfOk (stepped now command pool) (IsReply pool.number)
+unfolding stepped
+of_step now (commands.Fs dataset) pool built = of_dataset 2 dataset pool
+of_step now (commands.Volume dataset) pool built = of_dataset 3 dataset pool
+of_step now (commands.Object dataset k head bonus spill) pool built = of_head dataset pool (put_in pool k head bonus spill)
+of_step now (commands.Write dataset k i bytes) pool built = of_head dataset pool (written pool k i bytes)
+of_step now (commands.Punch dataset k first count) pool built = of_head dataset pool (punched pool k first count)
+of_step now (commands.Free dataset first count) pool built = of_head dataset pool (freed pool first count)
+of_step now (commands.Snapshot name) pool built = of_snapshot now name pool
+of_step now (commands.Read name k i) pool built = absurd (cc)
+of_step now commands.List pool built = absurd (cc)
+of_step now (commands.ListObjects name) pool built = absurd (cc)
+
+pub step_reply : (now : ℕ) (command : Command) (pool : Pool) (done : Stepped) → is_built command ≡ true → stepped now command pool ≡ Ok done → IsReply pool.number done
+step_reply now command pool done built made = IfOk-at_ok (IsReply pool.number) made (of_step now command pool built)
+
+-- a command that isn't unbuilt is built
+pub is_built_from : (b : Bool) → not b ≡ false → b ≡ true
+is_built_from true h = refl
+is_built_from false h = absurd (cc)

@@ -1,0 +1,9 @@
+use Rattle.std.proofs.Common.{arith}
+use Rattle.zst_pool.proofs.Judging.{at_last_number, below_last_number}
+use Rattle.zst_pool.proofs.checks.check_number.Goals as goal
+
+pub returns-then-number-ge-LAST_NUMBER-clause-judged : goal.returns-then-number-ge-LAST_NUMBER-clause-judged
+returns-then-number-ge-LAST_NUMBER-clause-judged c = λ pool is. at_last_number pool (omega (arith, is, c.if-number-ge-LAST_NUMBER.true))
+
+pub returns-clause-judged : goal.returns-clause-judged
+returns-clause-judged c = λ pool is. below_last_number pool (omega (arith, is, c.if-number-ge-LAST_NUMBER.false))

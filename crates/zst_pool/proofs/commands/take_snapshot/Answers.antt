@@ -1,0 +1,87 @@
+use Rattle.std.specs.Prelude.{Result, Err}
+use Rattle.std.proofs.Common.{◌≡◌, ℕ, List, sym, ap, ◌∙◌, subst, not}
+use Rattle.std.specs.List.{filter, Contains}
+use Rattle.std.specs.Str.{bytes_eq}
+use Rattle.zst_outside.specs.Images.{OnlyReads-none}
+use Rattle.zst_space.specs.FreeSectors.{FreeSectors}
+use Rattle.zst_block.specs.Blocks.{Has, FillsFree}
+use Rattle.zst_block.specs.BlocksLaws.{IsTaken-head, FillsFree-reads}
+use Rattle.zst_names.specs.Names.{IsSnapshot, dataset_of}
+use Rattle.zst_model.specs.Pool.{inserted}
+use Rattle.zst_model.specs.Step.{with_snapshot}
+use Rattle.zst_pool.specs.Checks.{next_of, with_taken}
+use Rattle.zst_dir.specs.Rows.{Rows, HasSnapshot, IsDatasetRow, snapshot_is_before}
+use Rattle.zst_pool.specs.Reads.{Describes, free_by}
+use Rattle.zst_pool.specs.Work.{Did}
+use Rattle.zst_dir.specs.declared.rows.Dataset.{Dataset}
+use Rattle.zst_dir.specs.declared.rows.Snapshot.{Snapshot}
+use Rattle.zst_pool.specs.declared.fault.PoolFault.{PoolFault}
+use Rattle.zst_pool.specs.declared.fault.PoolFault.TheVariants.{Plan, OutOfMemory}
+use Rattle.zst_pool.specs.declared.kept.Kept.{Kept}
+use Rattle.zst_pool.proofs.Doing.{did, fell, free_by_fits}
+use Rattle.zst_pool.proofs.Judging.{err_is}
+use Rattle.zst_pool.proofs.NextPools.{snapshot_is_next, snapshot_is_lawful}
+use Rattle.zst_pool.proofs.commands.take_snapshot.Goals as goal
+
+pub new_snapshot-snapshot-requires-clause-row : goal.new_snapshot-snapshot-requires-clause-row
+new_snapshot-snapshot-requires-clause-row g c =
+    let there = c.in_ok-dataset.ensures.there in
+    subst IsDatasetRow there.0.2 (c.in_ok-dataset.ensures.lawful.datasets there.0.0 c.in_ok-dataset.dataset.now there.0.1)
+
+pub dir_with_snapshot-requires-clause-new : goal.dir_with_snapshot-requires-clause-new
+dir_with_snapshot-requires-clause-new g c =
+    subst (λ (s : Snapshot). HasSnapshot c.args.kept.now.dir s.name → ⊥) (sym c.new_snapshot-snapshot.ensures.same) c.in_ok-dataset.ensures.absent
+
+pub dir_with_snapshot-requires-clause-dataset : goal.dir_with_snapshot-requires-clause-dataset
+dir_with_snapshot-requires-clause-dataset g c =
+    let there = c.in_ok-dataset.ensures.there in
+    (c.in_ok-dataset.dataset.now, there.0, there.1 ∙ ap (λ (s : Snapshot). dataset_of 64 s.name) (sym c.new_snapshot-snapshot.ensures.same))
+
+pub returns-in_err-dataset-clause-did : goal.returns-in_err-dataset-clause-did
+returns-in_err-dataset-clause-did g c = λ pool told rests.
+    let old = g.D.Disk.state c.args.io.now.disk.now in
+    let space = c.args.io.now.space in
+    let body = c.args.kept.now.body in
+    let rows = c.args.kept.now.dir in
+    let definition = with_snapshot c.args.now c.args.name.now pool in
+    let fault = c.in_err-dataset.field-0.0 in
+    let described = subst (λ (s : FreeSectors). Describes body rows pool (Has old.seen s)) (sym c.requires.space) rests.reads.described in
+    let judged = c.in_err-dataset.ensures.judged old.seen space c.args.now pool described.rows_are described.guids described.number in
+    let fills = subst (λ (s : FreeSectors). FillsFree old (free_by body) old s) (sym c.requires.space) (FillsFree-reads old old (free_by body) (OnlyReads-none old)) in
+    let head = IsTaken-head old.size (free_by body) (free_by_fits old.size body c.requires.ready.in_range) in
+    subst (λ (r : Result Kept PoolFault). Did old old body rows pool definition r) (sym (err_is c.from_residual.result (Plan fault) c.from_residual.ensures.1))
+    (fell old old space body rows pool head rests fills definition (Plan fault) (judged, tt))
+
+pub returns-in_err-dir-clause-did : goal.returns-in_err-dir-clause-did
+returns-in_err-dir-clause-did g c = λ pool told rests.
+    let old = g.D.Disk.state c.args.io.now.disk.now in
+    let space = c.args.io.now.space in
+    let body = c.args.kept.now.body in
+    let rows = c.args.kept.now.dir in
+    let definition = with_snapshot c.args.now c.args.name.now pool in
+    let fills = subst (λ (s : FreeSectors). FillsFree old (free_by body) old s) (sym c.requires.space) (FillsFree-reads old old (free_by body) (OnlyReads-none old)) in
+    let head = IsTaken-head old.size (free_by body) (free_by_fits old.size body c.requires.ready.in_range) in
+    subst (λ (r : Result Kept PoolFault). Did old old body rows pool definition r) (sym (err_is c.from_residual-in_err-dir.result OutOfMemory c.from_residual-in_err-dir.ensures.1))
+    (fell old old space body rows pool head rests fills definition OutOfMemory tt)
+
+pub returns-clause-did : goal.returns-clause-did
+returns-clause-did g c = λ pool told rests.
+    let old = g.D.Disk.state c.args.io.now.disk.now in
+    let space = c.args.io.now.space in
+    let body = c.args.kept.now.body in
+    let rows = c.args.kept.now.dir in
+    let now = c.args.now in
+    let name = c.args.name.now in
+    let row = c.in_ok-dataset.dataset.now in
+    let described = subst (λ (s : FreeSectors). Describes body rows pool (Has old.seen s)) (sym c.requires.space) rests.reads.described in
+    let judged = c.in_ok-dataset.ensures.judged old.seen space now pool described.rows_are described.guids described.number in
+    let done = next_of (with_taken now name judged.0 pool) in
+    let same = c.new_snapshot-snapshot.ensures.same in
+    let named = subst IsSnapshot (ap (λ (s : Snapshot). s.name) same) c.new_snapshot-snapshot.ensures.row.name in
+    let lawful = snapshot_is_lawful c.steps_keep_pools.ensures.pools now name pool done named described.lawful judged.2 in
+    let dir = c.in_ok-dir.ensures
+    ∙ ap (λ (s : Snapshot). record rows { snapshots = inserted snapshot_is_before s rows.snapshots; partials = filter (λ partial. not (bytes_eq partial.target (dataset_of 64 s.name))) rows.partials }) same in
+    let next = snapshot_is_next (Has old.seen space) body rows c.in_ok-dir.dir pool now name row judged.0 described judged.1 c.in_ok-dataset.ensures.free dir lawful in
+    let fills = subst (λ (s : FreeSectors). FillsFree old (free_by body) old s) (sym c.requires.space) (FillsFree-reads old old (free_by body) (OnlyReads-none old)) in
+    did old (g.D.Disk.state c.commit_dir.new.io.disk.now) body rows pool (with_snapshot now name pool) done judged.2 c.commit_dir.result
+    (c.commit_dir.ensures.commits c.args.io.now.disk.now rows pool done.pool told rests fills next)

@@ -1,0 +1,60 @@
+use Rattle.std.proofs.Common.{◌≡◌, List, ℕ, refl, sym, ◌∙◌, ap, subst, Result, Ok, Err}
+use Rattle.std.proofs.lemmas.Result.{err_from_is_err_and}
+use Rattle.zst_block.specs.BlocksLaws.{IsTaken-head}
+use Rattle.zst_pool.proofs.Committed.{prepared, commit-moments, commit-rests, over-refused, disk-refused, Ready-works, Commits-over}
+use Rattle.zst_pool.proofs.committing.commit_dir.Goals as goal
+
+pub commit_event-requires-clause-settled : goal.commit_event-requires-clause-settled
+commit_event-requires-clause-settled g c = λ told. c.write_dir.ensures.works.head (c.requires.ready.head told)
+
+pub returns-in_err-root-clause-over : goal.returns-in_err-root-clause-over
+returns-in_err-root-clause-over g c = λ next told is.
+    let old = g.D.Disk.state c.args.io.now.disk.now in
+    let space = c.args.io.now.space in
+    let p = err_from_is_err_and c.from_residual.result c.from_residual.ensures.1 in
+    rw (p.1, p.2) (over-refused old _ space c.write_dir.new.io.space next c.in_err-root.field-0.0 (IsTaken-head old.size space c.requires.fits) c.write_dir.ensures.works.fills c.in_err-root.ensures.fault)
+
+pub returns-in_err-root-clause-commits : goal.returns-in_err-root-clause-commits
+returns-in_err-root-clause-commits g c = λ start rows pool next told rests fills is.
+    Commits-over (g.D.Disk.state start) _ _ _ c.write_dir.new.io.space c.args.body.now rows pool next _ rests fills (returns-in_err-root-clause-over g c next told is)
+
+pub returns-in_err-root-clause-stays : goal.returns-in_err-root-clause-stays
+returns-in_err-root-clause-stays g c = λ sound.
+    let p = err_from_is_err_and c.from_residual.result c.from_residual.ensures.1 in
+    rw (p.1) (Ready-works g.D.Disk.tells_reads _ _ c.args.io.now.space c.write_dir.new.io.space _ _ c.write_dir.result c.args.body.now c.write_dir.ensures.works c.requires.ready)
+
+pub returns-in-Ok-clause-over : goal.returns-in-Ok-clause-over
+returns-in-Ok-clause-over g c = λ next told is.
+    let old = g.D.Disk.state c.args.io.now.disk.now in
+    let mid = g.D.Disk.state c.write_dir.new.io.disk.now in
+    let space = c.args.io.now.space in
+    let less = c.write_dir.new.io.space in
+    let ready = prepared old mid space less c.args.body.now c.next_body-next.result c.args.guids c.end.result c.in_ok-root.length c.in_ok-root.root c.args.dir next
+    c.next_body-next.ensures c.end.ensures c.in_ok-root.ensures.sectors c.requires.sectors c.in_ok-root.ensures.extents c.requires.ready.in_range c.write_dir.ensures.works.fills c.write_dir.ensures.works.fits
+    (g.met.D.Disk.seen_size c.write_dir.new.io.disk.now told) c.commit_event.ensures.uber_fits c.in_ok-root.ensures.kind (c.in_ok-root.ensures.there told) is in
+    record {
+      moments = commit-moments old mid _ space less c.next_body-next.result c.args.dir next (IsTaken-head old.size space c.requires.fits) c.write_dir.ensures.works.fills ready (c.commit_event.ensures.moments told);
+      answer = commit-rests mid _ c.next_body-next.result c.args.dir next ready c.commit_event.ensures.writes (c.in-Ok.ensures.stands told) c.in-Ok.ensures.durable;
+    }
+
+pub returns-in-Ok-clause-commits : goal.returns-in-Ok-clause-commits
+returns-in-Ok-clause-commits g c = λ start rows pool next told rests fills is.
+    Commits-over (g.D.Disk.state start) _ _ _ c.commit_event.new.io.space c.args.body.now rows pool next _ rests fills (returns-in-Ok-clause-over g c next told is)
+
+pub returns-in-Err-clause-over : goal.returns-in-Err-clause-over
+returns-in-Err-clause-over g c = λ next told is.
+    let old = g.D.Disk.state c.args.io.now.disk.now in
+    let mid = g.D.Disk.state c.write_dir.new.io.disk.now in
+    let space = c.args.io.now.space in
+    let less = c.write_dir.new.io.space in
+    let ready = prepared old mid space less c.args.body.now c.next_body-next.result c.args.guids c.end.result c.in_ok-root.length c.in_ok-root.root c.args.dir next
+    c.next_body-next.ensures c.end.ensures c.in_ok-root.ensures.sectors c.requires.sectors c.in_ok-root.ensures.extents c.requires.ready.in_range c.write_dir.ensures.works.fills c.write_dir.ensures.works.fits
+    (g.met.D.Disk.seen_size c.write_dir.new.io.disk.now told) c.commit_event.ensures.uber_fits c.in_ok-root.ensures.kind (c.in_ok-root.ensures.there told) is in
+    record {
+      moments = commit-moments old mid _ space less c.next_body-next.result c.args.dir next (IsTaken-head old.size space c.requires.fits) c.write_dir.ensures.works.fills ready (c.commit_event.ensures.moments told);
+      answer = disk-refused _ c.in-Err.fault c.from.result c.from.ensures (c.in-Err.ensures.only c.in-Err.fault refl);
+    }
+
+pub returns-in-Err-clause-commits : goal.returns-in-Err-clause-commits
+returns-in-Err-clause-commits g c = λ start rows pool next told rests fills is.
+    Commits-over (g.D.Disk.state start) _ _ _ c.commit_event.new.io.space c.args.body.now rows pool next _ rests fills (returns-in-Err-clause-over g c next told is)

@@ -1,0 +1,81 @@
+use Rattle.std.specs.Prelude.{Result, Err}
+use Rattle.std.proofs.Common.{◌≡◌, sym, ap, ◌∙◌, subst, refl}
+use Rattle.zst_block.specs.Blocks.{Has}
+use Rattle.zst_block.specs.BlocksLaws.{FillsFree-then}
+use Rattle.zst_tree.specs.declared.tree.ObjSet.{ObjSet}
+use Rattle.zst_pool.specs.Checks.{next_of, with_head_of}
+use Rattle.zst_dir.specs.Rows.{Rows, with_head}
+use Rattle.zst_pool.specs.Faults.{is_disk_fault}
+use Rattle.zst_pool.specs.Reads.{free_by}
+use Rattle.zst_pool.specs.Work.{Commits, Ready}
+use Rattle.zst_pool.specs.declared.fault.PoolFault.{PoolFault}
+use Rattle.zst_pool.specs.declared.fault.PoolFault.TheVariants.{OutOfMemory}
+use Rattle.zst_pool.specs.declared.kept.Kept.{Kept}
+use Rattle.zst_pool.proofs.Doing.{fell_before}
+use Rattle.zst_pool.proofs.Judging.{err_is}
+use Rattle.zst_pool.proofs.NextPools.{head_is_next}
+use Rattle.zst_pool.proofs.Parts.{ready_works, failed_then, cause_then, on_err, taken, described_on}
+use Rattle.zst_pool.proofs.heads.commit_head.Goals as goal
+
+pub commit_dir-requires-clause-ready : goal.commit_dir-requires-clause-ready
+commit_dir-requires-clause-ready g c =
+    ready_works g.D.Disk.tells_reads _ c.args.io.now.space c.args.io.now.failed _ c.store.new.io.space c.store.new.io.failed _ c.args.kept.now.body c.requires.ready c.store.ensures.works
+
+pub returns-in_err-head-clause-commits : goal.returns-in_err-head-clause-commits
+returns-in_err-head-clause-commits g c = λ start pool head told rests fills is lawful.
+    let from = g.D.Disk.state start in
+    let old = g.D.Disk.state c.args.io.now.disk.now in
+    let new = g.D.Disk.state c.store.new.io.disk.now in
+    let body = c.args.kept.now.body in
+    let rows = c.args.kept.now.dir in
+    let next = (next_of (with_head_of c.args.name.now head pool)).pool in
+    let fault = c.in_err-head.field-0.0 in
+    let through = FillsFree-then from old new (free_by body) c.args.io.now.space c.store.new.io.space fills c.store.ensures.works.fills in
+    subst (λ (r : Result Kept PoolFault). Commits from new body rows pool next r) (sym (err_is c.from_residual.result fault c.from_residual.ensures.1))
+    (fell_before from new c.store.new.io.space body rows pool (taken from body rows pool rests) rests through next fault c.in_err-head.ensures.fault)
+
+pub returns-in_err-dir-clause-commits : goal.returns-in_err-dir-clause-commits
+returns-in_err-dir-clause-commits g c = λ start pool head told rests fills is lawful.
+    let from = g.D.Disk.state start in
+    let old = g.D.Disk.state c.args.io.now.disk.now in
+    let new = g.D.Disk.state c.store.new.io.disk.now in
+    let body = c.args.kept.now.body in
+    let rows = c.args.kept.now.dir in
+    let next = (next_of (with_head_of c.args.name.now head pool)).pool in
+    let through = FillsFree-then from old new (free_by body) c.args.io.now.space c.store.new.io.space fills c.store.ensures.works.fills in
+    subst (λ (r : Result Kept PoolFault). Commits from new body rows pool next r) (sym (err_is c.from_residual-in_err-dir.result OutOfMemory c.from_residual-in_err-dir.ensures.1))
+    (fell_before from new c.store.new.io.space body rows pool (taken from body rows pool rests) rests through next OutOfMemory tt)
+
+pub returns-clause-commits : goal.returns-clause-commits
+returns-clause-commits g c = λ start pool head told rests fills is lawful.
+    let from = g.D.Disk.state start in
+    let old = g.D.Disk.state c.args.io.now.disk.now in
+    let mid = g.D.Disk.state c.store.new.io.disk.now in
+    let less = c.store.new.io.space in
+    let body = c.args.kept.now.body in
+    let rows = c.args.kept.now.dir in
+    let name = c.args.name.now in
+    let set = c.in_ok-head.head in
+    let next = (next_of (with_head_of name head pool)).pool in
+    let through = FillsFree-then from old mid (free_by body) c.args.io.now.space less fills c.store.ensures.works.fills in
+    let described = described_on from mid less body rows pool rests through in
+    let dir = c.set_head.ensures ∙ ap (λ (d : Rows). record d { datasets = with_head name set d.datasets }) c.in_ok-dir.ensures in
+    let is_next = head_is_next (Has mid.seen less) body rows c.set_head.new.self pool name set head described (c.in_ok-head.ensures.stored told head is) dir lawful in
+    c.commit_dir.ensures.commits start rows pool next told rests through is_next
+
+pub returns-in_err-head-clause-stays : goal.returns-in_err-head-clause-stays
+returns-in_err-head-clause-stays g c = λ standing.
+    on_err c.from_residual.result (Ready g.D.Disk.tells_reads (g.D.Disk.state c.store.new.io.disk.now) c.args.kept.now.body)
+    (ready_works g.D.Disk.tells_reads _ c.args.io.now.space c.args.io.now.failed _ c.store.new.io.space c.store.new.io.failed _ c.args.kept.now.body c.requires.ready c.store.ensures.works)
+
+pub returns-in_err-dir-clause-stays : goal.returns-in_err-dir-clause-stays
+returns-in_err-dir-clause-stays g c = λ standing.
+    on_err c.from_residual-in_err-dir.result (Ready g.D.Disk.tells_reads (g.D.Disk.state c.store.new.io.disk.now) c.args.kept.now.body)
+    (ready_works g.D.Disk.tells_reads _ c.args.io.now.space c.args.io.now.failed _ c.store.new.io.space c.store.new.io.failed _ c.args.kept.now.body c.requires.ready c.store.ensures.works)
+
+pub returns-clause-failed : goal.returns-clause-failed
+returns-clause-failed g c =
+    failed_then c.args.io.now.failed c.store.new.io.failed c.commit_dir.new.io.failed (is_disk_fault c.commit_dir.result) c.in_ok-head.ensures.works.failed c.commit_dir.ensures.failed
+
+pub returns-clause-cause : goal.returns-clause-cause
+returns-clause-cause g c = cause_then _ _ _ c.in_ok-head.head c.commit_dir.result c.in_ok-head.ensures.works.cause c.commit_dir.ensures.cause

@@ -1,0 +1,56 @@
+use Rattle.std.specs.Prelude.{Result, Ok, Err}
+use Rattle.std.proofs.Common.{◌≡◌, ℕ, ◌+◌, List, [], ◌∷◌, sym, ap, ◌∙◌, subst, not, arith}
+use Rattle.zst_model.specs.Lines.{ok_line}
+use Rattle.zst_model.specs.Step.{stepped}
+use Rattle.zst_pool.specs.Stepping.{StepAnswer}
+use Rattle.zst_pool.specs.declared.fault.PoolFault.{PoolFault}
+use Rattle.zst_pool.specs.declared.fault.PoolFault.TheVariants.{OutOfMemory}
+use Rattle.zst_pool.proofs.Judging.{err_is}
+use Rattle.zst_pool.proofs.Replying.{step_reply, is_built_from}
+use Rattle.zst_pool.proofs.pool.Pool.step.Goals as goal
+
+pub returns-clause-moments : goal.returns-clause-moments
+returns-clause-moments g c = λ pool told rests.
+    let built = is_built_from _ (sym c.is_not_built.ensures ∙ c.if-is_not_built.false) in
+    let did = c.in_ok-kept.ensures.did pool told built rests in
+    did.moments
+
+pub returns-clause-answer : goal.returns-clause-answer
+returns-clause-answer g c = λ pool told built standing rests.
+    let did = c.in_ok-kept.ensures.did pool told built rests in
+    let answer = did.answer in
+    let is = step_reply c.args.now c.args.command pool answer.0 built answer.1 in
+    let number : c.saturating_add.result ≡ pool.number + 1 = omega (arith, is.below, rests.reads.described.number, c.saturating_add.ensures) in
+    (answer.0, answer.1, c.in_ok-reply.ensures ∙ ap (λ (n : ℕ). ok_line n ∷ []) number ∙ sym is.line, answer.2)
+
+pub returns-clause-sound : goal.returns-clause-sound
+returns-clause-sound g c = λ pool done rests sound made. c.steps_keep_sound.ensures c.args.now c.args.command pool done c.requires.command rests.reads.described.lawful sound made
+
+pub returns-in_err-kept-clause-moments : goal.returns-in_err-kept-clause-moments
+returns-in_err-kept-clause-moments g c = λ pool told rests.
+    let built = is_built_from _ (sym c.is_not_built.ensures ∙ c.if-is_not_built.false) in
+    let did = c.in_err-kept.ensures.did pool told built rests in
+    did.moments
+
+pub returns-in_err-kept-clause-answer : goal.returns-in_err-kept-clause-answer
+returns-in_err-kept-clause-answer g c = λ pool told built standing rests.
+    let did = c.in_err-kept.ensures.did pool told built rests in
+    subst (StepAnswer (g.D.Disk.state c.run.new.io.disk.now) c.args.self.now.kept.body c.args.self.now.kept.dir pool (stepped c.args.now c.args.command pool))
+    (sym (err_is c.from_residual-in_err-kept.result c.in_err-kept.field-0.0 c.from_residual-in_err-kept.ensures.1)) did.answer
+
+pub returns-in_err-kept-clause-sound : goal.returns-in_err-kept-clause-sound
+returns-in_err-kept-clause-sound g c = λ pool done rests sound made. c.steps_keep_sound.ensures c.args.now c.args.command pool done c.requires.command rests.reads.described.lawful sound made
+
+pub returns-in_err-reply-clause-answer : goal.returns-in_err-reply-clause-answer
+returns-in_err-reply-clause-answer g c = λ pool told built standing rests.
+    subst (StepAnswer (g.D.Disk.state c.args.self.now.io.disk.now) c.args.self.now.kept.body c.args.self.now.kept.dir pool (stepped c.args.now c.args.command pool))
+    (sym (err_is c.from_residual.result OutOfMemory c.from_residual.ensures.1)) rests
+
+pub returns-in_err-reply-clause-sound : goal.returns-in_err-reply-clause-sound
+returns-in_err-reply-clause-sound g c = λ pool done rests sound made. c.steps_keep_sound.ensures c.args.now c.args.command pool done c.requires.command rests.reads.described.lawful sound made
+
+pub returns-then-self-clause-sound : goal.returns-then-self-clause-sound
+returns-then-self-clause-sound g c = λ pool done rests sound made. c.steps_keep_sound.ensures c.args.now c.args.command pool done c.requires.command rests.reads.described.lawful sound made
+
+pub returns-then-is_not_built-clause-sound : goal.returns-then-is_not_built-clause-sound
+returns-then-is_not_built-clause-sound g c = λ pool done rests sound made. c.steps_keep_sound.ensures c.args.now c.args.command pool done c.requires.command rests.reads.described.lawful sound made

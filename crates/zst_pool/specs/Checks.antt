@@ -1,0 +1,95 @@
+-- What the checks of a command say of its definition.
+use Rattle.std.specs.Prelude.{◌≡◌, ℕ, ◌+◌, List, [], ◌∷◌, length, map, false, is_some, Option, Result, Ok, Err}
+use Rattle.std.specs.Borrow.{Bor}
+use Rattle.zst_model.specs.declared.attr.ObjectHead.{ObjectHead}
+use Rattle.zst_model.specs.declared.item.Change.TheVariants.{Put}
+use Rattle.zst_model.specs.declared.item.Item.TheVariants.{At, FreeObjects}
+use Rattle.zst_model.specs.Items.{spill_change}
+use Rattle.zst_model.specs.declared.plan_fault.PlanFault.{PlanFault}
+use Rattle.zst_model.specs.declared.refusal.Refusal.{Refusal}
+use Rattle.zst_model.specs.declared.faults.Quantity.TheVariants as quantities
+use Rattle.zst_model.specs.declared.named.Name.TheVariants as names
+use Rattle.zst_model.specs.Apply.{unless, ◌>>=◌}
+use Rattle.zst_model.specs.Dated.{DatedState}
+use Rattle.zst_model.specs.Lines.{ok_line}
+use Rattle.zst_model.specs.Pool.{Pool, is_before, snapshot_is_before, inserted, snapshot_named}
+use Rattle.zst_model.specs.Pool as plain
+use Rattle.zst_model.specs.Refusal.{refusal_of}
+use Rattle.zst_model.specs.Step.{Stepped, exists_already, limited, last_guid, most_snapshots, on_dataset, on_head, committed, with_head, new_dataset, snapshot_of, with_snapshot, applied, in_numbers}
+use Rattle.zst_pool.specs.Faults.{StepFault}
+use Rattle.zst_pool.specs.Reads.{DatasetIs}
+use Rattle.zst_objset.specs.Meaning.{Blocks, SetIs}
+use Rattle.zst_objset.specs.Rows.{Lists}
+use Rattle.zst_dir.specs.declared.rows.Dataset.{Dataset}
+use Rattle.zst_pool.specs.declared.fault.PoolFault.{PoolFault}
+
+-- a check that passes leaves what comes next of the definition, and one that refuses gives the definition's refusal
+abbrev pub Judges : {T : Type 0} → Result Stepped Refusal → Result Stepped Refusal → Result T PlanFault → Type 0
+Judges definition next (Ok value) = definition ≡ next
+Judges definition next (Err fault) = definition ≡ Err (refusal_of fault)
+
+-- what comes next, where a snapshot's name is free and one more snapshot has room
+abbrev pub if_new_snapshot : List ℕ → Pool → Result Stepped Refusal → Result Stepped Refusal
+if_new_snapshot name pool rest =
+    unless (is_some (snapshot_named name pool)) (exists_already (names.Snapshot name))
+    (limited quantities.Snapshots most_snapshots (length pool.snapshots + length pool.partials + 1) rest)
+
+-- what comes next, where one more guid is left
+abbrev pub if_guid_left : ℕ → Result Stepped Refusal → Result Stepped Refusal
+if_guid_left guids rest = limited quantities.Guids last_guid (guids + 1) rest
+
+-- the pool of the next commit, and its answer
+abbrev pub next_of : Pool → Stepped
+next_of pool = record { reply = ok_line (pool.number + 1) ∷ []; pool = record pool { number = pool.number + 1 } }
+
+-- a pool with a new dataset, and one with another head of a dataset
+abbrev pub with_new : ℕ → List ℕ → Pool → Pool
+with_new kind name pool = record pool { datasets = inserted (λ a b. is_before a.name b.name) (new_dataset kind name) pool.datasets }
+
+-- one with a new snapshot
+abbrev pub with_taken : ℕ → List ℕ → plain.Dataset → Pool → Pool
+with_taken now name dataset pool = record pool { guids = pool.guids + 1; snapshots = inserted snapshot_is_before (snapshot_of now name pool dataset) pool.snapshots }
+
+abbrev pub with_head_of : List ℕ → DatedState → Pool → Pool
+with_head_of name head pool = record pool { datasets = with_head name head pool.datasets }
+
+-- the row of a dataset that has no partial state, or what each command on it is refused for
+abbrev pub FindsDataset : Blocks → List ℕ → Pool → Result (Bor Dataset) PlanFault → Type 0
+FindsDataset has name pool (Ok row) =
+    (dataset : plain.Dataset) × DatasetIs has row.now dataset
+    × ((next : plain.Dataset → Result Stepped Refusal) → on_dataset name pool next ≡ next dataset)
+FindsDataset has name pool (Err fault) = (next : plain.Dataset → Result Stepped Refusal) → on_dataset name pool next ≡ Err (refusal_of fault)
+
+-- the row of a new snapshot's dataset and what the definition makes of it, or its refusal
+abbrev pub JudgesSnapshot : Blocks → ℕ → List ℕ → Pool → Result (Bor Dataset) PlanFault → Type 0
+JudgesSnapshot has now name pool (Ok row) =
+    (dataset : plain.Dataset) × DatasetIs has row.now dataset × (with_snapshot now name pool ≡ Ok (next_of (with_taken now name dataset pool)))
+JudgesSnapshot has now name pool (Err fault) = with_snapshot now name pool ≡ Err (refusal_of fault)
+
+-- the rows of a head that can be changed, or what each change of it is refused for
+abbrev pub FindsHead : Blocks → List ℕ → Pool → Result Lists PoolFault → Type 0
+FindsHead has name pool (Ok lists) =
+    (head : DatedState) × SetIs has lists head
+    × ((change : DatedState → Result DatedState Refusal) → on_head name pool change ≡ (change head >>= λ after. committed (with_head_of name after pool)))
+FindsHead has name pool (Err fault) = (change : DatedState → Result DatedState Refusal) → StepFault (Unit {0}) (on_head name pool change) fault
+
+-- what free and object make of a head
+abbrev pub freed : Pool → ℕ → ℕ → DatedState → Result DatedState Refusal
+freed pool first count head = in_numbers (first + count) (applied pool (FreeObjects first count ∷ []) head)
+
+abbrev pub put_in : Pool → ℕ → ObjectHead → List ℕ → Option (List ℕ) → DatedState → Result DatedState Refusal
+put_in pool k head bonus spill old = in_numbers (k + 1) (applied pool (map (At k) (Put head bonus false 0 ∷ spill_change spill)) old)
+
+-- a change of a head that can be made and committed, or what the command is refused for
+abbrev pub PlansHead : {T : Type 0} → (T → DatedState → Type 0) → List ℕ → Pool → Result DatedState Refusal → Result T PoolFault → Type 0
+PlansHead Makes name pool change (Ok value) =
+    (after : DatedState) × (change ≡ Ok after) × Makes value after
+    × (committed (with_head_of name after pool) ≡ Ok (next_of (with_head_of name after pool)))
+PlansHead Makes name pool change (Err fault) = StepFault (Unit {0}) (change >>= λ after. committed (with_head_of name after pool)) fault
+
+-- the rows of a changed head in a pool that can be committed, or what the command is refused for
+abbrev pub ChangesHead : {T : Type 0} → Blocks → List ℕ → Pool → Result DatedState Refusal → Lists → Result T PoolFault → Type 0
+ChangesHead has name pool change lists (Ok value) =
+    (after : DatedState) × (change ≡ Ok after) × SetIs has lists after
+    × (committed (with_head_of name after pool) ≡ Ok (next_of (with_head_of name after pool)))
+ChangesHead has name pool change lists (Err fault) = StepFault (Unit {0}) (change >>= λ after. committed (with_head_of name after pool)) fault

@@ -1,0 +1,110 @@
+-- The refusals of a pool, and what stands after each.
+use Rattle.std.specs.Prelude.{◌≡◌, ◌<◌, ◌≤◌, ℕ, Bool, true, false, Result, Ok, Err}
+use Rattle.zst_outside.specs.Causes.{Rose}
+use Rattle.zst_block.specs.declared.fault.BlockFault.{BlockFault}
+use Rattle.zst_block.specs.declared.fault.BlockFault.TheVariants as blocks
+use Rattle.zst_uber.specs.declared.fault.UberFault.{UberFault}
+use Rattle.zst_uber.specs.declared.fault.UberFault.TheVariants as ubers
+use Rattle.zst_model.specs.declared.refusal.Refusal.{Refusal}
+use Rattle.zst_model.specs.declared.refusal.Refusal.TheVariants as refusals
+use Rattle.zst_model.specs.Refusal.{refusal_of}
+use Rattle.zst_model.specs.Step.{Stepped}
+use Rattle.zst_pool.specs.declared.fault.PoolFault.{PoolFault}
+use Rattle.zst_pool.specs.declared.fault.PoolFault.TheVariants as faults
+
+-- the refusal that a pool's fault is
+abbrev pub pool_refusal : PoolFault → Refusal
+pool_refusal (faults.Plan fault) = refusal_of fault
+pool_refusal (faults.CannotApply fault) = refusals.CannotApply 0 fault
+pool_refusal (faults.Redacted object block) = refusals.Redacted object block
+pool_refusal (faults.Full need largest) = refusals.Full need largest
+pool_refusal (faults.Damaged sector stated found) = refusals.Damaged sector stated found
+pool_refusal faults.NoPool = refusals.NoPool
+pool_refusal (faults.BadVersion number) = refusals.BadVersion number
+pool_refusal faults.DiskFault = refusals.DiskFault
+pool_refusal faults.Failed = refusals.Failed
+pool_refusal faults.OutOfMemory = refusals.OutOfMemory
+
+-- a block's fault as a pool's
+abbrev pub of_block : BlockFault → PoolFault
+of_block (blocks.Full need largest) = faults.Full need largest
+of_block (blocks.Damaged sector stated found) = faults.Damaged sector stated found
+of_block blocks.DiskFault = faults.DiskFault
+
+-- an opening's fault as a pool's
+abbrev pub of_uber : UberFault → PoolFault
+of_uber (ubers.Damaged sector stated found) = faults.Damaged sector stated found
+of_uber ubers.NoPool = faults.NoPool
+of_uber (ubers.BadVersion version) = faults.BadVersion version
+of_uber ubers.DiskFault = faults.DiskFault
+
+-- whether the disk failed
+abbrev pub is_disk_fault : {T : Type 0} → Result T PoolFault → Bool
+is_disk_fault (Ok value) = false
+is_disk_fault (Err (faults.Plan fault)) = false
+is_disk_fault (Err (faults.CannotApply fault)) = false
+is_disk_fault (Err (faults.Redacted object block)) = false
+is_disk_fault (Err (faults.Full need largest)) = false
+is_disk_fault (Err (faults.Damaged sector stated found)) = false
+is_disk_fault (Err faults.NoPool) = false
+is_disk_fault (Err (faults.BadVersion number)) = false
+is_disk_fault (Err faults.DiskFault) = true
+is_disk_fault (Err faults.Failed) = false
+is_disk_fault (Err faults.OutOfMemory) = false
+
+-- a count of faults never falls, and a fault of the disk is answered only where it rose
+pub record HasDiskCause {T : Type 0} (before now : ℕ) (result : Result T PoolFault) : Type 0 where
+  pub later : before ≤ now
+  pub fault : result ≡ Err faults.DiskFault → Rose before now
+
+-- what stands after a command's fault, where the image read as a pool: the definition's own refusals come where it says, and leave the pool as it was; so do a full disk and want of memory; nothing is ever damaged
+abbrev pub StepFault : Type 0 → Result Stepped Refusal → PoolFault → Type 0
+StepFault kept after (faults.Plan fault) = (after ≡ Err (refusal_of fault)) × kept
+StepFault kept after (faults.CannotApply fault) = (after ≡ Err (refusals.CannotApply 0 fault)) × kept
+StepFault kept after (faults.Redacted object block) = (after ≡ Err (refusals.Redacted object block)) × kept
+StepFault kept after (faults.Full need largest) = (largest < need) × kept
+StepFault kept after (faults.Damaged sector stated found) = ⊥
+StepFault kept after faults.NoPool = ⊥
+StepFault kept after (faults.BadVersion number) = ⊥
+StepFault kept after faults.DiskFault = Unit {0}
+StepFault kept after faults.Failed = ⊥
+StepFault kept after faults.OutOfMemory = kept
+
+-- what a read of what is there may answer: the disk's failure, or want of memory
+abbrev pub ReadFault : PoolFault → Type 0
+ReadFault (faults.Plan fault) = ⊥
+ReadFault (faults.CannotApply fault) = ⊥
+ReadFault (faults.Redacted object block) = ⊥
+ReadFault (faults.Full need largest) = ⊥
+ReadFault (faults.Damaged sector stated found) = ⊥
+ReadFault faults.NoPool = ⊥
+ReadFault (faults.BadVersion number) = ⊥
+ReadFault faults.DiskFault = Unit {0}
+ReadFault faults.Failed = ⊥
+ReadFault faults.OutOfMemory = Unit {0}
+
+-- what a read may answer where it isn't known what is there: that a block isn't as it was written besides
+abbrev pub LoadFault : PoolFault → Type 0
+LoadFault (faults.Plan fault) = ⊥
+LoadFault (faults.CannotApply fault) = ⊥
+LoadFault (faults.Redacted object block) = ⊥
+LoadFault (faults.Full need largest) = ⊥
+LoadFault (faults.Damaged sector stated found) = Unit {0}
+LoadFault faults.NoPool = ⊥
+LoadFault (faults.BadVersion number) = ⊥
+LoadFault faults.DiskFault = Unit {0}
+LoadFault faults.Failed = ⊥
+LoadFault faults.OutOfMemory = Unit {0}
+
+-- what a write may answer: that the disk is full besides
+abbrev pub WriteFault : PoolFault → Type 0
+WriteFault (faults.Plan fault) = ⊥
+WriteFault (faults.CannotApply fault) = ⊥
+WriteFault (faults.Redacted object block) = ⊥
+WriteFault (faults.Full need largest) = largest < need
+WriteFault (faults.Damaged sector stated found) = ⊥
+WriteFault faults.NoPool = ⊥
+WriteFault (faults.BadVersion number) = ⊥
+WriteFault faults.DiskFault = Unit {0}
+WriteFault faults.Failed = ⊥
+WriteFault faults.OutOfMemory = Unit {0}

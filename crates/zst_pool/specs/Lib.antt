@@ -1,0 +1,6 @@
+pub mod Checks
+pub mod Faults
+pub mod Making
+pub mod Reads
+pub mod Stepping
+pub mod Work

@@ -1,0 +1,186 @@
+// What a command looks up before it changes anything, in the order of its definition.
+ghost use Rattle.std.specs.Prelude.{◌≡◌, ◌&&◌, ◌+◌, ◌<◌, ◌≤◌, ◌^◌, ℕ, List, false, Contains, Result, Ok, OnOk, IfOk, bytes_eq, count_by, is_some, is_none, length, position};
+ghost use Rattle.std.specs.List.{list_any};
+ghost use Rattle.zst_space.specs.FreeSectors.{FreeSectors};
+ghost use Rattle.zst_block.specs.Blocks.{Has};
+ghost use Rattle.zst_names.specs.Names.{dataset_of};
+ghost use Rattle.zst_model.specs.Pool.{Pool, partial_of, dataset_named};
+ghost use Rattle.zst_model.specs.declared.refusal.Refusal.{Refusal};
+ghost use Rattle.zst_model.specs.Step.{Stepped, committed, with_dataset, count_datasets};
+ghost use Rattle.zst_pool.specs.Checks.{Judges, FindsDataset, if_guid_left, if_new_snapshot, JudgesSnapshot, next_of, with_new};
+ghost use Rattle.zst_dir.specs.Rows.{HasDataset, HasSnapshot, IsLawful};
+ghost use Rattle.zst_pool.specs.Reads.{RowsAre};
+
+use crate::kept::Kept;
+use zst_dir::{Dataset, Dir};
+use zst_model::{Holder, Missing, Name, PlanFault, Present, Quantity};
+use zst_names::{DatasetName, SnapName};
+
+/// A pool has at most so many datasets; partial states of absent ones count too.
+const MOST_DATASETS: usize = 256;
+
+/// A pool has at most so many snapshots; each partial state counts as one.
+const MOST_SNAPSHOTS: usize = 1024;
+
+/// A pool's guid counter goes up to this.
+const LAST_GUID: u64 = (1 << 32) - 1;
+
+/// The number of a pool's last commit.
+const LAST_NUMBER: u64 = 1 << 63;
+
+/// How many partial states are kept.
+fn count_kept(dir: &Dir) -> usize
+    ensures kept { result ≡ count_by (λ partial. partial.keep) dir.now.partials }
+    ensures few { result < 2 ^ 63 }
+{
+    dir.partials().iter().filter(|partial| partial.keep).count()
+}
+
+/// E4 where the name is taken, and E23 where there are too many snapshots; partial states count as
+/// the snapshots that they are to become.
+pub fn check_new_snapshot(dir: &Dir, name: &SnapName) -> Result<(), PlanFault>
+    ensures absent { OnOk result (HasSnapshot dir.now name.now → ⊥) }
+    ensures judged { (image : List ℕ) (space : FreeSectors) (pool : Pool) (rest : Result Stepped Refusal) → RowsAre (Has image space) dir.now pool
+        → Judges (if_new_snapshot name.now pool rest) rest result }
+{
+    if dir.snapshot(name).is_some() {
+        return Err(PlanFault::Exists(Present::Named(Name::Snapshot(name.duplicate()))));
+    }
+    if dir.snapshots().len() + count_kept(dir) >= MOST_SNAPSHOTS {
+        return Err(PlanFault::Limit {
+            which: Quantity::Snapshots,
+            number: MOST_SNAPSHOTS as u64,
+        });
+    }
+    Ok(())
+}
+
+/// E23 where no guid is left.
+pub fn check_guids(guids: u64) -> Result<(), PlanFault>
+    ensures below { OnOk result (guids + 1 < 2 ^ 32) }
+    ensures judged { (rest : Result Stepped Refusal) → Judges (if_guid_left guids rest) rest result }
+{
+    if guids >= LAST_GUID {
+        return Err(PlanFault::Limit {
+            which: Quantity::Guids,
+            number: LAST_GUID,
+        });
+    }
+    Ok(())
+}
+
+/// Whether a partial state that is kept is for this dataset.
+pub fn has_partial(dir: &Dir, name: &DatasetName) -> bool
+    ensures { result ≡ list_any (λ partial. partial.keep && bytes_eq partial.target name.now) dir.now.partials }
+{
+    dir.partials()
+        .iter()
+        .any(|partial| partial.keep && partial.target == *name)
+}
+
+/// The dataset of this name: E3 where there is none, and E5 where it has a partial state.
+pub fn open_dataset<'a>(dir: &'a Dir, name: &DatasetName) -> Result<&'a Dataset, PlanFault>
+    ensures lawful { IsLawful dir.now }
+    ensures there { IfOk result (λ row. Contains dir.now.datasets row.now × (row.now.name ≡ name.now)) }
+    ensures free { OnOk result (list_any (λ partial. partial.keep && bytes_eq partial.target name.now) dir.now.partials ≡ false) }
+    ensures found { (image : List ℕ) (space : FreeSectors) (pool : Pool) → RowsAre (Has image space) dir.now pool → FindsDataset (Has image space) name.now pool result }
+{
+    let datasets = dir.datasets();
+    let place = match dir.dataset(name) {
+        None => return Err(no_such(name)),
+        Some(place) => place,
+    };
+    if has_partial(dir, name) {
+        return Err(busy_partial(name));
+    }
+    Ok(&datasets[place])
+}
+
+fn no_such(name: &DatasetName) -> PlanFault
+    ensures { result ≡ PlanFault.NoSuch (Missing.Named (Name.Dataset name.now)) }
+{
+    PlanFault::NoSuch(Missing::Named(Name::Dataset(name.duplicate())))
+}
+
+fn busy_partial(name: &DatasetName) -> PlanFault
+    ensures { result ≡ PlanFault.Busy (Holder.Partial name.now) }
+{
+    PlanFault::Busy(Holder::Partial(name.duplicate()))
+}
+
+/// How many partial states are kept whose dataset is absent.
+fn count_absent(dir: &Dir) -> usize
+    ensures kept { result ≡ count_by (λ partial. partial.keep && is_none (position (λ dataset. bytes_eq dataset.name partial.target) dir.now.datasets)) dir.now.partials }
+    ensures few { result < 2 ^ 63 }
+{
+    dir.partials()
+        .iter()
+        .filter(|partial| partial.keep && dir.dataset(&partial.target).is_none())
+        .count()
+}
+
+/// How many datasets there are, with those of which there is a partial state alone.
+fn count_datasets(dir: &Dir) -> usize
+    ensures { (image : List ℕ) (space : FreeSectors) (pool : Pool) → RowsAre (Has image space) dir.now pool → result ≡ count_datasets pool }
+{
+    dir.datasets().len() + count_absent(dir)
+}
+
+/// E4 where the name is taken, and E23 where there are too many datasets.
+pub fn check_new_dataset(dir: &Dir, name: &DatasetName) -> Result<(), PlanFault>
+    ensures absent { OnOk result (HasDataset dir.now name.now → ⊥) }
+    ensures judged { (image : List ℕ) (space : FreeSectors) (kind : ℕ) (pool : Pool) → RowsAre (Has image space) dir.now pool
+        → Judges (with_dataset kind name.now pool) (committed (with_new kind name.now pool)) result }
+{
+    if dir.dataset(name).is_some() {
+        return Err(exists_already(name));
+    }
+    if has_partial(dir, name) {
+        return Err(exists_already(name));
+    }
+    if count_datasets(dir) >= MOST_DATASETS {
+        return Err(PlanFault::Limit {
+            which: Quantity::Datasets,
+            number: MOST_DATASETS as u64,
+        });
+    }
+    Ok(())
+}
+
+fn exists_already(name: &DatasetName) -> PlanFault
+    ensures { result ≡ PlanFault.Exists (Present.Named (Name.Dataset name.now)) }
+{
+    PlanFault::Exists(Present::Named(Name::Dataset(name.duplicate())))
+}
+
+/// E23 where the last commit was made.
+pub fn check_number(number: u64) -> Result<(), PlanFault>
+    ensures below { OnOk result (number < 2 ^ 63) }
+    ensures judged { (pool : Pool) → pool.number ≡ number → Judges (committed pool) (Ok (next_of pool)) result }
+{
+    if number >= LAST_NUMBER {
+        return Err(PlanFault::Limit {
+            which: Quantity::Number,
+            number: LAST_NUMBER,
+        });
+    }
+    Ok(())
+}
+
+/// The dataset of a new snapshot, or the first refusal of its definition.
+pub fn plan_snapshot<'a>(kept: &'a Kept, name: &SnapName) -> Result<&'a Dataset, PlanFault>
+    ensures lawful { IsLawful kept.now.dir }
+    ensures there { IfOk result (λ row. Contains kept.now.dir.datasets row.now × (row.now.name ≡ dataset_of 64 name.now)) }
+    ensures free { OnOk result (list_any (λ partial. partial.keep && bytes_eq partial.target (dataset_of 64 name.now)) kept.now.dir.partials ≡ false) }
+    ensures absent { OnOk result (HasSnapshot kept.now.dir name.now → ⊥) }
+    ensures guids { OnOk result (kept.now.body.guids + 1 < 2 ^ 32) }
+    ensures number { OnOk result (kept.now.body.number < 2 ^ 63) }
+    ensures judged { (image : List ℕ) (space : FreeSectors) (now : ℕ) (pool : Pool) → RowsAre (Has image space) kept.now.dir pool → pool.guids ≡ kept.now.body.guids → pool.number ≡ kept.now.body.number
+        → JudgesSnapshot (Has image space) now name.now pool result }
+{
+    let dataset = open_dataset(&kept.dir, &name.dataset())?;
+    check_new_snapshot(&kept.dir, name)?;
+    check_guids(kept.body.guids)?;
+    check_number(kept.body.number)?;
+    Ok(dataset)
+}

@@ -1,0 +1,125 @@
+// The commands that commit, each over the Io of a pool that hasn't failed.
+ghost use Rattle.std.specs.Prelude.{◌≡◌, ◌⊎◌, ◌+◌, ◌*◌, ◌<◌, ◌^◌, ◌||◌, false, [], None, bytes_eq, filter, not, IsTrue, IfOk, OnErr};
+ghost use Rattle.zst_names.specs.Names.{dataset_of};
+ghost use Rattle.zst_model.specs.Pool.{Pool, inserted};
+ghost use Rattle.zst_model.specs.Step.{with_dataset, with_snapshot};
+ghost use Rattle.zst_tree.specs.Sets.{no_objects};
+ghost use Rattle.zst_dir.specs.Rows.{HasDataset, HasSnapshot, IsDatasetRow, IsLawful, IsSnapshotRow, snapshot_is_before};
+ghost use Rattle.zst_pool.specs.Faults.{HasDiskCause, is_disk_fault};
+ghost use Rattle.zst_pool.specs.Reads.{Rests, free_by};
+ghost use Rattle.zst_pool.specs.Work.{Ready, Did};
+
+use crate::checks::{check_new_dataset, check_number, plan_snapshot};
+use crate::committing::commit_dir;
+use crate::fault::PoolFault;
+use crate::kept::Kept;
+use std::alloc::{AllocError, Global};
+use zst_block::Io;
+use zst_dir::{Dataset, Dir, Snapshot};
+use zst_laws::steps_keep_pools;
+use zst_model::GuidSet;
+use zst_names::{DatasetName, SnapName};
+use zst_outside::Disk;
+use zst_tree::ObjSet;
+use zst_uber::Uber;
+
+/// A dataset without objects, a clone of none.
+fn new_dataset(kind: u32, name: &DatasetName) -> Dataset
+    requires { (kind ≡ 2) ⊎ (kind ≡ 3) }
+    ensures same { result ≡ record { name = name.now; kind = kind; origin = None; head = no_objects; redact = [] } }
+    ensures row { IsDatasetRow result }
+{
+    Dataset {
+        name: name.duplicate(),
+        kind,
+        origin: None,
+        head: ObjSet::empty(),
+        redact: GuidSet::empty(),
+    }
+}
+
+/// Makes a dataset of this kind: 2 a file system, 3 a volume.
+pub fn make_dataset<D: Disk>(
+    io: &mut Io<'_, D>,
+    alloc: Global,
+    kept: &Kept,
+    kind: u32,
+    name: &DatasetName,
+) -> Result<Kept, PoolFault>
+    requires kind { (kind ≡ 2) ⊎ (kind ≡ 3) }
+    requires space { io.old.space ≡ free_by kept.now.body }
+    requires ready { Ready D.tells_reads (D.state io.old.disk.now) kept.now.body }
+    ensures did { (pool : Pool) → IsTrue D.tells_reads → Rests (D.state io.old.disk.now) kept.now.body kept.now.dir pool
+        → Did (D.state io.old.disk.now) (D.state io.new.disk.now) kept.now.body kept.now.dir pool (with_dataset kind name.now pool) result }
+    ensures ready { IfOk result (λ kept. Ready D.tells_reads (D.state io.new.disk.now) kept.body) }
+    ensures stays { io.new.failed ≡ false → OnErr result (Ready D.tells_reads (D.state io.new.disk.now) kept.now.body) }
+    ensures failed { io.new.failed ≡ (io.old.failed || is_disk_fault result) }
+    ensures cause { HasDiskCause (D.state io.old.disk.now).faults (D.state io.new.disk.now).faults result }
+    ensures same { io.new.disk.ghost_name ≡ io.old.disk.ghost_name }
+{
+    check_new_dataset(&kept.dir, name)?;
+    check_number(kept.body.number)?;
+    let mut dir = kept.dir.copy(alloc)?;
+    dir.add_dataset(new_dataset(kind, name))?;
+    steps_keep_pools();
+    commit_dir(io, alloc, &kept.body, kept.body.guids, dir)
+}
+
+/// The snapshot of a dataset's head, with the next number and the next guid.
+fn new_snapshot(body: &Uber, dataset: &Dataset, now: u64, name: &SnapName) -> Snapshot
+    requires id { body.now.id < 2 ^ 31 }
+    requires guids { body.now.guids + 1 < 2 ^ 32 }
+    requires number { body.now.number < 2 ^ 63 }
+    requires row { IsDatasetRow dataset.now }
+    ensures same { result ≡ record { name = name.now; guid = body.now.id * 2 ^ 32 + (body.now.guids + 1); time = now; number = body.now.number + 1; objects = dataset.now.head; redact = dataset.now.redact } }
+    ensures row { IsSnapshotRow result }
+{
+    Snapshot {
+        name: name.duplicate(),
+        guid: u64::from(body.id) * (1 << 32) + (body.guids + 1),
+        time: now,
+        number: body.number + 1,
+        objects: dataset.head,
+        redact: dataset.redact.duplicate(),
+    }
+}
+
+/// The directory with one more snapshot, and without a partial state of its dataset.
+fn dir_with_snapshot(alloc: Global, dir: &Dir, snapshot: Snapshot) -> Result<Dir, AllocError>
+    requires lawful { IsLawful dir.now }
+    requires row { IsSnapshotRow snapshot }
+    requires new { HasSnapshot dir.now snapshot.name → ⊥ }
+    requires dataset { HasDataset dir.now (dataset_of 64 snapshot.name) }
+    ensures { IfOk result (λ next. next ≡ record dir.now { snapshots = inserted snapshot_is_before snapshot dir.now.snapshots; partials = filter (λ partial. not (bytes_eq partial.target (dataset_of 64 snapshot.name))) dir.now.partials }) }
+{
+    let dataset = snapshot.name.dataset();
+    let mut next = dir.copy(alloc)?;
+    next.drop_partial(&dataset);
+    next.add_snapshot(snapshot)?;
+    Ok(next)
+}
+
+/// Takes a snapshot of a dataset's head.
+pub fn take_snapshot<D: Disk>(
+    io: &mut Io<'_, D>,
+    alloc: Global,
+    kept: &Kept,
+    now: u64,
+    name: &SnapName,
+) -> Result<Kept, PoolFault>
+    requires space { io.old.space ≡ free_by kept.now.body }
+    requires ready { Ready D.tells_reads (D.state io.old.disk.now) kept.now.body }
+    ensures did { (pool : Pool) → IsTrue D.tells_reads → Rests (D.state io.old.disk.now) kept.now.body kept.now.dir pool
+        → Did (D.state io.old.disk.now) (D.state io.new.disk.now) kept.now.body kept.now.dir pool (with_snapshot now name.now pool) result }
+    ensures ready { IfOk result (λ kept. Ready D.tells_reads (D.state io.new.disk.now) kept.body) }
+    ensures stays { io.new.failed ≡ false → OnErr result (Ready D.tells_reads (D.state io.new.disk.now) kept.now.body) }
+    ensures failed { io.new.failed ≡ (io.old.failed || is_disk_fault result) }
+    ensures cause { HasDiskCause (D.state io.old.disk.now).faults (D.state io.new.disk.now).faults result }
+    ensures same { io.new.disk.ghost_name ≡ io.old.disk.ghost_name }
+{
+    let dataset = plan_snapshot(kept, name)?;
+    let snapshot = new_snapshot(&kept.body, dataset, now, name);
+    let dir = dir_with_snapshot(alloc, &kept.dir, snapshot)?;
+    steps_keep_pools();
+    commit_dir(io, alloc, &kept.body, kept.body.guids + 1, dir)
+}

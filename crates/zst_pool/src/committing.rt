@@ -1,0 +1,102 @@
+// The commit of a directory: the one commit of an event.
+ghost use Rattle.std.specs.Prelude.{◌≡◌, ◌+◌, ◌<◌, ◌^◌, ◌||◌, false, [], ℕ, List, IsTrue, IfOk, IfErr, OnOk, OnErr};
+ghost use Rattle.zst_block.specs.Blocks.{FitsDisk, FillsFree, Has};
+ghost use Rattle.zst_block.specs.Ptr.{hole_of};
+ghost use Rattle.zst_model.specs.Pool.{Pool};
+ghost use Rattle.zst_dir.specs.Rows.{Rows};
+ghost use Rattle.zst_pool.specs.Faults.{HasDiskCause, WriteFault, is_disk_fault};
+ghost use Rattle.zst_pool.specs.Reads.{IsDirRun, Rests, free_by};
+ghost use Rattle.zst_pool.specs.Work.{Ready, Works, NextIs, Commits, CommitsOver};
+
+use crate::fault::PoolFault;
+use crate::kept::Kept;
+use crate::sets::write_run;
+use std::alloc::Global;
+use zst_block::{Io, Ptr};
+use zst_bytes::fill_up;
+use zst_dir::Dir;
+use zst_outside::Disk;
+use zst_uber::{Uber, commit_event};
+
+/// Writes a directory and makes it the pool's, with the next number and this guid counter.
+///
+/// Since any start from which blocks alone were written, each image reads as the pool that it was
+/// then, or as the next one.
+pub fn commit_dir<D: Disk>(
+    io: &mut Io<'_, D>,
+    alloc: Global,
+    body: &Uber,
+    guids: u64,
+    dir: Dir,
+) -> Result<Kept, PoolFault>
+    requires fits { FitsDisk (D.state io.old.disk.now).size io.old.space }
+    requires sectors { io.old.space.sectors ≡ body.now.sectors }
+    requires extents { io.old.space.free ≡ [] }
+    requires ready { Ready D.tells_reads (D.state io.old.disk.now) body.now }
+    requires number { body.now.number < 2 ^ 63 }
+    ensures commits { (start : D) (rows : Rows) (pool next : Pool) → IsTrue D.tells_reads → Rests (D.state start) body.now rows pool
+        → FillsFree (D.state start) (free_by body.now) (D.state io.old.disk.now) io.old.space
+        → NextIs (Has (D.state io.old.disk.now).seen io.old.space) body.now guids dir next
+        → Commits (D.state start) (D.state io.new.disk.now) body.now rows pool next result }
+    // A pool's first commit has none before it.
+    ensures over { (next : Pool) → IsTrue D.tells_reads → NextIs (Has (D.state io.old.disk.now).seen io.old.space) body.now guids dir next
+        → CommitsOver (D.state io.old.disk.now) io.old.space (D.state io.new.disk.now) io.new.space next result }
+    ensures number { IfOk result (λ kept. kept.body.number ≡ body.now.number + 1) }
+    ensures ready { IfOk result (λ kept. Ready D.tells_reads (D.state io.new.disk.now) kept.body) }
+    ensures stays { io.new.failed ≡ false → OnErr result (Ready D.tells_reads (D.state io.new.disk.now) body.now) }
+    ensures size { (D.state io.new.disk.now).size ≡ (D.state io.old.disk.now).size }
+    ensures failed { io.new.failed ≡ (io.old.failed || is_disk_fault result) }
+    ensures cause { HasDiskCause (D.state io.old.disk.now).faults (D.state io.new.disk.now).faults result }
+    ensures same { io.new.disk.ghost_name ≡ io.old.disk.ghost_name }
+{
+    let (root, length) = write_dir(io, alloc, &dir, body.number + 1)?;
+    let next = next_body(body, guids, io.space.end(), root, length);
+    match commit_event(io, &next) {
+        Ok(()) => Ok(Kept { body: next, dir }),
+        Err(fault) => Err(PoolFault::from(fault)),
+    }
+}
+
+// Writes a directory as one run of blocks, with zeros up to a multiple of 8,192 bytes. Gives the
+// pointer to it, and the length of the directory in bytes.
+fn write_dir<D: Disk>(
+    io: &mut Io<'_, D>,
+    alloc: Global,
+    dir: &Dir,
+    number: u64,
+) -> Result<(Ptr, u64), PoolFault>
+    requires fits { FitsDisk (D.state io.old.disk.now).size io.old.space }
+    requires extents { io.old.space.free ≡ [] }
+    ensures there { IsTrue D.tells_reads → IfOk result (λ run. (bytes : List ℕ) × Has (D.state io.new.disk.now).seen io.new.space run.0 bytes × IsDirRun dir.now run.1 bytes) }
+    ensures kind { IfOk result (λ run. run.0.kind ≡ 1) }
+    ensures sectors { OnOk result (io.new.space.sectors ≡ io.old.space.sectors) }
+    ensures extents { OnOk result (io.new.space.free ≡ []) }
+    ensures fault { IfErr result WriteFault }
+    ensures works { Works (D.state io.old.disk.now) io.old.space io.old.failed (D.state io.new.disk.now) io.new.space io.new.failed result }
+    ensures same { io.new.disk.ghost_name ≡ io.old.disk.ghost_name }
+{
+    let mut bytes = dir.encode(alloc)?;
+    let length = bytes.len() as u64;
+    fill_up(&mut bytes, 8192)?;
+    let root = write_run(io, &bytes, number)?;
+    Ok((root, length))
+}
+
+// The body of the next commit, whose directory is the run that this pointer names.
+fn next_body(body: &Uber, guids: u64, end: u64, root: Ptr, length: u64) -> Uber
+    requires { body.now.number < 2 ^ 63 }
+    ensures { result ≡ record body.now { number = body.now.number + 1; guids = guids; end = end; dir_levels = 0; dir_bytes = length; dir_root = root; free_count = 0; free_levels = 0; free_root = hole_of 0 } }
+{
+    Uber {
+        number: body.number + 1,
+        guids,
+        end,
+        dir_levels: 0,
+        dir_bytes: length,
+        dir_root: root,
+        free_count: 0,
+        free_levels: 0,
+        free_root: Ptr::hole(0),
+        ..*body
+    }
+}

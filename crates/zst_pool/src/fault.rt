@@ -1,0 +1,157 @@
+use std::alloc::AllocError;
+use zst_block::{BlockFault, Ptr};
+use zst_model::{ApplyFault, PlanFault, Refusal};
+use zst_uber::UberFault;
+
+/// Why a pool isn't made, opened or stepped.
+#[derive(Clone, Debug, Drop, PartialEq, Eq)]
+pub enum PoolFault {
+    /// What the command's own checks found (E2 to E15, E19, E23).
+    Plan(PlanFault),
+    /// E21: what the command writes can't be applied.
+    CannotApply(ApplyFault),
+    /// E22: the block is redacted.
+    Redacted {
+        object: u64,
+        block: u64,
+    },
+    /// E24: no run of `need` sectors is free: the longest one has `largest`.
+    Full {
+        need: u64,
+        largest: u64,
+    },
+    /// E25: the block from this sector on has other sums than are stated, or, with both alike, isn't
+    /// of its layout.
+    Damaged {
+        sector: u64,
+        stated: [u64; 4],
+        found: [u64; 4],
+    },
+    /// E26: no open gate stands before a body.
+    NoPool,
+    /// E27: the latest body has this version.
+    BadVersion(u32),
+    /// E28: the disk failed, and its count of faults rose.
+    DiskFault,
+    /// E31: the disk failed before, and the pool wasn't opened again.
+    Failed,
+    /// E32: no memory was left.
+    OutOfMemory,
+}
+
+impl PoolFault {
+    ghost use Rattle.std.specs.Prelude.{◌≡◌};
+    ghost use Rattle.zst_fletcher.specs.WeightSum.{parts_of};
+
+    /// E25 of a block that isn't of its layout: both sums are those that its pointer states.
+    pub(crate) fn of_layout(ptr: &Ptr) -> PoolFault
+        ensures { result ≡ PoolFault.Damaged ptr.now.sector (parts_of ptr.now.sum) (parts_of ptr.now.sum) }
+    {
+        PoolFault::Damaged {
+            sector: ptr.sector,
+            stated: ptr.sum.parts(),
+            found: ptr.sum.parts(),
+        }
+    }
+}
+
+impl From<AllocError> for PoolFault {
+    ghost use Rattle.std.specs.Prelude.{◌≡◌};
+    ghost use Rattle.zst_pool.specs.declared.fault.PoolFault.TheVariants.{OutOfMemory};
+
+    ghost from_gives = { λ _ fault. fault ≡ OutOfMemory };
+
+    fn from(_: AllocError) -> Self {
+        PoolFault::OutOfMemory
+    }
+}
+
+impl From<PlanFault> for PoolFault {
+    ghost use Rattle.std.specs.Prelude.{◌≡◌};
+    ghost use Rattle.zst_pool.specs.declared.fault.PoolFault.TheVariants.{Plan};
+
+    ghost from_gives = { λ plan fault. fault ≡ Plan plan };
+
+    fn from(fault: PlanFault) -> Self {
+        PoolFault::Plan(fault)
+    }
+}
+
+impl From<BlockFault> for PoolFault {
+    ghost use Rattle.std.specs.Prelude.{◌≡◌};
+    ghost use Rattle.zst_pool.specs.Faults.{of_block};
+
+    ghost from_gives = { λ block fault. fault ≡ of_block block };
+
+    fn from(fault: BlockFault) -> Self {
+        match fault {
+            BlockFault::Full { need, largest } => PoolFault::Full { need, largest },
+            BlockFault::Damaged {
+                sector,
+                stated,
+                found,
+            } => PoolFault::Damaged {
+                sector,
+                stated,
+                found,
+            },
+            BlockFault::DiskFault => PoolFault::DiskFault,
+        }
+    }
+}
+
+impl From<UberFault> for PoolFault {
+    ghost use Rattle.std.specs.Prelude.{◌≡◌};
+    ghost use Rattle.zst_pool.specs.Faults.{of_uber};
+
+    ghost from_gives = { λ uber fault. fault ≡ of_uber uber };
+
+    fn from(fault: UberFault) -> Self {
+        match fault {
+            UberFault::Damaged {
+                sector,
+                stated,
+                found,
+            } => PoolFault::Damaged {
+                sector,
+                stated,
+                found,
+            },
+            UberFault::NoPool => PoolFault::NoPool,
+            UberFault::BadVersion(version) => PoolFault::BadVersion(version),
+            UberFault::DiskFault => PoolFault::DiskFault,
+        }
+    }
+}
+
+impl From<PoolFault> for Refusal {
+    ghost use Rattle.std.specs.Prelude.{◌≡◌};
+    ghost use Rattle.zst_pool.specs.Faults.{pool_refusal};
+
+    ghost from_gives = { λ fault refusal. refusal ≡ pool_refusal fault };
+
+    fn from(fault: PoolFault) -> Self {
+        match fault {
+            PoolFault::Plan(plan) => Refusal::from(plan),
+            PoolFault::CannotApply(fault) => Refusal::CannotApply { record: 0, fault },
+            PoolFault::Redacted { object, block } => Refusal::Redacted { object, block },
+            PoolFault::Full { need, largest } => Refusal::Full { need, largest },
+            PoolFault::Damaged {
+                sector,
+                stated,
+                found,
+            } => Refusal::Damaged {
+                sector,
+                stated,
+                found,
+            },
+            PoolFault::NoPool => Refusal::NoPool,
+            PoolFault::BadVersion(version) => Refusal::BadVersion {
+                number: u64::from(version),
+            },
+            PoolFault::DiskFault => Refusal::DiskFault,
+            PoolFault::Failed => Refusal::Failed,
+            PoolFault::OutOfMemory => Refusal::OutOfMemory,
+        }
+    }
+}

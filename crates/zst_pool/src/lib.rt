@@ -1,0 +1,17 @@
+//! A pool in an image of version 0: how it is made, opened and stepped, and what its image reads as.
+#![tactic(auto)]
+
+mod changes;
+mod checks;
+mod commands;
+mod committing;
+mod fault;
+mod heads;
+mod kept;
+mod making;
+mod pool;
+mod sets;
+
+pub use fault::PoolFault;
+pub use kept::Kept;
+pub use pool::Pool;

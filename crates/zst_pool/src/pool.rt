@@ -1,0 +1,162 @@
+ghost use Rattle.std.specs.Prelude.{◌≡◌, ◌∷◌, ◌||◌, [], false, true, not, IfOk, IsTrue, OnErr, Ok, Err};
+ghost use Rattle.zst_outside.specs.Images.{Leaves};
+ghost use Rattle.zst_model.specs.Lines.{ok_line};
+ghost use Rattle.zst_model.specs.Pool.{Pool as Plain};
+ghost use Rattle.zst_model.specs.Sound.{Sound};
+ghost use Rattle.zst_model.specs.Step.{Stepped, stepped, IsCommand};
+ghost use Rattle.zst_pool.specs.Faults.{HasDiskCause, is_disk_fault};
+ghost use Rattle.zst_pool.specs.Reads.{Rests, BeforeOrAfter, free_by};
+ghost use Rattle.zst_pool.specs.Stepping.{is_built, StepAnswer};
+ghost use Rattle.zst_pool.specs.Work.{Did, Ready};
+
+use crate::commands::{make_dataset, take_snapshot};
+use crate::fault::PoolFault;
+use crate::heads::{free_objects, punch, put_object, write_block};
+use crate::kept::Kept;
+use std::alloc::{AllocError, Global};
+use zst_block::Io;
+use zst_laws::steps_keep_sound;
+use zst_model::{Bytes, Command, Lack, PlanFault, Reply};
+use zst_outside::Disk;
+use zst_space::Space;
+
+/// A pool on a disk.
+#[derive(Drop)]
+pub struct Pool<'d, D: Disk> {
+    /// The disk, and the sectors that are free.
+    pub io: Io<'d, D>,
+    /// The latest body, and the directory.
+    pub kept: Kept,
+}
+
+impl<'d, D: Disk> Pool<'d, D> {
+    /// The pool of which this was kept when it was made or opened on this disk.
+    pub fn new(alloc: Global, disk: &'d mut D, kept: Kept) -> Result<Pool<'d, D>, AllocError>
+        ensures same { IfOk result (λ pool. pool.io.disk.ghost_name ≡ disk.entry.ghost_name) }
+        ensures disk { IfOk result (λ pool. pool.io.disk.now ≡ disk.old) }
+        ensures kept { IfOk result (λ pool. pool.kept ≡ kept) }
+        ensures failed { IfOk result (λ pool. pool.io.failed ≡ false) }
+    {
+        let space = Space::new(kept.body.end, kept.body.sectors, Vec::new(alloc));
+        let io = Io::new(alloc, disk, space)?;
+        Ok(Pool { io, kept })
+    }
+
+    /// Runs a command at this time: it commits once where it changes what the image stands for, and
+    /// not at all where it is refused.
+    ///
+    /// After E28 the pool answers E31.
+    pub fn step(&mut self, alloc: Global, now: u64, command: Command) -> Result<Reply, PoolFault>
+        requires command { IsCommand command }
+        requires ready { self.old.io.failed ≡ false → Ready D.tells_reads (D.state self.old.io.disk.now) self.old.kept.body }
+
+        // At every moment each image reads as the pool before the command, or as what the command makes of it.
+        ensures moments { (pool : Plain) → IsTrue D.tells_reads → Rests (D.state self.old.io.disk.now) self.old.kept.body self.old.kept.dir pool
+            → Leaves (D.state self.old.io.disk.now) (D.state self.new.io.disk.now) (BeforeOrAfter pool (stepped now command pool)) }
+        // After its answer it is as the definition says; after a refusal the pool is as it was.
+        ensures answer { (pool : Plain) → IsTrue D.tells_reads → is_built command ≡ true → self.old.io.failed ≡ false
+            → Rests (D.state self.old.io.disk.now) self.old.kept.body self.old.kept.dir pool
+            → StepAnswer (D.state self.new.io.disk.now) self.new.kept.body self.new.kept.dir pool (stepped now command pool) result }
+        // What later states haven't dated since stays as it was in each snapshot.
+        ensures sound { (pool : Plain) (done : Stepped) → Rests (D.state self.old.io.disk.now) self.old.kept.body self.old.kept.dir pool → Sound pool
+            → stepped now command pool ≡ Ok done → Sound done.pool }
+
+        // A pool that has failed answers nothing else, and a command that isn't built is refused. Both do nothing.
+        ensures failed_pool { self.old.io.failed ≡ true → result ≡ Err PoolFault.Failed }
+        ensures not_built { self.old.io.failed ≡ false → is_built command ≡ false → result ≡ Err (PoolFault.Plan (PlanFault.Unsupported Lack.NotBuilt)) }
+        ensures idle_disk { (self.old.io.failed || not (is_built command)) ≡ true → self.new.io.disk.now ≡ self.old.io.disk.now }
+        ensures idle_pool { (self.old.io.failed || not (is_built command)) ≡ true → self.new.kept ≡ self.old.kept }
+
+        ensures ready { self.new.io.failed ≡ false → Ready D.tells_reads (D.state self.new.io.disk.now) self.new.kept.body }
+        ensures failed { self.new.io.failed ≡ (self.old.io.failed || is_disk_fault result) }
+        ensures cause { HasDiskCause (D.state self.old.io.disk.now).faults (D.state self.new.io.disk.now).faults result }
+        ensures same { self.new.io.disk.ghost_name ≡ self.old.io.disk.ghost_name }
+    {
+        steps_keep_sound();
+        if self.io.failed {
+            return Err(PoolFault::Failed);
+        }
+        if is_not_built(&command) {
+            return Err(PoolFault::Plan(PlanFault::Unsupported(Lack::NotBuilt)));
+        }
+        let reply = committed(alloc, self.kept.body.number.saturating_add(1))?;
+        self.io.space = Space::new(self.kept.body.end, self.kept.body.sectors, Vec::new(alloc));
+        let kept = run(&mut self.io, alloc, &self.kept, now, command)?;
+        self.kept = kept;
+        Ok(reply)
+    }
+}
+
+/// Whether a command isn't built yet.
+fn is_not_built(command: &Command) -> bool
+    ensures { result ≡ not (is_built command.now) }
+{
+    matches!(
+        command,
+        Command::Read { .. } | Command::List | Command::ListObjects { .. }
+    )
+}
+
+/// The answer of a command that committed: the pool's number.
+fn committed(alloc: Global, number: u64) -> Result<Reply, AllocError>
+    ensures { IfOk result (λ reply. reply ≡ ok_line number ∷ []) }
+{
+    let line = format!(in alloc; "ok {number}")?;
+    let mut lines = Vec::new(alloc);
+    lines.push(Bytes::new(line.into_bytes()))?;
+    Ok(Reply::new(lines))
+}
+
+/// Runs a command that is built, over the sectors that are free by the latest body.
+#[tactic(auto, unfolding(zst_model::specs::Step::stepped))]
+fn run<D: Disk>(
+    io: &mut Io<'_, D>,
+    alloc: Global,
+    kept: &Kept,
+    now: u64,
+    command: Command,
+) -> Result<Kept, PoolFault>
+    requires command { IsCommand command }
+    requires space { io.old.space ≡ free_by kept.now.body }
+    requires ready { Ready D.tells_reads (D.state io.old.disk.now) kept.now.body }
+    ensures did { (pool : Plain) → IsTrue D.tells_reads → is_built command ≡ true → Rests (D.state io.old.disk.now) kept.now.body kept.now.dir pool
+        → Did (D.state io.old.disk.now) (D.state io.new.disk.now) kept.now.body kept.now.dir pool (stepped now command pool) result }
+    ensures ready { IfOk result (λ kept. Ready D.tells_reads (D.state io.new.disk.now) kept.body) }
+    ensures stays { io.new.failed ≡ false → OnErr result (Ready D.tells_reads (D.state io.new.disk.now) kept.now.body) }
+    ensures failed { io.new.failed ≡ (io.old.failed || is_disk_fault result) }
+    ensures cause { HasDiskCause (D.state io.old.disk.now).faults (D.state io.new.disk.now).faults result }
+    ensures same { io.new.disk.ghost_name ≡ io.old.disk.ghost_name }
+{
+    match command {
+        Command::Fs { dataset } => make_dataset(io, alloc, kept, 2, &dataset),
+        Command::Volume { dataset } => make_dataset(io, alloc, kept, 3, &dataset),
+        Command::Object {
+            dataset,
+            object,
+            head,
+            bonus,
+            spill,
+        } => put_object(io, alloc, kept, &dataset, object, head, bonus, spill),
+        Command::Write {
+            dataset,
+            object,
+            index,
+            bytes,
+        } => write_block(io, alloc, kept, &dataset, object, index, bytes.as_slice()),
+        Command::Punch {
+            dataset,
+            object,
+            first,
+            count,
+        } => punch(io, alloc, kept, &dataset, object, first, count),
+        Command::Free {
+            dataset,
+            first,
+            count,
+        } => free_objects(io, alloc, kept, &dataset, first, count),
+        Command::Snapshot { name } => take_snapshot(io, alloc, kept, now, &name),
+        Command::Read { .. } | Command::List | Command::ListObjects { .. } => Err(PoolFault::Plan(
+            PlanFault::Unsupported(Lack::NotBuilt),
+        )),
+    }
+}
