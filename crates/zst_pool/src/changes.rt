@@ -272,6 +272,6 @@ fn change_spill<D: Disk>(
     ensures same { io.new.disk.ghost_name ≡ io.old.disk.ghost_name }
 {
     let ptr = put_block(io, block, number + 1)?;
-    flat.put_spill(object, ptr, number + 1)?;
+    flat.put_spill(object, ptr, number + 1);
     Ok(())
 }
