@@ -2,6 +2,7 @@ pub mod Applied
 mod Behind
 pub mod Ends
 pub mod Finding
+mod Lengths
 pub mod Made
 pub mod MadeObjects
 pub mod MadeSpills

@@ -30,7 +30,8 @@ use Rattle.zst_objset.proofs.MadeObjects.{attr_new, date_new, block_stays, not_d
 abbrev pub spilled_row : Ptr → ℕ → ObjectRow → StoredObject → ObjectRow
 spilled_row spill number row stored = record { first = row.first; count = row.count; date = number; object = Some (with_spill spill stored) }
 
-spilled_is : (spill : Ptr) (number : ℕ) (row : ObjectRow) (stored : StoredObject) → row.object ≡ Some stored → spilled spill number row ≡ spilled_row spill number row stored
+-- a row with an object becomes it
+pub spilled_is : (spill : Ptr) (number : ℕ) (row : ObjectRow) (stored : StoredObject) → row.object ≡ Some stored → spilled spill number row ≡ spilled_row spill number row stored
 spilled_is spill number row stored e =
     ap (λ o. if is_some o then record { first = row.first; count = row.count; date = number; object = option_map (with_spill spill) o } else row) e
 

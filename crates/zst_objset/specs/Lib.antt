@@ -1,3 +1,4 @@
 pub mod Meaning
 pub mod Rows
 pub mod Spelling
+pub mod SpellingLaws

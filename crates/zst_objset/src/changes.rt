@@ -8,6 +8,7 @@ ghost use Rattle.zst_model.specs.declared.item.Change.TheVariants.{Put, Spill, F
 ghost use Rattle.zst_model.specs.declared.item.Item.TheVariants.{At, FreeObjects};
 ghost use Rattle.zst_objset.specs.Rows.{AreRows, IsObjectRow, IsIndexRow, with_numbers, with_indices, spilled, kept_spill, has_size, stored_at, is_of_number};
 ghost use Rattle.zst_objset.specs.Meaning.{SetIs, Makes};
+ghost use Rattle.zst_objset.specs.Spelling.{lists_bytes};
 
 use crate::flat::Flat;
 use crate::rows::{IndexRow, ObjectRow, StoredObject};
@@ -37,6 +38,7 @@ impl Flat {
         requires bonus { length bonus ≤ 320 }
         ensures made { OnOk result ((max_block : ℕ) → Makes self.old self.new number (At object (Put head bonus keep_spill max_block))) }
         ensures same { OnErr result (self.new ≡ self.old) }
+        ensures grows { length (lists_bytes self.new) ≤ length (lists_bytes self.old) + 1024 }
     {
         applied_is_state();
         are_bytes(bonus.as_slice());
@@ -59,8 +61,9 @@ impl Flat {
     /// Gives an object that is there the spill block that this pointer names.
     pub fn put_spill(&mut self, object: u64, spill: Ptr, number: u64)
         requires kind { spill.kind ≡ 1 }
-        ensures { (image : List ℕ) (space : FreeSectors) (bytes : List ℕ) (snap after : DatedState) → Has image space spill bytes → SetIs (Has image space) self.old snap
+        ensures made { (image : List ℕ) (space : FreeSectors) (bytes : List ℕ) (snap after : DatedState) → Has image space spill bytes → SetIs (Has image space) self.old snap
             → apply_dated number (At object (Spill bytes)) snap ≡ Ok after → SetIs (Has image space) self.new after }
+        ensures grows { length (lists_bytes self.new) ≤ length (lists_bytes self.old) + 1024 }
     {
         applied_is_state();
         if let Some(i) = self.number_place(object) {
@@ -78,6 +81,7 @@ impl Flat {
         ensures made { OnOk result ((image : List ℕ) (space : FreeSectors) (type : ℕ) (bytes : List ℕ) (snap after : DatedState) → Has image space block bytes → SetIs (Has image space) self.old snap
             → apply_dated block.number (At object (Write (index * size_at (snap.state object)) type bytes)) snap ≡ Ok after → SetIs (Has image space) self.new after) }
         ensures same { OnErr result (self.new ≡ self.old) }
+        ensures grows { length (lists_bytes self.new) ≤ length (lists_bytes self.old) + 1024 }
     {
         applied_is_state();
         self.put_indices(IndexRow {
@@ -104,6 +108,7 @@ impl Flat {
         ensures made { OnOk result ((image : List ℕ) (space : FreeSectors) (snap after : DatedState) → SetIs (Has image space) self.old snap
             → apply_dated number (At object (Free (first * size_at (snap.state object)) (count * size_at (snap.state object)))) snap ≡ Ok after → SetIs (Has image space) self.new after) }
         ensures same { OnErr result (self.new ≡ self.old) }
+        ensures grows { length (lists_bytes self.new) ≤ length (lists_bytes self.old) + 1024 }
     {
         applied_is_state();
         self.put_indices(IndexRow {
@@ -122,6 +127,7 @@ impl Flat {
         requires past { first + count ≤ number_bound }
         ensures made { OnOk result (Makes self.old self.new number (FreeObjects first count)) }
         ensures same { OnErr result (self.new ≡ self.old) }
+        ensures grows { length (lists_bytes self.new) ≤ length (lists_bytes self.old) + 1024 }
     {
         applied_is_state();
         let row = ObjectRow {

@@ -1,5 +1,5 @@
-ghost use Rattle.std.specs.Prelude.{◌≡◌, ◌++◌, flat_map, IfOk, OnOk};
-ghost use Rattle.zst_objset.specs.Spelling.{IsRun, stored_bytes, object_bytes, index_bytes};
+ghost use Rattle.std.specs.Prelude.{◌≡◌, ◌≤◌, ◌+◌, ◌++◌, length, flat_map, IfOk, OnOk};
+ghost use Rattle.zst_objset.specs.Spelling.{IsRun, stored_bytes, object_bytes, index_bytes, lists_bytes};
 
 use crate::flat::Flat;
 use crate::rows::{IndexRow, ObjectRow, StoredObject};
@@ -69,7 +69,8 @@ fn push_indices(out: &mut Vec<u8>, rows: &[IndexRow]) -> Result<(), AllocError>
 impl Flat {
     /// The bytes of the rows, with zeros up to a multiple of 8,192.
     pub fn encode(&self, alloc: Global) -> Result<Vec<u8>, AllocError>
-        ensures { IfOk result (λ bytes. IsRun self.now bytes.items) }
+        ensures run { IfOk result (λ bytes. IsRun self.now bytes.items) }
+        ensures short { IfOk result (λ bytes. length bytes.items ≤ length (lists_bytes self.now) + 8191) }
     {
         let mut out = Vec::new(alloc);
         push_word(&mut out, self.objects.len() as u64)?;

@@ -11,7 +11,7 @@ pub returns-clause-found : goal.returns-clause-found
 returns-clause-found c = λ lists run.
     let read : c.in_ok-flat.field-0 ≡ Some lists = c.in_ok-flat.ensures.exact lists _ run.rows run.spelled in
     let same : c.in-Some.flat ≡ lists = cc (c.in-Some.is, read) in
-    let again : IsRun lists c.in_ok-spelled.spelled.items = subst (λ (seen : Lists). IsRun seen c.in_ok-spelled.spelled.items) same c.in_ok-spelled.ensures in
+    let again : IsRun lists c.in_ok-spelled.spelled.items = subst (λ (seen : Lists). IsRun seen c.in_ok-spelled.spelled.items) same c.in_ok-spelled.ensures.run in
     let bytes : c.in_ok-spelled.spelled.items ≡ c.args.bytes.now = one_run lists c.in_ok-spelled.spelled.items c.args.bytes.now again run in
     let equal : c.eq.result ≡ true = (slice_eq-Decides Decides-eqb c.as_slice.result.now c.args.bytes.now c.eq.result c.eq.ensures).1 (c.as_slice.ensures.value ∙ bytes) in
     elim c.if-eq.branch [

@@ -1,9 +1,10 @@
-use Rattle.std.proofs.Common.{◌≡◌, ◌++◌, length, ap, ◌∙◌, sym, subst, List, ℕ, arith}
+use Rattle.std.proofs.Common.{◌≡◌, ◌++◌, length, ap, ◌∙◌, subst, List, ℕ, arith}
 use Rattle.zst_bytes.specs.Words.{filling}
 use Rattle.zst_bytes.specs.Fields.{zeros}
 use Rattle.zst_objset.specs.Rows.{Lists}
 use Rattle.zst_objset.specs.Spelling.{lists_bytes, IsRun}
 use Rattle.zst_objset.proofs.Runs.{run, appended}
+use Rattle.zst_objset.proofs.Lengths.{run_short}
 use Rattle.zst_objset.proofs.flat.Flat.encode.Goals as goal
 
 pub returns : goal.returns
@@ -14,4 +15,5 @@ returns c =
     c.deref.ensures.value c.deref-2.ensures.value (omega arith) (omega arith) c.new-out.ensures.items c.in_ok-push_word.ensures c.in_ok-push_objects.ensures c.in_ok-push_word-2.ensures c.in_ok-push_indices.ensures in
     let filled : c.fill_up.new.out.items ≡ lists_bytes lists ++ zeros (filling 8192 (length (lists_bytes lists))) =
     c.in_ok-fill_up.ensures ∙ ap (λ (l : List ℕ). l ++ zeros (filling 8192 (length l))) spelled in
-    subst (λ (seen : Lists). IsRun seen c.fill_up.new.out.items) c.self.view_is (run lists c.fill_up.new.out.items c.self.invariant filled)
+    let is_run : IsRun c.args.self.now c.fill_up.new.out.items = subst (λ (seen : Lists). IsRun seen c.fill_up.new.out.items) c.self.view_is (run lists c.fill_up.new.out.items c.self.invariant filled) in
+    record { run = is_run; short = run_short c.args.self.now c.fill_up.new.out.items is_run }

@@ -4,6 +4,7 @@ use Rattle.zst_block.specs.Blocks.{Has}
 use Rattle.zst_objset.specs.Meaning.{SetIs}
 use Rattle.zst_objset.specs.Rows.{with_numbers, with_indices}
 use Rattle.zst_objset.proofs.MadeObjects.{freed_made, freed_row}
+use Rattle.zst_objset.proofs.Lengths.{rows_grow}
 use Rattle.zst_objset.proofs.flat.Flat.free_objects.Goals as goal
 
 pub returns-clause-made : goal.returns-clause-made
@@ -15,3 +16,7 @@ returns-clause-made c =
     (sym (done ∙ ap (λ row. record { objects = objects; indices = with_indices row c.args.self.now.indices }) c.all_holes.ensures.row))
     (freed_made c.applied_is_state.ensures (Has image space) c.args.self.now c.args.first c.args.count c.args.number snap after c.requires.first c.requires.past s h))
     c.put_rows.ensures.done
+
+pub returns-clause-grows : goal.returns-clause-grows
+returns-clause-grows c =
+    rows_grow c.put_rows.result (freed_row c.args.first c.args.count c.args.number) c.all_holes.result c.args.self.now c.put_rows.new.self tt c.put_rows.ensures.done c.put_rows.ensures.same

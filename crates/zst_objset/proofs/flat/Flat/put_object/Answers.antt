@@ -5,6 +5,7 @@ use Rattle.zst_block.specs.declared.ptr.Ptr.{Ptr}
 use Rattle.zst_objset.specs.Meaning.{SetIs}
 use Rattle.zst_objset.specs.Rows.{with_numbers, with_indices}
 use Rattle.zst_objset.proofs.MadeObjects.{object_made, object_made_anew, with_object, with_object_anew, object_row_of, stored_with}
+use Rattle.zst_objset.proofs.Lengths.{numbers_grow, rows_grow}
 use Rattle.zst_objset.proofs.flat.Flat.put_object.Goals as goal
 
 pub put_numbers-requires : goal.put_numbers-requires
@@ -67,3 +68,13 @@ returns-else-keeps_blocks-clause-made c =
     (object_made_anew c.applied_is_state.ensures (Has image space) c.args.self.now c.args.object c.args.number max_block c.args.head c.args.bonus c.args.keep_spill snap after
     c.put_rows.ensures.ranges c.requires.first c.requires.bound c.requires.size (sym c.has_size-keeps_blocks.ensures ∙ c.if-keeps_blocks.false) s h))
     c.put_rows.ensures.done
+
+pub returns-then-keeps_blocks-clause-grows : goal.returns-then-keeps_blocks-clause-grows
+returns-then-keeps_blocks-clause-grows c =
+    let stored = stored_with c.args.head c.args.bonus c.kept_spill-spill.result in
+    numbers_grow c.put_numbers.result (object_row_of c.args.object c.args.number stored) c.args.self.now c.put_numbers.new.self c.requires.bonus c.put_numbers.ensures.done c.put_numbers.ensures.same
+
+pub returns-else-keeps_blocks-clause-grows : goal.returns-else-keeps_blocks-clause-grows
+returns-else-keeps_blocks-clause-grows c =
+    let stored = stored_with c.args.head c.args.bonus c.kept_spill-spill.result in
+    rows_grow c.put_rows.result (object_row_of c.args.object c.args.number stored) c.all_holes.result c.args.self.now c.put_rows.new.self c.requires.bonus c.put_rows.ensures.done c.put_rows.ensures.same

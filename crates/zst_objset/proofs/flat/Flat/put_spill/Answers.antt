@@ -1,11 +1,13 @@
-use Rattle.std.proofs.Common.{◌≡◌, Some, ap, subst, sym, ◌∙◌, set}
+use Rattle.std.proofs.Common.{◌≡◌, length, Some, ap, subst, sym, ◌∙◌, set, arith}
 use Rattle.std.specs.Prelude.{position}
 use Rattle.std.proofs.lemmas.List.Elements.{All-set, All-get_or}
 use Rattle.zst_block.specs.Blocks.{Has}
 use Rattle.zst_objset.specs.Meaning.{SetIs}
 use Rattle.zst_objset.specs.Rows.{Lists, IsObjectRow, is_of_number}
+use Rattle.zst_objset.specs.Spelling.{lists_bytes}
 use Rattle.zst_objset.specs.declared.rows.ObjectRow.{ObjectRow}
 use Rattle.zst_objset.proofs.MadeSpills.{find_place, spilled_fits, spill_made, spill_absent}
+use Rattle.zst_objset.proofs.Lengths.{spill_long}
 use Rattle.zst_objset.proofs.flat.Flat.put_spill.Goals as goal
 
 pub invariant_of-self : goal.invariant_of-self
@@ -21,8 +23,8 @@ invariant_of-self c =
       indices = c.self.invariant.indices;
     }
 
-pub returns-in-Some : goal.returns-in-Some
-returns-in-Some c = λ image space bytes snap after is s h.
+pub returns-in-Some-clause-made : goal.returns-in-Some-clause-made
+returns-in-Some-clause-made c = λ image space bytes snap after is s h.
     let lists : Lists = record { objects = c.self.inside.objects.items; indices = c.self.inside.indices.items } in
     let at : position (is_of_number c.args.object) lists.objects ≡ Some c.in-Some.i =
     ap (λ (lists : Lists). position (is_of_number c.args.object) lists.objects) c.self.view_is ∙ sym c.number_place.ensures.place ∙ c.in-Some.is in
@@ -30,6 +32,15 @@ returns-in-Some c = λ image space bytes snap after is s h.
     (spill_made c.applied_is_state.ensures (Has image space) lists c.args.object c.in-Some.i c.args.number bytes c.args.spill c.index_mut.result.now snap after c.self.invariant at
     (sym c.index_mut.ensures.value) c.requires.kind is (subst (λ lists. SetIs (Has image space) lists snap) (sym c.self.view_is) s) h)
 
-pub returns-in_default : goal.returns-in_default
-returns-in_default c = λ image space bytes snap after is s h.
+pub returns-in_default-clause-made : goal.returns-in_default-clause-made
+returns-in_default-clause-made c = λ image space bytes snap after is s h.
     absurd (spill_absent (Has image space) c.args.self.now c.args.object c.args.number bytes snap after (sym c.number_place.ensures.place ∙ c.in_default.is) s h)
+
+pub returns-in-Some-clause-grows : goal.returns-in-Some-clause-grows
+returns-in-Some-clause-grows c =
+    let lists : Lists = record { objects = c.self.inside.objects.items; indices = c.self.inside.indices.items } in
+    let new = λ (row : ObjectRow). length (lists_bytes (record { objects = set lists.objects c.in-Some.i row; indices = lists.indices })) in
+    let at : position (is_of_number c.args.object) lists.objects ≡ Some c.in-Some.i =
+    ap (λ (lists : Lists). position (is_of_number c.args.object) lists.objects) c.self.view_is ∙ sym c.number_place.ensures.place ∙ c.in-Some.is in
+    let place = find_place lists.objects c.args.object c.in-Some.i c.index_mut.result.now at (sym c.index_mut.ensures.value) in
+    omega (arith, ap new c.set_spill.ensures.row, spill_long lists c.in-Some.i c.args.number c.args.spill c.index_mut.result.now place.1 (sym c.index_mut.ensures.value), ap (λ (l : Lists). length (lists_bytes l)) c.self.view_is)
