@@ -1,6 +1,7 @@
 mod Guids
 mod Heads
 mod Inserting
+mod Lengths
 mod Loops
 mod Namesets
 mod Nested

@@ -11,7 +11,7 @@ use Rattle.zst_names.specs.Names.{is_component_byte, IsComponent, IsDataset, IsN
 use Rattle.zst_dir.specs.Reading.{IsPlain}
 
 -- a text with a component behind the mark is its parts, joined by the mark
-joined : (mark : ℕ) (text : List ℕ) → IsComponent (component_of mark text) → text ≡ dataset_of mark text ++ mark ∷ component_of mark text
+pub joined : (mark : ℕ) (text : List ℕ) → IsComponent (component_of mark text) → text ≡ dataset_of mark text ++ mark ∷ component_of mark text
 joined mark text h =
     let place = position_or_len (λ b. b == mark) text in
     let below : place < length text = omega (arith, h.some, length-drop (place + 1) text) in

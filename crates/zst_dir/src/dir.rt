@@ -1,9 +1,10 @@
-ghost use Rattle.std.specs.Prelude.{◌≡◌, true, false, AllPairs, ◌≢◌, ◌++◌, ◌∷◌, ◌==◌, position, bytes_eq, filter, not, All, IfOk, IfSome, OnOk, OnErr};
+ghost use Rattle.std.specs.Prelude.{◌≡◌, ◌≤◌, ◌+◌, true, false, AllPairs, ◌≢◌, ◌++◌, ◌∷◌, ◌==◌, length, position, bytes_eq, filter, not, All, IfOk, IfSome, OnOk, OnErr};
 ghost use Rattle.std.specs.List.{position_or_len};
 ghost use Rattle.zst_model.specs.Pool.{is_before, inserted};
 ghost use Rattle.zst_names.specs.Names.{dataset_of};
 ghost use Rattle.zst_tree.specs.Sets.{SetFits};
 ghost use Rattle.zst_dir.specs.Rows.{Rows, no_rows, snapshot_is_before, HasDataset, HasSnapshot, IsDatasetRow, IsSnapshotRow, IsLawful, with_head};
+ghost use Rattle.zst_dir.specs.Spelling.{dir_bytes};
 ghost use Rattle.zst_dir.specs.declared.rows.Dataset.{Dataset};
 ghost use Rattle.zst_dir.specs.declared.rows.Snapshot.{Snapshot};
 
@@ -128,6 +129,7 @@ impl Dir {
         requires origin { IfSome dataset.origin (HasSnapshot self.old) }
         ensures added { OnOk result (self.new ≡ record self.old { datasets = inserted (λ a b. is_before a.name b.name) dataset self.old.datasets }) }
         ensures same { OnErr result (self.new ≡ self.old) }
+        ensures grows { length (dir_bytes self.new) ≤ length (dir_bytes self.old) + 1024 }
     {
         let place = place_of_dataset(self.datasets.as_slice(), &dataset.name);
         self.datasets.insert(place, dataset)?;
@@ -136,7 +138,8 @@ impl Dir {
 
     /// Leaves out the partial state of this target, where there is one.
     pub fn drop_partial(&mut self, name: &DatasetName)
-        ensures { self.new ≡ record self.old { partials = filter (λ partial. not (bytes_eq partial.target name.now)) self.old.partials } }
+        ensures dropped { self.new ≡ record self.old { partials = filter (λ partial. not (bytes_eq partial.target name.now)) self.old.partials } }
+        ensures shrinks { length (dir_bytes self.new) ≤ length (dir_bytes self.old) }
     {
         self.partials.retain(|partial| partial.target != *name);
     }
@@ -144,7 +147,8 @@ impl Dir {
     /// Gives the dataset of this name another head.
     pub fn set_head(&mut self, name: &DatasetName, head: ObjSet)
         requires { SetFits head }
-        ensures { self.new ≡ record self.old { datasets = with_head name.now head self.old.datasets } }
+        ensures headed { self.new ≡ record self.old { datasets = with_head name.now head self.old.datasets } }
+        ensures as_long { length (dir_bytes self.new) ≡ length (dir_bytes self.old) }
     {
         set_head(self.datasets.as_mut_slice(), name, head);
     }
@@ -157,6 +161,7 @@ impl Dir {
         requires component { All (λ partial. partial.target ++ 64 ∷ partial.snapshot ≢ snapshot.name) self.old.partials }
         ensures added { OnOk result (self.new ≡ record self.old { snapshots = inserted snapshot_is_before snapshot self.old.snapshots }) }
         ensures same { OnErr result (self.new ≡ self.old) }
+        ensures grows { length (dir_bytes self.new) ≤ length (dir_bytes self.old) + 1024 }
     {
         let place = place_of_snapshot(self.snapshots.as_slice(), &snapshot);
         self.snapshots.insert(place, snapshot)?;
