@@ -8,7 +8,7 @@ use Rattle.zst_block.specs.Blocks.{FitsDisk, FillsFree}
 use Rattle.zst_block.specs.Faults as blocks
 use Rattle.zst_block.specs.declared.fault.BlockFault.{BlockFault}
 use Rattle.zst_block.specs.declared.fault.BlockFault.TheVariants as block_faults
-use Rattle.zst_pool.specs.Faults.{of_block, is_disk_fault, HasDiskCause, WriteFault, ReadFault}
+use Rattle.zst_pool.specs.Faults.{of_block, is_disk_fault, HasDiskCause, WriteFault}
 use Rattle.zst_pool.specs.Work.{Works}
 use Rattle.zst_pool.specs.declared.fault.PoolFault.{PoolFault}
 use Rattle.zst_pool.specs.declared.fault.PoolFault.TheVariants as faults
@@ -39,6 +39,18 @@ pub WriteFault-of_block : (T : Type 0) (fault : BlockFault) (need' largest' : �
 WriteFault-of_block T (block_faults.Full need largest) need' largest' full damaged = let is = (full need largest).0 refl in is.2
 WriteFault-of_block T (block_faults.Damaged sector stated found) need' largest' full damaged = damaged sector stated found refl
 WriteFault-of_block T block_faults.DiskFault need' largest' full damaged = tt
+
+-- and how much a full one wanted, and what there is
+pub full-of_block : (T : Type 0) (fault : BlockFault) (need' largest' : ℕ)
+    → ((need largest : ℕ) → ◌≡◌ {A = Result T BlockFault} (Err fault) (Err (block_faults.Full need largest)) ↔ ((need ≡ need') × (largest ≡ largest') × (largest < need)))
+    → (need largest : ℕ) → of_block fault ≡ faults.Full need largest → (need ≡ need') × (largest ≡ largest')
+full-of_block T (block_faults.Full need largest) need' largest' full n l is =
+    let sizes = (full need largest).0 refl in
+    let need_is : need ≡ n = cc in
+    let largest_is : largest ≡ l = cc in
+    (sym need_is ∙ sizes.0, sym largest_is ∙ sizes.1)
+full-of_block T (block_faults.Damaged sector stated found) need' largest' full n l is = absurd (cc)
+full-of_block T block_faults.DiskFault need' largest' full n l is = absurd (cc)
 
 -- what a part keeps that ended with a block's fault
 pub works_of_block : (T U : Type 0) (old new : DiskState) (space less : FreeSectors) (old_failed new_failed : Bool) (block_fault : BlockFault) (fault : PoolFault) → fault ≡ of_block block_fault

@@ -1,6 +1,6 @@
 -- How a commit follows on what was written before it, and what an image then reads as.
 use Rattle.std.specs.Prelude.{Result, Ok, Err, Option, Bool, IsTrue}
-use Rattle.std.proofs.Common.{◌≡◌, ◌⊎◌, inl, inr, ⊎_elim, ℕ, ◌+◌, ◌*◌, ◌<◌, ◌≤◌, List, [], length, refl, sym, ◌∙◌, ap, subst, arith}
+use Rattle.std.proofs.Common.{◌≡◌, ◌⊎◌, inl, inr, ⊎_elim, ℕ, ◌+◌, List, [], length, refl, sym, ◌∙◌, ap, subst, arith}
 use Rattle.zst_outside.specs.Images.{DiskState, Leaves, WritesIn, IsSynced, Leaves-weaker, Leaves-then}
 use Rattle.zst_outside.specs.Ranges.{Torn}
 use Rattle.zst_space.specs.FreeSectors.{FreeSectors, IsFree}
@@ -19,7 +19,7 @@ use Rattle.zst_uber.specs.declared.fault.UberFault.TheVariants as ubers
 use Rattle.zst_model.specs.Pool.{Pool}
 use Rattle.zst_dir.specs.Rows.{Rows}
 use Rattle.zst_pool.specs.Faults.{WriteFault, of_uber}
-use Rattle.zst_pool.specs.Reads.{Describes, HasDir, IsDirRun, ReadsAs, Reads, Rests, free_by}
+use Rattle.zst_pool.specs.Reads.{Describes, IsDirRun, ReadsAs, Reads, Rests, free_by}
 use Rattle.zst_pool.specs.Work.{Ready, Works, NextIs, Stays, KeepsImage, OldOrNext, CommitAnswer, Commits, CommitsOver}
 use Rattle.zst_pool.specs.declared.fault.PoolFault.{PoolFault}
 use Rattle.zst_pool.specs.declared.fault.PoolFault.TheVariants.{Plan, CannotApply, Redacted, Full, Damaged, NoPool, BadVersion, DiskFault, Failed, OutOfMemory}
@@ -169,7 +169,7 @@ Stays-weaker before after DiskFault is stays = tt
 Stays-weaker before after Failed is stays = is stays
 Stays-weaker before after OutOfMemory is stays = is stays
 
-Stays-from : (before : Type 0) (fault : PoolFault) → before → Stays before fault
+pub Stays-from : (before : Type 0) (fault : PoolFault) → before → Stays before fault
 Stays-from before (Plan fault) is = is
 Stays-from before (CannotApply fault) is = is
 Stays-from before (Redacted object block) is = is

@@ -6,6 +6,7 @@ pub mod DirRuns
 pub mod Doing
 pub mod Growing
 pub mod Judging
+pub mod Known
 pub mod Matching
 pub mod NextPools
 pub mod Opened

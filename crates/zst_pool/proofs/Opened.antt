@@ -1,20 +1,27 @@
 -- What opening a pool answers, from what its body and its directory are.
-use Rattle.std.specs.Prelude.{Option, Some, Result, Ok, Err}
-use Rattle.std.proofs.Common.{◌≡◌, List, ℕ, length, sym, ◌∙◌, ap, subst}
+use Rattle.std.specs.Prelude.{Option, Some, None, Err}
+use Rattle.std.proofs.Common.{◌≡◌, ◌≢◌, inl, inr, ⊎_elim, List, ℕ, ◌+◌, ◌-◌, ◌*◌, ◌/◌, ◌<◌, ◌≤◌, length, refl, sym, ◌∙◌, ap, subst, arith}
+use Rattle.std.proofs.lemmas.Bool.{cases_lt}
+use Rattle.zst_bytes.specs.Bytes.{number_at}
 use Rattle.zst_outside.specs.Images.{DiskState}
-use Rattle.zst_block.specs.Blocks.{Has}
+use Rattle.zst_outside.specs.Ranges.{length-bytes_at}
+use Rattle.zst_block.specs.Blocks.{Has, IsBlock, IsTaken}
 use Rattle.zst_uber.specs.Body.{IsBody, InRange, body_bytes, uber_at}
-use Rattle.zst_uber.specs.BodyLaws.{uber_at-body_bytes}
-use Rattle.zst_uber.specs.Opening.{IsLatest}
+use Rattle.zst_uber.specs.BodyLaws.{uber_at-body_bytes, version-back}
+use Rattle.zst_uber.specs.Opening.{Answers, Opens, IsLatest}
 use Rattle.zst_uber.specs.Slots.{latest}
+use Rattle.zst_uber.specs.declared.TheConstants.{VERSION}
+use Rattle.zst_uber.specs.declared.fault.UberFault.{UberFault}
+use Rattle.zst_uber.specs.declared.fault.UberFault.TheVariants as ubers
 use Rattle.zst_uber.specs.declared.uber.Uber.{Uber}
 use Rattle.zst_model.specs.Pool.{Pool}
 use Rattle.zst_dir.specs.Rows.{Rows}
-use Rattle.zst_pool.specs.Faults.{ReadFault, LoadFault}
-use Rattle.zst_pool.specs.Making.{OpenAnswers, GivesPool}
-use Rattle.zst_pool.specs.Reads.{ReadsAs, HasDir, free_by}
+use Rattle.zst_pool.specs.Faults.{ReadFault, LoadFault, of_uber}
+use Rattle.zst_pool.specs.Making.{OpenAnswers, GivesPool, IsDamagedPool}
+use Rattle.zst_pool.specs.Reads.{ReadsAs, HasDir, IsDirRun, NamesDir, free_by}
 use Rattle.zst_pool.specs.declared.fault.PoolFault.{PoolFault}
 use Rattle.zst_pool.specs.declared.fault.PoolFault.TheVariants.{Plan, CannotApply, Redacted, Full, Damaged, NoPool, BadVersion, DiskFault, Failed, OutOfMemory}
+use Rattle.zst_pool.proofs.DirRuns.{IsDirRun-some}
 
 -- the body by which an image reads as a pool is its latest
 pub IsLatest-reads : (size : ℕ) (uber : Uber) (rows : Rows) (pool : Pool) (image : List ℕ) → length image ≡ size → ReadsAs uber rows pool image → IsLatest size uber image
@@ -48,17 +55,89 @@ GivesPool-refused uber rows DiskFault is = is
 GivesPool-refused uber rows Failed is = is
 GivesPool-refused uber rows OutOfMemory is = is
 
+-- a body that is read, and what it is a body of
+pub IsBody-latest : (size : ℕ) (uber : Uber) (image : List ℕ) → IsLatest size uber image → IsBody size uber (body_bytes uber)
+IsBody-latest size uber image is = record { spelled = refl; fits = is.fits; in_range = is.in_range }
+
+-- what the latest body names is damaged where no directory is there by it
+damaged-by : (disk : DiskState) (uber : Uber) → IsLatest disk.size uber disk.seen
+    → ((rows : Rows) → uber.free_count ≡ 0 → HasDir (Has disk.seen (free_by uber)) uber rows → ⊥) → IsDamagedPool disk
+damaged-by disk uber is none = record {
+  body = body_bytes uber;
+  there = is.stands;
+  version = version-back uber is.fits.version ∙ is.in_range.version;
+  damaged = λ other rows opened.
+      let same : uber ≡ other = latest-one disk.size uber other (body_bytes uber) disk.seen is is.stands opened.is_body in
+      none rows (ap (λ (u : Uber). u.free_count) same ∙ opened.extents) (HasDir-same other uber rows disk.seen disk.seen same refl opened.directory);
+}
+
 -- a directory is damaged only where none is there
-pub OpenAnswers-refused : (disk : DiskState) (fault : PoolFault) → LoadFault fault
-    → ((bytes : List ℕ) (uber : Uber) (rows : Rows) → latest disk.seen ≡ Some bytes → IsBody disk.size uber bytes → uber.free_count ≡ 0 → HasDir (Has disk.seen (free_by uber)) uber rows → ReadFault fault)
-    → OpenAnswers disk (Err fault)
-OpenAnswers-refused disk (Plan fault) is read = is
-OpenAnswers-refused disk (CannotApply fault) is read = is
-OpenAnswers-refused disk (Redacted object block) is read = is
-OpenAnswers-refused disk (Full need largest) is read = is
-OpenAnswers-refused disk (Damaged sector stated found) is read = λ bytes uber rows last body there. read bytes uber rows last body there.0 there.1
-OpenAnswers-refused disk NoPool is read = absurd is
-OpenAnswers-refused disk (BadVersion number) is read = absurd is
-OpenAnswers-refused disk DiskFault is read = tt
-OpenAnswers-refused disk Failed is read = is
-OpenAnswers-refused disk OutOfMemory is read = tt
+pub OpenAnswers-refused : (disk : DiskState) (uber : Uber) (fault : PoolFault) → IsLatest disk.size uber disk.seen → LoadFault fault
+    → ((rows : Rows) → uber.free_count ≡ 0 → HasDir (Has disk.seen (free_by uber)) uber rows → ReadFault fault) → OpenAnswers disk (Err fault)
+OpenAnswers-refused disk uber (Plan fault) last is read = is
+OpenAnswers-refused disk uber (CannotApply fault) last is read = is
+OpenAnswers-refused disk uber (Redacted object block) last is read = is
+OpenAnswers-refused disk uber (Full need largest) last is read = is
+OpenAnswers-refused disk uber (Damaged sector stated found) last is read = damaged-by disk uber last read
+OpenAnswers-refused disk uber NoPool last is read = absurd is
+OpenAnswers-refused disk uber (BadVersion number) last is read = absurd is
+OpenAnswers-refused disk uber DiskFault last is read = tt
+OpenAnswers-refused disk uber Failed last is read = is
+OpenAnswers-refused disk uber OutOfMemory last is read = tt
+
+-- where the latest body gives no answer but that there is none
+module _ (disk : DiskState) where
+  no_body : (found : Option (List ℕ)) → Opens disk found (Err ubers.NoPool) → found ≡ None
+  no_body None is = refl
+  no_body (Some body) is = absurd is
+
+  bad_version : (version : ℕ) (found : Option (List ℕ)) → Opens disk found (Err (ubers.BadVersion version)) → (body : List ℕ) × (found ≡ Some body) × (version ≡ number_at body 8 4) × (version ≢ VERSION)
+  bad_version version None is = absurd (cc)
+  bad_version version (Some body) is = (body, refl, is.0, is.1)
+
+  damaged_body : (sector : ℕ) (stated parts : List ℕ) (found : Option (List ℕ)) → latest disk.seen ≡ found → Opens disk found (Err (ubers.Damaged sector stated parts)) → IsDamagedPool disk
+  damaged_body sector stated parts None same is = absurd (cc)
+  damaged_body sector stated parts (Some body) same is = record { body = body; there = same; version = is.1; damaged = λ uber rows opened. is.4 uber opened.is_body }
+
+  -- what a body that can't be read answers
+  pub OpenAnswers-body : (fault : UberFault) → Answers disk (Err fault) → OpenAnswers disk (Err (of_uber fault))
+  OpenAnswers-body (ubers.Damaged sector stated parts) is = damaged_body sector stated parts (latest disk.seen) refl is
+  OpenAnswers-body ubers.NoPool is = no_body (latest disk.seen) is
+  OpenAnswers-body (ubers.BadVersion version) is = bad_version version (latest disk.seen) is
+  OpenAnswers-body ubers.DiskFault is = tt
+
+-- what stands behind sectors 0 to 7 and before the end isn't free
+before-end : (uber : Uber) → NamesDir uber → IsTaken (free_by uber) (512 * uber.dir_root.sector) uber.dir_root.length
+before-end uber names = λ byte starts ends free. ⊎_elim (λ none. absurd none) (λ past. omega (arith, ends, past, names.inside)) free
+
+-- a directory that was read is there
+pub HasDir-read : (image : List ℕ) (uber : Uber) (rows : Rows) (bytes : List ℕ) → NamesDir uber → IsBlock image uber.dir_root bytes → IsDirRun rows uber.dir_bytes bytes → HasDir (Has image (free_by uber)) uber rows
+HasDir-read image uber rows bytes names block run = record {
+  levels = names.levels;
+  kind = names.kind;
+  bytes = bytes;
+  there = record { block = block; behind = names.behind; taken = before-end uber names };
+  run = run;
+}
+
+-- a run of some bytes that is there ends before the body's end
+run-inside : (image : List ℕ) (uber : Uber) (bytes : List ℕ) → Has image (free_by uber) uber.dir_root bytes → 0 < length bytes → 512 * uber.dir_root.sector + uber.dir_root.length ≤ 512 * uber.end
+run-inside image uber bytes has some =
+    let place = 512 * uber.dir_root.sector in
+    let count = uber.dir_root.length in
+    let long : length bytes ≡ count = ap length (sym has.block.bytes_are) ∙ length-bytes_at image place count has.block.placed.inside in
+    let last = place + count - 1 in
+    elim (cases_lt (last / 512) uber.end) [
+      | inl below ↦ omega arith
+      | inr past ↦ absurd (has.taken last (omega arith) (omega arith) (inr past))
+    ]
+
+-- a directory that is there is named as version 0 does
+pub NamesDir-there : (image : List ℕ) (uber : Uber) (rows : Rows) → uber.free_count ≡ 0 → HasDir (Has image (free_by uber)) uber rows → NamesDir uber
+NamesDir-there image uber rows none has = record {
+  extents = none;
+  levels = has.levels;
+  kind = has.kind;
+  behind = has.there.behind;
+  inside = run-inside image uber has.bytes has.there (IsDirRun-some rows uber.dir_bytes has.bytes has.run);
+}

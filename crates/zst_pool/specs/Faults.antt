@@ -108,3 +108,16 @@ WriteFault (faults.BadVersion number) = ⊥
 WriteFault faults.DiskFault = Unit {0}
 WriteFault faults.Failed = ⊥
 WriteFault faults.OutOfMemory = Unit {0}
+
+-- the faults that a command may answer, whatever the image is: those of opening are none of them
+abbrev pub IsStepFault : PoolFault → Type 0
+IsStepFault (faults.Plan fault) = Unit {0}
+IsStepFault (faults.CannotApply fault) = Unit {0}
+IsStepFault (faults.Redacted object block) = Unit {0}
+IsStepFault (faults.Full need largest) = largest < need
+IsStepFault (faults.Damaged sector stated found) = Unit {0}
+IsStepFault faults.NoPool = ⊥
+IsStepFault (faults.BadVersion number) = ⊥
+IsStepFault faults.DiskFault = Unit {0}
+IsStepFault faults.Failed = Unit {0}
+IsStepFault faults.OutOfMemory = Unit {0}

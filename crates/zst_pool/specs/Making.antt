@@ -1,8 +1,7 @@
 -- What making and opening a pool answer, and where.
 use Rattle.std.specs.Prelude.{◌≡◌, ◌≢◌, ◌⊎◌, ◌*◌, ◌<◌, ℕ, List, Option, Some, None, Result, Ok, Err}
-use Rattle.zst_outside.specs.Images.{DiskState}
+use Rattle.zst_outside.specs.Images.{DiskState, OnlyReads}
 use Rattle.zst_bytes.specs.Bytes.{number_at}
-use Rattle.zst_fletcher.specs.WeightSum.{weight_sum, parts_of}
 use Rattle.zst_uber.specs.Body.{IsBody}
 use Rattle.zst_uber.specs.Slots.{latest}
 use Rattle.zst_uber.specs.declared.TheConstants.{VERSION}
@@ -38,29 +37,43 @@ NoneAnswers body (Err DiskFault) = Unit {0}
 NoneAnswers body (Err Failed) = ⊥
 NoneAnswers body (Err OutOfMemory) = ⊥
 
--- each answer of making a pool, where it comes
+-- each answer of making a pool, where it comes: memory is wanted only after the checks, and the first directory has room
 abbrev pub CreateAnswers : ℕ → Option (List ℕ) → ℕ → Result Kept PoolFault → Type 0
 CreateAnswers size body sectors (Ok kept) = (body ≡ None) × (¬ (size < 512 * sectors))
 CreateAnswers size body sectors (Err (Plan fault)) = CreatePlan size body sectors fault
 CreateAnswers size body sectors (Err (CannotApply fault)) = ⊥
 CreateAnswers size body sectors (Err (Redacted object block)) = ⊥
-CreateAnswers size body sectors (Err (Full need largest)) = largest < need
+CreateAnswers size body sectors (Err (Full need largest)) = ⊥
 CreateAnswers size body sectors (Err (Damaged sector stated found)) = ⊥
 CreateAnswers size body sectors (Err NoPool) = ⊥
 CreateAnswers size body sectors (Err (BadVersion number)) = ⊥
 CreateAnswers size body sectors (Err DiskFault) = Unit {0}
 CreateAnswers size body sectors (Err Failed) = ⊥
-CreateAnswers size body sectors (Err OutOfMemory) = Unit {0}
+CreateAnswers size body sectors (Err OutOfMemory) = (body ≡ None) × (¬ (size < 512 * sectors))
 
--- no body and directory of version 0's layout are the latest
-abbrev pub IsDamagedPool : DiskState → Type 0
-IsDamagedPool disk =
-    (body : List ℕ) (uber : Uber) (rows : Rows) → latest disk.seen ≡ Some body → IsBody disk.size uber body
-    → (uber.free_count ≡ 0) × HasDir (Has disk.seen (free_by uber)) uber rows → ⊥
+-- what stands after making a pool was refused: after its checks all is as it was; without room or memory there still is no pool
+abbrev pub RefusedLeaves : DiskState → DiskState → PoolFault → Type 0
+RefusedLeaves old new (Plan fault) = OnlyReads old new
+RefusedLeaves old new (Full need largest) = latest new.seen ≡ latest old.seen
+RefusedLeaves old new OutOfMemory = latest new.seen ≡ latest old.seen
+RefusedLeaves old new fault = Unit {0}
+
+-- this body and a directory of version 0's layout are there, the directory with these rows
+pub record IsOpened (disk : DiskState) (body : List ℕ) (uber : Uber) (rows : Rows) : Type 0 where
+  pub is_body : IsBody disk.size uber body
+  pub extents : uber.free_count ≡ 0
+  pub directory : HasDir (Has disk.seen (free_by uber)) uber rows
+
+-- the latest body is of this version, but it and what it names aren't of version 0's layout
+pub record IsDamagedPool (disk : DiskState) : Type 0 where
+  pub body : List ℕ
+  pub there : latest disk.seen ≡ Some body
+  pub version : number_at body 8 4 ≡ VERSION
+  pub damaged : (uber : Uber) (rows : Rows) → IsOpened disk body uber rows → ⊥
 
 -- each answer of opening, where it comes
 abbrev pub OpenAnswers : DiskState → Result Kept PoolFault → Type 0
-OpenAnswers disk (Ok kept) = (body : List ℕ) × (latest disk.seen ≡ Some body) × IsBody disk.size kept.body body
+OpenAnswers disk (Ok kept) = (body : List ℕ) × (latest disk.seen ≡ Some body) × IsOpened disk body kept.body kept.dir
 OpenAnswers disk (Err (Plan fault)) = ⊥
 OpenAnswers disk (Err (CannotApply fault)) = ⊥
 OpenAnswers disk (Err (Redacted object block)) = ⊥

@@ -1,5 +1,5 @@
 -- What an image reads as: the pool that its latest body, its directory and its object sets describe.
-use Rattle.std.specs.Prelude.{◌≡◌, ◌⊎◌, ◌≤◌, ℕ, List, [], ◌∷◌, ◌++◌, length, take, filter, Option, Some, None, Result, Ok}
+use Rattle.std.specs.Prelude.{◌≡◌, ◌⊎◌, ◌+◌, ◌*◌, ◌/◌, ◌≤◌, ℕ, List, [], ◌∷◌, ◌++◌, length, take, filter, Result, Ok}
 use Rattle.zst_outside.specs.Images.{DiskState}
 use Rattle.zst_space.specs.FreeSectors.{FreeSectors}
 use Rattle.zst_block.specs.Blocks.{Has}
@@ -12,7 +12,7 @@ use Rattle.zst_model.specs.declared.refusal.Refusal.{Refusal}
 use Rattle.zst_model.specs.Dated.{DatedState}
 use Rattle.zst_model.specs.Pool.{Pool, IsPool}
 use Rattle.zst_model.specs.Pool as plain
-use Rattle.zst_model.specs.Step.{Stepped, stepped}
+use Rattle.zst_model.specs.Step.{Stepped}
 use Rattle.zst_tree.specs.declared.tree.ObjSet.{ObjSet}
 use Rattle.zst_dir.specs.Rows.{Rows}
 use Rattle.zst_dir.specs.Spelling.{IsDir, dir_bytes}
@@ -93,6 +93,18 @@ pub record IsDirRun (rows : Rows) (count : ℕ) (bytes : List ℕ) : Type 0 wher
   pub inside : count ≤ length bytes
   pub fill : ℕ
   pub filled : bytes ≡ dir_bytes rows ++ zeros fill
+
+-- how many sectors the run of a directory has: it is filled up to a multiple of 8,192 bytes
+abbrev pub dir_sectors : Rows → ℕ
+dir_sectors rows = (length (dir_bytes rows) + 8191) / 8192 * 16
+
+-- a body has no free extents, and names its directory as one run, behind sectors 0 to 7 and before its end
+pub record NamesDir (uber : Uber) : Type 0 where
+  pub extents : uber.free_count ≡ 0
+  pub levels : uber.dir_levels ≡ 0
+  pub kind : uber.dir_root.kind ≡ 1
+  pub behind : 8 ≤ uber.dir_root.sector
+  pub inside : 512 * uber.dir_root.sector + uber.dir_root.length ≤ 512 * uber.end
 
 -- the body's root names the run with the directory of these rows
 pub record HasDir (has : Blocks) (uber : Uber) (rows : Rows) : Type 0 where

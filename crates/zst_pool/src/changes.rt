@@ -12,7 +12,7 @@ ghost use Rattle.zst_model.specs.Dated.{DatedState, size_at, apply_dated, apply_
 ghost use Rattle.zst_model.specs.Pool.{Pool};
 ghost use Rattle.zst_model.specs.Step.{filled, punched, written};
 ghost use Rattle.zst_pool.specs.Checks.{ChangesHead, PlansHead, freed, put_in};
-ghost use Rattle.zst_pool.specs.Faults.{WriteFault, is_disk_fault};
+ghost use Rattle.zst_pool.specs.Faults.{IsStepFault, WriteFault, is_disk_fault};
 ghost use Rattle.zst_objset.specs.Meaning.{SetIs};
 ghost use Rattle.zst_pool.specs.Work.{Works};
 
@@ -64,6 +64,7 @@ fn plan_block(
     ensures planned { (image : List ℕ) (space : FreeSectors) (name : List ℕ) (pool : Pool) (head : DatedState) → pool.number ≡ number → SetIs (Has image space) flat.now head
         → PlansHead (λ size after. apply_dated (number + 1) (At object (Write (index * size_at (head.state object)) 0 (filled size bytes.now))) head ≡ Ok after)
         name pool (written pool object index bytes.now head) result }
+    ensures known { IfErr result IsStepFault }
     ensures disk { is_disk_fault result ≡ false }
 {
     if object >= NUMBER_BOUND {
@@ -112,6 +113,7 @@ pub fn change_block<D: Disk>(
     ensures number { OnOk result (number < 2 ^ 63) }
     ensures changed { (name : List ℕ) (pool : Pool) (head : DatedState) → IsTrue D.tells_reads → pool.number ≡ number → SetIs (Has (D.state io.old.disk.now).seen io.old.space) flat.old head
         → ChangesHead (Has (D.state io.new.disk.now).seen io.new.space) name pool (written pool object index bytes.now head) flat.new result }
+    ensures known { IfErr result IsStepFault }
     ensures works { Works (D.state io.old.disk.now) io.old.space io.old.failed (D.state io.new.disk.now) io.new.space io.new.failed result }
     ensures sectors { OnOk result (io.new.space.sectors ≡ io.old.space.sectors) }
     ensures extents { io.old.space.free ≡ [] → OnOk result (io.new.space.free ≡ []) }
@@ -140,6 +142,7 @@ fn plan_holes(
     ensures planned { (image : List ℕ) (space : FreeSectors) (name : List ℕ) (pool : Pool) (head : DatedState) → pool.number ≡ number → SetIs (Has image space) flat.now head
         → PlansHead (λ found after. apply_dated (number + 1) (At object (Free (first * size_at (head.state object)) (count * size_at (head.state object)))) head ≡ Ok after)
         name pool (punched pool object first count head) result }
+    ensures known { IfErr result IsStepFault }
     ensures disk { is_disk_fault result ≡ false }
 {
     if object >= NUMBER_BOUND {
@@ -168,6 +171,7 @@ pub fn change_holes(
     ensures number { OnOk result (number < 2 ^ 63) }
     ensures changed { (image : List ℕ) (space : FreeSectors) (name : List ℕ) (pool : Pool) (head : DatedState) → pool.number ≡ number → SetIs (Has image space) flat.old head
         → ChangesHead (Has image space) name pool (punched pool object first count head) flat.new result }
+    ensures known { IfErr result IsStepFault }
     ensures disk { is_disk_fault result ≡ false }
 {
     plan_holes(flat, number, object, first, count)?;
@@ -182,6 +186,7 @@ fn plan_numbers(number: u64, first: u64, count: u64) -> Result<(), PoolFault>
     ensures number { OnOk result (number < 2 ^ 63) }
     ensures planned { (name : List ℕ) (pool : Pool) (head : DatedState) → pool.number ≡ number
         → PlansHead (λ found after. apply_dated (number + 1) (FreeObjects first count) head ≡ Ok after) name pool (freed pool first count head) result }
+    ensures known { IfErr result IsStepFault }
     ensures disk { is_disk_fault result ≡ false }
 {
     if is_past(first, count, NUMBER_BOUND) {
@@ -198,6 +203,7 @@ pub fn change_numbers(flat: &mut Flat, number: u64, first: u64, count: u64) -> R
     ensures number { OnOk result (number < 2 ^ 63) }
     ensures changed { (image : List ℕ) (space : FreeSectors) (name : List ℕ) (pool : Pool) (head : DatedState) → pool.number ≡ number → SetIs (Has image space) flat.old head
         → ChangesHead (Has image space) name pool (freed pool first count head) flat.new result }
+    ensures known { IfErr result IsStepFault }
     ensures disk { is_disk_fault result ≡ false }
 {
     plan_numbers(number, first, count)?;
@@ -212,6 +218,7 @@ fn plan_object(number: u64, object: u64) -> Result<(), PoolFault>
     ensures number { OnOk result (number < 2 ^ 63) }
     ensures planned { (head : ObjectHead) (bonus : List ℕ) (spill : Option (List ℕ)) (name : List ℕ) (pool : Pool) (old : DatedState) → pool.number ≡ number
         → PlansHead (λ found after. apply_all_dated (number + 1) (map (At object) (Put head bonus false 0 ∷ spill_change spill)) old ≡ Ok after) name pool (put_in pool object head bonus spill old) result }
+    ensures known { IfErr result IsStepFault }
     ensures disk { is_disk_fault result ≡ false }
 {
     if object >= NUMBER_BOUND {
@@ -239,6 +246,7 @@ pub fn change_object<D: Disk>(
     ensures number { OnOk result (number < 2 ^ 63) }
     ensures changed { (name : List ℕ) (pool : Pool) (old : DatedState) → IsTrue D.tells_reads → pool.number ≡ number → SetIs (Has (D.state io.old.disk.now).seen io.old.space) flat.old old
         → ChangesHead (Has (D.state io.new.disk.now).seen io.new.space) name pool (put_in pool object head bonus spill old) flat.new result }
+    ensures known { IfErr result IsStepFault }
     ensures works { Works (D.state io.old.disk.now) io.old.space io.old.failed (D.state io.new.disk.now) io.new.space io.new.failed result }
     ensures sectors { OnOk result (io.new.space.sectors ≡ io.old.space.sectors) }
     ensures extents { io.old.space.free ≡ [] → OnOk result (io.new.space.free ≡ []) }

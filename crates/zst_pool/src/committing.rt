@@ -1,12 +1,14 @@
 // The commit of a directory: the one commit of an event.
 ghost use Rattle.std.specs.Prelude.{◌≡◌, ◌+◌, ◌<◌, ◌^◌, ◌||◌, false, [], ℕ, List, IsTrue, IfOk, IfErr, OnOk, OnErr};
+ghost use Rattle.zst_space.specs.FreeSectors.{largest_of};
 ghost use Rattle.zst_block.specs.Blocks.{FitsDisk, FillsFree, Has};
 ghost use Rattle.zst_block.specs.Ptr.{hole_of};
+ghost use Rattle.zst_uber.specs.Slots.{latest};
 ghost use Rattle.zst_model.specs.Pool.{Pool};
 ghost use Rattle.zst_dir.specs.Rows.{Rows};
 ghost use Rattle.zst_pool.specs.Faults.{HasDiskCause, WriteFault, is_disk_fault};
-ghost use Rattle.zst_pool.specs.Reads.{IsDirRun, Rests, free_by};
-ghost use Rattle.zst_pool.specs.Work.{Ready, Works, NextIs, Commits, CommitsOver};
+ghost use Rattle.zst_pool.specs.Reads.{IsDirRun, Rests, dir_sectors, free_by};
+ghost use Rattle.zst_pool.specs.Work.{Ready, Works, NextIs, Stays, Commits, CommitsOver};
 
 use crate::fault::PoolFault;
 use crate::kept::Kept;
@@ -42,6 +44,10 @@ pub fn commit_dir<D: Disk>(
     ensures over { (next : Pool) → IsTrue D.tells_reads → NextIs (Has (D.state io.old.disk.now).seen io.old.space) body.now guids dir next
         → CommitsOver (D.state io.old.disk.now) io.old.space (D.state io.new.disk.now) io.new.space next result }
     ensures number { IfOk result (λ kept. kept.body.number ≡ body.now.number + 1) }
+    ensures fault { IfErr result WriteFault }
+    ensures full { (need largest : ℕ) → result ≡ Err (PoolFault.Full need largest) → (need ≡ dir_sectors dir) × (largest ≡ largest_of io.old.space) }
+    // After a refusal that isn't the disk's the latest body is the one from before.
+    ensures refused { IfErr result (Stays (latest (D.state io.new.disk.now).seen ≡ latest (D.state io.old.disk.now).seen)) }
     ensures ready { IfOk result (λ kept. Ready D.tells_reads (D.state io.new.disk.now) kept.body) }
     ensures stays { io.new.failed ≡ false → OnErr result (Ready D.tells_reads (D.state io.new.disk.now) body.now) }
     ensures size { (D.state io.new.disk.now).size ≡ (D.state io.old.disk.now).size }
@@ -72,6 +78,7 @@ fn write_dir<D: Disk>(
     ensures sectors { OnOk result (io.new.space.sectors ≡ io.old.space.sectors) }
     ensures extents { OnOk result (io.new.space.free ≡ []) }
     ensures fault { IfErr result WriteFault }
+    ensures full { (need largest : ℕ) → result ≡ Err (PoolFault.Full need largest) → (need ≡ dir_sectors dir.now) × (largest ≡ largest_of io.old.space) }
     ensures works { Works (D.state io.old.disk.now) io.old.space io.old.failed (D.state io.new.disk.now) io.new.space io.new.failed result }
     ensures same { io.new.disk.ghost_name ≡ io.old.disk.ghost_name }
 {

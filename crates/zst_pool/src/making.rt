@@ -1,7 +1,7 @@
 // How a pool is made in an image, and how one is opened.
-ghost use Rattle.std.specs.Prelude.{◌≡◌, ◌⊎◌, ◌↔◌, ◌*◌, ◌<◌, ◌≤◌, ◌^◌, ℕ, List, None, Some, IsTrue, All, OnOk, IfOk, IfErr};
+ghost use Rattle.std.specs.Prelude.{◌≡◌, ◌⊎◌, ◌↔◌, ◌+◌, ◌*◌, ◌<◌, ◌≤◌, ◌^◌, ℕ, List, None, Some, IsTrue, All, OnOk, IfOk, IfErr, IfSome};
 ghost use Rattle.zst_outside.specs.Images.{IsSynced, Leaves, OnlyReads};
-ghost use Rattle.zst_block.specs.Blocks.{Has};
+ghost use Rattle.zst_block.specs.Blocks.{Has, IsBlock};
 ghost use Rattle.zst_block.specs.Ptr.{hole_of};
 ghost use Rattle.zst_model.specs.Pool.{Pool};
 ghost use Rattle.zst_uber.specs.Body.{InRange};
@@ -10,8 +10,8 @@ ghost use Rattle.zst_uber.specs.Slots.{latest as latest_of};
 ghost use Rattle.zst_uber.specs.declared.uber.Uber.{Uber};
 ghost use Rattle.zst_dir.specs.Rows.{Rows};
 ghost use Rattle.zst_pool.specs.Faults.{HasDiskCause, LoadFault};
-ghost use Rattle.zst_pool.specs.Making.{NoneAnswers, CreateAnswers, OpenAnswers, GivesPool};
-ghost use Rattle.zst_pool.specs.Reads.{HasDir, IsDirRun, Reads, ReadsAs, Rests, free_by, new_pool};
+ghost use Rattle.zst_pool.specs.Making.{NoneAnswers, CreateAnswers, RefusedLeaves, OpenAnswers, GivesPool};
+ghost use Rattle.zst_pool.specs.Reads.{HasDir, IsDirRun, NamesDir, Reads, ReadsAs, Rests, free_by, new_pool};
 ghost use Rattle.zst_pool.specs.Work.{ReadAnswer, Ready};
 
 use crate::committing::commit_dir;
@@ -31,7 +31,7 @@ impl Kept {
     /// commit. It begins with a sync.
     ///
     /// It is refused where a slot has an open gate and the body's magic, also with a damaged body or
-    /// another version (E4), and where the disk has fewer sectors (E23).
+    /// another version (E4), and where the disk has fewer sectors (E23). Then it has only read.
     pub fn create<D: Disk>(
         alloc: Global,
         disk: &mut D,
@@ -45,6 +45,7 @@ impl Kept {
         ensures ready { IfOk result (λ kept. Ready D.tells_reads (D.state disk.new) kept.body) }
         // At every moment each image has the latest body that one had before, or reads as the new pool.
         ensures moments { IsTrue D.tells_reads → Leaves (D.state disk.old) (D.state disk.new) (λ c. ((d : List ℕ) × (D.state disk.old).images d × (latest_of c ≡ latest_of d)) ⊎ Reads (new_pool id) c) }
+        ensures refused { IfErr result (RefusedLeaves (D.state disk.old) (D.state disk.new)) }
         ensures cause { HasDiskCause (D.state disk.old).faults (D.state disk.new).faults result }
     {
         find_none(disk)?;
@@ -69,7 +70,8 @@ impl Kept {
     /// Opens the pool of a disk: reads its latest body and its directory. It begins with a sync and
     /// writes nothing.
     ///
-    /// A directory that isn't of its layout is damaged, with both sums alike.
+    /// A directory that isn't of its layout, or that doesn't stand where blocks may, is damaged,
+    /// with both sums alike.
     pub fn open<D: Disk>(alloc: Global, disk: &mut D) -> Result<Kept, PoolFault>
         // An image that reads as a pool is opened as it, unless the disk or the memory fails.
         ensures there { (uber : Uber) (rows : Rows) (pool : Pool) → IsTrue D.tells_reads → ReadsAs uber rows pool (D.state disk.old).seen → GivesPool uber rows result }
@@ -123,6 +125,7 @@ fn unborn(sectors: u64, id: u32) -> Uber
 fn read_dir<D: Disk>(alloc: Global, disk: &mut D, body: &Uber) -> Result<Dir, PoolFault>
     requires { InRange (D.state disk.old).size body.now }
     ensures there { (rows : Rows) → IsTrue D.tells_reads → body.now.free_count ≡ 0 → HasDir (Has (D.state disk.old).seen (free_by body.now)) body.now rows → ReadAnswer (λ dir. dir ≡ rows) result }
+    ensures only { IsTrue D.tells_reads → IfOk result (λ dir. (body.now.free_count ≡ 0) × HasDir (Has (D.state disk.old).seen (free_by body.now)) body.now dir) }
     ensures fault { IfErr result LoadFault }
     ensures reads { OnlyReads (D.state disk.old) (D.state disk.new) }
     ensures cause { HasDiskCause (D.state disk.old).faults (D.state disk.new).faults result }
@@ -141,6 +144,7 @@ fn read_dir<D: Disk>(alloc: Global, disk: &mut D, body: &Uber) -> Result<Dir, Po
 fn read_root<D: Disk>(alloc: Global, disk: &mut D, body: &Uber) -> Result<Vec<u8>, PoolFault>
     requires { InRange (D.state disk.old).size body.now }
     ensures there { (bytes : List ℕ) → IsTrue D.tells_reads → Has (D.state disk.old).seen (free_by body.now) body.now.dir_root bytes → ReadAnswer (λ run. run.items ≡ bytes) result }
+    ensures block { IsTrue D.tells_reads → IfOk result (λ run. IsBlock (D.state disk.old).seen body.now.dir_root run.items) }
     ensures fault { IfErr result LoadFault }
     ensures reads { OnlyReads (D.state disk.old) (D.state disk.new) }
     ensures cause { HasDiskCause (D.state disk.old).faults (D.state disk.new).faults result }
@@ -156,16 +160,29 @@ fn read_root<D: Disk>(alloc: Global, disk: &mut D, body: &Uber) -> Result<Vec<u8
     run
 }
 
-// Whether a body has no free extents, and names its directory as version 0 does: as one run.
+// Whether a body has no free extents, and names its directory as version 0 does: as one run, in
+// sectors where blocks stand.
 fn names_dir(body: &Uber) -> bool
-    ensures { IsTrue result ↔ ((body.now.free_count ≡ 0) × (body.now.dir_levels ≡ 0) × (body.now.dir_root.kind ≡ 1)) }
+    ensures { IsTrue result ↔ NamesDir body.now }
 {
-    body.free_count == 0 && body.dir_levels == 0 && body.dir_root.kind == 1
+    body.free_count == 0
+        && body.dir_levels == 0
+        && body.dir_root.kind == 1
+        && is_between(&body.dir_root, 8, body.end)
+}
+
+// Whether the run that a pointer names stands from this sector on, and before that one.
+fn is_between(ptr: &Ptr, first: u64, end: u64) -> bool
+    ensures { IsTrue result ↔ ((first ≤ ptr.now.sector) × (512 * ptr.now.sector + ptr.now.length ≤ 512 * end)) }
+{
+    let count = u64::from(ptr.length).div_ceil(512);
+    first <= ptr.sector && ptr.sector <= end && count <= end - ptr.sector
 }
 
 // The directory of so many bytes at the front of a run, where zeros alone stand behind it.
 fn decode_dir(alloc: Global, run: &[u8], length: u64) -> Result<Option<Dir>, AllocError>
-    ensures { (rows : Rows) → IsDirRun rows length run.now → IfOk result (λ dir. dir ≡ Some rows) }
+    ensures only { IfOk result (λ dir. IfSome dir (λ rows. IsDirRun rows length run.now)) }
+    ensures found { (rows : Rows) → IsDirRun rows length run.now → IfOk result (λ dir. dir ≡ Some rows) }
 {
     if length > run.len() as u64 {
         return Ok(None);

@@ -1,8 +1,9 @@
 // Object sets, read from their runs and written into free sectors.
 ghost use Rattle.std.specs.Prelude.{◌≡◌, ◌+◌, ◌/◌, ◌%◌, ◌<◌, ◌^◌, true, ℕ, List, [], length, IsTrue, IfOk, IfErr, OnOk};
 ghost use Rattle.zst_outside.specs.Images.{OnlyReads};
+ghost use Rattle.zst_space.specs.FreeSectors.{largest_of};
 ghost use Rattle.zst_space.specs.Taking.{without};
-ghost use Rattle.zst_block.specs.Blocks.{FitsDisk, Has};
+ghost use Rattle.zst_block.specs.Blocks.{FitsDisk, Has, IsBlock};
 ghost use Rattle.zst_block.specs.Ptr.{PtrFits};
 ghost use Rattle.zst_model.specs.Dated.{DatedState};
 ghost use Rattle.zst_model.specs.State.{is_block_size};
@@ -27,6 +28,7 @@ pub fn load<D: Disk>(io: &mut Io<'_, D>, alloc: Global, set: &ObjSet) -> Result<
     requires fits { FitsDisk (D.state io.old.disk.now).size io.old.space }
     ensures there { (snap : DatedState) → IsTrue D.tells_reads → HeadIs (Has (D.state io.old.disk.now).seen io.old.space) set.now snap
         → ReadAnswer (λ lists. SetIs (Has (D.state io.old.disk.now).seen io.old.space) lists snap) result }
+    ensures fault { IfErr result LoadFault }
     ensures reads { OnlyReads (D.state io.old.disk.now) (D.state io.new.disk.now) }
     ensures works { Works (D.state io.old.disk.now) io.old.space io.old.failed (D.state io.new.disk.now) io.new.space io.new.failed result }
     ensures space { io.new.space ≡ io.old.space }
@@ -51,6 +53,7 @@ fn load_rows<D: Disk>(io: &mut Io<'_, D>, alloc: Global, root: Ptr) -> Result<Fl
     requires fits { FitsDisk (D.state io.old.disk.now).size io.old.space }
     ensures there { (bytes : List ℕ) (rows : Lists) → IsTrue D.tells_reads → Has (D.state io.old.disk.now).seen io.old.space root bytes → IsRun rows bytes
         → ReadAnswer (λ lists. lists ≡ rows) result }
+    ensures fault { IfErr result LoadFault }
     ensures reads { OnlyReads (D.state io.old.disk.now) (D.state io.new.disk.now) }
     ensures works { Works (D.state io.old.disk.now) io.old.space io.old.failed (D.state io.new.disk.now) io.new.space io.new.failed result }
     ensures space { io.new.space ≡ io.old.space }
@@ -68,6 +71,7 @@ pub fn read_run<D: Disk>(io: &mut Io<'_, D>, alloc: Global, ptr: Ptr) -> Result<
     requires fits { FitsDisk (D.state io.old.disk.now).size io.old.space }
     ensures there { (bytes : List ℕ) → IsTrue D.tells_reads → Has (D.state io.old.disk.now).seen io.old.space ptr bytes
         → ReadAnswer (λ run. run.items ≡ bytes) result }
+    ensures block { IsTrue D.tells_reads → IfOk result (λ run. IsBlock (D.state io.old.disk.now).seen ptr run.items) }
     ensures fault { IfErr result LoadFault }
     ensures reads { OnlyReads (D.state io.old.disk.now) (D.state io.new.disk.now) }
     ensures works { Works (D.state io.old.disk.now) io.old.space io.old.failed (D.state io.new.disk.now) io.new.space io.new.failed result }
@@ -135,6 +139,7 @@ pub fn write_run<D: Disk>(io: &mut Io<'_, D>, bytes: &[u8], number: u64) -> Resu
     ensures ptr_fits { IfOk result PtrFits }
     ensures space { IfOk result (λ ptr. io.new.space ≡ without io.old.space (length bytes.now / 512)) }
     ensures fault { IfErr result WriteFault }
+    ensures full { (need largest : ℕ) → result ≡ Err (PoolFault.Full need largest) → (need ≡ length bytes.now / 512) × (largest ≡ largest_of io.old.space) }
     ensures works { Works (D.state io.old.disk.now) io.old.space io.old.failed (D.state io.new.disk.now) io.new.space io.new.failed result }
     ensures same { io.new.disk.ghost_name ≡ io.old.disk.ghost_name }
 {

@@ -1,19 +1,16 @@
-use Rattle.std.specs.Prelude.{Result, Ok, Err}
-use Rattle.std.proofs.Common.{◌≡◌, ℕ, ◌+◌, ◌*◌, List, length, sym, ap, ◌∙◌, subst}
+use Rattle.std.proofs.Common.{ℕ, ◌*◌, List, sym, ap, ◌∙◌, subst}
+use Rattle.std.proofs.lemmas.Result.{err_from_is_err_and}
 use Rattle.zst_block.specs.Blocks.{Has}
 use Rattle.zst_block.specs.BlocksLaws.{KeepsBlocks-fills}
 use Rattle.zst_model.specs.declared.item.Change.TheVariants.{Write}
 use Rattle.zst_model.specs.declared.item.Item.TheVariants.{At}
 use Rattle.zst_model.specs.Dated.{apply_dated, size_at}
-use Rattle.zst_model.specs.State.{is_block_size}
 use Rattle.zst_model.specs.Step.{filled, written}
 use Rattle.zst_pool.specs.Checks.{ChangesHead}
-use Rattle.zst_pool.specs.declared.fault.PoolFault.{PoolFault}
-use Rattle.zst_pool.specs.declared.fault.PoolFault.TheVariants.{OutOfMemory}
-use Rattle.zst_pool.proofs.Changing.{filled_length}
 use Rattle.zst_pool.proofs.Doing.{write_fault}
 use Rattle.zst_pool.proofs.Growing.{SetIs-grows}
 use Rattle.zst_pool.proofs.Judging.{err_is}
+use Rattle.zst_pool.proofs.Known.{known_write}
 use Rattle.zst_pool.proofs.changes.change_block.Goals as goal
 
 pub returns-in_err-size-clause-changed : goal.returns-in_err-size-clause-changed
@@ -48,3 +45,8 @@ returns-clause-changed g c = λ name pool head told number is.
     let there = subst (λ (b : List ℕ). Has new.seen less ptr b) block (c.in_ok-ptr.ensures.there told) in
     let made = ap (λ (n : ℕ). apply_dated n (At object (Write (index * size_at (head.state object)) 0 (filled size bytes))) head) c.in_ok-ptr.ensures.date ∙ planned.2 in
     (planned.0, planned.1, c.in_ok-put_block.ensures.made new.seen less 0 (filled size bytes) head planned.0 there grown made, planned.3)
+
+pub returns-in_err-ptr-clause-known : goal.returns-in_err-ptr-clause-known
+returns-in_err-ptr-clause-known g c =
+    let p = err_from_is_err_and c.from_residual-in_err-ptr.result c.from_residual-in_err-ptr.ensures.1 in
+    rw (p.1, p.2) (known_write _ c.in_err-ptr.ensures.fault)

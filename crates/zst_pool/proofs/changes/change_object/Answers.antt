@@ -1,5 +1,5 @@
-use Rattle.std.specs.Prelude.{Result, Ok, Err}
-use Rattle.std.proofs.Common.{◌≡◌, ℕ, ◌+◌, List, Option, Some, None, map, sym, ap, ◌∙◌, subst}
+use Rattle.std.specs.Prelude.{Result, Ok}
+use Rattle.std.proofs.Common.{◌≡◌, ℕ, ◌+◌, List, Option, map, sym, ap, ◌∙◌, subst}
 use Rattle.zst_block.specs.Blocks.{Has}
 use Rattle.zst_model.specs.declared.apply_fault.ApplyFault.{ApplyFault}
 use Rattle.zst_model.specs.declared.item.Change.TheVariants.{Spill}
@@ -11,6 +11,7 @@ use Rattle.zst_pool.specs.Checks.{ChangesHead, put_in}
 use Rattle.zst_objset.specs.Meaning.{SetIs}
 use Rattle.zst_pool.proofs.Changing.{changed_by_spill, none_left, put_first, spill_is}
 use Rattle.zst_pool.proofs.Judging.{err_is}
+use Rattle.zst_pool.proofs.Known.{if_known_write}
 use Rattle.zst_pool.proofs.changes.change_object.Goals as goal
 
 pub returns-in_err-plan_object-clause-changed : goal.returns-in_err-plan_object-clause-changed
@@ -48,3 +49,6 @@ returns-in-Some-clause-changed g c = λ name pool old told number is.
     let spilled = subst (λ (b : List ℕ). apply_dated n (At k (Spill b)) one.0 ≡ Ok planned.0) (sym c.as_slice.ensures) (spill_is n k c.in-Some.block one.0 planned.0 some) in
     changed_by_spill (Has new.seen c.change_spill.new.io.space) name pool (put_in pool k c.args.head c.args.bonus c.args.spill old) c.change_spill.new.flat planned.0 c.change_spill.result planned.1 planned.3
     (c.change_spill.ensures.changed one.0 planned.0 told put spilled) c.change_spill.ensures.fault
+
+pub returns-in-Some-clause-known : goal.returns-in-Some-clause-known
+returns-in-Some-clause-known g c = if_known_write c.change_spill.result c.change_spill.ensures.fault

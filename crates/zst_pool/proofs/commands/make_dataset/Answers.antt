@@ -1,4 +1,4 @@
-use Rattle.std.proofs.Common.{◌≡◌, ℕ, List, sym, ap, ◌∙◌, subst}
+use Rattle.std.proofs.Common.{sym, ap, ◌∙◌, subst}
 use Rattle.zst_outside.specs.Images.{OnlyReads-none}
 use Rattle.zst_space.specs.FreeSectors.{FreeSectors}
 use Rattle.zst_block.specs.Blocks.{Has, FillsFree}
@@ -11,7 +11,8 @@ use Rattle.zst_dir.specs.Rows.{Rows}
 use Rattle.zst_pool.specs.Reads.{Describes, free_by}
 use Rattle.zst_dir.specs.declared.rows.Dataset.{Dataset}
 use Rattle.zst_pool.proofs.Doing.{did}
-use Rattle.zst_pool.proofs.NextPools.{new_row, dataset_is_next, dataset_is_lawful}
+use Rattle.zst_pool.proofs.Known.{if_known_write}
+use Rattle.zst_pool.proofs.NextPools.{dataset_is_next, dataset_is_lawful}
 use Rattle.zst_pool.proofs.commands.make_dataset.Goals as goal
 
 pub returns-clause-did : goal.returns-clause-did
@@ -34,3 +35,6 @@ returns-clause-did g c = λ pool told rests.
     let fills = subst (λ (s : FreeSectors). FillsFree old (free_by body) old s) (sym c.requires.space) (FillsFree-reads old old (free_by body) (OnlyReads-none old)) in
     did old (g.D.Disk.state c.commit_dir.new.io.disk.now) body rows pool (with_dataset kind name pool) done made c.commit_dir.result
     (c.commit_dir.ensures.commits c.args.io.now.disk.now rows pool done.pool told rests fills next)
+
+pub returns-clause-known : goal.returns-clause-known
+returns-clause-known g c = if_known_write c.commit_dir.result c.commit_dir.ensures.fault

@@ -1,6 +1,6 @@
-use Rattle.std.specs.Prelude.{Result, Err}
-use Rattle.std.proofs.Common.{◌≡◌, ℕ, List, sym, ap, ◌∙◌, subst, not}
-use Rattle.std.specs.List.{filter, Contains}
+use Rattle.std.specs.Prelude.{Result}
+use Rattle.std.proofs.Common.{sym, ap, ◌∙◌, subst, not}
+use Rattle.std.specs.List.{filter}
 use Rattle.std.specs.Str.{bytes_eq}
 use Rattle.zst_outside.specs.Images.{OnlyReads-none}
 use Rattle.zst_space.specs.FreeSectors.{FreeSectors}
@@ -10,16 +10,16 @@ use Rattle.zst_names.specs.Names.{IsSnapshot, dataset_of}
 use Rattle.zst_model.specs.Pool.{inserted}
 use Rattle.zst_model.specs.Step.{with_snapshot}
 use Rattle.zst_pool.specs.Checks.{next_of, with_taken}
-use Rattle.zst_dir.specs.Rows.{Rows, HasSnapshot, IsDatasetRow, snapshot_is_before}
+use Rattle.zst_dir.specs.Rows.{HasSnapshot, IsDatasetRow, snapshot_is_before}
 use Rattle.zst_pool.specs.Reads.{Describes, free_by}
 use Rattle.zst_pool.specs.Work.{Did}
-use Rattle.zst_dir.specs.declared.rows.Dataset.{Dataset}
 use Rattle.zst_dir.specs.declared.rows.Snapshot.{Snapshot}
 use Rattle.zst_pool.specs.declared.fault.PoolFault.{PoolFault}
 use Rattle.zst_pool.specs.declared.fault.PoolFault.TheVariants.{Plan, OutOfMemory}
 use Rattle.zst_pool.specs.declared.kept.Kept.{Kept}
 use Rattle.zst_pool.proofs.Doing.{did, fell, free_by_fits}
 use Rattle.zst_pool.proofs.Judging.{err_is}
+use Rattle.zst_pool.proofs.Known.{if_known_write}
 use Rattle.zst_pool.proofs.NextPools.{snapshot_is_next, snapshot_is_lawful}
 use Rattle.zst_pool.proofs.commands.take_snapshot.Goals as goal
 
@@ -85,3 +85,6 @@ returns-clause-did g c = λ pool told rests.
     let fills = subst (λ (s : FreeSectors). FillsFree old (free_by body) old s) (sym c.requires.space) (FillsFree-reads old old (free_by body) (OnlyReads-none old)) in
     did old (g.D.Disk.state c.commit_dir.new.io.disk.now) body rows pool (with_snapshot now name pool) done judged.2 c.commit_dir.result
     (c.commit_dir.ensures.commits c.args.io.now.disk.now rows pool done.pool told rests fills next)
+
+pub returns-clause-known : goal.returns-clause-known
+returns-clause-known g c = if_known_write c.commit_dir.result c.commit_dir.ensures.fault

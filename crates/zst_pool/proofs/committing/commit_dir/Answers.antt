@@ -1,7 +1,8 @@
-use Rattle.std.proofs.Common.{◌≡◌, List, ℕ, refl, sym, ◌∙◌, ap, subst, Result, Ok, Err}
+use Rattle.std.proofs.Common.{refl, ap}
 use Rattle.std.proofs.lemmas.Result.{err_from_is_err_and}
 use Rattle.zst_block.specs.BlocksLaws.{IsTaken-head}
-use Rattle.zst_pool.proofs.Committed.{prepared, commit-moments, commit-rests, over-refused, disk-refused, Ready-works, Commits-over}
+use Rattle.zst_pool.specs.Faults.{of_uber}
+use Rattle.zst_pool.proofs.Committed.{prepared, commit-moments, commit-rests, over-refused, disk-refused, Ready-works, Commits-over, Stays-from}
 use Rattle.zst_pool.proofs.committing.commit_dir.Goals as goal
 
 pub commit_event-requires-clause-settled : goal.commit_event-requires-clause-settled
@@ -58,3 +59,22 @@ returns-in-Err-clause-over g c = λ next told is.
 pub returns-in-Err-clause-commits : goal.returns-in-Err-clause-commits
 returns-in-Err-clause-commits g c = λ start rows pool next told rests fills is.
     Commits-over (g.D.Disk.state start) _ _ _ c.commit_event.new.io.space c.args.body.now rows pool next _ rests fills (returns-in-Err-clause-over g c next told is)
+
+pub returns-in_err-root-clause-full : goal.returns-in_err-root-clause-full
+returns-in_err-root-clause-full g c = λ need largest is.
+    let p = err_from_is_err_and c.from_residual.result c.from_residual.ensures.1 in
+    c.in_err-root.ensures.full need largest (cc (p.1, p.2, is))
+
+pub returns-in_err-root-clause-refused : goal.returns-in_err-root-clause-refused
+returns-in_err-root-clause-refused g c =
+    let p = err_from_is_err_and c.from_residual.result c.from_residual.ensures.1 in
+    rw (p.1, p.2) (Stays-from _ c.in_err-root.field-0.0 c.write_dir.ensures.works.latest_stays)
+
+pub returns-in-Err-clause-fault : goal.returns-in-Err-clause-fault
+returns-in-Err-clause-fault g c = let refused = disk-refused (Unit {0}) c.in-Err.fault c.from.result c.from.ensures (c.in-Err.ensures.only c.in-Err.fault refl) in refused.0
+
+pub returns-in-Err-clause-full : goal.returns-in-Err-clause-full
+returns-in-Err-clause-full g c = λ need largest is. absurd (cc (is, c.from.ensures, ap of_uber (c.in-Err.ensures.only c.in-Err.fault refl)))
+
+pub returns-in-Err-clause-refused : goal.returns-in-Err-clause-refused
+returns-in-Err-clause-refused g c = let refused = disk-refused _ c.in-Err.fault c.from.result c.from.ensures (c.in-Err.ensures.only c.in-Err.fault refl) in refused.1

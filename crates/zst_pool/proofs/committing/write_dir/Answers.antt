@@ -1,8 +1,7 @@
-use Rattle.std.proofs.Common.{rules, ◌≡◌, List, ℕ, ◌++◌, ◌∙◌, length, subst}
-use Rattle.zst_bytes.specs.Fields.{zeros}
-use Rattle.zst_bytes.specs.Words.{filling}
+use Rattle.std.proofs.Common.{rules, ◌≡◌, ℕ, ◌∙◌, length, subst}
+use Rattle.std.proofs.lemmas.Result.{err_from_is_err_and}
 use Rattle.zst_pool.specs.Reads.{IsDirRun}
-use Rattle.zst_pool.proofs.DirRuns.{IsDir-some, filled-whole, filled-some, dir-run}
+use Rattle.zst_pool.proofs.DirRuns.{IsDir-some, filled-whole, filled-some, dir-run, run-sectors}
 use Rattle.zst_pool.proofs.committing.write_dir.Goals as goal
 
 pub write_run-requires-clause-some : goal.write_run-requires-clause-some
@@ -17,3 +16,9 @@ returns-clause-there g c = λ told.
     let long : length c.in_ok-bytes.bytes.items ≡ c.len-length.result = search rules in
     let run = dir-run c.args.dir.now c.in_ok-bytes.bytes.items c.deref.result.now _ c.in_ok-bytes.ensures (c.deref.ensures.value ∙ c.in_ok-fill_up.ensures) in
     (c.deref.result.now, c.in_ok-root.ensures.there told, subst (λ (n : ℕ). IsDirRun c.args.dir.now n c.deref.result.now) long run)
+
+pub returns-in_err-root-clause-full : goal.returns-in_err-root-clause-full
+returns-in_err-root-clause-full g c = λ need largest is.
+    let p = err_from_is_err_and c.from_residual-in_err-root.result c.from_residual-in_err-root.ensures.1 in
+    let sizes = c.in_err-root.ensures.full need largest (cc (p.1, p.2, is)) in
+    (sizes.0 ∙ run-sectors c.args.dir.now c.in_ok-bytes.bytes.items c.deref.result.now c.in_ok-bytes.ensures (c.deref.ensures.value ∙ c.in_ok-fill_up.ensures), sizes.1)

@@ -1,5 +1,5 @@
-use Rattle.std.specs.Prelude.{Result, Err}
-use Rattle.std.proofs.Common.{◌≡◌, sym, ap, ◌∙◌, subst}
+use Rattle.std.specs.Prelude.{Result}
+use Rattle.std.proofs.Common.{sym, ap, ◌∙◌, subst}
 use Rattle.zst_space.specs.FreeSectors.{FreeSectors}
 use Rattle.zst_block.specs.Blocks.{Has, FillsFree}
 use Rattle.zst_block.specs.BlocksLaws.{KeepsBlocks-fills}
@@ -9,7 +9,7 @@ use Rattle.zst_model.specs.Dated.{DatedState}
 use Rattle.zst_model.specs.Step.{Stepped, committed, on_head}
 use Rattle.zst_pool.specs.Checks.{freed, next_of, with_head_of}
 use Rattle.zst_pool.specs.Faults.{is_disk_fault, StepFault}
-use Rattle.zst_pool.specs.Reads.{RowsAre, free_by}
+use Rattle.zst_pool.specs.Reads.{RowsAre}
 use Rattle.zst_pool.specs.Work.{Did, Ready}
 use Rattle.zst_pool.specs.declared.fault.PoolFault.{PoolFault}
 use Rattle.zst_objset.specs.declared.flat.Flat.{Flat}
@@ -17,6 +17,7 @@ use Rattle.zst_pool.specs.declared.kept.Kept.{Kept}
 use Rattle.zst_pool.proofs.Doing.{did, fell}
 use Rattle.zst_pool.proofs.Growing.{SetIs-grows}
 use Rattle.zst_pool.proofs.Judging.{err_is}
+use Rattle.zst_pool.proofs.Known.{if_known_write}
 use Rattle.zst_pool.proofs.NextPools.{freed_is_lawful}
 use Rattle.zst_pool.proofs.Parts.{works_err, works_ok, disk_fault_same, ready_works, failed_then, cause_then, on_err, taken}
 use Rattle.zst_pool.proofs.heads.free_objects.Goals as goal
@@ -113,3 +114,6 @@ pub returns-clause-cause : goal.returns-clause-cause
 returns-clause-cause g c =
     let works = c.in_ok-flat.ensures.works in
     cause_then _ _ _ c.in_ok-flat.flat c.commit_head.result works.cause c.commit_head.ensures.cause
+
+pub returns-clause-known : goal.returns-clause-known
+returns-clause-known g c = if_known_write c.commit_head.result c.commit_head.ensures.fault

@@ -1,5 +1,5 @@
-use Rattle.std.specs.Prelude.{Result, Err}
-use Rattle.std.proofs.Common.{◌≡◌, sym, ap, ◌∙◌, subst}
+use Rattle.std.specs.Prelude.{Result}
+use Rattle.std.proofs.Common.{sym, ap, ◌∙◌, subst}
 use Rattle.zst_space.specs.FreeSectors.{FreeSectors}
 use Rattle.zst_block.specs.Blocks.{Has, FillsFree}
 use Rattle.zst_block.specs.BlocksLaws.{FillsFree-then, KeepsBlocks-fills}
@@ -17,6 +17,7 @@ use Rattle.zst_pool.specs.declared.kept.Kept.{Kept}
 use Rattle.zst_pool.proofs.Doing.{did, fell}
 use Rattle.zst_pool.proofs.Growing.{SetIs-grows}
 use Rattle.zst_pool.proofs.Judging.{err_is}
+use Rattle.zst_pool.proofs.Known.{if_known_write}
 use Rattle.zst_pool.proofs.NextPools.{put_is_lawful}
 use Rattle.zst_pool.proofs.Parts.{works_err, works_then, ready_works, failed_then, cause_then, on_err, taken}
 use Rattle.zst_pool.proofs.heads.put_object.Goals as goal
@@ -119,3 +120,6 @@ pub returns-clause-cause : goal.returns-clause-cause
 returns-clause-cause g c =
     let works = works_then Flat (Unit {0}) _ c.args.io.now.space c.args.io.now.failed _ c.load_head.new.io.space c.load_head.new.io.failed _ c.change_object.new.io.space c.change_object.new.io.failed c.in_ok-flat.flat _ c.in_ok-flat.ensures.works c.in_ok-change_object.ensures.works in
     cause_then _ _ _ c.in_ok-change_object.field-0 c.commit_head.result works.cause c.commit_head.ensures.cause
+
+pub returns-clause-known : goal.returns-clause-known
+returns-clause-known g c = if_known_write c.commit_head.result c.commit_head.ensures.fault

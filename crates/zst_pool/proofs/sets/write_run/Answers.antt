@@ -1,7 +1,7 @@
 use Rattle.std.proofs.Common.{subst, sym}
 use Rattle.zst_pool.specs.Faults.{WriteFault}
 use Rattle.zst_pool.proofs.Working.{works}
-use Rattle.zst_pool.proofs.Causes.{HasDiskCause-ok, WriteFault-of_block, works_of_block}
+use Rattle.zst_pool.proofs.Causes.{HasDiskCause-ok, WriteFault-of_block, full-of_block, works_of_block}
 use Rattle.zst_pool.proofs.sets.write_run.Goals as goal
 
 pub returns-in-Ok-clause-works : goal.returns-in-Ok-clause-works
@@ -15,3 +15,6 @@ returns-in-Err-clause-fault g c =
 pub returns-in-Err-clause-works : goal.returns-in-Err-clause-works
 returns-in-Err-clause-works g c =
     works_of_block _ _ _ _ c.args.io.now.space c.write.new.io.space _ _ c.in-Err.fault c.from.result c.from.ensures c.requires.fits c.write.ensures.fills c.write.ensures.kept_fit c.in-Err.ensures.failed c.in-Err.ensures.cause
+
+pub returns-in-Err-clause-full : goal.returns-in-Err-clause-full
+returns-in-Err-clause-full g c = λ need largest is. full-of_block _ c.in-Err.fault _ _ c.in-Err.ensures.full need largest (cc (is, c.from.ensures))

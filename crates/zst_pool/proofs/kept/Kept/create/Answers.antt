@@ -1,8 +1,10 @@
-use Rattle.std.specs.Prelude.{None, IfOk}
-use Rattle.std.proofs.Common.{rules, ◌≡◌, ◌<◌, ◌*◌, ◌/◌, ◌≤◌, List, ℕ, refl, sym, ◌∙◌, ap, arith}
+use Rattle.std.specs.Prelude.{None}
+use Rattle.std.proofs.Common.{rules, ◌≡◌, [], refl, ap, arith}
+use Rattle.std.proofs.lemmas.Result.{err_from_is_err_and}
+use Rattle.zst_space.specs.FreeSectors.{FreeSectors}
 use Rattle.zst_uber.specs.Slots.{latest}
 use Rattle.zst_uber.specs.declared.uber.Uber.{Uber}
-use Rattle.zst_pool.proofs.Created.{NextIs-new, CreateAnswers-commit, IfOk-commit, create-moments}
+use Rattle.zst_pool.proofs.Created.{NextIs-new, CreateAnswers-commit, IfOk-commit, RefusedLeaves-reads, create-moments, create-refused, never-full}
 use Rattle.zst_pool.proofs.kept.Kept.create.Goals as goal
 
 pub returns-clause-answer : goal.returns-clause-answer
@@ -11,7 +13,10 @@ returns-clause-answer g c = λ told.
     let next = NextIs-new _ c.unborn.result c.new-2.result c.args.id c.requires.id (ap (λ (u : Uber). u.id) c.unborn.ensures) (ap (λ (u : Uber). u.number) c.unborn.ensures) c.new-2.ensures in
     let over = c.commit_dir-made.ensures.over _ told next in
     let none : latest old.seen ≡ None = c.in_ok-find_none.ensures.answer told in
-    CreateAnswers-commit old.size (latest old.seen) c.args.sectors _ _ c.commit_dir-made.result none (λ few. omega (arith, few, c.if-bytes-sectors.false, c.bytes.ensures, c.find_none.ensures.reads.size)) over.answer
+    let start : FreeSectors = record { end = 8; sectors = c.args.sectors; free = [] } in
+    let space : c.new-space.result ≡ start = rw (c.new-space.ensures, c.new.ensures.items) refl in
+    let never = never-full c.new-space.result c.args.sectors c.new-2.result c.commit_dir-made.result space c.new-2.ensures c.requires.sectors.0 c.commit_dir-made.ensures.full c.commit_dir-made.ensures.fault in
+    CreateAnswers-commit old.size (latest old.seen) c.args.sectors _ _ c.commit_dir-made.result none (λ few. omega (arith, few, c.if-bytes-sectors.false, c.bytes.ensures, c.find_none.ensures.reads.size)) never over.answer
 
 pub returns-clause-made : goal.returns-clause-made
 returns-clause-made g c = λ told.
@@ -26,3 +31,12 @@ returns-clause-moments g c = λ told.
     let next = NextIs-new _ c.unborn.result c.new-2.result c.args.id c.requires.id (ap (λ (u : Uber). u.id) c.unborn.ensures) (ap (λ (u : Uber). u.number) c.unborn.ensures) c.new-2.ensures in
     let over = c.commit_dir-made.ensures.over _ told next in
     create-moments old _ _ _ c.new-space.result _ (search rules) c.find_none.ensures.reads over.moments
+
+pub returns-in_err-find_none-clause-refused : goal.returns-in_err-find_none-clause-refused
+returns-in_err-find_none-clause-refused g c =
+    let p = err_from_is_err_and c.from_residual.result c.from_residual.ensures.1 in
+    rw (p.1, p.2) (RefusedLeaves-reads (g.D.Disk.state c.args.disk.now) _ _ c.find_none.ensures.reads)
+
+pub returns-clause-refused : goal.returns-clause-refused
+returns-clause-refused g c =
+    create-refused (g.D.Disk.state c.args.disk.now) _ (g.D.Disk.state c.commit_dir-made.new.io.disk.now) _ c.commit_dir-made.result (search rules) c.find_none.ensures.reads c.commit_dir-made.ensures.fault c.commit_dir-made.ensures.refused
