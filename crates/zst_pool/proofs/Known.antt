@@ -14,7 +14,7 @@ known_load (Damaged sector stated found) is = tt
 known_load NoPool is = is
 known_load (BadVersion number) is = is
 known_load DiskFault is = tt
-known_load Failed is = tt
+known_load Failed is = is
 known_load OutOfMemory is = tt
 
 pub known_write : (fault : PoolFault) → WriteFault fault → IsStepFault fault
@@ -26,7 +26,7 @@ known_write (Damaged sector stated found) is = tt
 known_write NoPool is = is
 known_write (BadVersion number) is = is
 known_write DiskFault is = tt
-known_write Failed is = tt
+known_write Failed is = is
 known_write OutOfMemory is = tt
 
 -- the same of what a part answers

@@ -109,7 +109,7 @@ WriteFault faults.DiskFault = Unit {0}
 WriteFault faults.Failed = ⊥
 WriteFault faults.OutOfMemory = Unit {0}
 
--- the faults that a command may answer, whatever the image is: those of opening are none of them
+-- the faults that a command on a pool that hasn't failed may answer, whatever the image is: those of opening are none of them
 abbrev pub IsStepFault : PoolFault → Type 0
 IsStepFault (faults.Plan fault) = Unit {0}
 IsStepFault (faults.CannotApply fault) = Unit {0}
@@ -119,5 +119,5 @@ IsStepFault (faults.Damaged sector stated found) = Unit {0}
 IsStepFault faults.NoPool = ⊥
 IsStepFault (faults.BadVersion number) = ⊥
 IsStepFault faults.DiskFault = Unit {0}
-IsStepFault faults.Failed = Unit {0}
+IsStepFault faults.Failed = ⊥
 IsStepFault faults.OutOfMemory = Unit {0}

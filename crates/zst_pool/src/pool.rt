@@ -58,7 +58,7 @@ impl<'d, D: Disk> Pool<'d, D> {
             → Rests (D.state self.old.io.disk.now) self.old.kept.body self.old.kept.dir pool
             → StepAnswer (D.state self.new.io.disk.now) self.new.kept.body self.new.kept.dir pool (stepped now command pool) result }
         // Whatever the image is, the faults of opening never come.
-        ensures known { IfErr result IsStepFault }
+        ensures known { self.old.io.failed ≡ false → IfErr result IsStepFault }
         // What later states haven't dated since stays as it was in each snapshot.
         ensures sound { (pool : Plain) (done : Stepped) → Rests (D.state self.old.io.disk.now) self.old.kept.body self.old.kept.dir pool → Sound pool
             → stepped now command pool ≡ Ok done → Sound done.pool }

@@ -11,4 +11,4 @@ returns-clause-changed g c = λ head after told is made.
     let new = g.D.Disk.state c.put_block.new.io.disk.now in
     let less = c.put_block.new.io.space in
     let grown = SetIs-grows (Has old.seen space) (Has new.seen less) (KeepsBlocks-fills old new space less c.put_block.ensures.works.fills) c.args.flat.now head is in
-    c.put_spill.ensures new.seen less c.args.block.now head after (c.in_ok-ptr.ensures.there told) grown made
+    c.put_spill.ensures.made new.seen less c.args.block.now head after (c.in_ok-ptr.ensures.there told) grown made

@@ -59,7 +59,7 @@ returns-clause-commits g c = λ start pool head told rests fills is lawful.
     let next = (next_of (with_head_of name head pool)).pool in
     let through = FillsFree-then from old mid (free_by body) c.args.io.now.space less fills c.store.ensures.works.fills in
     let described = described_on from mid less body rows pool rests through in
-    let dir = c.set_head.ensures ∙ ap (λ (d : Rows). record d { datasets = with_head name set d.datasets }) c.in_ok-dir.ensures in
+    let dir = c.set_head.ensures.headed ∙ ap (λ (d : Rows). record d { datasets = with_head name set d.datasets }) c.in_ok-dir.ensures in
     let is_next = head_is_next (Has mid.seen less) body rows c.set_head.new.self pool name set head described (c.in_ok-head.ensures.stored told head is) dir lawful in
     c.commit_dir.ensures.commits start rows pool next told rests through is_next
 

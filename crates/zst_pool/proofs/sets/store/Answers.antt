@@ -7,11 +7,11 @@ use Rattle.zst_pool.proofs.Runs.{IsRun-some}
 use Rattle.zst_pool.proofs.sets.store.Goals as goal
 
 pub write_run-requires-clause-some : goal.write_run-requires-clause-some
-write_run-requires-clause-some g c = IsRun-some c.args.flat.now c.deref.result.now (subst (IsRun c.args.flat.now) (sym c.deref.ensures.value) c.in_ok-bytes.ensures)
+write_run-requires-clause-some g c = IsRun-some c.args.flat.now c.deref.result.now (subst (IsRun c.args.flat.now) (sym c.deref.ensures.value) c.in_ok-bytes.ensures.run)
 
 pub returns-clause-stored : goal.returns-clause-stored
 returns-clause-stored g c = λ told snap is.
-    let run = subst (IsRun c.args.flat.now) (sym c.deref.ensures.value) c.in_ok-bytes.ensures in
+    let run = subst (IsRun c.args.flat.now) (sym c.deref.ensures.value) c.in_ok-bytes.ensures.run in
     let kept = KeepsBlocks-fills _ _ c.args.io.now.space c.write_run.new.io.space c.write_run.ensures.works.fills in
     record {
       levels = refl;
