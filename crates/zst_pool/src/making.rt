@@ -1,5 +1,5 @@
 // How a pool is made in an image, and how one is opened.
-ghost use Rattle.std.specs.Prelude.{◌≡◌, ◌⊎◌, ◌↔◌, ◌+◌, ◌*◌, ◌<◌, ◌≤◌, ◌^◌, ℕ, List, None, Some, IsTrue, All, OnOk, IfOk, IfErr, IfSome};
+ghost use Rattle.std.specs.Prelude.{◌≡◌, ◌⊎◌, ◌↔◌, ◌+◌, ◌*◌, ◌<◌, ◌≤◌, ◌^◌, ℕ, List, None, Some, IsTrue, All, OnOk, IfOk, IfErr, IfSome, Err};
 ghost use Rattle.zst_outside.specs.Images.{IsSynced, Leaves, OnlyReads};
 ghost use Rattle.zst_block.specs.Blocks.{Has, IsBlock};
 ghost use Rattle.zst_block.specs.Ptr.{hole_of};
@@ -46,6 +46,7 @@ impl Kept {
         // At every moment each image has the latest body that one had before, or reads as the new pool.
         ensures moments { IsTrue D.tells_reads → Leaves (D.state disk.old) (D.state disk.new) (λ c. ((d : List ℕ) × (D.state disk.old).images d × (latest_of c ≡ latest_of d)) ⊎ Reads (new_pool id) c) }
         ensures refused { IfErr result (RefusedLeaves (D.state disk.old) (D.state disk.new)) }
+        ensures alive { ¬ (result ≡ Err PoolFault.Failed) }
         ensures cause { HasDiskCause (D.state disk.old).faults (D.state disk.new).faults result }
     {
         find_none(disk)?;
@@ -77,6 +78,7 @@ impl Kept {
         ensures there { (uber : Uber) (rows : Rows) (pool : Pool) → IsTrue D.tells_reads → ReadsAs uber rows pool (D.state disk.old).seen → GivesPool uber rows result }
         ensures answer { IsTrue D.tells_reads → OpenAnswers (D.state disk.old) result }
         ensures ready { IfOk result (λ kept. Ready D.tells_reads (D.state disk.new) kept.body) }
+        ensures alive { ¬ (result ≡ Err PoolFault.Failed) }
         ensures synced { OnOk result (IsSynced (D.state disk.new)) }
         ensures reads { OnlyReads (D.state disk.old) (D.state disk.new) }
         ensures cause { HasDiskCause (D.state disk.old).faults (D.state disk.new).faults result }
@@ -89,6 +91,7 @@ impl Kept {
 
 // Makes sure that the disk has no pool. It begins with a sync.
 fn find_none<D: Disk>(disk: &mut D) -> Result<(), PoolFault>
+    ensures alive { ¬ (result ≡ Err PoolFault.Failed) }
     ensures answer { IsTrue D.tells_reads → NoneAnswers (latest_of (D.state disk.old).seen) result }
     ensures head { OnOk result (HeadSettled (D.state disk.new)) }
     ensures reads { OnlyReads (D.state disk.old) (D.state disk.new) }
