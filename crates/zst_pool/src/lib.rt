@@ -11,6 +11,8 @@ mod kept;
 mod making;
 mod pool;
 mod sets;
+#[cfg(test)]
+mod tests;
 
 pub use fault::PoolFault;
 pub use kept::Kept;
