@@ -31,15 +31,19 @@ pub struct Pool<'d, D: Disk> {
 
 impl<'d, D: Disk> Pool<'d, D> {
     /// The pool of which this was kept when it was made or opened on this disk.
-    pub fn new(alloc: Global, disk: &'d mut D, kept: Kept) -> Result<Pool<'d, D>, AllocError>
-        ensures same { IfOk result (λ pool. pool.io.disk.ghost_name ≡ disk.entry.ghost_name) }
-        ensures disk { IfOk result (λ pool. pool.io.disk.now ≡ disk.old) }
-        ensures kept { IfOk result (λ pool. pool.kept ≡ kept) }
-        ensures failed { IfOk result (λ pool. pool.io.failed ≡ false) }
+    pub fn new(alloc: Global, disk: &'d mut D, kept: Kept) -> Pool<'d, D>
+        ensures same { result.io.disk.ghost_name ≡ disk.entry.ghost_name }
+        ensures disk { result.io.disk.now ≡ disk.old }
+        ensures kept { result.kept ≡ kept }
+        ensures failed { result.io.failed ≡ false }
     {
         let space = Space::new(kept.body.end, kept.body.sectors, Vec::new(alloc));
-        let io = Io::new(alloc, disk, space)?;
-        Ok(Pool { io, kept })
+        let io = Io {
+            disk,
+            space,
+            failed: false,
+        };
+        Pool { io, kept }
     }
 
     /// Runs a command at this time: it commits once where it changes what the image stands for, and

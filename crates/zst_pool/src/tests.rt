@@ -104,7 +104,7 @@ fn step_on(alloc: Global, disk: &mut MemDisk, command: Command) -> Result<Reply,
     requires { IsCommand command }
 {
     let kept = Kept::open(alloc, disk)?;
-    let mut pool = Pool::new(alloc, disk, kept)?;
+    let mut pool = Pool::new(alloc, disk, kept);
     pool.step(alloc, NOW, command)
 }
 
@@ -233,7 +233,7 @@ fn what_a_refused_write_took_is_free_again(rt: HostRuntime) -> Result<(), PoolFa
         step_on(alloc, &mut disk, write(alloc, "tank/a", 1, index)?)?;
     }
     let kept = Kept::open(alloc, &mut disk)?;
-    let mut pool = Pool::new(alloc, &mut disk, kept)?;
+    let mut pool = Pool::new(alloc, &mut disk, kept);
     let first = pool.step(alloc, NOW, write(alloc, "tank/a", 1, 4)?);
     assert!(rt; is_full(&first));
     let second = pool.step(alloc, NOW, write(alloc, "tank/a", 1, 4)?);
