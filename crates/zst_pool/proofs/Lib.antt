@@ -12,5 +12,6 @@ pub mod NextPools
 pub mod Opened
 pub mod Parts
 pub mod Replying
+pub mod Room
 pub mod Runs
 pub mod Working

@@ -2,5 +2,6 @@ pub mod Checks
 pub mod Faults
 pub mod Making
 pub mod Reads
+pub mod Room
 pub mod Stepping
 pub mod Work

@@ -1,7 +1,7 @@
 // What a command makes of the rows of a head: first all that its definition refuses, in its order,
 // and only then memory and the disk.
 ghost use Rattle.std.specs.Prelude.{◌≡◌, ◌↔◌, ◌+◌, ◌*◌, ◌<◌, ◌≤◌, ◌^◌, ◌∷◌, false, true, [], ℕ, List, Option, Ok, length, map, nat_lt, IsTrue, IfErr, IfOk, IfSome, OnOk};
-ghost use Rattle.zst_space.specs.FreeSectors.{FreeSectors};
+ghost use Rattle.zst_space.specs.FreeSectors.{FreeSectors, largest_of};
 ghost use Rattle.zst_block.specs.Blocks.{FitsDisk, Has};
 ghost use Rattle.zst_model.specs.declared.item.Change.TheVariants.{Free, Put, Spill, Write};
 ghost use Rattle.zst_model.specs.declared.attr.ObjectHead.{ObjectHead};
@@ -14,6 +14,8 @@ ghost use Rattle.zst_model.specs.Step.{filled, punched, written};
 ghost use Rattle.zst_pool.specs.Checks.{ChangesHead, PlansHead, freed, put_in};
 ghost use Rattle.zst_pool.specs.Faults.{IsStepFault, WriteFault, is_disk_fault};
 ghost use Rattle.zst_objset.specs.Meaning.{SetIs};
+ghost use Rattle.zst_objset.specs.Spelling.{lists_bytes};
+ghost use Rattle.zst_pool.specs.Room.{FullBelow, NotFull};
 ghost use Rattle.zst_pool.specs.Work.{Works};
 
 use crate::checks::check_number;
@@ -66,6 +68,7 @@ fn plan_block(
         name pool (written pool object index bytes.now head) result }
     ensures known { IfErr result IsStepFault }
     ensures disk { is_disk_fault result ≡ false }
+    ensures never_full { IfErr result NotFull }
 {
     if object >= NUMBER_BOUND {
         return Err(PoolFault::CannotApply(ApplyFault::NoObject));
@@ -114,6 +117,9 @@ pub fn change_block<D: Disk>(
     ensures changed { (name : List ℕ) (pool : Pool) (head : DatedState) → IsTrue D.tells_reads → pool.number ≡ number → SetIs (Has (D.state io.old.disk.now).seen io.old.space) flat.old head
         → ChangesHead (Has (D.state io.new.disk.now).seen io.new.space) name pool (written pool object index bytes.now head) flat.new result }
     ensures known { IfErr result IsStepFault }
+    ensures grows { length (lists_bytes flat.new) ≤ length (lists_bytes flat.old) + 1024 }
+    ensures took { OnOk result (largest_of io.old.space ≤ largest_of io.new.space + 256) }
+    ensures full { IfErr result (FullBelow io.old.space 256) }
     ensures works { Works (D.state io.old.disk.now) io.old.space io.old.failed (D.state io.new.disk.now) io.new.space io.new.failed result }
     ensures sectors { OnOk result (io.new.space.sectors ≡ io.old.space.sectors) }
     ensures extents { io.old.space.free ≡ [] → OnOk result (io.new.space.free ≡ []) }
@@ -144,6 +150,7 @@ fn plan_holes(
         name pool (punched pool object first count head) result }
     ensures known { IfErr result IsStepFault }
     ensures disk { is_disk_fault result ≡ false }
+    ensures never_full { IfErr result NotFull }
 {
     if object >= NUMBER_BOUND {
         return Err(PoolFault::CannotApply(ApplyFault::NoObject));
@@ -172,7 +179,9 @@ pub fn change_holes(
     ensures changed { (image : List ℕ) (space : FreeSectors) (name : List ℕ) (pool : Pool) (head : DatedState) → pool.number ≡ number → SetIs (Has image space) flat.old head
         → ChangesHead (Has image space) name pool (punched pool object first count head) flat.new result }
     ensures known { IfErr result IsStepFault }
+    ensures grows { length (lists_bytes flat.new) ≤ length (lists_bytes flat.old) + 1024 }
     ensures disk { is_disk_fault result ≡ false }
+    ensures never_full { IfErr result NotFull }
 {
     plan_holes(flat, number, object, first, count)?;
     flat.punch(object, first, count, number + 1)?;
@@ -188,6 +197,7 @@ fn plan_numbers(number: u64, first: u64, count: u64) -> Result<(), PoolFault>
         → PlansHead (λ found after. apply_dated (number + 1) (FreeObjects first count) head ≡ Ok after) name pool (freed pool first count head) result }
     ensures known { IfErr result IsStepFault }
     ensures disk { is_disk_fault result ≡ false }
+    ensures never_full { IfErr result NotFull }
 {
     if is_past(first, count, NUMBER_BOUND) {
         return Err(limit(Quantity::Object, NUMBER_BOUND));
@@ -204,7 +214,9 @@ pub fn change_numbers(flat: &mut Flat, number: u64, first: u64, count: u64) -> R
     ensures changed { (image : List ℕ) (space : FreeSectors) (name : List ℕ) (pool : Pool) (head : DatedState) → pool.number ≡ number → SetIs (Has image space) flat.old head
         → ChangesHead (Has image space) name pool (freed pool first count head) flat.new result }
     ensures known { IfErr result IsStepFault }
+    ensures grows { length (lists_bytes flat.new) ≤ length (lists_bytes flat.old) + 1024 }
     ensures disk { is_disk_fault result ≡ false }
+    ensures never_full { IfErr result NotFull }
 {
     plan_numbers(number, first, count)?;
     flat.free_objects(first, count, number + 1)?;
@@ -220,6 +232,7 @@ fn plan_object(number: u64, object: u64) -> Result<(), PoolFault>
         → PlansHead (λ found after. apply_all_dated (number + 1) (map (At object) (Put head bonus false 0 ∷ spill_change spill)) old ≡ Ok after) name pool (put_in pool object head bonus spill old) result }
     ensures known { IfErr result IsStepFault }
     ensures disk { is_disk_fault result ≡ false }
+    ensures never_full { IfErr result NotFull }
 {
     if object >= NUMBER_BOUND {
         return Err(limit(Quantity::Object, NUMBER_BOUND));
@@ -247,6 +260,10 @@ pub fn change_object<D: Disk>(
     ensures changed { (name : List ℕ) (pool : Pool) (old : DatedState) → IsTrue D.tells_reads → pool.number ≡ number → SetIs (Has (D.state io.old.disk.now).seen io.old.space) flat.old old
         → ChangesHead (Has (D.state io.new.disk.now).seen io.new.space) name pool (put_in pool object head bonus spill old) flat.new result }
     ensures known { IfErr result IsStepFault }
+    // The spill is a change of its own.
+    ensures grows { length (lists_bytes flat.new) ≤ length (lists_bytes flat.old) + 2048 }
+    ensures took { OnOk result (largest_of io.old.space ≤ largest_of io.new.space + 256) }
+    ensures full { IfErr result (FullBelow io.old.space 256) }
     ensures works { Works (D.state io.old.disk.now) io.old.space io.old.failed (D.state io.new.disk.now) io.new.space io.new.failed result }
     ensures sectors { OnOk result (io.new.space.sectors ≡ io.old.space.sectors) }
     ensures extents { io.old.space.free ≡ [] → OnOk result (io.new.space.free ≡ []) }
@@ -274,6 +291,9 @@ fn change_spill<D: Disk>(
     ensures changed { (head after : DatedState) → IsTrue D.tells_reads → SetIs (Has (D.state io.old.disk.now).seen io.old.space) flat.old head
         → apply_dated (number + 1) (At object (Spill block.now)) head ≡ Ok after → OnOk result (SetIs (Has (D.state io.new.disk.now).seen io.new.space) flat.new after) }
     ensures fault { IfErr result WriteFault }
+    ensures grows { length (lists_bytes flat.new) ≤ length (lists_bytes flat.old) + 1024 }
+    ensures took { OnOk result (largest_of io.old.space ≤ largest_of io.new.space + 256) }
+    ensures full { IfErr result (FullBelow io.old.space 256) }
     ensures works { Works (D.state io.old.disk.now) io.old.space io.old.failed (D.state io.new.disk.now) io.new.space io.new.failed result }
     ensures sectors { OnOk result (io.new.space.sectors ≡ io.old.space.sectors) }
     ensures extents { io.old.space.free ≡ [] → OnOk result (io.new.space.free ≡ []) }

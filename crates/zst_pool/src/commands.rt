@@ -1,12 +1,14 @@
 // The commands that commit, each over the Io of a pool that hasn't failed.
-ghost use Rattle.std.specs.Prelude.{◌≡◌, ◌⊎◌, ◌+◌, ◌*◌, ◌<◌, ◌^◌, ◌||◌, false, [], None, bytes_eq, filter, not, IsTrue, IfErr, IfOk, OnErr};
+ghost use Rattle.std.specs.Prelude.{◌≡◌, ◌⊎◌, ◌+◌, ◌*◌, ◌<◌, ◌≤◌, ◌^◌, ◌||◌, false, [], None, bytes_eq, filter, length, not, IsTrue, IfErr, IfOk, OnErr};
 ghost use Rattle.zst_names.specs.Names.{dataset_of};
 ghost use Rattle.zst_model.specs.Pool.{Pool, inserted};
 ghost use Rattle.zst_model.specs.Step.{with_dataset, with_snapshot};
 ghost use Rattle.zst_tree.specs.Sets.{no_objects};
 ghost use Rattle.zst_dir.specs.Rows.{HasDataset, HasSnapshot, IsDatasetRow, IsLawful, IsSnapshotRow, snapshot_is_before};
+ghost use Rattle.zst_dir.specs.Spelling.{dir_bytes};
 ghost use Rattle.zst_pool.specs.Faults.{HasDiskCause, IsStepFault, is_disk_fault};
 ghost use Rattle.zst_pool.specs.Reads.{Rests, free_by};
+ghost use Rattle.zst_pool.specs.Room.{FindsNoRoom};
 ghost use Rattle.zst_pool.specs.Work.{Ready, Did};
 
 use crate::checks::{check_new_dataset, check_number, plan_snapshot};
@@ -52,6 +54,7 @@ pub fn make_dataset<D: Disk>(
     ensures did { (pool : Pool) → IsTrue D.tells_reads → Rests (D.state io.old.disk.now) kept.now.body kept.now.dir pool
         → Did (D.state io.old.disk.now) (D.state io.new.disk.now) kept.now.body kept.now.dir pool (with_dataset kind name.now pool) result }
     ensures known { IfErr result IsStepFault }
+    ensures full { IfErr result (FindsNoRoom kept.now) }
     ensures ready { IfOk result (λ kept. Ready D.tells_reads (D.state io.new.disk.now) kept.body) }
     ensures stays { io.new.failed ≡ false → OnErr result (Ready D.tells_reads (D.state io.new.disk.now) kept.now.body) }
     ensures failed { io.new.failed ≡ (io.old.failed || is_disk_fault result) }
@@ -91,7 +94,8 @@ fn dir_with_snapshot(alloc: Global, dir: &Dir, snapshot: Snapshot) -> Result<Dir
     requires row { IsSnapshotRow snapshot }
     requires new { HasSnapshot dir.now snapshot.name → ⊥ }
     requires dataset { HasDataset dir.now (dataset_of 64 snapshot.name) }
-    ensures { IfOk result (λ next. next ≡ record dir.now { snapshots = inserted snapshot_is_before snapshot dir.now.snapshots; partials = filter (λ partial. not (bytes_eq partial.target (dataset_of 64 snapshot.name))) dir.now.partials }) }
+    ensures taken { IfOk result (λ next. next ≡ record dir.now { snapshots = inserted snapshot_is_before snapshot dir.now.snapshots; partials = filter (λ partial. not (bytes_eq partial.target (dataset_of 64 snapshot.name))) dir.now.partials }) }
+    ensures grows { IfOk result (λ next. length (dir_bytes next) ≤ length (dir_bytes dir.now) + 1024) }
 {
     let dataset = snapshot.name.dataset();
     let mut next = dir.copy(alloc)?;
@@ -113,6 +117,7 @@ pub fn take_snapshot<D: Disk>(
     ensures did { (pool : Pool) → IsTrue D.tells_reads → Rests (D.state io.old.disk.now) kept.now.body kept.now.dir pool
         → Did (D.state io.old.disk.now) (D.state io.new.disk.now) kept.now.body kept.now.dir pool (with_snapshot now name.now pool) result }
     ensures known { IfErr result IsStepFault }
+    ensures full { IfErr result (FindsNoRoom kept.now) }
     ensures ready { IfOk result (λ kept. Ready D.tells_reads (D.state io.new.disk.now) kept.body) }
     ensures stays { io.new.failed ≡ false → OnErr result (Ready D.tells_reads (D.state io.new.disk.now) kept.now.body) }
     ensures failed { io.new.failed ≡ (io.old.failed || is_disk_fault result) }

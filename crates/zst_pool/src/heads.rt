@@ -1,5 +1,5 @@
 // The commands on a dataset's head, each over the Io of a pool that hasn't failed.
-ghost use Rattle.std.specs.Prelude.{◌≡◌, ◌||◌, ◌<◌, ◌≤◌, ◌^◌, false, true, [], length, IsTrue, IfErr, IfOk, IfSome, OnOk, OnErr};
+ghost use Rattle.std.specs.Prelude.{◌≡◌, ◌||◌, ◌+◌, ◌<◌, ◌≤◌, ◌^◌, false, true, [], length, IsTrue, IfErr, IfOk, IfSome, OnOk, OnErr};
 ghost use Rattle.zst_block.specs.Blocks.{FitsDisk, FillsFree, Has};
 ghost use Rattle.zst_names.specs.Names.{IsDataset};
 ghost use Rattle.zst_model.specs.State.{is_block_size};
@@ -8,7 +8,8 @@ ghost use Rattle.zst_model.specs.Pool.{Pool, IsPool};
 ghost use Rattle.zst_model.specs.Step.{on_head, punched, written};
 ghost use Rattle.zst_pool.specs.Checks.{FindsHead, freed, next_of, put_in, with_head_of};
 ghost use Rattle.zst_pool.specs.Faults.{HasDiskCause, IsStepFault, WriteFault, is_disk_fault};
-ghost use Rattle.zst_pool.specs.Reads.{Rests, RowsAre, free_by};
+ghost use Rattle.zst_pool.specs.Reads.{Rests, RowsAre, dir_sectors, free_by};
+ghost use Rattle.zst_pool.specs.Room.{AreHeadRows, FindsNoRoom, FullBelow, NotFull, set_sectors};
 ghost use Rattle.zst_objset.specs.Meaning.{SetIs};
 ghost use Rattle.zst_pool.specs.Work.{Commits, Did, Ready, Works};
 
@@ -38,6 +39,8 @@ fn load_head<D: Disk>(
     ensures found { (pool : Pool) → IsTrue D.tells_reads → RowsAre (Has (D.state io.old.disk.now).seen io.old.space) kept.now.dir pool
         → FindsHead (Has (D.state io.old.disk.now).seen io.old.space) name.now pool result }
     ensures known { IfErr result IsStepFault }
+    ensures short { IfOk result (AreHeadRows kept.now.dir) }
+    ensures never_full { IfErr result NotFull }
     ensures works { Works (D.state io.old.disk.now) io.old.space io.old.failed (D.state io.new.disk.now) io.new.space io.new.failed result }
     ensures space { io.new.space ≡ io.old.space }
     ensures same { io.new.disk.ghost_name ≡ io.old.disk.ghost_name }
@@ -66,6 +69,7 @@ fn commit_head<D: Disk>(
         → SetIs (Has (D.state io.old.disk.now).seen io.old.space) flat.now head → IsPool (next_of (with_head_of name.now head pool)).pool
         → Commits (D.state start) (D.state io.new.disk.now) kept.now.body kept.now.dir pool (next_of (with_head_of name.now head pool)).pool result }
     ensures fault { IfErr result WriteFault }
+    ensures full { IfErr result (FullBelow io.old.space (set_sectors flat.now + dir_sectors kept.now.dir)) }
     ensures ready { IfOk result (λ kept. Ready D.tells_reads (D.state io.new.disk.now) kept.body) }
     ensures stays { io.new.failed ≡ false → OnErr result (Ready D.tells_reads (D.state io.new.disk.now) kept.now.body) }
     ensures failed { io.new.failed ≡ (io.old.failed || is_disk_fault result) }
@@ -99,6 +103,7 @@ pub fn put_object<D: Disk>(
     ensures did { (pool : Pool) → IsTrue D.tells_reads → Rests (D.state io.old.disk.now) kept.now.body kept.now.dir pool
         → Did (D.state io.old.disk.now) (D.state io.new.disk.now) kept.now.body kept.now.dir pool (on_head name.now pool (put_in pool object head bonus spill)) result }
     ensures known { IfErr result IsStepFault }
+    ensures full { IfErr result (FindsNoRoom kept.now) }
     ensures ready { IfOk result (λ kept. Ready D.tells_reads (D.state io.new.disk.now) kept.body) }
     ensures stays { io.new.failed ≡ false → OnErr result (Ready D.tells_reads (D.state io.new.disk.now) kept.now.body) }
     ensures failed { io.new.failed ≡ (io.old.failed || is_disk_fault result) }
@@ -129,6 +134,7 @@ pub fn write_block<D: Disk>(
     ensures did { (pool : Pool) → IsTrue D.tells_reads → Rests (D.state io.old.disk.now) kept.now.body kept.now.dir pool
         → Did (D.state io.old.disk.now) (D.state io.new.disk.now) kept.now.body kept.now.dir pool (on_head name.now pool (written pool object index bytes.now)) result }
     ensures known { IfErr result IsStepFault }
+    ensures full { IfErr result (FindsNoRoom kept.now) }
     ensures ready { IfOk result (λ kept. Ready D.tells_reads (D.state io.new.disk.now) kept.body) }
     ensures stays { io.new.failed ≡ false → OnErr result (Ready D.tells_reads (D.state io.new.disk.now) kept.now.body) }
     ensures failed { io.new.failed ≡ (io.old.failed || is_disk_fault result) }
@@ -158,6 +164,7 @@ pub fn punch<D: Disk>(
     ensures did { (pool : Pool) → IsTrue D.tells_reads → Rests (D.state io.old.disk.now) kept.now.body kept.now.dir pool
         → Did (D.state io.old.disk.now) (D.state io.new.disk.now) kept.now.body kept.now.dir pool (on_head name.now pool (punched pool object first count)) result }
     ensures known { IfErr result IsStepFault }
+    ensures full { IfErr result (FindsNoRoom kept.now) }
     ensures ready { IfOk result (λ kept. Ready D.tells_reads (D.state io.new.disk.now) kept.body) }
     ensures stays { io.new.failed ≡ false → OnErr result (Ready D.tells_reads (D.state io.new.disk.now) kept.now.body) }
     ensures failed { io.new.failed ≡ (io.old.failed || is_disk_fault result) }
@@ -186,6 +193,7 @@ pub fn free_objects<D: Disk>(
     ensures did { (pool : Pool) → IsTrue D.tells_reads → Rests (D.state io.old.disk.now) kept.now.body kept.now.dir pool
         → Did (D.state io.old.disk.now) (D.state io.new.disk.now) kept.now.body kept.now.dir pool (on_head name.now pool (freed pool first count)) result }
     ensures known { IfErr result IsStepFault }
+    ensures full { IfErr result (FindsNoRoom kept.now) }
     ensures ready { IfOk result (λ kept. Ready D.tells_reads (D.state io.new.disk.now) kept.body) }
     ensures stays { io.new.failed ≡ false → OnErr result (Ready D.tells_reads (D.state io.new.disk.now) kept.now.body) }
     ensures failed { io.new.failed ≡ (io.old.failed || is_disk_fault result) }

@@ -1,4 +1,4 @@
-ghost use Rattle.std.specs.Prelude.{◌≡◌, ◌∷◌, ◌||◌, [], false, true, not, IfErr, IfOk, IsTrue, OnErr, Ok, Err};
+ghost use Rattle.std.specs.Prelude.{◌≡◌, ◌∷◌, ◌||◌, [], ℕ, false, true, not, IfErr, IfOk, IsTrue, OnErr, Ok, Err};
 ghost use Rattle.zst_outside.specs.Images.{Leaves};
 ghost use Rattle.zst_model.specs.Lines.{ok_line};
 ghost use Rattle.zst_model.specs.Pool.{Pool as Plain};
@@ -6,6 +6,7 @@ ghost use Rattle.zst_model.specs.Sound.{Sound};
 ghost use Rattle.zst_model.specs.Step.{Stepped, stepped, IsCommand};
 ghost use Rattle.zst_pool.specs.Faults.{HasDiskCause, IsStepFault, is_disk_fault};
 ghost use Rattle.zst_pool.specs.Reads.{Rests, BeforeOrAfter, free_by};
+ghost use Rattle.zst_pool.specs.Room.{FindsNoRoom, HasNoRoom};
 ghost use Rattle.zst_pool.specs.Stepping.{is_built, StepAnswer};
 ghost use Rattle.zst_pool.specs.Work.{Did, Ready};
 
@@ -63,6 +64,9 @@ impl<'d, D: Disk> Pool<'d, D> {
             → StepAnswer (D.state self.new.io.disk.now) self.new.kept.body self.new.kept.dir pool (stepped now command pool) result }
         // Whatever the image is, the faults of opening never come.
         ensures known { self.old.io.failed ≡ false → IfErr result IsStepFault }
+        // E24 comes only where fewer sectors are free than the command may take.
+        ensures full { (pool : Plain) (need largest : ℕ) → IsTrue D.tells_reads → Rests (D.state self.old.io.disk.now) self.old.kept.body self.old.kept.dir pool
+            → result ≡ Err (PoolFault.Full need largest) → HasNoRoom self.old.kept.body self.old.kept.dir need largest }
         // What later states haven't dated since stays as it was in each snapshot.
         ensures sound { (pool : Plain) (done : Stepped) → Rests (D.state self.old.io.disk.now) self.old.kept.body self.old.kept.dir pool → Sound pool
             → stepped now command pool ≡ Ok done → Sound done.pool }
@@ -128,6 +132,7 @@ fn run<D: Disk>(
     ensures did { (pool : Plain) → IsTrue D.tells_reads → is_built command ≡ true → Rests (D.state io.old.disk.now) kept.now.body kept.now.dir pool
         → Did (D.state io.old.disk.now) (D.state io.new.disk.now) kept.now.body kept.now.dir pool (stepped now command pool) result }
     ensures known { IfErr result IsStepFault }
+    ensures full { IfErr result (FindsNoRoom kept.now) }
     ensures ready { IfOk result (λ kept. Ready D.tells_reads (D.state io.new.disk.now) kept.body) }
     ensures stays { io.new.failed ≡ false → OnErr result (Ready D.tells_reads (D.state io.new.disk.now) kept.now.body) }
     ensures failed { io.new.failed ≡ (io.old.failed || is_disk_fault result) }

@@ -1,5 +1,5 @@
 // Object sets, read from their runs and written into free sectors.
-ghost use Rattle.std.specs.Prelude.{◌≡◌, ◌+◌, ◌/◌, ◌%◌, ◌<◌, ◌^◌, true, ℕ, List, [], length, IsTrue, IfOk, IfErr, OnOk};
+ghost use Rattle.std.specs.Prelude.{◌≡◌, ◌+◌, ◌/◌, ◌%◌, ◌<◌, ◌≤◌, ◌^◌, true, ℕ, List, [], length, IsTrue, IfOk, IfErr, OnOk};
 ghost use Rattle.zst_outside.specs.Images.{OnlyReads};
 ghost use Rattle.zst_space.specs.FreeSectors.{largest_of};
 ghost use Rattle.zst_space.specs.Taking.{without};
@@ -10,9 +10,10 @@ ghost use Rattle.zst_model.specs.State.{is_block_size};
 ghost use Rattle.zst_tree.specs.Sets.{SetFits};
 ghost use Rattle.zst_objset.specs.Rows.{Lists};
 ghost use Rattle.zst_objset.specs.Meaning.{SetIs};
-ghost use Rattle.zst_objset.specs.Spelling.{IsRun};
+ghost use Rattle.zst_objset.specs.Spelling.{IsRun, lists_bytes};
 ghost use Rattle.zst_pool.specs.Faults.{LoadFault, WriteFault};
 ghost use Rattle.zst_pool.specs.Reads.{HeadIs};
+ghost use Rattle.zst_pool.specs.Room.{FullBelow, set_sectors};
 ghost use Rattle.zst_pool.specs.Work.{Works, ReadAnswer};
 
 use crate::fault::PoolFault;
@@ -28,6 +29,8 @@ pub fn load<D: Disk>(io: &mut Io<'_, D>, alloc: Global, set: &ObjSet) -> Result<
     requires fits { FitsDisk (D.state io.old.disk.now).size io.old.space }
     ensures there { (snap : DatedState) → IsTrue D.tells_reads → HeadIs (Has (D.state io.old.disk.now).seen io.old.space) set.now snap
         → ReadAnswer (λ lists. SetIs (Has (D.state io.old.disk.now).seen io.old.space) lists snap) result }
+    // A set without a run has two counts of rows alone: 16 bytes.
+    ensures short { IfOk result (λ lists. length (lists_bytes lists) ≤ set.now.tree.root.length + 16) }
     ensures fault { IfErr result LoadFault }
     ensures reads { OnlyReads (D.state io.old.disk.now) (D.state io.new.disk.now) }
     ensures works { Works (D.state io.old.disk.now) io.old.space io.old.failed (D.state io.new.disk.now) io.new.space io.new.failed result }
@@ -53,6 +56,7 @@ fn load_rows<D: Disk>(io: &mut Io<'_, D>, alloc: Global, root: Ptr) -> Result<Fl
     requires fits { FitsDisk (D.state io.old.disk.now).size io.old.space }
     ensures there { (bytes : List ℕ) (rows : Lists) → IsTrue D.tells_reads → Has (D.state io.old.disk.now).seen io.old.space root bytes → IsRun rows bytes
         → ReadAnswer (λ lists. lists ≡ rows) result }
+    ensures short { IfOk result (λ lists. length (lists_bytes lists) ≤ root.length) }
     ensures fault { IfErr result LoadFault }
     ensures reads { OnlyReads (D.state io.old.disk.now) (D.state io.new.disk.now) }
     ensures works { Works (D.state io.old.disk.now) io.old.space io.old.failed (D.state io.new.disk.now) io.new.space io.new.failed result }
@@ -72,6 +76,7 @@ pub fn read_run<D: Disk>(io: &mut Io<'_, D>, alloc: Global, ptr: Ptr) -> Result<
     ensures there { (bytes : List ℕ) → IsTrue D.tells_reads → Has (D.state io.old.disk.now).seen io.old.space ptr bytes
         → ReadAnswer (λ run. run.items ≡ bytes) result }
     ensures block { IsTrue D.tells_reads → IfOk result (λ run. IsBlock (D.state io.old.disk.now).seen ptr run.items) }
+    ensures length { IfOk result (λ run. length run.items ≡ ptr.length) }
     ensures fault { IfErr result LoadFault }
     ensures reads { OnlyReads (D.state io.old.disk.now) (D.state io.new.disk.now) }
     ensures works { Works (D.state io.old.disk.now) io.old.space io.old.failed (D.state io.new.disk.now) io.new.space io.new.failed result }
@@ -97,6 +102,9 @@ pub fn store<D: Disk>(
     ensures sectors { OnOk result (io.new.space.sectors ≡ io.old.space.sectors) }
     ensures extents { io.old.space.free ≡ [] → OnOk result (io.new.space.free ≡ []) }
     ensures fault { IfErr result WriteFault }
+    // It takes a run for the rows at most, and is full only where none is so long.
+    ensures took { OnOk result (largest_of io.old.space ≤ largest_of io.new.space + set_sectors flat.now) }
+    ensures full { IfErr result (FullBelow io.old.space (set_sectors flat.now)) }
     ensures works { Works (D.state io.old.disk.now) io.old.space io.old.failed (D.state io.new.disk.now) io.new.space io.new.failed result }
     ensures same { io.new.disk.ghost_name ≡ io.old.disk.ghost_name }
 {
@@ -121,6 +129,9 @@ pub fn put_block<D: Disk>(io: &mut Io<'_, D>, bytes: &[u8], number: u64) -> Resu
     ensures sectors { OnOk result (io.new.space.sectors ≡ io.old.space.sectors) }
     ensures extents { io.old.space.free ≡ [] → OnOk result (io.new.space.free ≡ []) }
     ensures fault { IfErr result WriteFault }
+    // A block has 256 sectors at most.
+    ensures took { OnOk result (largest_of io.old.space ≤ largest_of io.new.space + 256) }
+    ensures full { IfErr result (FullBelow io.old.space 256) }
     ensures works { Works (D.state io.old.disk.now) io.old.space io.old.failed (D.state io.new.disk.now) io.new.space io.new.failed result }
     ensures same { io.new.disk.ghost_name ≡ io.old.disk.ghost_name }
 {

@@ -33,9 +33,9 @@ add_snapshot-requires-clause-component c =
     subst (λ (xs : List Partial). All (λ partial. partial.target ++ 64 ∷ partial.snapshot ≡ name → ⊥) xs) (sym left)
     (partials_are_apart c.args.dir.now name c.requires.lawful.partials)
 
-pub returns : goal.returns
+pub returns-clause-taken : goal.returns-clause-taken
 unfolding others
-returns c =
+returns-clause-taken c =
     let snapshot = c.args.snapshot in
     let next = c.in_ok-next.next in
     c.in_ok-add_snapshot.ensures.added

@@ -1,4 +1,4 @@
-use Rattle.std.proofs.Common.{sym, ap, ◌∙◌, subst}
+use Rattle.std.proofs.Common.{sym, ap, ◌∙◌, subst, length, arith}
 use Rattle.zst_outside.specs.Images.{OnlyReads-none}
 use Rattle.zst_space.specs.FreeSectors.{FreeSectors}
 use Rattle.zst_block.specs.Blocks.{Has, FillsFree}
@@ -10,9 +10,11 @@ use Rattle.zst_pool.specs.Checks.{next_of, with_new}
 use Rattle.zst_dir.specs.Rows.{Rows}
 use Rattle.zst_pool.specs.Reads.{Describes, free_by}
 use Rattle.zst_dir.specs.declared.rows.Dataset.{Dataset}
+use Rattle.zst_dir.specs.Spelling.{dir_bytes}
 use Rattle.zst_pool.proofs.Doing.{did}
 use Rattle.zst_pool.proofs.Known.{if_known_write}
 use Rattle.zst_pool.proofs.NextPools.{dataset_is_next, dataset_is_lawful}
+use Rattle.zst_pool.proofs.Room.{no_room-dir}
 use Rattle.zst_pool.proofs.commands.make_dataset.Goals as goal
 
 pub returns-clause-did : goal.returns-clause-did
@@ -38,3 +40,9 @@ returns-clause-did g c = λ pool told rests.
 
 pub returns-clause-known : goal.returns-clause-known
 returns-clause-known g c = if_known_write c.commit_dir.result c.commit_dir.ensures.fault
+
+pub returns-clause-full : goal.returns-clause-full
+returns-clause-full g c =
+    let kept = c.args.kept.now in
+    no_room-dir kept c.args.io.now.space c.add_dataset.new.self c.commit_dir.result c.requires.space
+    (omega (arith, c.in_ok-add_dataset.ensures.grows, ap (λ (d : Rows). length (dir_bytes d)) c.in_ok-dir.ensures)) c.commit_dir.ensures.fault c.commit_dir.ensures.full

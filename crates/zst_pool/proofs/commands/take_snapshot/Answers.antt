@@ -21,6 +21,7 @@ use Rattle.zst_pool.proofs.Doing.{did, fell, free_by_fits}
 use Rattle.zst_pool.proofs.Judging.{err_is}
 use Rattle.zst_pool.proofs.Known.{if_known_write}
 use Rattle.zst_pool.proofs.NextPools.{snapshot_is_next, snapshot_is_lawful}
+use Rattle.zst_pool.proofs.Room.{no_room-dir}
 use Rattle.zst_pool.proofs.commands.take_snapshot.Goals as goal
 
 pub new_snapshot-snapshot-requires-clause-row : goal.new_snapshot-snapshot-requires-clause-row
@@ -79,7 +80,7 @@ returns-clause-did g c = λ pool told rests.
     let same = c.new_snapshot-snapshot.ensures.same in
     let named = subst IsSnapshot (ap (λ (s : Snapshot). s.name) same) c.new_snapshot-snapshot.ensures.row.name in
     let lawful = snapshot_is_lawful c.steps_keep_pools.ensures.pools now name pool done named described.lawful judged.2 in
-    let dir = c.in_ok-dir.ensures
+    let dir = c.in_ok-dir.ensures.taken
     ∙ ap (λ (s : Snapshot). record rows { snapshots = inserted snapshot_is_before s rows.snapshots; partials = filter (λ partial. not (bytes_eq partial.target (dataset_of 64 s.name))) rows.partials }) same in
     let next = snapshot_is_next (Has old.seen space) body rows c.in_ok-dir.dir pool now name row judged.0 described judged.1 c.in_ok-dataset.ensures.free dir lawful in
     let fills = subst (λ (s : FreeSectors). FillsFree old (free_by body) old s) (sym c.requires.space) (FillsFree-reads old old (free_by body) (OnlyReads-none old)) in
@@ -88,3 +89,7 @@ returns-clause-did g c = λ pool told rests.
 
 pub returns-clause-known : goal.returns-clause-known
 returns-clause-known g c = if_known_write c.commit_dir.result c.commit_dir.ensures.fault
+
+pub returns-clause-full : goal.returns-clause-full
+returns-clause-full g c =
+    no_room-dir c.args.kept.now c.args.io.now.space c.in_ok-dir.dir c.commit_dir.result c.requires.space c.in_ok-dir.ensures.grows c.commit_dir.ensures.fault c.commit_dir.ensures.full

@@ -1,8 +1,12 @@
-use Rattle.std.proofs.Common.{refl, ap}
+use Rattle.std.proofs.Common.{refl, ap, ◌||◌, sym, ◌∙◌}
 use Rattle.std.proofs.lemmas.Result.{err_from_is_err_and}
+use Rattle.std.specs.Prelude.{Err}
 use Rattle.zst_block.specs.BlocksLaws.{IsTaken-head}
-use Rattle.zst_pool.specs.Faults.{of_uber}
+use Rattle.zst_pool.specs.Faults.{of_uber, is_disk_fault}
+use Rattle.zst_pool.specs.declared.fault.PoolFault.{PoolFault}
+use Rattle.zst_pool.specs.declared.kept.Kept.{Kept}
 use Rattle.zst_pool.proofs.Committed.{prepared, commit-moments, commit-rests, over-refused, disk-refused, Ready-works, Commits-over, Stays-from}
+use Rattle.zst_pool.proofs.Parts.{failed_then}
 use Rattle.zst_pool.proofs.committing.commit_dir.Goals as goal
 
 pub commit_event-requires-clause-settled : goal.commit_event-requires-clause-settled
@@ -78,3 +82,10 @@ returns-in-Err-clause-full g c = λ need largest is. absurd (cc (is, c.from.ensu
 
 pub returns-in-Err-clause-refused : goal.returns-in-Err-clause-refused
 returns-in-Err-clause-refused g c = let refused = disk-refused _ c.in-Err.fault c.from.result c.from.ensures (c.in-Err.ensures.only c.in-Err.fault refl) in refused.1
+
+pub returns-in-Err-clause-failed : goal.returns-in-Err-clause-failed
+returns-in-Err-clause-failed g c =
+    let mid = c.write_dir.new.io.failed in
+    let disk = c.from.ensures ∙ ap of_uber (c.in-Err.ensures.only c.in-Err.fault refl) in
+    failed_then c.args.io.now.failed mid c.commit_event.new.io.failed (is_disk_fault {T = Kept} (Err c.from.result)) c.in_ok-root.ensures.works.failed
+    (c.in-Err.ensures.failed ∙ ap (λ (f : PoolFault). mid || is_disk_fault {T = Kept} (Err f)) (sym disk))

@@ -1,7 +1,10 @@
 use Rattle.std.proofs.Common.{rules, ◌≡◌, ℕ, ◌∙◌, length, subst}
 use Rattle.std.proofs.lemmas.Result.{err_from_is_err_and}
 use Rattle.zst_pool.specs.Reads.{IsDirRun}
+use Rattle.zst_block.specs.declared.ptr.Ptr.{Ptr}
 use Rattle.zst_pool.proofs.DirRuns.{IsDir-some, filled-whole, filled-some, dir-run, run-sectors}
+use Rattle.zst_pool.proofs.Judging.{err_is}
+use Rattle.zst_pool.proofs.Parts.{works_err}
 use Rattle.zst_pool.proofs.committing.write_dir.Goals as goal
 
 pub write_run-requires-clause-some : goal.write_run-requires-clause-some
@@ -22,3 +25,9 @@ returns-in_err-root-clause-full g c = λ need largest is.
     let p = err_from_is_err_and c.from_residual-in_err-root.result c.from_residual-in_err-root.ensures.1 in
     let sizes = c.in_err-root.ensures.full need largest (cc (p.1, p.2, is)) in
     (sizes.0 ∙ run-sectors c.args.dir.now c.in_ok-bytes.bytes.items c.deref.result.now c.in_ok-bytes.ensures (c.deref.ensures.value ∙ c.in_ok-fill_up.ensures), sizes.1)
+
+pub returns-in_err-root-clause-works : goal.returns-in_err-root-clause-works
+returns-in_err-root-clause-works g c =
+    let fault = c.in_err-root.field-0.0 in
+    works_err Ptr (Ptr × ℕ) _ c.args.io.now.space c.args.io.now.failed _ c.write_run.new.io.space c.write_run.new.io.failed fault c.from_residual-in_err-root.result
+    (err_is c.from_residual-in_err-root.result fault c.from_residual-in_err-root.ensures.1) c.in_err-root.ensures.works

@@ -1,20 +1,23 @@
 use Rattle.std.specs.Prelude.{Result, Err}
-use Rattle.std.proofs.Common.{◌≡◌, sym, ap, ◌∙◌, subst, refl}
+use Rattle.std.proofs.Common.{◌≡◌, sym, ap, ◌∙◌, subst, refl, ℕ, ◌+◌, ◌*◌, ◌/◌, length, arith}
 use Rattle.zst_block.specs.Blocks.{Has}
 use Rattle.zst_block.specs.BlocksLaws.{FillsFree-then}
 use Rattle.zst_tree.specs.declared.tree.ObjSet.{ObjSet}
 use Rattle.zst_pool.specs.Checks.{next_of, with_head_of}
 use Rattle.zst_dir.specs.Rows.{Rows, with_head}
 use Rattle.zst_pool.specs.Faults.{is_disk_fault}
-use Rattle.zst_pool.specs.Reads.{free_by}
+use Rattle.zst_pool.specs.Reads.{free_by, dir_sectors}
 use Rattle.zst_pool.specs.Work.{Commits, Ready}
 use Rattle.zst_pool.specs.declared.fault.PoolFault.{PoolFault}
 use Rattle.zst_pool.specs.declared.fault.PoolFault.TheVariants.{OutOfMemory}
 use Rattle.zst_pool.specs.declared.kept.Kept.{Kept}
+use Rattle.zst_dir.specs.Spelling.{dir_bytes}
+use Rattle.zst_pool.specs.Room.{FullBelow, set_sectors}
 use Rattle.zst_pool.proofs.Doing.{fell_before}
 use Rattle.zst_pool.proofs.Judging.{err_is}
 use Rattle.zst_pool.proofs.NextPools.{head_is_next}
 use Rattle.zst_pool.proofs.Parts.{ready_works, failed_then, cause_then, on_err, taken, described_on}
+use Rattle.zst_pool.proofs.Room.{full-run, full-then, if_err}
 use Rattle.zst_pool.proofs.heads.commit_head.Goals as goal
 
 pub commit_dir-requires-clause-ready : goal.commit_dir-requires-clause-ready
@@ -79,3 +82,18 @@ returns-clause-failed g c =
 
 pub returns-clause-cause : goal.returns-clause-cause
 returns-clause-cause g c = cause_then _ _ _ c.in_ok-head.head c.commit_dir.result c.in_ok-head.ensures.works.cause c.commit_dir.ensures.cause
+
+pub returns-in_err-head-clause-full : goal.returns-in_err-head-clause-full
+returns-in_err-head-clause-full g c =
+    let count = set_sectors c.args.flat.now + dir_sectors c.args.kept.now.dir in
+    if_err (FullBelow c.args.io.now.space count) c.from_residual.result c.in_err-head.field-0.0 c.from_residual.ensures.1
+    (λ need largest same. omega (arith, c.in_err-head.ensures.full need largest same))
+
+pub returns-clause-full : goal.returns-clause-full
+returns-clause-full g c =
+    let rows = c.args.kept.now.dir in
+    let long : length (dir_bytes c.set_head.new.self) ≡ length (dir_bytes rows) = c.set_head.ensures.as_long ∙ ap (λ (d : Rows). length (dir_bytes d)) c.in_ok-dir.ensures in
+    let same : dir_sectors c.set_head.new.self ≡ dir_sectors rows = ap (λ (n : ℕ). (n + 8191) / 8192 * 16) long in
+    full-then c.args.io.now.space c.store.new.io.space (set_sectors c.args.flat.now) (dir_sectors rows) c.commit_dir.result c.in_ok-head.ensures.took
+    (full-run c.store.new.io.space (dir_sectors rows) c.commit_dir.result c.commit_dir.ensures.fault (λ need largest is.
+    let sizes = c.commit_dir.ensures.full need largest is in (sizes.0 ∙ same, sizes.1)))

@@ -1,5 +1,5 @@
 use Rattle.std.specs.Prelude.{Result}
-use Rattle.std.proofs.Common.{sym, ap, ◌∙◌, subst}
+use Rattle.std.proofs.Common.{sym, ap, ◌∙◌, subst, arith}
 use Rattle.zst_space.specs.FreeSectors.{FreeSectors}
 use Rattle.zst_block.specs.Blocks.{Has, FillsFree}
 use Rattle.zst_block.specs.BlocksLaws.{KeepsBlocks-fills}
@@ -14,12 +14,14 @@ use Rattle.zst_pool.specs.Work.{Did, Ready}
 use Rattle.zst_pool.specs.declared.fault.PoolFault.{PoolFault}
 use Rattle.zst_objset.specs.declared.flat.Flat.{Flat}
 use Rattle.zst_pool.specs.declared.kept.Kept.{Kept}
+use Rattle.zst_pool.specs.Room.{FindsNoRoom}
 use Rattle.zst_pool.proofs.Doing.{did, fell}
 use Rattle.zst_pool.proofs.Growing.{SetIs-grows}
 use Rattle.zst_pool.proofs.Judging.{err_is}
 use Rattle.zst_pool.proofs.Known.{if_known_write}
 use Rattle.zst_pool.proofs.NextPools.{freed_is_lawful}
 use Rattle.zst_pool.proofs.Parts.{works_err, works_ok, disk_fault_same, ready_works, failed_then, cause_then, on_err, taken}
+use Rattle.zst_pool.proofs.Room.{if_err, no_room-head, no_room-never}
 use Rattle.zst_pool.proofs.heads.free_objects.Goals as goal
 
 pub returns-in_err-flat-clause-did : goal.returns-in_err-flat-clause-did
@@ -117,3 +119,18 @@ returns-clause-cause g c =
 
 pub returns-clause-known : goal.returns-clause-known
 returns-clause-known g c = if_known_write c.commit_head.result c.commit_head.ensures.fault
+
+pub returns-in_err-flat-clause-full : goal.returns-in_err-flat-clause-full
+returns-in_err-flat-clause-full g c =
+    let fault = c.in_err-flat.field-0.0 in
+    if_err (FindsNoRoom c.args.kept.now) c.from_residual.result fault c.from_residual.ensures.1 (no_room-never c.args.kept.now fault c.in_err-flat.ensures.never_full)
+
+pub returns-in_err-change_numbers-clause-full : goal.returns-in_err-change_numbers-clause-full
+returns-in_err-change_numbers-clause-full g c =
+    let fault = c.in_err-change_numbers.field-0.0 in
+    if_err (FindsNoRoom c.args.kept.now) c.from_residual-in_err-change_numbers.result fault c.from_residual-in_err-change_numbers.ensures.1 (no_room-never c.args.kept.now fault c.in_err-change_numbers.ensures.never_full)
+
+pub returns-clause-full : goal.returns-clause-full
+returns-clause-full g c =
+    no_room-head c.args.kept.now c.load_head.new.io.space c.load_head.new.io.space c.in_ok-flat.flat c.change_numbers.new.flat c.commit_head.result (c.load_head.ensures.space ∙ c.requires.space)
+    (omega arith) c.in_ok-flat.ensures.short (omega (arith, c.in_ok-change_numbers.ensures.grows)) c.commit_head.ensures.fault c.commit_head.ensures.full

@@ -4,9 +4,11 @@ use Rattle.zst_model.specs.Lines.{ok_line}
 use Rattle.zst_model.specs.Step.{stepped}
 use Rattle.zst_pool.specs.Stepping.{StepAnswer}
 use Rattle.zst_pool.specs.declared.fault.PoolFault.{PoolFault}
-use Rattle.zst_pool.specs.declared.fault.PoolFault.TheVariants.{OutOfMemory}
+use Rattle.zst_pool.specs.declared.fault.PoolFault.TheVariants.{OutOfMemory, Full}
+use Rattle.zst_pool.specs.Reads.{free_by}
 use Rattle.zst_pool.proofs.Judging.{err_is}
 use Rattle.zst_pool.proofs.Replying.{step_reply, is_built_from}
+use Rattle.zst_pool.proofs.Room.{dir-short}
 use Rattle.zst_pool.proofs.pool.Pool.step.Goals as goal
 
 pub returns-clause-moments : goal.returns-clause-moments
@@ -54,3 +56,12 @@ returns-then-self-clause-sound g c = λ pool done rests sound made. c.steps_keep
 
 pub returns-then-is_not_built-clause-sound : goal.returns-then-is_not_built-clause-sound
 returns-then-is_not_built-clause-sound g c = λ pool done rests sound made. c.steps_keep_sound.ensures c.args.now c.args.command pool done c.requires.command rests.reads.described.lawful sound made
+
+pub returns-in_err-kept-clause-full : goal.returns-in_err-kept-clause-full
+returns-in_err-kept-clause-full g c = λ pool need largest told rests is.
+    let kept = c.args.self.now.kept in
+    let fault = c.in_err-kept.field-0.0 in
+    let answered = err_is c.from_residual-in_err-kept.result fault c.from_residual-in_err-kept.ensures.1 in
+    let same : fault ≡ Full need largest = cc (answered, is) in
+    let short = dir-short (g.D.Disk.state c.args.self.now.io.disk.now).seen (free_by kept.body) kept.body kept.dir rests.reads.described.directory in
+    c.in_err-kept.ensures.full short need largest same
