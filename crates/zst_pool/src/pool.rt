@@ -47,6 +47,15 @@ impl<'d, D: Disk> Pool<'d, D> {
         Pool { io, kept }
     }
 
+    /// Gives the disk back, so that it is known what stands on it.
+    pub fn into_disk(self) -> &'d mut D
+        ensures same { result.ghost_name ≡ self.entry.io.disk.ghost_name }
+        ensures disk { result.now ≡ self.entry.io.disk.now }
+    {
+        let Pool { io, .. } = self;
+        io.into_disk()
+    }
+
     /// Runs a command at this time: it commits once where it changes what the image stands for, and
     /// not at all where it is refused.
     ///
