@@ -1,3 +1,6 @@
 pub mod DumpLemmas
 pub mod DumpFits
 pub mod IntakeLemmas
+pub mod Commanded
+pub mod Made
+pub mod Replying

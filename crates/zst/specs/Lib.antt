@@ -1,6 +1,9 @@
 pub mod Limits
-pub mod Words
 pub mod Dumps
+pub mod Replies
+pub mod Commands
+pub mod Devices
+pub mod Lines
 pub mod Runs
 pub mod Intake
 pub mod Dumping

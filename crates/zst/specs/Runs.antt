@@ -1,6 +1,7 @@
 -- What a run does: the status, and what is noted.
-use Rattle.std.specs.Prelude.{ℕ, ◌≡◌, ◌⊎◌, ◌==◌, if◌then◌else◌, List, [], ◌∷◌, ◌++◌, Option, Some, None, Result, Ok, Err, codes, decimal}
+use Rattle.std.specs.Prelude.{ℕ, ◌≡◌, ◌⊎◌, ◌==◌, if◌then◌else◌, Bool, List, [], ◌++◌, Result, Ok, Err, codes, decimal}
 use Rattle.zst_outside.specs.Causes.{Rose}
+use Rattle.zst_outside.specs.Images.{DiskState}
 use Rattle.zst_outside.specs.States.{SourceState, SinkState}
 use Rattle.zst_outside.specs.Printing.{Wrote}
 use Rattle.zst_model.specs.Refusal.{number_of, text_of}
@@ -8,8 +9,11 @@ use Rattle.zst_model.specs.declared.plan_fault.PlanFault.{PlanFault}
 use Rattle.zst_model.specs.declared.plan_fault.PlanFault.TheVariants as plans
 use Rattle.zst_model.specs.declared.refusal.Refusal.{Refusal}
 use Rattle.zst_model.specs.declared.refusal.Refusal.TheVariants as refusals
-use Rattle.zst.specs.Words.{usage_place}
-use Rattle.zst.specs.Dumps.{Dumps}
+use Rattle.zst_line.specs.Lines.{LineAnswers}
+use Rattle.zst_line.specs.declared.line.Line.{Line}
+use Rattle.zst_line.specs.declared.line.LineFault.{LineFault}
+use Rattle.zst.specs.Devices.{Devices}
+use Rattle.zst.specs.Lines.{Does}
 
 -- the status that a plan's fault ends the program with
 abbrev pub plan_status : PlanFault → ℕ
@@ -53,14 +57,11 @@ abbrev pub Told : SinkState → SinkState → ℕ → Result (Unit {0}) Refusal 
 Told note note' status (Ok done) = (status ≡ 0) × (note' ≡ note)
 Told note note' status (Err refusal) = (status ≡ status_of refusal) × Noted note note' (note_of refusal)
 
--- What the words ask for is done: a line that is not in the grammar is refused with its place and changes nothing,
--- and `dump` dumps.
-abbrev pub Does : Option ℕ → SourceState → SourceState → SinkState → SinkState → Result (Unit {0}) Refusal → Type 0
-Does (Some place) input input' out out' result = (result ≡ Err (refusals.Usage place)) × (input' ≡ input) × (out' ≡ out)
-Does None input input' out out' result = Dumps input input' out out' result
-
--- A run of the program on these words.
-pub record Runs (words : List (List ℕ)) (input input' : SourceState) (out out' note note' : SinkState) (status : ℕ) : Type 0 where
+-- A run of the program on these words, at this time: the line that they are, or why they are none, then what it does,
+-- and what is told of that.
+pub record Runs {D : Type 0} (tells : Bool) (state : D → DiskState) (now : ℕ) (words : List (List ℕ)) (old new : Devices D) (note note' : SinkState) (status : ℕ) : Type 0 where
+  pub line : Result Line LineFault
+  pub says : LineAnswers words line
   pub result : Result (Unit {0}) Refusal
-  pub does : Does (usage_place words) input input' out out' result
+  pub does : Does tells state now line old new result
   pub told : Told note note' status result

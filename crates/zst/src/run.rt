@@ -1,16 +1,19 @@
 ghost use Rattle.std.specs.Prelude.{◌≡◌, map, string_bytes};
+ghost use Rattle.zst.specs.Devices.{devices};
+ghost use Rattle.zst.specs.Lines.{DoesLine, IsBuilt};
 ghost use Rattle.zst.specs.Runs.{Runs};
 
-use crate::command::usage;
 use crate::dump::dump;
 use crate::note::{note_refusal, status_of};
+use crate::pools::{create_pool, step_pool};
 use std::alloc::Global;
+use zst_line::{Line, parse};
 use zst_model::Refusal;
 use zst_outside::{Disk, Sink, Source};
 
 /// Does what the words after the program's name ask for, and answers the program's status. A refusal goes to `note`.
 ///
-/// `here` and `there` are the images that a line names, `now` is the time in seconds: no line uses these yet.
+/// `here` is the image that a line names, `now` is the time in seconds since 1970. No line uses `there` yet.
 pub fn run<D: Disk, E: Disk, S: Source, K: Sink, N: Sink>(
     alloc: Global,
     words: &[String],
@@ -21,13 +24,14 @@ pub fn run<D: Disk, E: Disk, S: Source, K: Sink, N: Sink>(
     out: &mut K,
     note: &mut N,
 ) -> u8
-    ensures runs { Runs (map string_bytes words.now) (S.state input.old) (S.state input.new) (K.state out.old) (K.state out.new) (N.state note.old) (N.state note.new) result }
-    ensures here { here.new ≡ here.old }
+    ensures runs { Runs D.tells_reads D.state now (map string_bytes words.now)
+        (devices here.old (S.state input.old) (K.state out.old)) (devices here.new (S.state input.new) (K.state out.new))
+        (N.state note.old) (N.state note.new) result }
     ensures there { there.new ≡ there.old }
 {
-    let result = match usage(words) {
-        Some(place) => Err(Refusal::Usage { place }),
-        None => dump(alloc, input, out),
+    let result = match parse(alloc, words) {
+        Ok(line) => run_line(alloc, line, now, here, input, out),
+        Err(fault) => Err(Refusal::from(fault)),
     };
     match result {
         Ok(()) => 0,
@@ -35,5 +39,25 @@ pub fn run<D: Disk, E: Disk, S: Source, K: Sink, N: Sink>(
             note_refusal(&refusal, note);
             status_of(&refusal)
         }
+    }
+}
+
+/// Does what a line asks for.
+fn run_line<D: Disk, S: Source, K: Sink>(
+    alloc: Global,
+    line: Line,
+    now: u64,
+    here: &mut D,
+    input: &mut S,
+    out: &mut K,
+) -> Result<(), Refusal>
+    requires { IsBuilt line }
+    ensures { DoesLine D.tells_reads D.state now line
+        (devices here.old (S.state input.old) (K.state out.old)) (devices here.new (S.state input.new) (K.state out.new)) result }
+{
+    match line {
+        Line::Dump => dump(alloc, input, out),
+        Line::Create { sectors, id } => create_pool(alloc, here, sectors, id, out),
+        Line::Step(command) => step_pool(alloc, here, now, command, out),
     }
 }

@@ -1,0 +1,22 @@
+use Rattle.std.specs.Prelude.{Err}
+use Rattle.std.proofs.Common.{ap}
+use Rattle.std.proofs.lemmas.Result.{err_from_is_err_and}
+use Rattle.zst.proofs.Made.{creates_refused, creates_made}
+use Rattle.zst.proofs.Replying.{first_written, first_lost}
+use Rattle.zst.proofs.pools.create_pool.Goals as goal
+
+pub returns-in_err-create : goal.returns-in_err-create
+returns-in_err-create g c =
+    let e = c.in_err-create.ensures in
+    let p = err_from_is_err_and c.from_residual.result c.from_residual.ensures.1 in
+    rw (p.1, p.2) (creates_refused g.D.Disk.tells_reads c.args.sectors c.args.id _ _ _ c.in_err-create.field-0.0 e.answer e.refused e.moments e.cause (λ is. e.alive (ap (λ f. Err f) is)))
+
+pub returns-in-Ok : goal.returns-in-Ok
+returns-in-Ok g c =
+    let e = c.in_ok-create.ensures in
+    creates_made g.D.Disk.tells_reads c.args.sectors c.args.id _ _ _ _ c.in_ok-create.field-0 _ e.answer e.made e.moments e.cause.later (first_written _ _ c.in-Ok.ensures)
+
+pub returns-in-Err : goal.returns-in-Err
+returns-in-Err g c =
+    let e = c.in_ok-create.ensures in
+    creates_made g.D.Disk.tells_reads c.args.sectors c.args.id _ _ _ _ c.in_ok-create.field-0 _ e.answer e.made e.moments e.cause.later (first_lost _ _ c.in-Err.field-0 c.in-Err.ensures)

@@ -1,0 +1,68 @@
+// The lines that work on the pool of an image: it is opened, one command runs, and its reply is written.
+ghost use Rattle.std.specs.Prelude.{◌≡◌, ◌≤◌, ◌<◌, ◌^◌, true};
+ghost use Rattle.zst_model.specs.Step.{IsCommand};
+ghost use Rattle.zst_pool.specs.Stepping.{is_built};
+ghost use Rattle.zst.specs.Commands.{Creates, Stepping, Steps};
+
+use crate::reply::{write_line, write_reply};
+use std::alloc::Global;
+use zst_model::{Command, Refusal, Reply};
+use zst_outside::{Disk, Sink};
+use zst_pool::{Kept, Pool};
+
+/// Makes a pool in an image that has none, and writes the reply.
+pub(crate) fn create_pool<D: Disk, K: Sink>(
+    alloc: Global,
+    here: &mut D,
+    sectors: u64,
+    id: u32,
+    out: &mut K,
+) -> Result<(), Refusal>
+    requires sectors { (128 ≤ sectors) × (sectors ≤ 2 ^ 31) }
+    requires id { (0 < id) × (id < 2 ^ 31) }
+    ensures { Creates D.tells_reads sectors id (D.state here.old) (D.state here.new) (K.state out.old) (K.state out.new) result }
+{
+    Kept::create(alloc, here, sectors, id)?;
+    match write_line(b"ok 1", out) {
+        Ok(()) => Ok(()),
+        Err(_) => Err(Refusal::SinkFault),
+    }
+}
+
+/// Runs a command on the pool of an image.
+fn step_image<D: Disk>(
+    alloc: Global,
+    here: &mut D,
+    now: u64,
+    command: Command,
+) -> Result<Reply, Refusal>
+    requires command { IsCommand command }
+    requires built { is_built command ≡ true }
+    ensures { Stepping D.tells_reads now command (D.state here.old) (D.state here.new) result }
+{
+    let kept = Kept::open(alloc, here)?;
+    let mut pool = Pool::new(alloc, here, kept);
+    let reply = pool.step(alloc, now, command);
+    // Only of a disk that was given back is it known what stands on it.
+    pool.into_disk();
+    Ok(reply?)
+}
+
+/// Runs a command on the pool of an image, and writes its reply.
+pub(crate) fn step_pool<D: Disk, K: Sink>(
+    alloc: Global,
+    here: &mut D,
+    now: u64,
+    command: Command,
+    out: &mut K,
+) -> Result<(), Refusal>
+    requires command { IsCommand command }
+    requires built { is_built command ≡ true }
+    ensures { Steps D.tells_reads now command (D.state here.old) (D.state here.new) (K.state out.old) (K.state out.new) result }
+{
+    let reply = step_image(alloc, here, now, command)?;
+    match write_reply(&reply, out) {
+        Ok(()) => Ok(()),
+        Err(_) => Err(Refusal::SinkFault),
+    }
+}
