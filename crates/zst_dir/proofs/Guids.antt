@@ -1,11 +1,9 @@
 -- The words of a guid set, and its fronts.
-use Rattle.std.proofs.Common.{◌≡◌, ℕ, ◌+◌, ◌<◌, ◌≤◌, ◌^◌, true, ◌&&◌, nat_lt, List, [], ◌∷◌, ◌++◌, length, refl, subst, ap, ◌∙◌, arith, append_assoc, length-append}
+use Rattle.std.proofs.Common.{◌≡◌, ℕ, true, nat_lt, List, [], ◌∷◌, ◌++◌, length, refl, subst, arith, append_assoc, length-append}
 use Rattle.std.proofs.lemmas.Bool.{and_parts, and_from}
-use Rattle.std.specs.List.{All, flat_map}
+use Rattle.std.specs.List.{flat_map}
 use Rattle.zst_bytes.specs.Words.{word, words_bytes}
 use Rattle.zst_model.specs.Guids.{is_rising, IsGuidSet}
-use Rattle.zst_dir.specs.Reading.{AreGuids}
-use Rattle.zst_dir.proofs.Standing.{Stands, Next}
 
 -- words begin with their count
 pub words_parts : (numbers rest : List ℕ) → words_bytes numbers ++ rest ≡ word (length numbers) ++ (flat_map word numbers ++ rest)

@@ -1,5 +1,5 @@
 -- A lawful directory with a row put in its place.
-use Rattle.std.proofs.Common.{inl, inr, ◌⊎◌, subst, ◌≡◌, ◌≢◌, ℕ, ◌<◌, ◌≤◌, Bool, true, false, ◌&&◌, List, ◌∷◌, ◌++◌, Option, Some, None, IfSome, nat_lt, refl, sym, ap, ◌∙◌, arith}
+use Rattle.std.proofs.Common.{inl, inr, ◌⊎◌, subst, ◌≡◌, ◌≢◌, ℕ, ◌<◌, ◌≤◌, Bool, true, false, ◌&&◌, List, ◌∷◌, ◌++◌, Option, Some, None, IfSome, nat_lt, sym, ap, ◌∙◌, arith}
 use Rattle.std.specs.List.{All, Contains, insert, position_or_len}
 use Rattle.std.specs.Str.{bytes_eq}
 use Rattle.std.proofs.lemmas.Bool.{cases_lt, true≢false, false_from_ne_true, ltb-true, lt-ltb, and_parts, and_from, or_cases, or_left, or_right}
@@ -8,10 +8,9 @@ use Rattle.zst_names.specs.Names.{dataset_of}
 use Rattle.zst_model.specs.Pool.{is_before, inserted}
 use Rattle.zst_dir.proofs.Inserted.{inserted-place, All-from_contains, contains-inserted, inserted_has_rest, All-inserted, AllPairs-inserted}
 use Rattle.zst_dir.proofs.Orders.{before_cases, same_bytes, bytes_same, before_trans, not_before_itself, before_total}
-use Rattle.zst_dir.specs.Rows.{Rows, snapshot_is_before, HasDataset, HasSnapshot, AreOrdered, AreLinked, IsDatasetRow, IsSnapshotRow, IsLawful}
+use Rattle.zst_dir.specs.Rows.{Rows, snapshot_is_before, HasDataset, HasSnapshot, IsDatasetRow, IsSnapshotRow, IsLawful}
 use Rattle.zst_dir.specs.declared.rows.Dataset.{Dataset}
 use Rattle.zst_dir.specs.declared.rows.Snapshot.{Snapshot}
-use Rattle.zst_dir.specs.declared.rows.Partial.{Partial}
 
 -- what holds of a value that is there holds more weakly
 pub IfSome_weaker : {A : Type 0} (o : Option A) (P Q : A → Type 0) → ((x : A) → P x → Q x) → IfSome o P → IfSome o Q

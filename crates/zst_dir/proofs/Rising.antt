@@ -1,5 +1,5 @@
 -- A list of which each neighbours stand in order, where the order is transitive.
-use Rattle.std.proofs.Common.{◌≡◌, ℕ, zero, suc, ◌+◌, ◌<◌, ◌≤◌, Bool, true, false, not, ◌↔◌, ◌⊎◌, inl, inr, List, [], ◌∷◌, length, get_or, refl, sym, subst, ap, ◌∙◌, arith, add-one, IsTrue}
+use Rattle.std.proofs.Common.{◌≡◌, ℕ, zero, suc, ◌+◌, ◌<◌, Bool, true, false, not, ◌↔◌, inl, inr, List, [], ◌∷◌, length, get_or, refl, sym, subst, ap, ◌∙◌, arith, add-one}
 use Rattle.std.proofs.lemmas.Bool.{true≢false, cases_lt}
 use Rattle.std.proofs.lemmas.List.Sorted.{answers_always}
 use Rattle.std.specs.Fn.{Called, ComputesOnPairs}
@@ -9,10 +9,7 @@ use Rattle.std.specs.List.{AllPairs, AllAdjacentBelow, IsAllAdjacentAnswer}
 use Rattle.zst_model.specs.Pool.{is_before}
 use Rattle.zst_dir.proofs.Orders.{before_trans}
 use Rattle.zst_dir.specs.Rows.{snapshot_is_before}
-use Rattle.zst_dir.specs.declared.rows.Dataset.{Dataset}
 use Rattle.zst_dir.specs.declared.rows.Snapshot.{Snapshot}
-use Rattle.zst_dir.specs.declared.rows.Bookmark.{Bookmark}
-use Rattle.zst_dir.specs.declared.rows.Partial.{Partial}
 use Rattle.zst_dir.proofs.Inserting.{before_later}
 
 -- neighbours in order make all pairs so

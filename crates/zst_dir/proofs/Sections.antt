@@ -1,5 +1,5 @@
 -- The bytes of a whole directory: its three lists, and that their counts fit.
-use Rattle.std.proofs.Common.{◌≡◌, ℕ, ◌+◌, ◌<◌, ◌≤◌, ◌^◌, Bool, true, List, [], ◌∷◌, ◌++◌, length, refl, sym, subst, ap, ◌∙◌, arith, append_assoc, length-append}
+use Rattle.std.proofs.Common.{◌≡◌, ℕ, ◌+◌, ◌<◌, ◌≤◌, ◌^◌, Bool, true, List, [], ◌∷◌, ◌++◌, length, refl, sym, subst, ap, ◌∙◌, arith, length-append}
 use Rattle.std.proofs.lemmas.List.{append-nil}
 use Rattle.std.specs.List.{All, flat_map}
 use Rattle.zst_bytes.specs.BytesLaws.{length-number_bytes}
@@ -9,7 +9,7 @@ use Rattle.zst_dir.specs.declared.rows.Snapshot.{Snapshot}
 use Rattle.zst_dir.specs.declared.rows.Bookmark.{Bookmark}
 use Rattle.zst_dir.specs.declared.rows.Partial.{Partial}
 use Rattle.zst_dir.specs.Reading.{AreRows, Appends, dataset_front, snapshots_under}
-use Rattle.zst_dir.specs.Rows.{Rows, IsDatasetRow, IsSnapshotRow, IsBookmarkRow, IsPartialRow, IsLawful}
+use Rattle.zst_dir.specs.Rows.{Rows, IsDatasetRow, IsSnapshotRow, IsBookmarkRow, IsPartialRow}
 use Rattle.zst_dir.specs.Spelling.{IsDir, dir_bytes, rows_bytes, dataset_bytes, snapshot_bytes, snapshots_of, bookmark_bytes, partial_bytes}
 use Rattle.zst_dir.proofs.Parts.{snapshot_parts, dataset_parts, front_parts, bookmark_parts, partial_parts}
 use Rattle.zst_dir.proofs.SnapshotRuns.{snapshots_are_runs}

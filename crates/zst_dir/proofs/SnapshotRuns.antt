@@ -1,18 +1,17 @@
 -- In a lawful directory the snapshots of a dataset stand together, in the order of the datasets.
-use Rattle.std.proofs.Common.{inl, inr, ◌⊎◌, subst, ◌≡◌, ◌≢◌, ℕ, zero, suc, ◌+◌, ◌<◌, ◌≤◌, Bool, true, false, not, cond, List, [], ◌∷◌, ◌++◌, get_or, length, take, drop, refl, sym, ap, ◌∙◌, arith}
+use Rattle.std.proofs.Common.{inl, inr, subst, ◌≡◌, ℕ, zero, suc, ◌+◌, ◌<◌, Bool, true, false, not, cond, List, [], ◌∷◌, ◌++◌, get_or, length, take, drop, refl, sym, ap, ◌∙◌}
 use Rattle.std.specs.List.{All, AllPairs, Contains, filter, flat_map, take_while, prefix_len}
 use Rattle.std.specs.Str.{bytes_eq}
 use Rattle.std.proofs.lemmas.Bool.{true≢false, false_from_ne_true}
-use Rattle.std.proofs.lemmas.List.{append_cancel_left, append-nil, drop_more, take-append-drop}
-use Rattle.std.proofs.lemmas.List.Elements.{All-head, All-tail, All-append, All-weaker, All-contains, All-nil, filter-append, filter_passes, All-filter, Contains-get_or}
+use Rattle.std.proofs.lemmas.List.{append_cancel_left, drop_more, take-append-drop}
+use Rattle.std.proofs.lemmas.List.Elements.{All-head, All-tail, All-append, All-weaker, All-contains, All-nil, filter_passes, All-filter}
 use Rattle.std.proofs.lemmas.List.Kept.{AllPairs-filter}
 use Rattle.std.proofs.lemmas.List.Sums.{take_while-cons}
 use Rattle.zst_bytes.specs.Words.{word}
-use Rattle.zst_names.specs.Names.{dataset_of}
 use Rattle.zst_model.specs.Pool.{is_before}
-use Rattle.zst_dir.proofs.Inserted.{contains_first, contains_later, contains_cases, contains_nothing, All-from_contains, AllPairs-head, AllPairs-tail}
+use Rattle.zst_dir.proofs.Inserted.{contains_cases, contains_nothing, All-from_contains, AllPairs-head, AllPairs-tail}
 use Rattle.zst_dir.proofs.Orders.{same_bytes, bytes_same, before_trans, not_before_itself, before_cases}
-use Rattle.zst_dir.specs.Rows.{Rows, snapshot_is_before, HasDataset, AreOrdered, AreLinked, IsLawful}
+use Rattle.zst_dir.specs.Rows.{Rows, snapshot_is_before, IsLawful}
 use Rattle.zst_dir.specs.Spelling.{snapshots_of, dataset_bytes}
 use Rattle.zst_dir.specs.declared.rows.Dataset.{Dataset}
 use Rattle.zst_dir.specs.declared.rows.Snapshot.{Snapshot}

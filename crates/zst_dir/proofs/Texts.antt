@@ -1,12 +1,11 @@
 -- The texts of names: their bytes are ASCII, and their parts make them.
-use Rattle.std.proofs.Common.{◌≡◌, ℕ, Some, inl, inr, ◌+◌, ◌<◌, ◌^◌, Bool, true, false, ◌&&◌, ◌==◌, List, [], ◌∷◌, ◌++◌, length, get_or, refl, sym, subst, ap, ◌∙◌, arith, length-append, length-drop, All}
+use Rattle.std.proofs.Common.{◌≡◌, ℕ, Some, inl, inr, ◌+◌, ◌<◌, ◌^◌, true, ◌==◌, List, [], ◌∷◌, ◌++◌, length, get_or, sym, subst, ap, ◌∙◌, arith, length-append, length-drop}
 use Rattle.std.proofs.lemmas.Bool.{eqb-true, and_parts, cases_Bool}
 use Rattle.std.proofs.lemmas.Bool.Decides.{nat_tests}
 use Rattle.std.proofs.lemmas.List.Elements.{recursion_from_All, All-from_recursion}
 use Rattle.std.proofs.lemmas.List.Sums.{split_at_first, passes_at_first}
 use Rattle.std.proofs.lemmas.Str.Ascii.{IsAscii-from_all, IsAscii-nil}
 use Rattle.std.specs.List.{position_or_len, list_all, onto_first, AllByRecursion}
-use Rattle.std.specs.Str.{IsAscii}
 use Rattle.zst_names.specs.Names.{is_component_byte, IsComponent, IsDataset, IsName, IsSnapshot, IsBookmark, parts, dataset_of, component_of}
 use Rattle.zst_dir.specs.Reading.{IsPlain}
 

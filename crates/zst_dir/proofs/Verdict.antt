@@ -1,14 +1,13 @@
 -- Rows that rise and link to the names of their snapshots make a lawful directory, and each lawful directory's do.
-use Rattle.std.proofs.Common.{◌≡◌, ◌≢◌, ℕ, Bool, true, false, List, ◌∷◌, ◌++◌, Option, Some, None, IfSome, sym, ◌∙◌}
+use Rattle.std.proofs.Common.{◌≡◌, ◌≢◌, ℕ, true, false, List, Option, IfSome, sym, ◌∙◌}
 use Rattle.std.proofs.lemmas.Bool.{true≢false, false_from_ne_true}
 use Rattle.std.proofs.lemmas.List.Elements.{All-weaker}
 use Rattle.std.specs.BTreeSet.{BTreeSet}
-use Rattle.std.specs.List.{All, AllPairs}
+use Rattle.std.specs.List.{AllPairs}
 use Rattle.zst_dir.specs.declared.rows.Dataset.{Dataset}
-use Rattle.zst_dir.specs.declared.rows.Snapshot.{Snapshot}
 use Rattle.zst_dir.specs.declared.rows.Partial.{Partial}
 use Rattle.zst_dir.specs.Reading.{IsSnapshotIn}
-use Rattle.zst_dir.specs.Rows.{Rows, HasDataset, HasSnapshot, AreOrdered, AreLinked, IsSnapshotRow, IsLawful}
+use Rattle.zst_dir.specs.Rows.{Rows, HasDataset, HasSnapshot, IsSnapshotRow, IsLawful}
 use Rattle.zst_dir.specs.Tested.{AreNamesOf, AreRead, LinkTo, Rise, has, name_to_be}
 use Rattle.zst_names.specs.Names.{dataset_of}
 use Rattle.zst_dir.proofs.Inserting.{IfSome_weaker}

@@ -1,5 +1,5 @@
 -- What a directory lists, and which directories are lawful.
-use Rattle.std.specs.Prelude.{◌≡◌, ◌≢◌, ◌<◌, ◌≤◌, ◌^◌, ℕ, Bool, true, false, List, [], ◌∷◌, ◌++◌, length, map, if◌then◌else◌, Option, Some, None, IfSome, All, AllPairs, Contains, nat_lt, bytes_eq, ◌&&◌, ◌||◌}
+use Rattle.std.specs.Prelude.{◌≡◌, ◌≢◌, ◌<◌, ◌≤◌, ◌^◌, ℕ, Bool, true, false, List, [], ◌∷◌, ◌++◌, length, map, if◌then◌else◌, None, IfSome, All, AllPairs, Contains, nat_lt, bytes_eq, ◌&&◌, ◌||◌}
 use Rattle.zst_names.specs.Names.{IsDataset, IsSnapshot, IsBookmark, IsComponent, dataset_of}
 use Rattle.zst_block.specs.Ptr.{PtrFits}
 use Rattle.zst_model.specs.Guids.{IsGuidSet}

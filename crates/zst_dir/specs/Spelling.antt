@@ -1,5 +1,5 @@
 -- The bytes of a directory.
-use Rattle.std.specs.Prelude.{◌≡◌, ℕ, Bool, true, false, List, [], ◌∷◌, ◌++◌, length, flat_map, filter, Option, Some, None, bytes_eq}
+use Rattle.std.specs.Prelude.{◌≡◌, ℕ, Bool, true, false, List, [], ◌++◌, length, flat_map, filter, Option, Some, None, bytes_eq}
 use Rattle.zst_bytes.specs.Words.{word, text_bytes, words_bytes}
 use Rattle.zst_block.specs.Ptr.{ptr_bytes}
 use Rattle.zst_names.specs.Names.{dataset_of, component_of}

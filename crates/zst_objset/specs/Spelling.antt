@@ -1,5 +1,5 @@
 -- The bytes of an object set: its rows, and zeros up to a multiple of 8,192.
-use Rattle.std.specs.Prelude.{◌≡◌, ◌<◌, ◌%◌, ℕ, List, [], ◌∷◌, ◌++◌, length, flat_map, Option, Some, None}
+use Rattle.std.specs.Prelude.{◌≡◌, ◌<◌, ◌%◌, ℕ, List, ◌++◌, length, flat_map, Option, Some, None}
 use Rattle.zst_bytes.specs.Fields.{zeros}
 use Rattle.zst_bytes.specs.Words.{word, text_bytes}
 use Rattle.zst_block.specs.Ptr.{ptr_bytes}

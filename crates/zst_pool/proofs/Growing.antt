@@ -1,6 +1,6 @@
 -- What stands over some blocks stands over more.
 use Rattle.std.specs.Prelude.{Option, Some, None}
-use Rattle.std.proofs.Common.{◌≡◌, ◌⊎◌, inl, inr, ℕ, List, [], ◌∷◌, filter}
+use Rattle.std.proofs.Common.{inl, inr, ℕ, List, [], ◌∷◌, filter}
 use Rattle.zst_uber.specs.Reading.{Grows}
 use Rattle.zst_uber.specs.declared.uber.Uber.{Uber}
 use Rattle.zst_block.specs.declared.ptr.Ptr.{Ptr}
@@ -11,8 +11,8 @@ use Rattle.zst_model.specs.Pool.{Pool}
 use Rattle.zst_model.specs.Pool as plain
 use Rattle.zst_tree.specs.declared.tree.ObjSet.{ObjSet}
 use Rattle.zst_dir.specs.Rows.{Rows}
-use Rattle.zst_objset.specs.Rows.{Lists, no_lists, stored_at, ptr_at}
-use Rattle.zst_objset.specs.Meaning.{Blocks, BlockIs, SpillIs, HasAttr, AttrIs, SetIs}
+use Rattle.zst_objset.specs.Rows.{Lists, no_lists}
+use Rattle.zst_objset.specs.Meaning.{Blocks, BlockIs, SpillIs, AttrIs, SetIs}
 use Rattle.zst_pool.specs.Reads.{Match, RootIs, HeadIs, DatasetIs, SnapshotIs, PartialIs, RowsAre, HasDir, Describes}
 use Rattle.zst_dir.specs.declared.rows.Dataset.{Dataset}
 use Rattle.zst_dir.specs.declared.rows.Snapshot.{Snapshot}

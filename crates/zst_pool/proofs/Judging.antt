@@ -1,7 +1,7 @@
 -- What the rows of a directory say of the pool that they stand for.
-use Rattle.std.proofs.Common.{◌≡◌, ◌≢◌, ℕ, ◌+◌, ◌≤◌, ◌<◌, ◌^◌, ◌-◌, get_or, Bool, true, false, ◌&&◌, not, List, ◌∷◌, length, Option, Some, None, is_some, is_none, Result, Ok, Err, nat_lt, refl, sym, ap, ◌∙◌, arith}
+use Rattle.std.proofs.Common.{◌≡◌, ℕ, ◌+◌, ◌≤◌, ◌<◌, ◌^◌, ◌-◌, get_or, true, false, ◌&&◌, not, List, length, Option, Some, None, is_some, is_none, Result, Ok, Err, nat_lt, refl, sym, ap, ◌∙◌, arith}
 use Rattle.std.specs.Prelude.{IsErrAnd}
-use Rattle.std.specs.List.{find, position, list_any, filter, count_by}
+use Rattle.std.specs.List.{position, list_any, filter, count_by}
 use Rattle.std.specs.Str.{bytes_eq}
 use Rattle.std.proofs.lemmas.Bool.Decides.{nat_tests}
 use Rattle.std.proofs.lemmas.List.Sums.{length-filter}

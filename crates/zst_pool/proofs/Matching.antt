@@ -1,5 +1,5 @@
 -- Rows that match: what a look-up, a count and a change of both lists have in common.
-use Rattle.std.proofs.Common.{◌≡◌, ℕ, zero, suc, ◌+◌, ◌<◌, Bool, true, false, cond, ◌&&◌, ◌||◌, not, List, [], ◌∷◌, length, map, Option, Some, None, is_some, if◌then◌else◌, get_or, refl, sym, ap, subst, ◌∙◌, arith}
+use Rattle.std.proofs.Common.{◌≡◌, ℕ, zero, suc, ◌<◌, Bool, true, false, cond, ◌&&◌, ◌||◌, not, List, [], ◌∷◌, length, map, Some, None, is_some, if◌then◌else◌, get_or, refl, sym, ap, ◌∙◌, arith}
 use Rattle.std.specs.List.{find, position, list_any, filter, count_by, position_or_len, Contains}
 use Rattle.std.proofs.Math.Numerals.{one-add}
 use Prim.Native.Nat.compare.{suc-suc}

@@ -1,5 +1,5 @@
 -- The rows of the next directory stand for the next pool.
-use Rattle.std.specs.Prelude.{Result, Ok, Err}
+use Rattle.std.specs.Prelude.{Ok}
 use Rattle.std.proofs.Common.{◌≡◌, ◌⊎◌, inl, inr, ℕ, ◌+◌, List, [], Option, None, refl, sym, ap, ◌∙◌, subst}
 use Rattle.std.proofs.Common.{◌*◌, ◌^◌, ◌∷◌, ◌++◌, ◌&&◌, ◌||◌, Bool, true, false, not, nat_lt, get_or, if◌then◌else◌}
 use Rattle.std.specs.List.{filter, list_any, All, Contains}
@@ -14,7 +14,6 @@ use Rattle.zst_laws.specs.Stepping.{StepsKeepPools}
 use Rattle.zst_model.specs.declared.command.Command.TheVariants as commands
 use Rattle.zst_model.specs.declared.attr.ObjectHead.{ObjectHead}
 use Rattle.zst_model.specs.Dated.{DatedState}
-use Rattle.zst_model.specs.State.{no_objects}
 use Rattle.zst_model.specs.Pool.{Pool, IsPool, is_before, snapshot_is_before, inserted, untouched}
 use Rattle.zst_model.specs.Pool as plain
 use Rattle.zst_model.specs.Step.{Stepped, stepped, IsCommand, on_head, punched, written, with_dataset, new_dataset, with_head_at, with_snapshot, snapshot_of}

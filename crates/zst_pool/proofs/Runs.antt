@@ -1,7 +1,6 @@
 -- The runs of blocks with the rows of an object set.
 use Rattle.std.specs.Prelude.{Result, Ok, Err}
-use Rattle.std.proofs.Common.{◌≡◌, ◌⊎◌, inl, inr, ℕ, ◌+◌, ◌%◌, ◌<◌, ◌≤◌, Bool, true, List, length, ◌++◌, flat_map, refl, arith, length-append}
-use Rattle.std.proofs.lemmas.Bool.{and_parts}
+use Rattle.std.proofs.Common.{◌≡◌, inl, inr, ℕ, ◌%◌, ◌<◌, true, List, length, ◌++◌, flat_map, arith, length-append}
 use Rattle.zst_bytes.specs.Words.{word}
 use Rattle.zst_bytes.specs.Fields.{zeros}
 use Rattle.zst_bytes.specs.BytesLaws.{length-number_bytes}

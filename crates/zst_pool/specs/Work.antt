@@ -1,5 +1,5 @@
 -- What the parts of a command do: they read, they write blocks into free sectors, and one commits.
-use Rattle.std.specs.Prelude.{◌≡◌, ◌⊎◌, ◌+◌, ◌<◌, ◌≤◌, ◌^◌, ◌||◌, ℕ, Bool, IsTrue, List, length, Result, Ok, Err}
+use Rattle.std.specs.Prelude.{◌≡◌, ◌⊎◌, ◌+◌, ◌||◌, ℕ, Bool, IsTrue, List, length, Result, Ok, Err}
 use Rattle.zst_outside.specs.Images.{DiskState, Leaves}
 use Rattle.zst_space.specs.FreeSectors.{FreeSectors, IsFree}
 use Rattle.zst_block.specs.Blocks.{FitsDisk, FillsFree, KeepsBlocks}
@@ -13,7 +13,7 @@ use Rattle.zst_model.specs.Step.{Stepped}
 use Rattle.zst_dir.specs.Rows.{Rows}
 use Rattle.zst_objset.specs.Meaning.{Blocks}
 use Rattle.zst_pool.specs.Faults.{HasDiskCause, is_disk_fault, ReadFault, WriteFault, StepFault}
-use Rattle.zst_pool.specs.Reads.{Reads, RowsAre, Rests, BeforeOrAfter, free_by}
+use Rattle.zst_pool.specs.Reads.{Reads, RowsAre, Rests, BeforeOrAfter}
 use Rattle.zst_pool.specs.declared.fault.PoolFault.{PoolFault}
 use Rattle.zst_pool.specs.declared.fault.PoolFault.TheVariants.{Plan, CannotApply, Redacted, Full, Damaged, NoPool, BadVersion, DiskFault, Failed, OutOfMemory}
 use Rattle.zst_pool.specs.declared.kept.Kept.{Kept}

@@ -1,5 +1,5 @@
-use Rattle.std.proofs.Common.{◌≡◌, ◌<◌, bytes_eq, true, false, length, sym, ap, ◌∙◌, arith}
-use Rattle.zst_dir.proofs.Heads.{headed, headed-changed, headed-same, headed-all}
+use Rattle.std.proofs.Common.{◌≡◌, ◌<◌, length, sym, ◌∙◌, arith}
+use Rattle.zst_dir.proofs.Heads.{headed-changed, headed-same, headed-all}
 use Rattle.zst_dir.proofs.dir.set_head.Goals as goal
 use Rattle.zst_dir.proofs.dir.set_head.Goals.{then-eq, else-eq}
 

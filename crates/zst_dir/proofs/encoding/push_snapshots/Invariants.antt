@@ -1,4 +1,3 @@
-use Rattle.std.proofs.Common.{◌≡◌}
 use Rattle.zst_dir.specs.Spelling.{snapshot_bytes}
 use Rattle.zst_dir.proofs.SpelledRows.{SpelledUpTo}
 use Rattle.zst_dir.proofs.encoding.push_snapshots.Given as goal

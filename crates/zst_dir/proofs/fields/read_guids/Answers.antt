@@ -1,11 +1,10 @@
-use Rattle.std.proofs.Common.{◌≡◌, Some, ◌++◌, ◌∷◌, [], length, ◌<◌, ◌^◌, ℕ, List, true, false, arith, ap, sym, refl, subst, ◌∙◌, length-append, append_assoc}
+use Rattle.std.proofs.Common.{◌≡◌, Some, ◌++◌, ◌∷◌, [], length, ◌<◌, ◌^◌, arith, ap, refl, ◌∙◌, length-append}
 use Rattle.std.proofs.lemmas.List.Elements.{All-push}
-use Rattle.std.specs.List.{All, flat_map}
+use Rattle.std.specs.List.{flat_map}
 use Rattle.zst_bytes.specs.Words.{word}
 use Rattle.zst_model.specs.Guids.{IsGuidSet}
-use Rattle.zst_dir.specs.Reading.{AreGuids}
 use Rattle.zst_dir.proofs.Guids.{words_parts, IsGuidSet-front}
-use Rattle.zst_dir.proofs.Standing.{Next, stands_first, stands_next, stands_more, stands_last, fits_next}
+use Rattle.zst_dir.proofs.Standing.{stands_first, stands_next, stands_more, stands_last, fits_next}
 use Rattle.zst_dir.proofs.fields.read_guids.Goals as goal
 
 pub returns-in_err-count-clause-exact : goal.returns-in_err-count-clause-exact

@@ -4,7 +4,6 @@ use Rattle.std.specs.Option.{option_copied}
 use Rattle.std.specs.Result.{result_ok}
 use Rattle.std.specs.Str.{IsUtf8, IsValidUpTo}
 use Rattle.std.specs.Str.{valid_up_to}
-use Rattle.zst_dir.proofs.Texts.{plain_dataset}
 use Rattle.zst_dir.proofs.fields.read_str.Goals as goal
 
 -- a text of bytes that are UTF-8

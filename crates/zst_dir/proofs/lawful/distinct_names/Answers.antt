@@ -1,7 +1,7 @@
-use Rattle.std.proofs.Common.{◌≡◌, true, false, not, sym, subst, ap, ◌∙◌, take, ◌++◌, ◌∷◌, [], arith, refl}
+use Rattle.std.proofs.Common.{◌≡◌, true, false, not, sym, ap, ◌∙◌, take, arith}
 use Rattle.std.proofs.lemmas.Bool.{true≢false, not-true, not-false}
-use Rattle.std.proofs.lemmas.List.{take_more, take_all, get_or_read}
-use Rattle.zst_dir.proofs.Namesets.{Collected, collected_none, collected_more, not_differ}
+use Rattle.std.proofs.lemmas.List.{take_more}
+use Rattle.zst_dir.proofs.Namesets.{collected_none, collected_more, not_differ}
 use Rattle.zst_dir.specs.Tested.{has}
 use Rattle.zst_dir.proofs.lawful.distinct_names.Goals as goal
 

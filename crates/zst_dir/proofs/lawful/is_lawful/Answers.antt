@@ -1,4 +1,4 @@
-use Rattle.std.proofs.Common.{◌≡◌, true, sym, refl, ◌∙◌}
+use Rattle.std.proofs.Common.{sym, refl, ◌∙◌}
 use Rattle.std.proofs.lemmas.Bool.{true≢false}
 use Rattle.zst_dir.specs.Rows.{Rows}
 use Rattle.zst_dir.proofs.Verdict.{lawful, links, rises_lawful}

@@ -1,5 +1,4 @@
 use Rattle.std.proofs.Common.{rules, of_calls, not}
-use Rattle.zst_model.specs.Pool.{is_before}
 use Rattle.zst_dir.specs.Rows.{snapshot_is_before}
 use Rattle.zst_dir.specs.declared.rows.Snapshot.{Snapshot}
 use Rattle.zst_dir.proofs.Rising.{snapshots_rise, neighbours_from_clause}

@@ -1,4 +1,4 @@
-use Rattle.std.proofs.Common.{arith, ap, ◌∙◌, refl}
+use Rattle.std.proofs.Common.{arith, refl}
 use Rattle.zst_dir.specs.Reading.{IsSnapshotOf}
 use Rattle.zst_dir.specs.Spelling.{snapshot_bytes}
 use Rattle.zst_dir.proofs.Loops.{reading_first, reading_stops, reading_more, reading_last}

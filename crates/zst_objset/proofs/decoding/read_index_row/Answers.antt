@@ -1,7 +1,6 @@
-use Rattle.std.proofs.Common.{ℕ, ◌≡◌, ◌++◌, ◌∙◌, true, false, IsTrue, Some, ap, subst, sym}
+use Rattle.std.proofs.Common.{ℕ, ◌≡◌, ◌++◌, ◌∙◌, Some, ap, subst, sym}
 use Rattle.zst_block.specs.Ptr.{ptr_bytes}
 use Rattle.zst_objset.specs.Rows.{IsIndexRow}
-use Rattle.zst_objset.specs.declared.rows.IndexRow.{IndexRow}
 use Rattle.zst_objset.proofs.Spelled.{index_parts, index_fits, index_of_parts, ranges_of}
 use Rattle.zst_objset.proofs.decoding.read_index_row.Goals as goal
 

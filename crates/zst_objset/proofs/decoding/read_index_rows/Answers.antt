@@ -1,9 +1,8 @@
-use Rattle.std.proofs.Common.{ℕ, ◌≡◌, ◌+◌, ◌<◌, List, [], ◌∷◌, ◌++◌, length, Option, Some, IfSome, All, sym, ◌∙◌, subst, arith, length-append}
+use Rattle.std.proofs.Common.{◌≡◌, ◌+◌, [], ◌∷◌, ◌++◌, length, Some, arith, length-append}
 use Rattle.std.specs.List.{flat_map}
 use Rattle.std.proofs.lemmas.List.Elements.{All-push}
 use Rattle.zst_objset.specs.Rows.{IsIndexRow}
 use Rattle.zst_objset.specs.Spelling.{index_bytes}
-use Rattle.zst_objset.specs.declared.rows.IndexRow.{IndexRow}
 use Rattle.zst_objset.proofs.Behind.{Reads, goes_on, ends}
 use Rattle.zst_objset.proofs.decoding.read_index_rows.Goals as goal
 

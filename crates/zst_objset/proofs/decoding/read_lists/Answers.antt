@@ -1,4 +1,4 @@
-use Rattle.std.proofs.Common.{◌≡◌, ◌<◌, ◌^◌, ◌++◌, ◌∙◌, length, Some, IsSomeAnd, ap, arith}
+use Rattle.std.proofs.Common.{◌≡◌, ◌++◌, ◌∙◌, length, Some, IsSomeAnd, ap, arith}
 use Rattle.std.specs.List.{flat_map}
 use Rattle.zst_bytes.specs.Words.{word}
 use Rattle.zst_objset.specs.Spelling.{index_bytes}

@@ -1,7 +1,6 @@
-use Rattle.std.proofs.Common.{ℕ, ◌≡◌, ◌++◌, ◌∙◌, true, false, IsTrue, Some, ap, subst, sym}
+use Rattle.std.proofs.Common.{ℕ, ◌≡◌, ◌++◌, ◌∙◌, Some, ap, subst, sym}
 use Rattle.zst_objset.specs.Rows.{IsObjectRow}
 use Rattle.zst_objset.specs.Spelling.{stored_bytes}
-use Rattle.zst_objset.specs.declared.rows.ObjectRow.{ObjectRow}
 use Rattle.zst_objset.proofs.Spelled.{object_parts, object_fits, row_of_parts, numbers_of}
 use Rattle.zst_objset.proofs.decoding.read_object_row.Goals as goal
 use Rattle.zst_objset.proofs.decoding.read_object_row.Goals.{then-is_row, else-is_row+in-Some-1, else-is_row+in-None-1}

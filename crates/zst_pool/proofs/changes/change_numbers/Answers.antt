@@ -1,5 +1,4 @@
-use Rattle.std.specs.Prelude.{Result, Err}
-use Rattle.std.proofs.Common.{◌≡◌, sym, subst}
+use Rattle.std.proofs.Common.{sym, subst}
 use Rattle.zst_block.specs.Blocks.{Has}
 use Rattle.zst_pool.specs.Checks.{ChangesHead, freed}
 use Rattle.zst_pool.proofs.Judging.{err_is}

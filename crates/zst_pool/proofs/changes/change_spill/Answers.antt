@@ -1,4 +1,3 @@
-use Rattle.std.proofs.Common.{◌≡◌}
 use Rattle.zst_block.specs.Blocks.{Has}
 use Rattle.zst_block.specs.BlocksLaws.{KeepsBlocks-fills}
 use Rattle.zst_pool.proofs.Growing.{SetIs-grows}

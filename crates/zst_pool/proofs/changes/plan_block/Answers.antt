@@ -1,19 +1,18 @@
-use Rattle.std.specs.Prelude.{Result, Ok, Err, count_ones}
+use Rattle.std.specs.Prelude.{Result, Ok, count_ones}
 use Rattle.std.proofs.lemmas.Bool.Decides.{nat_tests}
-use Rattle.std.proofs.Common.{◌≡◌, ℕ, ◌+◌, ◌*◌, ◌^◌, ◌<◌, ◌≤◌, true, false, ◌&&◌, nat_lt, List, Option, Some, None, length, sym, ap, ◌∙◌, subst, arith}
+use Rattle.std.proofs.Common.{◌≡◌, ℕ, ◌+◌, ◌*◌, ◌^◌, ◌<◌, ◌≤◌, true, false, ◌&&◌, nat_lt, Option, length, sym, ap, ◌∙◌, subst, arith}
 use Rattle.std.specs.Option.{option_copied}
 use Rattle.zst_block.specs.Blocks.{Has}
 use Rattle.zst_model.specs.declared.item.Change.TheVariants.{Write}
 use Rattle.zst_model.specs.declared.item.Item.TheVariants.{At}
 use Rattle.zst_model.specs.declared.refusal.Refusal.{Refusal}
-use Rattle.zst_model.specs.State.{Object, attr_at, is_odd_size, number_bound}
+use Rattle.zst_model.specs.State.{attr_at, is_odd_size, number_bound}
 use Rattle.zst_model.specs.Apply.{◌>>=◌}
 use Rattle.zst_model.specs.Dated.{DatedState, apply_dated, size_at}
 use Rattle.zst_model.specs.Step.{committed, filled, written}
 use Rattle.zst_pool.specs.Checks.{PlansHead, with_head_of}
 use Rattle.zst_pool.specs.Faults.{StepFault}
 use Rattle.zst_objset.specs.Meaning.{AttrIs}
-use Rattle.zst_pool.specs.declared.fault.PoolFault.{PoolFault}
 use Rattle.zst_pool.specs.declared.fault.PoolFault.TheVariants.{Plan}
 use Rattle.zst_objset.specs.declared.rows.StoredObject.{StoredObject}
 use Rattle.zst_pool.proofs.Changing.{absent_at, there_at, indices_end, indices_pass, not_odd_first, not_odd_size, odd_later, size_over_none, written_absent, written_long, written_odd, written_there}

@@ -1,5 +1,5 @@
-use Rattle.std.specs.Prelude.{Result, Ok, Err}
-use Rattle.std.proofs.Common.{◌≡◌, ℕ, ◌+◌, ◌*◌, List, Option, Some, None, sym, ap, ◌∙◌, subst}
+use Rattle.std.specs.Prelude.{Result, Ok}
+use Rattle.std.proofs.Common.{◌≡◌, ℕ, ◌+◌, ◌*◌, Option, sym, ap, ◌∙◌, subst}
 use Rattle.zst_block.specs.Blocks.{Has}
 use Rattle.zst_model.specs.declared.item.Change.TheVariants.{Free}
 use Rattle.zst_model.specs.declared.item.Item.TheVariants.{At}
@@ -11,7 +11,6 @@ use Rattle.zst_model.specs.Step.{committed, punched}
 use Rattle.zst_pool.specs.Checks.{PlansHead, with_head_of}
 use Rattle.zst_pool.specs.Faults.{StepFault}
 use Rattle.zst_objset.specs.Meaning.{AttrIs}
-use Rattle.zst_pool.specs.declared.fault.PoolFault.{PoolFault}
 use Rattle.zst_pool.specs.declared.fault.PoolFault.TheVariants.{Plan}
 use Rattle.zst_objset.specs.declared.rows.StoredObject.{StoredObject}
 use Rattle.zst_pool.proofs.Changing.{absent_at, there_at, none_copied, some_copied, indices_pass, indices_end, punched_absent, punched_there}

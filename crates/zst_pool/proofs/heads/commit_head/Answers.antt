@@ -1,8 +1,7 @@
-use Rattle.std.specs.Prelude.{Result, Err}
-use Rattle.std.proofs.Common.{◌≡◌, sym, ap, ◌∙◌, subst, refl, ℕ, ◌+◌, ◌*◌, ◌/◌, length, arith}
+use Rattle.std.specs.Prelude.{Result}
+use Rattle.std.proofs.Common.{◌≡◌, sym, ap, ◌∙◌, subst, ℕ, ◌+◌, ◌*◌, ◌/◌, length, arith}
 use Rattle.zst_block.specs.Blocks.{Has}
 use Rattle.zst_block.specs.BlocksLaws.{FillsFree-then}
-use Rattle.zst_tree.specs.declared.tree.ObjSet.{ObjSet}
 use Rattle.zst_pool.specs.Checks.{next_of, with_head_of}
 use Rattle.zst_dir.specs.Rows.{Rows, with_head}
 use Rattle.zst_pool.specs.Faults.{is_disk_fault}

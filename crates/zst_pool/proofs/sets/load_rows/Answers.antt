@@ -1,5 +1,4 @@
-use Rattle.std.proofs.Common.{◌≡◌, Option, Some, None, List, ℕ, sym, ◌∙◌, subst}
-use Rattle.zst_objset.specs.Rows.{Lists}
+use Rattle.std.proofs.Common.{◌≡◌, Some, sym, ◌∙◌, subst}
 use Rattle.zst_objset.specs.Spelling.{IsRun}
 use Rattle.zst_pool.proofs.sets.load_rows.Goals as goal
 

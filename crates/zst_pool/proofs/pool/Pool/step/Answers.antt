@@ -1,9 +1,7 @@
-use Rattle.std.specs.Prelude.{Result, Ok, Err}
-use Rattle.std.proofs.Common.{◌≡◌, ℕ, ◌+◌, List, [], ◌∷◌, sym, ap, ◌∙◌, subst, not, arith}
+use Rattle.std.proofs.Common.{◌≡◌, ℕ, ◌+◌, [], ◌∷◌, sym, ap, ◌∙◌, subst, arith}
 use Rattle.zst_model.specs.Lines.{ok_line}
 use Rattle.zst_model.specs.Step.{stepped}
 use Rattle.zst_pool.specs.Stepping.{StepAnswer}
-use Rattle.zst_pool.specs.declared.fault.PoolFault.{PoolFault}
 use Rattle.zst_pool.specs.declared.fault.PoolFault.TheVariants.{OutOfMemory, Full}
 use Rattle.zst_pool.specs.Reads.{free_by}
 use Rattle.zst_pool.proofs.Judging.{err_is}
