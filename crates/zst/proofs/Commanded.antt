@@ -1,13 +1,11 @@
 -- What stands after a command on the pool of an image, from what opening and stepping say.
-use Rattle.std.specs.Prelude.{IsTrue, Bool, Option, Some, None, Result, Ok, Err, IfErr}
-use Rattle.std.proofs.Common.{◌≡◌, ◌≢◌, ◌⊎◌, inl, inr, ⊎_elim, ℕ, ◌+◌, ◌≤◌, ◌<◌, List, refl, sym, ap, ◌∙◌, subst, arith}
-use Rattle.zst_outside.specs.Causes.{Rose, Rose-earlier}
+use Rattle.std.specs.Prelude.{IsTrue, Bool, Result, Ok, Err}
+use Rattle.std.proofs.Common.{◌≡◌, ◌≢◌, inl, ⊎_elim, ℕ, ◌≤◌, List, refl, sym, ap, ◌∙◌, subst, arith}
+use Rattle.zst_outside.specs.Causes.{Rose-earlier}
 use Rattle.zst_outside.specs.Images.{DiskState, Leaves, Leaves-weaker, Leaves-then, OnlyReads, IsSynced}
 use Rattle.zst_outside.specs.States.{SinkState}
 use Rattle.zst_bytes.specs.Bytes.{number_at}
 use Rattle.zst_uber.specs.BodyLaws.{uber_at-body_bytes}
-use Rattle.zst_uber.specs.Slots.{latest}
-use Rattle.zst_uber.specs.declared.TheConstants.{VERSION}
 use Rattle.zst_uber.specs.declared.uber.Uber.{Uber}
 use Rattle.zst_model.specs.Pool.{Pool}
 use Rattle.zst_model.specs.Refusal.{refusal_of}
@@ -20,7 +18,7 @@ use Rattle.zst_model.specs.declared.refusal.Refusal.{Refusal}
 use Rattle.zst_model.specs.declared.refusal.Refusal.TheVariants as refusals
 use Rattle.zst_dir.specs.Rows.{Rows}
 use Rattle.zst_pool.specs.Faults.{HasDiskCause, IsStepFault, StepFault, pool_refusal}
-use Rattle.zst_pool.specs.Making.{GivesPool, IsOpened, OpenAnswers}
+use Rattle.zst_pool.specs.Making.{GivesPool, OpenAnswers}
 use Rattle.zst_pool.specs.Reads.{Reads, ReadsAs, Rests, BeforeOrAfter}
 use Rattle.zst_pool.specs.Room.{HasNoRoom}
 use Rattle.zst_pool.specs.Stepping.{StepAnswer}
@@ -226,11 +224,10 @@ stepping_unopened tells now command here here' fault there answer reads cause al
 
 -- the command ran on what was opened
 module _ (tells : Bool) (now : ℕ) (command : Command) (here mid here' : DiskState) (kept kept' : Kept)
-  (there : (uber : Uber) (rows : Rows) (pool : Pool) → IsTrue tells → ReadsAs uber rows pool here.seen → GivesPool uber rows (Ok kept))
-  (answer : IsTrue tells → OpenAnswers here (Ok kept)) (reads : OnlyReads here mid) (synced : IsSynced mid) (later : here.faults ≤ mid.faults)
-  (step : (pool : Pool) → IsTrue tells → Rests mid kept.body kept.dir pool → Leaves mid here' (BeforeOrAfter pool (stepped now command pool)))
-  (only : (c : List ℕ) → here.left_since here.moment c → here.images c) (now_left : (t : ℕ) (c : List ℕ) → t ≤ here'.moment → here'.images c → here'.left_since t c) where
-
+    (there : (uber : Uber) (rows : Rows) (pool : Pool) → IsTrue tells → ReadsAs uber rows pool here.seen → GivesPool uber rows (Ok kept))
+    (answer : IsTrue tells → OpenAnswers here (Ok kept)) (reads : OnlyReads here mid) (synced : IsSynced mid) (later : here.faults ≤ mid.faults)
+    (step : (pool : Pool) → IsTrue tells → Rests mid kept.body kept.dir pool → Leaves mid here' (BeforeOrAfter pool (stepped now command pool)))
+    (only : (c : List ℕ) → here.left_since here.moment c → here.images c) (now_left : (t : ℕ) (c : List ℕ) → t ≤ here'.moment → here'.images c → here'.left_since t c) where
   rests : (pool : Pool) → IsTrue tells → Holds here pool → Rests mid kept.body kept.dir pool
   rests pool told holds =
       rests_opened here mid kept holds.seen.0 holds.seen.1 pool holds.seen.2 reads synced (there holds.seen.0 holds.seen.1 pool told holds.seen.2)

@@ -1,5 +1,5 @@
 -- What each turn of a dump leaves.
-use Rattle.std.proofs.Common.{◌≡◌, ℕ, ◌+◌, ◌*◌, ◌^◌, ◌<◌, ◌≤◌, ◌==◌, inl, inr, List, [], ◌∷◌, ◌++◌, length, sum_by, Option, Some, None, Result, Err, Ok, refl, sym, ap, ◌∙◌, arith, append_assoc, length-append}
+use Rattle.std.proofs.Common.{◌≡◌, ℕ, ◌+◌, ◌<◌, ◌≤◌, inl, inr, List, [], ◌∷◌, ◌++◌, length, Err, Ok, refl, sym, ap, ◌∙◌, arith, append_assoc, length-append}
 use Rattle.std.proofs.lemmas.List.{append-nil}
 use Rattle.std.proofs.lemmas.Grind.{flat_map-append}
 use Rattle.std.specs.Io.KnownBytes.{Consumes}
@@ -9,7 +9,6 @@ use Rattle.zst_outside.specs.States.{SourceState, SinkState}
 use Rattle.zst_outside.specs.Printing.{Wrote, Prints, Wrote-then, Wrote-longer, Wrote-start}
 use Rattle.zst_outside.specs.declared.Fault.{Fault}
 use Rattle.zst_model.specs.declared.faults.Quantity.TheVariants.{Stream}
-use Rattle.zst_model.specs.declared.refusal.Refusal.{Refusal}
 use Rattle.zst_model.specs.declared.refusal.Refusal.TheVariants as refusals
 use Rattle.zst_record.specs.Faults.{refusal_of}
 use Rattle.zst_record.specs.Heads.{Covered}

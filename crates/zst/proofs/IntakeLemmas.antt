@@ -1,8 +1,7 @@
 -- What is in the piece that was read last.
-use Rattle.std.proofs.Common.{◌≡◌, ℕ, ◌+◌, ◌-◌, ◌<◌, ◌≤◌, List, [], ◌++◌, length, take, drop, min, refl, sym, ap, ◌∙◌, arith, length-take, length-drop, take-append-drop}
+use Rattle.std.proofs.Common.{◌≡◌, ℕ, ◌+◌, ◌-◌, ◌<◌, ◌≤◌, List, [], ◌++◌, length, take, drop, min, refl, sym, ◌∙◌, arith, length-take, length-drop, take-append-drop}
 use Rattle.std.proofs.lemmas.List.{take_at, length-take-le, append-nil}
 use Rattle.std.specs.Io.KnownBytes.{Consumes}
-use Rattle.std.proofs.KnownBytes.{Consumes-nil, Consumes-kept}
 use Rattle.zst_outside.specs.States.{SourceState}
 use Rattle.zst_record.specs.Heads.{Covered}
 use Rattle.zst_reader.specs.StandsFor.{StandsFor, pushed_of, handed_of, mark_of}
@@ -10,7 +9,6 @@ use Rattle.zst_reader.specs.declared.reader.Reader.{Reader}
 use Rattle.zst.specs.Limits.{stream_limit}
 use Rattle.zst.specs.Intake.{waiting_in, Takes}
 use Rattle.zst.specs.declared.intake.Intake.{Intake}
-use Rattle.zst.specs.declared.intake.Taken.{Taken}
 use Rattle.zst.specs.declared.intake.Taken.TheVariants as takens
 
 -- a buffer that was filled anew

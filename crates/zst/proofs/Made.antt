@@ -1,6 +1,6 @@
 -- What stands after a pool was made in an image, from what making it says.
-use Rattle.std.specs.Prelude.{IsTrue, Bool, Option, Some, None, Result, Ok, Err}
-use Rattle.std.proofs.Common.{◌≡◌, ◌≢◌, ◌⊎◌, ⊎_elim, ℕ, ◌*◌, ◌<◌, ◌≤◌, List, [], ◌∷◌, refl, ◌∙◌, arith}
+use Rattle.std.specs.Prelude.{IsTrue, Bool, Result, Ok, Err}
+use Rattle.std.proofs.Common.{◌≡◌, ◌≢◌, ◌⊎◌, ⊎_elim, ℕ, ◌≤◌, List, [], ◌∷◌, refl, ◌∙◌, arith}
 use Rattle.zst_outside.specs.Images.{DiskState, Leaves}
 use Rattle.zst_outside.specs.States.{SinkState}
 use Rattle.zst_uber.specs.Slots.{latest}

@@ -1,13 +1,12 @@
 -- The lines of a reply, one after the other.
-use Rattle.std.specs.Prelude.{Result, Ok, Err, IfErr, codes}
-use Rattle.std.proofs.Common.{◌≡◌, ℕ, ◌+◌, ◌<◌, List, [], ◌∷◌, ◌++◌, length, get_or, take, drop, take-append-drop, flat_map, refl, sym, ap, ◌∙◌, add-one, drop-cons}
+use Rattle.std.specs.Prelude.{Ok, Err, codes}
+use Rattle.std.proofs.Common.{◌≡◌, ℕ, ◌+◌, ◌<◌, List, [], ◌∷◌, ◌++◌, length, get_or, take, drop, take-append-drop, refl, sym, ap, ◌∙◌, add-one, drop-cons}
 use Rattle.std.specs.Fmt.{digits}
 use Rattle.std.proofs.lemmas.Grind.{flat_map-append}
 use Rattle.std.proofs.lemmas.List.{append-nil, take_more}
-use Rattle.zst_outside.specs.Printing.{Wrote, Prints}
+use Rattle.zst_outside.specs.Printing.{Prints}
 use Rattle.zst_outside.specs.States.{SinkState}
 use Rattle.zst_model.specs.Lines.{ok_line}
-use Rattle.zst_model.specs.declared.refusal.Refusal.{Refusal}
 use Rattle.zst_model.specs.declared.refusal.Refusal.TheVariants as refusals
 use Rattle.zst.specs.Replies.{Replied, reply_text}
 

@@ -2,7 +2,7 @@
 use Rattle.std.specs.Prelude.{ℕ, ◌≡◌, ◌⊎◌, ◌==◌, if◌then◌else◌, Bool, List, [], ◌++◌, Result, Ok, Err, codes, decimal}
 use Rattle.zst_outside.specs.Causes.{Rose}
 use Rattle.zst_outside.specs.Images.{DiskState}
-use Rattle.zst_outside.specs.States.{SourceState, SinkState}
+use Rattle.zst_outside.specs.States.{SinkState}
 use Rattle.zst_outside.specs.Printing.{Wrote}
 use Rattle.zst_model.specs.Refusal.{number_of, text_of}
 use Rattle.zst_model.specs.declared.plan_fault.PlanFault.{PlanFault}

@@ -42,6 +42,9 @@ fn make(rt: &HostRuntime, path: &str, bytes: u64) -> io::Result<File> {
 }
 
 /// Opens an image for reading and writing.
+///
+/// The descriptor that is kept is a copy, which is 3 or more: where a standard stream is closed, the file itself may have
+/// got its number, and what is written to that stream must not land in the image.
 pub(crate) fn open(rt: &HostRuntime, path: &str, opening: Opening) -> io::Result<FileDisk> {
     let there = File::options().read(true).write(true).open(rt, path);
     let file = match (there, opening) {
@@ -50,5 +53,5 @@ pub(crate) fn open(rt: &HostRuntime, path: &str, opening: Opening) -> io::Result
         }
         (there, _) => there?,
     };
-    FileDisk::new(file)
+    FileDisk::new(file.try_clone()?)
 }

@@ -1,6 +1,9 @@
 mod bounds;
 mod faults;
+mod images;
+mod pools;
 mod runs;
+mod stops;
 mod streams;
 
 use runs::{check, checksum_note, dump_from, dump_of, lines_of, run_words, sink, source_of};

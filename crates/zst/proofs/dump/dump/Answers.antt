@@ -1,5 +1,5 @@
 use Rattle.std.proofs.Common.{arith}
-use Rattle.zst.proofs.DumpLemmas.{no_memory, started}
+use Rattle.zst.proofs.DumpLemmas.{no_memory}
 use Rattle.zst.proofs.dump.dump.Goals as goal
 
 pub returns-in_default : goal.returns-in_default

@@ -1,6 +1,6 @@
 use Rattle.std.proofs.lemmas.Result.{err_from_is_err_and}
 use Rattle.zst.proofs.Commanded.{steps_refused, steps_replied}
-use Rattle.zst.proofs.Replying.{replied_all, replied_front}
+use Rattle.zst.proofs.Replying.{replied_all}
 use Rattle.zst.proofs.pools.step_pool.Goals as goal
 
 pub returns-in_err-reply : goal.returns-in_err-reply
@@ -11,4 +11,3 @@ returns-in_err-reply g c =
 pub returns-in-Ok : goal.returns-in-Ok
 returns-in-Ok g c =
     steps_replied g.D.Disk.tells_reads c.args.now c.args.command _ _ _ _ _ _ c.in_ok-reply.ensures (replied_all _ _ _ c.in-Ok.ensures)
-

@@ -1,4 +1,4 @@
-use Rattle.std.proofs.Common.{arith, [], ◌++◌, ◌≡◌, ◌≤◌, ◌<◌, length, refl, ap, ◌∙◌}
+use Rattle.std.proofs.Common.{arith, [], ◌++◌, ◌≡◌, refl, ap}
 use Rattle.std.proofs.lemmas.List.{append-nil}
 use Rattle.std.proofs.KnownBytes.{Consumes-nil, Consumes-kept}
 use Rattle.zst.specs.Intake.{waiting_in}
