@@ -238,7 +238,7 @@ taken_failed start mid input begun out old lent new i i' n d h t =
       text = d.text;
       consumed = rw same at (read_in_all start mid input d.text (waiting_in i) t.got t.pushed t.rest d.consumed t.consumed t.parts);
       front = ([], all);
-      ends = Rose-earlier start.faults mid.faults input.faults d.later t.took.0;
+      ends = (ap (λ (r : Reading). r.outcome) h.whole, Rose-earlier start.faults mid.faults input.faults d.later t.took.0, all);
       within = h.stands.bounded;
       later = let a = d.later in let b = t.later in omega arith;
     }

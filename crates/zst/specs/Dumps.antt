@@ -37,7 +37,7 @@ Ends text input input' out out' (Err (refusals.Unsupported at lack)) = ((reading
 Ends text input input' out out' (Err (refusals.Truncated at)) =
     ((reading text).outcome ≡ waiting) × (at ≡ length text) × IsAtEnd input'.left × WroteAll text out out'
 Ends text input input' out out' (Err (refusals.Limit which number)) = (which ≡ Stream) × (number ≡ stream_limit) × (stream_limit < length text)
-Ends text input input' out out' (Err refusals.SourceFault) = Rose input.faults input'.faults
+Ends text input input' out out' (Err refusals.SourceFault) = ((reading text).outcome ≡ waiting) × Rose input.faults input'.faults × WroteAll text out out'
 Ends text input input' out out' (Err refusals.SinkFault) = Rose out.faults out'.faults
 Ends text input input' out out' (Err refusals.OutOfMemory) = Unit {0}
 Ends text input input' out out' (Err other) = ⊥
