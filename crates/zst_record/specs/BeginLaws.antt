@@ -4,13 +4,13 @@ use Rattle.std.proofs.lemmas.Bool.{cases_eq, eq-eqb, ne_eqb, leb-true, lt-ltb, a
 use Rattle.std.proofs.lemmas.List.{take_at, length-append}
 use Rattle.std.specs.Option.{option_map}
 use Rattle.std.specs.List.{position, position_or_len}
+use Rattle.zst_bytes.specs.Fields.{Fills}
+use Rattle.zst_bytes.specs.FieldsLaws.{number-back, text-back}
 use Rattle.zst_model.specs.declared.header.Header.{Header}
 use Rattle.zst_record.specs.declared.head.Head.TheVariants as heads
-use Rattle.zst_record.specs.Fields.{Fills}
 use Rattle.zst_record.specs.Table.{fields_of, head_bytes, padded}
 use Rattle.zst_record.specs.Decode.{Decoded, decoded, begin_of, begin_with, snapshot_with, named, name_in, header_with, is_payload_len, needs_payload}
 use Rattle.zst_record.specs.Fits.{BeginFits}
-use Rattle.zst_record.specs.FieldsLaws.{number-back, text-back}
 use Rattle.zst_record.specs.TableLaws.{length-padded}
 
 -- the first zero byte after a name
@@ -98,16 +98,16 @@ begin-back features header len f =
     let form : (4 * header.features + 1) % 4 ≡ 1 = omega arith in
     let is : (4 * header.features + 1) / 4 % 2 ^ 30 ≡ header.features = omega arith in
     rw (
-      number-back fields 0 4 0 refl fills refl refl (omega arith),
-      number-back fields 4 4 len refl fills refl refl (len-small len f.len),
-      number-back fields 8 8 0x2f5bacbac refl fills refl refl (omega arith),
-      number-back fields 16 8 (4 * header.features + 1) refl fills refl refl version,
-      number-back fields 24 8 header.time refl fills refl refl f.time,
-      number-back fields 32 4 header.kind refl fills refl refl (kind-small header.kind f.kind),
-      number-back fields 36 4 header.flags refl fills refl refl f.flags,
-      number-back fields 40 8 header.to refl fills refl refl f.to,
-      number-back fields 48 8 header.from refl fills refl refl f.from,
-      text-back fields 56 256 (padded 256 header.name) refl fills refl refl,
+      number-back 312 fields 0 4 0 refl fills refl refl (omega arith),
+      number-back 312 fields 4 4 len refl fills refl refl (len-small len f.len),
+      number-back 312 fields 8 8 0x2f5bacbac refl fills refl refl (omega arith),
+      number-back 312 fields 16 8 (4 * header.features + 1) refl fills refl refl version,
+      number-back 312 fields 24 8 header.time refl fills refl refl f.time,
+      number-back 312 fields 32 4 header.kind refl fills refl refl (kind-small header.kind f.kind),
+      number-back 312 fields 36 4 header.flags refl fills refl refl f.flags,
+      number-back 312 fields 40 8 header.to refl fills refl refl f.to,
+      number-back 312 fields 48 8 header.from refl fills refl refl f.from,
+      text-back 312 fields 56 256 (padded 256 header.name) refl fills refl refl,
       name-back header.name f.name f.no_zero,
       form,
       is,

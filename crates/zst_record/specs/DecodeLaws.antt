@@ -1,15 +1,15 @@
 -- What the record of a head but BEGIN says is that head.
 use Rattle.std.proofs.Common.{◌≡◌, ℕ, ◌+◌, ◌%◌, ◌^◌, ◌<◌, ◌==◌, ◌&&◌, true, ltb, leb, List, ◌++◌, slice_index, Ok, refl, sym, ap, arith}
 use Rattle.std.proofs.lemmas.Bool.{ne_eqb, leb-true, ltb-true, and_parts, le-leb}
-use Rattle.zst_bytes.specs.Bytes.{bytes_at, number_at}
+use Rattle.zst_bytes.specs.Bytes.{bytes_at, number_bytes}
+use Rattle.zst_bytes.specs.Fields.{zeros}
+use Rattle.zst_bytes.specs.FieldsLaws.{number-back}
 use Rattle.zst_model.specs.State.{is_block_size}
 use Rattle.zst_record.specs.declared.head.Head.{Head}
 use Rattle.zst_record.specs.declared.head.Head.TheVariants as heads
-use Rattle.zst_record.specs.Fields.{blank}
 use Rattle.zst_record.specs.Table.{sum_fields, fields_of, head_bytes, sealed_bytes}
 use Rattle.zst_record.specs.Decode.{Decoded, is_object, is_range, decoded, typed, object_with, write_with, free_with, spill_with, redact_with}
 use Rattle.zst_record.specs.Fits.{Fits, IsLater, SumsFit, ObjectFits, WriteFits, FreeFits, SpillFits, RedactFits}
-use Rattle.zst_record.specs.FieldsLaws.{number-back, gap-back}
 
 abbrev answer : Head → Decoded
 answer head = Ok head
@@ -29,16 +29,17 @@ in-range : (offset size : ℕ) → is_range offset size ≡ true → offset + si
 unfolding is_range
 in-range offset size is = ltb-true _ _ is
 
-gap-50 : number_at blank 50 1 ≡ 0
-unfolding number_at bytes_at blank
+-- where no field stands there is 0
+gap-50 : bytes_at (zeros 312) 50 1 ≡ number_bytes 1 0
+unfolding bytes_at number_bytes zeros
 gap-50 = refl
 
-gap-33 : number_at blank 33 1 ≡ 0
-unfolding number_at bytes_at blank
+gap-33 : bytes_at (zeros 312) 33 1 ≡ number_bytes 1 0
+unfolding bytes_at number_bytes zeros
 gap-33 = refl
 
-gap-36 : number_at blank 36 4 ≡ 0
-unfolding number_at bytes_at blank
+gap-36 : bytes_at (zeros 312) 36 4 ≡ number_bytes 4 0
+unfolding bytes_at number_bytes zeros
 gap-36 = refl
 
 object-back : (at features object kind bonus_kind block_size bonus_len max_block to : ℕ) (sums : List ℕ) → 0 < at → ObjectFits object kind bonus_kind block_size bonus_len max_block to
@@ -49,16 +50,16 @@ object-back at features object kind bonus_kind block_size bonus_len max_block to
     let bonus = f.bonus_len_fits in
     rw (
       ne_eqb at 0 (λ e. omega arith),
-      number-back fields 0 4 1 refl tt refl refl (omega arith),
-      number-back fields 8 8 object refl tt refl refl (object-small object f.object_fits),
-      number-back fields 16 4 kind refl tt refl refl f.kind_fits,
-      number-back fields 20 4 bonus_kind refl tt refl refl f.bonus_kind_fits,
-      number-back fields 24 4 block_size refl tt refl refl (size-small block_size f.size),
-      number-back fields 28 4 bonus_len refl tt refl refl (omega arith),
-      number-back fields 34 1 1 refl tt refl refl (omega arith),
-      gap-back fields 36 4 refl tt refl refl gap-36,
-      number-back fields 56 8 max_block refl tt refl refl f.max_block_fits,
-      number-back fields 40 8 to refl tt refl refl f.to_fits,
+      number-back 312 fields 0 4 1 refl tt refl refl (omega arith),
+      number-back 312 fields 8 8 object refl tt refl refl (object-small object f.object_fits),
+      number-back 312 fields 16 4 kind refl tt refl refl f.kind_fits,
+      number-back 312 fields 20 4 bonus_kind refl tt refl refl f.bonus_kind_fits,
+      number-back 312 fields 24 4 block_size refl tt refl refl (size-small block_size f.size),
+      number-back 312 fields 28 4 bonus_len refl tt refl refl (omega arith),
+      number-back 312 fields 34 1 1 refl tt refl refl (omega arith),
+      number-back 312 fields 36 4 0 refl tt refl gap-36 (omega arith),
+      number-back 312 fields 56 8 max_block refl tt refl refl f.max_block_fits,
+      number-back 312 fields 40 8 to refl tt refl refl f.to_fits,
       f.object_fits,
       f.kind_there,
       f.size,
@@ -72,10 +73,10 @@ free_objects-back at features first count to sums later first_fits count_fits to
     let fields = fields_of (heads.FreeObjects first count to) ++ sum_fields 280 sums in
     rw (
       ne_eqb at 0 (λ e. omega arith),
-      number-back fields 0 4 2 refl tt refl refl (omega arith),
-      number-back fields 8 8 first refl tt refl refl first_fits,
-      number-back fields 16 8 count refl tt refl refl count_fits,
-      number-back fields 24 8 to refl tt refl refl to_fits,
+      number-back 312 fields 0 4 2 refl tt refl refl (omega arith),
+      number-back 312 fields 8 8 first refl tt refl refl first_fits,
+      number-back 312 fields 16 8 count refl tt refl refl count_fits,
+      number-back 312 fields 24 8 to refl tt refl refl to_fits,
     ) refl
 
 write-back : (at features object kind offset size to : ℕ) (sums : List ℕ) → 0 < at → WriteFits object kind offset size to
@@ -86,13 +87,13 @@ write-back at features object kind offset size to sums later f =
     let wide = size-small size f.size_fits in
     rw (
       ne_eqb at 0 (λ e. omega arith),
-      number-back fields 0 4 3 refl tt refl refl (omega arith),
-      number-back fields 8 8 object refl tt refl refl (object-small object f.object_fits),
-      number-back fields 16 4 kind refl tt refl refl f.kind_fits,
-      number-back fields 24 8 offset refl tt refl refl f.offset_fits,
-      number-back fields 32 8 size refl tt refl refl (omega arith),
-      number-back fields 40 8 to refl tt refl refl f.to_fits,
-      gap-back fields 50 1 refl tt refl refl gap-50,
+      number-back 312 fields 0 4 3 refl tt refl refl (omega arith),
+      number-back 312 fields 8 8 object refl tt refl refl (object-small object f.object_fits),
+      number-back 312 fields 16 4 kind refl tt refl refl f.kind_fits,
+      number-back 312 fields 24 8 offset refl tt refl refl f.offset_fits,
+      number-back 312 fields 32 8 size refl tt refl refl (omega arith),
+      number-back 312 fields 40 8 to refl tt refl refl f.to_fits,
+      number-back 312 fields 50 1 0 refl tt refl gap-50 (omega arith),
       f.object_fits,
       f.size_fits,
     ) refl
@@ -104,11 +105,11 @@ free-back at features object offset size to sums later f =
     let fields = fields_of (heads.Free object offset size to) ++ sum_fields 280 sums in
     rw (
       ne_eqb at 0 (λ e. omega arith),
-      number-back fields 0 4 4 refl tt refl refl (omega arith),
-      number-back fields 8 8 object refl tt refl refl (object-small object f.object_fits),
-      number-back fields 16 8 offset refl tt refl refl f.offset_fits,
-      number-back fields 24 8 size refl tt refl refl f.size_fits,
-      number-back fields 32 8 to refl tt refl refl f.to_fits,
+      number-back 312 fields 0 4 4 refl tt refl refl (omega arith),
+      number-back 312 fields 8 8 object refl tt refl refl (object-small object f.object_fits),
+      number-back 312 fields 16 8 offset refl tt refl refl f.offset_fits,
+      number-back 312 fields 24 8 size refl tt refl refl f.size_fits,
+      number-back 312 fields 32 8 to refl tt refl refl f.to_fits,
       f.object_fits,
       f.range,
     ) refl
@@ -120,12 +121,12 @@ end-back at features stated to sums later f to_fits =
     let fields = fields_of (heads.End stated to) ++ sum_fields 280 sums in
     rw (
       ne_eqb at 0 (λ e. omega arith),
-      number-back fields 0 4 5 refl tt refl refl (omega arith),
-      number-back fields 8 8 (slice_index stated 0) refl tt refl refl f.a,
-      number-back fields 16 8 (slice_index stated 1) refl tt refl refl f.b,
-      number-back fields 24 8 (slice_index stated 2) refl tt refl refl f.c,
-      number-back fields 32 8 (slice_index stated 3) refl tt refl refl f.d,
-      number-back fields 40 8 to refl tt refl refl to_fits,
+      number-back 312 fields 0 4 5 refl tt refl refl (omega arith),
+      number-back 312 fields 8 8 (slice_index stated 0) refl tt refl refl f.a,
+      number-back 312 fields 16 8 (slice_index stated 1) refl tt refl refl f.b,
+      number-back 312 fields 24 8 (slice_index stated 2) refl tt refl refl f.c,
+      number-back 312 fields 32 8 (slice_index stated 3) refl tt refl refl f.d,
+      number-back 312 fields 40 8 to refl tt refl refl to_fits,
     ) (ap (λ (l : List ℕ). answer (heads.End l to)) (sym f.four))
 
 spill-back : (at features object size to : ℕ) (sums : List ℕ) → 0 < at → SpillFits object size to
@@ -136,11 +137,11 @@ spill-back at features object size to sums later f =
     let wide = size-small size f.size_fits in
     rw (
       ne_eqb at 0 (λ e. omega arith),
-      number-back fields 0 4 7 refl tt refl refl (omega arith),
-      number-back fields 8 8 object refl tt refl refl (object-small object f.object_fits),
-      number-back fields 16 8 size refl tt refl refl (omega arith),
-      number-back fields 24 8 to refl tt refl refl f.to_fits,
-      gap-back fields 33 1 refl tt refl refl gap-33,
+      number-back 312 fields 0 4 7 refl tt refl refl (omega arith),
+      number-back 312 fields 8 8 object refl tt refl refl (object-small object f.object_fits),
+      number-back 312 fields 16 8 size refl tt refl refl (omega arith),
+      number-back 312 fields 24 8 to refl tt refl refl f.to_fits,
+      number-back 312 fields 33 1 0 refl tt refl gap-33 (omega arith),
       f.object_fits,
       f.size_fits,
     ) refl
@@ -153,11 +154,11 @@ redact-back at features object offset size to sums later f =
     let sum = in-range offset size f.range in
     rw (
       ne_eqb at 0 (λ e. omega arith),
-      number-back fields 0 4 10 refl tt refl refl (omega arith),
-      number-back fields 8 8 object refl tt refl refl (object-small object f.object_fits),
-      number-back fields 16 8 offset refl tt refl refl (omega arith),
-      number-back fields 24 8 size refl tt refl refl (omega arith),
-      number-back fields 32 8 to refl tt refl refl f.to_fits,
+      number-back 312 fields 0 4 10 refl tt refl refl (omega arith),
+      number-back 312 fields 8 8 object refl tt refl refl (object-small object f.object_fits),
+      number-back 312 fields 16 8 offset refl tt refl refl (omega arith),
+      number-back 312 fields 24 8 size refl tt refl refl (omega arith),
+      number-back 312 fields 32 8 to refl tt refl refl f.to_fits,
       f.redacted,
       f.object_fits,
       f.range,

@@ -1,11 +1,9 @@
 pub mod Heads
 pub mod Faults
-pub mod Fields
 pub mod Table
 pub mod Decode
 pub mod Fits
 pub mod Laws
-pub mod FieldsLaws
 pub mod TableLaws
 pub mod DecodeLaws
 pub mod BeginLaws

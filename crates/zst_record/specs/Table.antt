@@ -1,10 +1,10 @@
 -- The fields of each record of zfs_ioctl.h's `dmu_replay_record`, one a line: place, width, value.
 -- A byte that no line names is 0.
 use Rattle.std.specs.Prelude.{ℕ, ◌+◌, ◌*◌, ◌-◌, List, [], ◌∷◌, ◌++◌, length, replicate, slice_index}
+use Rattle.zst_bytes.specs.Fields.{Field, number, text, lay, laid}
 use Rattle.zst_record.specs.declared.TheConstants.{MAGIC}
 use Rattle.zst_record.specs.declared.head.Head.{Head}
 use Rattle.zst_record.specs.declared.head.Head.TheVariants as heads
-use Rattle.zst_record.specs.Fields.{Field, number, text, lay, record_bytes}
 
 -- a name, then zeros
 unfoldable pub padded : ℕ → List ℕ → List ℕ
@@ -89,7 +89,7 @@ fields_of (heads.Redact object offset size to) =
 
 -- the 312 bytes of a record, without its checksum
 unfoldable pub head_bytes : Head → List ℕ
-head_bytes head = record_bytes (fields_of head)
+head_bytes head = laid 312 (fields_of head)
 
 -- the 312 bytes of a record but BEGIN, with its checksum
 unfoldable pub sealed_bytes : Head → List ℕ → List ℕ

@@ -1,6 +1,6 @@
 ghost use Rattle.std.specs.Prelude.{◌≡◌, ◌+◌, ◌≤◌, ◌<◌, ◌^◌, length};
+ghost use Rattle.zst_bytes.specs.Fields.{lay};
 ghost use Rattle.zst_record.specs.declared.head.Head.TheVariants.{Begin, Object, FreeObjects, Write, Free, End, Spill, Redact};
-ghost use Rattle.zst_record.specs.Fields.{lay, blank, record_bytes};
 ghost use Rattle.zst_record.specs.Table.{head_bytes, padded, sum_fields, fields_of};
 
 use crate::MAGIC;
@@ -176,7 +176,7 @@ fn put_fields(into: &mut [u8], head: &Head)
 }
 
 /// Writes a record, all but its checksum: the bytes that no field names are 0.
-#[tactic(auto, unfolding(crate::specs::Table::head_bytes, crate::specs::Fields::blank))]
+#[tactic(auto, unfolding(crate::specs::Table::head_bytes, zst_bytes::specs::Fields::zeros))]
 pub fn encode(head: &Head, into: &mut [u8; 312])
     ensures { into.new ≡ head_bytes head.now }
 {

@@ -2,11 +2,11 @@
 use Rattle.std.proofs.Common.{◌≡◌, Bool, true, false, ℕ, ◌-◌, List, ◌++◌, length, take, drop, refl, sym, ap, ◌∙◌, subst, arith, append_assoc, length-drop}
 use Rattle.std.proofs.lemmas.List.{take-append-drop, take_all}
 use Rattle.zst_bytes.specs.Bytes.{bytes_at}
+use Rattle.zst_bytes.specs.Fields.{lay}
+use Rattle.zst_bytes.specs.FieldsLaws.{lay-back}
 use Rattle.zst_fletcher.specs.WeightSum.{weight_sum, parts_of}
 use Rattle.zst_record.specs.declared.head.Head.{Head}
 use Rattle.zst_record.specs.declared.head.Head.TheVariants as heads
-use Rattle.zst_record.specs.Fields.{lay}
-use Rattle.zst_record.specs.FieldsLaws.{lay-back}
 use Rattle.zst_record.specs.Table.{sum_fields, head_bytes, sealed_bytes}
 use Rattle.zst_stream.specs.Image.{record_after}
 use Rattle.zst_writer.specs.declared.writer.Writer.{Writer}
@@ -14,7 +14,7 @@ use Rattle.zst_writer.specs.Writes.{HasWritten, is_begin, stating, bytes_after}
 
 front-kept : (old sums : List ℕ) → length old ≡ 312 → take 280 (lay (sum_fields 280 sums) old) ≡ take 280 old
 unfolding bytes_at
-front-kept old sums size = lay-back 0 280 (sum_fields 280 sums) old (take 280 old) size refl tt refl refl
+front-kept old sums size = lay-back 312 0 280 (sum_fields 280 sums) old (take 280 old) size refl tt refl refl
 
 pub sealed-text : (w : Writer) (text old new last sums : List ℕ) → length old ≡ 312 → new ≡ lay (sum_fields 280 sums) old → last ≡ take (length new - 280) (drop 280 new)
     → HasWritten w ((text ++ take 280 old) ++ last) → HasWritten w (text ++ new)

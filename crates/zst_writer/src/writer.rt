@@ -17,9 +17,9 @@ fn begins(head: &Head) -> bool
 }
 
 impl Writer {
+    ghost use Rattle.zst_bytes.specs.Fields.{lay};
     ghost use Rattle.zst_fletcher.specs.WeightSum.{weight_sum, parts_of, IsWhole};
     ghost use Rattle.zst_record.specs.Heads.{payload_len};
-    ghost use Rattle.zst_record.specs.Fields.{lay};
     ghost use Rattle.zst_record.specs.Table.{head_bytes, sum_fields};
     ghost use Rattle.zst_writer.specs.Writes.{HasWritten, bytes_after, stating};
 
