@@ -20,7 +20,7 @@ use Rattle.zst_dir.specs.Spelling.{name_bytes, snapshot_bytes, snapshots_of, dat
 use Rattle.zst_dir.specs.declared.rows.Dataset.{Dataset}
 use Rattle.zst_dir.specs.declared.rows.Snapshot.{Snapshot}
 use Rattle.zst_dir.specs.declared.rows.Partial.{Partial}
-use Rattle.zst_dir.proofs.Inserted.{inserted-place}
+use Rattle.zst_model.specs.InsertedLaws.{inserted-place}
 use Rattle.zst_dir.proofs.SnapshotRuns.{runs, snapshots_are_runs}
 use Rattle.zst_dir.proofs.Texts.{joined}
 

@@ -15,7 +15,5 @@ mod SpelledRows
 mod Standing
 mod Texts
 mod Verdict
-mod Inserted
-mod Orders
 mod Dropped
 pub mod Lookups

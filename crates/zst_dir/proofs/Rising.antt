@@ -7,10 +7,10 @@ use denote.Param.Members.{Mut}
 use denote.Ref.{Bor}
 use Rattle.std.specs.List.{AllPairs, AllAdjacentBelow, IsAllAdjacentAnswer}
 use Rattle.zst_model.specs.Pool.{is_before}
-use Rattle.zst_dir.proofs.Orders.{before_trans}
+use Rattle.zst_model.specs.OrderLaws.{before_trans, row_before_later}
 use Rattle.zst_dir.specs.Rows.{snapshot_is_before}
 use Rattle.zst_dir.specs.declared.rows.Snapshot.{Snapshot}
-use Rattle.zst_dir.proofs.Inserting.{before_later}
+use Rattle.zst_dir.proofs.Inserting.{of_snapshot}
 
 -- neighbours in order make all pairs so
 pub pairs_of_neighbours : {A : Type 0} (R : A → A → Type 0) → ((x y z : A) → R x y → R y z → R x z) → (rows : List A) → AllAdjacentBelow R rows (length rows) → AllPairs R rows
@@ -49,7 +49,7 @@ not_after : (a b c : Snapshot) → snapshot_is_before b a ≡ false → snapshot
 not_after a b c first second = go (snapshot_is_before c a) refl
   where
     go : (t : Bool) → snapshot_is_before c a ≡ t → t ≡ false
-    go true before = absurd (true≢false (sym (before_later c a b before first) ∙ second))
+    go true before = absurd (true≢false (sym (row_before_later of_snapshot (λ s. s.number) c a b before first) ∙ second))
     go false before = refl
 
 not_true : (t : Bool) → not t ≡ true → t ≡ false

@@ -9,14 +9,14 @@ use Rattle.std.proofs.lemmas.List.Kept.{AllPairs-filter}
 use Rattle.std.proofs.lemmas.List.Sums.{take_while-cons}
 use Rattle.zst_bytes.specs.Words.{word}
 use Rattle.zst_model.specs.Pool.{is_before}
-use Rattle.zst_dir.proofs.Inserted.{contains_cases, contains_nothing, All-from_contains, AllPairs-head, AllPairs-tail}
-use Rattle.zst_dir.proofs.Orders.{same_bytes, bytes_same, before_trans, not_before_itself, before_cases}
+use Rattle.zst_model.specs.InsertedLaws.{contains_cases, contains_nothing, All-from_contains, AllPairs-head, AllPairs-tail}
+use Rattle.zst_model.specs.OrderLaws.{same_bytes, bytes_same, before_trans, not_before_itself, before_cases, row_before_from}
 use Rattle.zst_dir.specs.Rows.{Rows, snapshot_is_before, IsLawful}
 use Rattle.zst_dir.specs.Spelling.{snapshots_of, dataset_bytes}
 use Rattle.zst_dir.specs.declared.rows.Dataset.{Dataset}
 use Rattle.zst_dir.specs.declared.rows.Snapshot.{Snapshot}
 use Rattle.zst_dir.proofs.SpelledRows.{SpelledUpTo, spelled-none, spelled-more}
-use Rattle.zst_dir.proofs.Inserting.{of_snapshot, is_before_from}
+use Rattle.zst_dir.proofs.Inserting.{of_snapshot}
 
 -- whether a snapshot is of a dataset
 abbrev pub is_of : List ℕ → Snapshot → Bool
@@ -48,7 +48,7 @@ filter_all {A = A} test (x ∷ xs) all =
 
 -- a snapshot that stands behind another isn't of a lower dataset
 dataset_rises : (a b : Snapshot) → snapshot_is_before b a ≡ false → is_before (of_snapshot b) (of_snapshot a) ≡ false
-dataset_rises a b h = false_from_ne_true (is_before (of_snapshot b) (of_snapshot a)) (λ k. true≢false (sym (is_before_from b a (inl k)) ∙ h))
+dataset_rises a b h = false_from_ne_true (is_before (of_snapshot b) (of_snapshot a)) (λ k. true≢false (sym (row_before_from of_snapshot (λ s. s.number) b a (inl k)) ∙ h))
 
 -- behind a name that another stands behind or at stand all that stand behind the other
 behind_all : (a b c : List ℕ) → is_before a b ≡ true → is_before c b ≡ false → is_before a c ≡ true

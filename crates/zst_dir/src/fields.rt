@@ -94,15 +94,6 @@ pub(crate) fn read_component(cursor: &mut Cursor<'_>, dataset: &DatasetName) -> 
     Some(SnapName::of(dataset, component))
 }
 
-// The name of these bytes.
-fn name_of(bytes: &[u8]) -> NameText
-    requires { length bytes.now ≤ 255 }
-    ensures same { result ≡ bytes.now }
-    ensures bytes { All (λ byte. byte < 2 ^ 8) result }
-{
-    NameText::new(bytes)
-}
-
 /// A name of at most 255 bytes of any value.
 pub(crate) fn read_name_text(cursor: &mut Cursor<'_>) -> Option<NameText>
     ensures short { IfSome result (λ name. length name ≤ 255) }
@@ -113,7 +104,7 @@ pub(crate) fn read_name_text(cursor: &mut Cursor<'_>) -> Option<NameText>
     if bytes.len() > 255 {
         return None;
     }
-    Some(name_of(bytes))
+    Some(NameText::new(bytes))
 }
 
 /// The component of a snapshot's name, without its dataset.

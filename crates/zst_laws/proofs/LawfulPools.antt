@@ -1,7 +1,6 @@
 -- What commands make of a lawful pool is lawful.
 use Rattle.std.proofs.Common.{inl, inr, subst, ◌≡◌, ◌≢◌, ℕ, ◌+◌, ◌^◌, ◌≤◌, true, false, List, ◌∷◌, ◌++◌, Option, Some, None, IfSome, is_some, Result, Ok, refl, sym, ap, ◌∙◌, arith}
 use Rattle.std.specs.List.{All, Contains}
-use Rattle.std.proofs.lemmas.Bool.{true≢false, false_from_ne_true}
 use Rattle.std.proofs.lemmas.List.Elements.{All-weaker, All-contains}
 use Rattle.zst_names.specs.Names.{IsDataset, IsSnapshot, IsComponent, dataset_of}
 use Rattle.zst_names.proofs.Marked.{at_is_mark, join_is_name}
@@ -12,9 +11,10 @@ use Rattle.zst_model.specs.Dated.{DatedState}
 use Rattle.zst_model.specs.Guids.{IsGuidSet}
 use Rattle.zst_model.specs.Pool.{Pool, Dataset, Snapshot, IsPool, IsKind, HasDataset, HasSnapshot, dataset_named, snapshot_named, partial_of, dataset_of_snapshot, is_before, snapshot_is_before, inserted}
 use Rattle.zst_model.specs.Step.{Stepped, committed, last_number, last_guid, new_dataset, with_head_at, with_head, snapshot_of, with_dataset, on_head, with_snapshot, stepped}
+use Rattle.zst_model.specs.InsertedLaws.{All-from_contains, contains-map, contains-inserted, inserted_has_rest, All-inserted, AllPairs-map}
+use Rattle.zst_model.specs.OrderLaws.{names_differ-inserted, names_rise-inserted, rows_rise-inserted}
 use Rattle.zst_laws.specs.Stepping.{StepsKeepPools}
-use Rattle.zst_laws.proofs.Rows.{All-from_contains, contains-map, contains-inserted, inserted_has_rest, All-inserted, All-with_head, committed_ok, on_head_ok, named_found, none_named, name_under_head}
-use Rattle.zst_laws.proofs.Ordered.{AllPairs-map, AllPairs-inserted, before_total, before_trans, snapshot_before_trans, snapshot_before_one_way}
+use Rattle.zst_laws.proofs.Rows.{All-with_head, committed_ok, on_head_ok, named_found, none_named, name_under_head}
 use Rattle.zst_laws.proofs.Accepted.{with_dataset_ok, with_snapshot_ok, read_keeps, list_keeps, list_objects_keeps}
 use Rattle.zst_laws.proofs.LawfulHeads.{object_is_lawful, write_is_lawful, punch_is_lawful, free_is_lawful}
 
@@ -67,12 +67,7 @@ dataset_added kind name pool p is_name is_kind absent =
       guids = p.guids;
       named = record {
         dataset_names = All-inserted (λ d. IsDataset d.name) by_name row pool.datasets is_name p.named.dataset_names;
-        datasets =
-            AllPairs-inserted (λ a b. is_before a.name b.name ≡ true) by_name row pool.datasets
-            (λ x there h. h)
-            (λ x there h. before_total name x.name (λ e. differs x there (sym e)) h)
-            (λ x y there h k. before_trans name x.name y.name h k)
-            p.named.datasets;
+        datasets = names_rise-inserted (λ (d : Dataset). d.name) row pool.datasets differs p.named.datasets;
         snapshot_names = p.named.snapshot_names;
         snapshots = p.named.snapshots;
         snapshots_differ = p.named.snapshots_differ;
@@ -174,18 +169,8 @@ snapshot_added now name pool dataset p is_name there free absent guids =
         dataset_names = p.named.dataset_names;
         datasets = p.named.datasets;
         snapshot_names = All-inserted (λ s. IsSnapshot s.name) snapshot_is_before row rows is_name p.named.snapshot_names;
-        snapshots =
-            AllPairs-inserted (λ a b. snapshot_is_before b a ≡ false) snapshot_is_before row rows
-            (λ x k h. snapshot_before_one_way row x h)
-            (λ x k h. h)
-            (λ x y k h not_back. false_from_ne_true (snapshot_is_before y row) (λ back. true≢false (sym (snapshot_before_trans y row x back h) ∙ not_back)))
-            p.named.snapshots;
-        snapshots_differ =
-            AllPairs-inserted (λ a b. a.name ≢ b.name) snapshot_is_before row rows
-            (λ x k h e. differs x k (sym e))
-            (λ x k h. differs x k)
-            (λ x y k h d e. differs y k (sym e))
-            p.named.snapshots_differ;
+        snapshots = rows_rise-inserted dataset_of_snapshot (λ s. s.number) row rows p.named.snapshots;
+        snapshots_differ = names_differ-inserted (λ (s : Snapshot). s.name) snapshot_is_before row rows differs p.named.snapshots_differ;
         bookmark_names = p.named.bookmark_names;
         bookmarks = p.named.bookmarks;
         targets = p.named.targets;

@@ -20,7 +20,6 @@ mod Receives
 mod Standing
 mod Agreement
 mod Rows
-mod Ordered
 mod Accepted
 mod OtherDatasets
 mod SoundHeads

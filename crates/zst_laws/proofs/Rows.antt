@@ -1,11 +1,10 @@
--- Rows of a pool: what a list of them contains, what a look-up gives, and what a chain says that ends well.
-use Rattle.std.proofs.Common.{inl, inr, ◌⊎◌, subst, ◌≡◌, ◌≢◌, ℕ, zero, suc, ◌+◌, ◌≤◌, Bool, true, false, cond, List, [], ◌∷◌, get_or, map, Option, Some, None, is_some, Result, Ok, Err, if◌then◌else◌, nat_lt, refl, sym, ap, ◌∙◌, arith}
+-- Rows of a pool: what a look-up gives, and what a chain says that ends well.
+use Rattle.std.proofs.Common.{inl, inr, ◌⊎◌, subst, ◌≡◌, ◌≢◌, ℕ, ◌+◌, ◌≤◌, Bool, true, false, cond, List, [], ◌∷◌, Option, Some, None, is_some, Result, Ok, Err, if◌then◌else◌, nat_lt, refl, sym, ap, ◌∙◌}
 use Rattle.std.specs.List.{All, Contains, find}
 use Rattle.std.specs.Str.{bytes_eq}
 use Rattle.std.proofs.lemmas.Bool.{true≢false, ltb-false}
-use Rattle.std.proofs.lemmas.List.Elements.{Contains-get_or, All-contains}
+use Rattle.std.proofs.lemmas.List.Elements.{All-contains}
 use Rattle.std.proofs.lemmas.Option.{same_Some}
-use Rattle.std.proofs.lemmas.Slice.Eq.{bytes_eq-Decides}
 use Rattle.zst_model.specs.declared.apply_fault.ApplyFault.{ApplyFault}
 use Rattle.zst_model.specs.declared.faults.Quantity.{Quantity}
 use Rattle.zst_model.specs.declared.refusal.Refusal.{Refusal}
@@ -14,90 +13,11 @@ use Rattle.zst_model.specs.declared.named.Name.TheVariants as names
 use Rattle.zst_model.specs.Apply.{unless, ◌>>=◌}
 use Rattle.zst_model.specs.Dated.{DatedState}
 use Rattle.zst_model.specs.Lines.{ok_line}
-use Rattle.zst_model.specs.Pool.{Pool, Dataset, dataset_named, partial_of, inserted}
+use Rattle.zst_model.specs.Pool.{Pool, Dataset, dataset_named, partial_of}
 use Rattle.zst_model.specs.Step.{Stepped, no_such, busy_partial, or_else, of_applying, last_number, limited, committed, with_head_at, with_head, on_dataset, on_head}
+use Rattle.zst_model.specs.InsertedLaws.{contains_first, contains_later, contains_cases, contains_nothing, All-from_contains, map_contains}
+use Rattle.zst_model.specs.OrderLaws.{same_bytes, bytes_same}
 use Rattle.zst_laws.proofs.Runs.{bind_ok, unless_ok, ok_inj}
-
--- what a list contains
-pub contains_first : {A : Type 0} (x : A) (xs : List A) → Contains (x ∷ xs) x
-contains_first x xs = (0, omega arith, refl)
-
-pub contains_later : {A : Type 0} (y : A) (xs : List A) (x : A) → Contains xs x → Contains (y ∷ xs) x
-contains_later y xs x h = (suc h.0, omega (arith, h.1), h.2)
-
-pub contains_cases : {A : Type 0} (y : A) (xs : List A) (x : A) → Contains (y ∷ xs) x → (y ≡ x) ⊎ Contains xs x
-contains_cases y xs x (zero, l, e) = inl e
-contains_cases y xs x (suc k, l, e) = inr (k, omega (arith, l), e)
-
-pub contains_nothing : {A : Type 0} (x : A) → Contains [] x → ⊥
-contains_nothing x h = omega (arith, h.1)
-
--- what holds of all that a list contains holds of all its elements
-pub All-from_contains : {A : Type 0} (P : A → Type 0) (xs : List A) → ((x : A) → Contains xs x → P x) → All P xs
-All-from_contains P xs h k d l = h (get_or xs k d) (Contains-get_or xs k d l)
-
--- what a mapped list contains
-pub contains-map : {A B : Type 0} (f : A → B) (xs : List A) (x : A) → Contains xs x → Contains (map f xs) (f x)
-contains-map f [] x h = absurd (contains_nothing x h)
-contains-map f (y ∷ ys) x h = elim (contains_cases y ys x h) [
-  | inl e ↦ subst (λ z. Contains (map f (y ∷ ys)) (f z)) e (contains_first (f y) (map f ys))
-  | inr later ↦ contains_later (f y) (map f ys) (f x) (contains-map f ys x later)
-]
-
-pub map_contains : {A B : Type 0} (f : A → B) (xs : List A) (y : B) → Contains (map f xs) y → (x : A) × Contains xs x × (f x ≡ y)
-map_contains f [] y h = absurd (contains_nothing y h)
-map_contains f (x ∷ xs) y h = elim (contains_cases (f x) (map f xs) y h) [
-  | inl e ↦ (x, contains_first x xs, e)
-  | inr later ↦ let found = map_contains f xs y later in (found.0, contains_later x xs found.0 found.1, found.2)
-]
-
--- what a list contains with a row put in
-pub contains-inserted : {A : Type 0} (comes_before : A → A → Bool) (row : A) (xs : List A) (x : A)
-    → Contains (inserted comes_before row xs) x → (row ≡ x) ⊎ Contains xs x
-unfolding inserted
-contains-inserted comes_before row [] x h = contains_cases row [] x h
-contains-inserted {A = A} comes_before row (y ∷ ys) x h = go (comes_before row y) (contains-inserted comes_before row ys x) h
-  where
-    later : (row ≡ x) ⊎ Contains ys x → (row ≡ x) ⊎ Contains (y ∷ ys) x
-    later (inl e) = inl e
-    later (inr k) = inr (contains_later y ys x k)
-
-    go : (t : Bool) → (Contains (inserted comes_before row ys) x → (row ≡ x) ⊎ Contains ys x)
-        → Contains (if t then row ∷ y ∷ ys else y ∷ inserted comes_before row ys) x → (row ≡ x) ⊎ Contains (y ∷ ys) x
-    go true rest k = contains_cases row (y ∷ ys) x k
-    go false rest k = elim (contains_cases y (inserted comes_before row ys) x k) [
-      | inl e ↦ inr (subst (Contains (y ∷ ys)) e (contains_first y ys))
-      | inr k ↦ later (rest k)
-    ]
-
-pub inserted_has_row : {A : Type 0} (comes_before : A → A → Bool) (row : A) (xs : List A) → Contains (inserted comes_before row xs) row
-unfolding inserted
-inserted_has_row comes_before row [] = contains_first row []
-inserted_has_row {A = A} comes_before row (y ∷ ys) = go (comes_before row y) (inserted_has_row comes_before row ys)
-  where
-    go : (t : Bool) → Contains (inserted comes_before row ys) row → Contains (if t then row ∷ y ∷ ys else y ∷ inserted comes_before row ys) row
-    go true k = contains_first row (y ∷ ys)
-    go false k = contains_later y (inserted comes_before row ys) row k
-
-pub inserted_has_rest : {A : Type 0} (comes_before : A → A → Bool) (row : A) (xs : List A) (x : A) → Contains xs x → Contains (inserted comes_before row xs) x
-unfolding inserted
-inserted_has_rest comes_before row [] x h = absurd (contains_nothing x h)
-inserted_has_rest {A = A} comes_before row (y ∷ ys) x h = go (comes_before row y) (inserted_has_rest comes_before row ys x)
-  where
-    go : (t : Bool) → (Contains ys x → Contains (inserted comes_before row ys) x) → Contains (if t then row ∷ y ∷ ys else y ∷ inserted comes_before row ys) x
-    go true rest = contains_later row (y ∷ ys) x h
-    go false rest = elim (contains_cases y ys x h) [
-      | inl e ↦ subst (Contains (y ∷ inserted comes_before row ys)) e (contains_first y (inserted comes_before row ys))
-      | inr k ↦ contains_later y (inserted comes_before row ys) x (rest k)
-    ]
-
-pub All-inserted : {A : Type 0} (P : A → Type 0) (comes_before : A → A → Bool) (row : A) (xs : List A)
-    → P row → All P xs → All P (inserted comes_before row xs)
-All-inserted {A = A} P comes_before row xs p h = All-from_contains P (inserted comes_before row xs) (λ x k. go x (contains-inserted comes_before row xs x k))
-  where
-    go : (x : A) → (row ≡ x) ⊎ Contains xs x → P x
-    go x (inl e) = subst P e p
-    go x (inr k) = All-contains P xs x h k
 
 -- what a look-up gives passes and is in the list, and where it gives none, none passes
 pub found_passes : {A : Type 0} (p : A → Bool) (xs : List A) (x : A) → find p xs ≡ Some x → Contains xs x × (p x ≡ true)
@@ -122,13 +42,7 @@ none_from_absent p [] h = refl
 none_from_absent p (y ∷ ys) h =
     rw (h y (contains_first y ys)) (none_from_absent p ys (λ x k. h x (contains_later y ys x k)))
 
--- equal bytes
-pub same_bytes : (a b : List ℕ) → bytes_eq a b ≡ true → a ≡ b
-same_bytes a b = (bytes_eq-Decides a b).0
-
-pub bytes_same : (a b : List ℕ) → a ≡ b → bytes_eq a b ≡ true
-bytes_same a b = (bytes_eq-Decides a b).1
-
+-- names that test as different differ
 pub bytes_differ : (a b : List ℕ) → bytes_eq a b ≡ false → a ≢ b
 bytes_differ a b h e = true≢false (sym (bytes_same a b e) ∙ h)
 

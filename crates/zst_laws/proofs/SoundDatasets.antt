@@ -5,7 +5,7 @@ use Rattle.zst_model.specs.Pool.{Pool, Dataset, Snapshot, HasDataset, IsLinked, 
 use Rattle.zst_model.specs.Before.{IsOrigin, StandsBefore}
 use Rattle.zst_model.specs.Sound.{DatedUpTo, Sound}
 use Rattle.zst_model.specs.Step.{new_dataset}
-use Rattle.zst_laws.proofs.Rows.{contains-inserted, inserted_has_rest, All-inserted}
+use Rattle.zst_model.specs.InsertedLaws.{contains-inserted, inserted_has_rest, All-inserted}
 use Rattle.zst_laws.proofs.Standing.{stands_before_none}
 use Rattle.zst_laws.proofs.Agreement.{dated_higher}
 use Rattle.zst_laws.proofs.OtherDatasets.{with_datasets, KeepsNames, datasets_sound}

@@ -7,7 +7,9 @@ use Rattle.zst_model.specs.Pool.{Pool, Dataset, Snapshot}
 use Rattle.zst_model.specs.Before.{StandsBefore}
 use Rattle.zst_model.specs.Sound.{Agrees, DatedUpTo, Sound}
 use Rattle.zst_model.specs.Step.{with_head_at, with_head}
-use Rattle.zst_laws.proofs.Rows.{contains-map, map_contains, same_bytes, All-with_head, name_under_head, origin_under_head}
+use Rattle.zst_model.specs.InsertedLaws.{contains-map, map_contains}
+use Rattle.zst_model.specs.OrderLaws.{same_bytes}
+use Rattle.zst_laws.proofs.Rows.{All-with_head, name_under_head, origin_under_head}
 use Rattle.zst_laws.proofs.Agreement.{Keeps, dated_higher}
 use Rattle.zst_laws.proofs.OtherDatasets.{with_datasets, KeepsNames, datasets_sound}
 

@@ -8,8 +8,8 @@ use Rattle.zst_model.specs.Dated.{DatedState}
 use Rattle.zst_model.specs.Pool.{Pool, Dataset, Snapshot, Bookmark, Partial, HasSnapshot, IsNamed, IsLinked, dataset_of_snapshot, dataset_of_bookmark, is_before, snapshot_is_before, inserted}
 use Rattle.zst_model.specs.Before.{IsOrigin, IsBase, IsBeforeSnapshot, IsBeforeHead, IsBeforePartial, StandsBefore}
 use Rattle.zst_model.specs.Sound.{Agrees, DatedUpTo, IsBookmarkOf, Sound}
-use Rattle.zst_laws.proofs.Rows.{contains_cases, contains_nothing, contains-inserted, All-inserted}
-use Rattle.zst_laws.proofs.Ordered.{AllPairs-head, AllPairs-tail, not_before_itself, snapshot_parts}
+use Rattle.zst_model.specs.InsertedLaws.{contains_cases, contains_nothing, contains-inserted, All-inserted, AllPairs-head, AllPairs-tail}
+use Rattle.zst_model.specs.OrderLaws.{not_before_itself, RowIsBefore, row_before_parts}
 use Rattle.zst_laws.proofs.Standing.{HasOrigins, IsAbove, stands_on, stands_before_head, above_absent, above_before, above_before_head}
 use Rattle.zst_laws.proofs.Agreement.{dated_higher}
 
@@ -55,15 +55,14 @@ rise-inserted row (y ∷ ys) order less rise =
         let first : is_before (dataset_of_snapshot x) (dataset_of_snapshot y) ≡ true = ap (λ n. is_before n (dataset_of_snapshot y)) (sym same) ∙ h in
         absurd (true≢false (sym (or_left (is_before (dataset_of_snapshot x) (dataset_of_snapshot y)) _ first) ∙ behind))
 
-    by_name : (is_before (dataset_of_snapshot row) (dataset_of_snapshot y) ≡ true) ⊎ ((dataset_of_snapshot row ≡ dataset_of_snapshot y) × (row.number < y.number))
-        → is_before (dataset_of_snapshot row) (dataset_of_snapshot y) ≡ true
+    by_name : RowIsBefore dataset_of_snapshot (λ s. s.number) row y → is_before (dataset_of_snapshot row) (dataset_of_snapshot y) ≡ true
     by_name (inl h) = h
     by_name (inr (e, l)) = let m = All-head (λ s. s.number < row.number) y ys less in absurd (omega arith)
 
     go : (t : Bool) → snapshot_is_before row y ≡ t → AllPairs Rises (inserted snapshot_is_before row ys)
         → AllPairs Rises (if t then row ∷ y ∷ ys else y ∷ inserted snapshot_is_before row ys)
     go true e rest =
-        let h = by_name (snapshot_parts row y e) in
+        let h = by_name (row_before_parts dataset_of_snapshot (λ s. s.number) row y e) in
         AllPairs-cons Rises row (y ∷ ys)
         (All-cons (Rises row) y ys (other h y (inl refl))
         (All-weaker (λ x. snapshot_is_before x y ≡ false) (Rises row) (λ x behind. other h x (inr behind)) ys (AllPairs-head (λ a b. snapshot_is_before b a ≡ false) y ys order))) rise

@@ -5,10 +5,12 @@ pub mod Dated
 pub mod Faults
 pub mod Guids
 pub mod Included
+pub mod InsertedLaws
 pub mod Items
 pub mod Lines
 pub mod Lists
 pub mod Named
+pub mod OrderLaws
 pub mod PlanFault
 pub mod Points
 pub mod Pool

@@ -76,7 +76,8 @@ impl List {
 
     /// The least pair at or after this one, by object, then by index.
     pub fn next_from(&self, object: u64, block: u64) -> Option<(u64, u64)>
-        ensures least { IfSome result (λ pair. IsLeastFrom (has_pair self.now) object block pair.0 pair.1) }
+        ensures least { IfSome result (λ pair.
+            IsLeastFrom (has_pair self.now) object block pair.0 pair.1) }
         ensures none { IsNone result ↔ HasNoneFrom (has_pair self.now) object block }
     {
         let run = self.first_behind(object, block)?;

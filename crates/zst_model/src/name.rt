@@ -1,4 +1,4 @@
-ghost use Rattle.std.specs.Prelude.{◌≡◌, ℕ, ◌≤◌, List, length};
+ghost use Rattle.std.specs.Prelude.{◌≡◌, ℕ, ◌^◌, ◌<◌, ◌≤◌, List, All, length};
 
 use arrayvec::ArrayVec;
 use std::marker::Model;
@@ -21,7 +21,8 @@ impl NameText {
     /// The name of these bytes.
     pub fn new(bytes: &[u8]) -> NameText
         requires { length bytes.now ≤ 255 }
-        ensures { result ≡ bytes.now }
+        ensures same { result ≡ bytes.now }
+        ensures bytes { All (λ byte. byte < 2 ^ 8) result }
     {
         let mut name = ArrayVec::new();
         let _ = name.try_extend_from_slice(bytes);

@@ -45,7 +45,7 @@ pub enum PlanFault {
     NoOrigin {
         guid: u64,
     },
-    /// E12: the stream needs blocks of this guid that the base doesn't have.
+    /// E12: the base is redacted, and this guid isn't among those that it was redacted for.
     NotContained {
         guid: u64,
     },
@@ -69,7 +69,8 @@ pub enum PlanFault {
 
 /// The guid of the latest snapshot, and the one that was asked for.
 fn not_latest(have: u64, want: u64) -> Text
-    ensures { result.bytes ≡ concat (codes "not latest: have " ∷ guid_text have ∷ codes ", want " ∷ guid_text want ∷ []) }
+    ensures { result.bytes ≡ concat (codes "not latest: have " ∷ guid_text have
+        ∷ codes ", want " ∷ guid_text want ∷ []) }
 {
     let mut text = with_guid("not latest: have ", have);
     text.push_str(", want ");
@@ -79,7 +80,8 @@ fn not_latest(have: u64, want: u64) -> Text
 
 /// What the pool keeps, and what the stream states.
 fn wrong_resume(have: &ResumePlace, want: &ResumePlace) -> Text
-    ensures { result.bytes ≡ concat (codes "wrong resume: have " ∷ place_text have.now ∷ codes ", want " ∷ place_text want.now ∷ []) }
+    ensures { result.bytes ≡ concat (codes "wrong resume: have " ∷ place_text have.now
+        ∷ codes ", want " ∷ place_text want.now ∷ []) }
 {
     let mut text = plain("wrong resume: have ");
     have.push(&mut text);

@@ -121,7 +121,8 @@ pub(crate) fn paired(word: &str, number: u64, second: &str, other: u64) -> Text
 /// A word, the quantity that has a limit, and the limit.
 pub(crate) fn limited(which: &str, number: u64) -> Text
     requires { length which.now ≤ 100 }
-    ensures { result.bytes ≡ concat (codes "limit: " ∷ which.now ∷ codes " " ∷ decimal number ∷ []) }
+    ensures { result.bytes ≡ concat (codes "limit: " ∷ which.now
+        ∷ codes " " ∷ decimal number ∷ []) }
 {
     let mut text = joined("limit: ", which);
     text.push_str(" ");
@@ -132,7 +133,8 @@ pub(crate) fn limited(which: &str, number: u64) -> Text
 /// A word and a number, then what a checksum stated and what was found.
 pub(crate) fn summed(word: &str, number: u64, stated: &[u64; 4], found: &[u64; 4]) -> Text
     requires { length word.now ≤ 100 }
-    ensures { result.bytes ≡ concat (word.now ∷ decimal number ∷ codes ": stated " ∷ sums_text stated.now ∷ codes ", found " ∷ sums_text found.now ∷ []) }
+    ensures { result.bytes ≡ concat (word.now ∷ decimal number
+        ∷ codes ": stated " ∷ sums_text stated.now ∷ codes ", found " ∷ sums_text found.now ∷ []) }
 {
     let mut text = numbered(word, number);
     text.push_str(": stated ");

@@ -1,4 +1,4 @@
--- Lists by what they contain, and lists with a row put in its place.
+-- What a list of rows contains, and what stands in it with a row put in its place.
 use Rattle.std.proofs.Common.{inl, inr, ◌⊎◌, subst, ◌≡◌, ℕ, zero, suc, ◌+◌, Bool, true, false, cond, not, List, [], ◌∷◌, get_or, map, if◌then◌else◌, refl, sym, ap, ◌∙◌, add-one, arith}
 use Rattle.std.proofs.Math.Nat.{add_comm}
 use Rattle.std.specs.List.{All, AllPairs, Contains, insert, position_or_len}
@@ -6,17 +6,20 @@ use Rattle.std.proofs.lemmas.List.Elements.{Contains-get_or, All-nil, All-cons, 
 use Rattle.std.proofs.lemmas.List.Kept.{AllPairs-cons}
 use Rattle.zst_model.specs.Pool.{inserted}
 
--- what a list contains
+-- a list contains its first element
 pub contains_first : {A : Type 0} (x : A) (xs : List A) → Contains (x ∷ xs) x
 contains_first x xs = (0, omega arith, refl)
 
+-- what the others contain, the whole list contains
 pub contains_later : {A : Type 0} (y : A) (xs : List A) (x : A) → Contains xs x → Contains (y ∷ xs) x
 contains_later y xs x h = (suc h.0, omega (arith, h.1), h.2)
 
+-- what a list contains is its first element, or one of the others
 pub contains_cases : {A : Type 0} (y : A) (xs : List A) (x : A) → Contains (y ∷ xs) x → (y ≡ x) ⊎ Contains xs x
 contains_cases y xs x (zero, l, e) = inl e
 contains_cases y xs x (suc k, l, e) = inr (k, omega (arith, l), e)
 
+-- an empty list contains nothing
 pub contains_nothing : {A : Type 0} (x : A) → Contains [] x → ⊥
 contains_nothing x h = omega (arith, h.1)
 
@@ -24,7 +27,7 @@ contains_nothing x h = omega (arith, h.1)
 pub All-from_contains : {A : Type 0} (P : A → Type 0) (xs : List A) → ((x : A) → Contains xs x → P x) → All P xs
 All-from_contains P xs h k d l = h (get_or xs k d) (Contains-get_or xs k d l)
 
--- what a mapped list contains
+-- a mapped list contains what the elements are mapped to
 pub contains-map : {A B : Type 0} (f : A → B) (xs : List A) (x : A) → Contains xs x → Contains (map f xs) (f x)
 contains-map f [] x h = absurd (contains_nothing x h)
 contains-map f (y ∷ ys) x h = elim (contains_cases y ys x h) [
@@ -32,17 +35,27 @@ contains-map f (y ∷ ys) x h = elim (contains_cases y ys x h) [
   | inr later ↦ contains_later (f y) (map f ys) (f x) (contains-map f ys x later)
 ]
 
--- the first of a list against the others, and the others
+-- what a mapped list contains is what an element is mapped to
+pub map_contains : {A B : Type 0} (f : A → B) (xs : List A) (y : B) → Contains (map f xs) y → (x : A) × Contains xs x × (f x ≡ y)
+map_contains f [] y h = absurd (contains_nothing y h)
+map_contains f (x ∷ xs) y h = elim (contains_cases (f x) (map f xs) y h) [
+  | inl e ↦ (x, contains_first x xs, e)
+  | inr later ↦ let found = map_contains f xs y later in (found.0, contains_later x xs found.0 found.1, found.2)
+]
+
+-- any relation holds in an empty list
 pub AllPairs-nil : {A : Type 0} (R : A → A → Type 0) → AllPairs R []
 AllPairs-nil R i j d l b = absurd (omega arith)
 
+-- the first element is related to each of the others
 pub AllPairs-head : {A : Type 0} (R : A → A → Type 0) (y : A) (ys : List A) → AllPairs R (y ∷ ys) → All (R y) ys
 AllPairs-head R y ys h k d l = h 0 (suc k) d (omega arith) (omega arith)
 
+-- the others are related among themselves
 pub AllPairs-tail : {A : Type 0} (R : A → A → Type 0) (y : A) (ys : List A) → AllPairs R (y ∷ ys) → AllPairs R ys
 AllPairs-tail R y ys h i j d l b = h (suc i) (suc j) d (omega arith) (omega arith)
 
--- a relation that holds of the results where another holds of what they are made of
+-- a relation holds of the results where another holds of what they are made of
 pub AllPairs-map : {A B : Type 0} (R : A → A → Type 0) (S : B → B → Type 0) (f : A → B) → ((x y : A) → R x y → S (f x) (f y))
     → (xs : List A) → AllPairs R xs → AllPairs S (map f xs)
 AllPairs-map R S f keeps [] h = AllPairs-nil S
@@ -51,7 +64,7 @@ AllPairs-map R S f keeps (x ∷ xs) h =
     (All-map (S (f x)) f xs (All-weaker (R x) (λ y. S (f x) (f y)) (λ y. keeps x y) xs (AllPairs-head R x xs h)))
     (AllPairs-map R S f keeps xs (AllPairs-tail R x xs h))
 
--- what a list contains with a row put in
+-- what a list contains with a row put in is the row, or was there
 pub contains-inserted : {A : Type 0} (comes_before : A → A → Bool) (row : A) (xs : List A) (x : A)
     → Contains (inserted comes_before row xs) x → (row ≡ x) ⊎ Contains xs x
 unfolding inserted
@@ -70,6 +83,17 @@ contains-inserted {A = A} comes_before row (y ∷ ys) x h = go (comes_before row
       | inr k ↦ later (rest k)
     ]
 
+-- the row that was put in is there
+pub inserted_has_row : {A : Type 0} (comes_before : A → A → Bool) (row : A) (xs : List A) → Contains (inserted comes_before row xs) row
+unfolding inserted
+inserted_has_row comes_before row [] = contains_first row []
+inserted_has_row {A = A} comes_before row (y ∷ ys) = go (comes_before row y) (inserted_has_row comes_before row ys)
+  where
+    go : (t : Bool) → Contains (inserted comes_before row ys) row → Contains (if t then row ∷ y ∷ ys else y ∷ inserted comes_before row ys) row
+    go true k = contains_first row (y ∷ ys)
+    go false k = contains_later y (inserted comes_before row ys) row k
+
+-- what was there is there with a row put in
 pub inserted_has_rest : {A : Type 0} (comes_before : A → A → Bool) (row : A) (xs : List A) (x : A) → Contains xs x → Contains (inserted comes_before row xs) x
 unfolding inserted
 inserted_has_rest comes_before row [] x h = absurd (contains_nothing x h)
@@ -82,6 +106,7 @@ inserted_has_rest {A = A} comes_before row (y ∷ ys) x h = go (comes_before row
       | inr k ↦ contains_later y (inserted comes_before row ys) x (rest k)
     ]
 
+-- what holds of the row and of all others holds of all with the row put in
 pub All-inserted : {A : Type 0} (P : A → Type 0) (comes_before : A → A → Bool) (row : A) (xs : List A)
     → P row → All P xs → All P (inserted comes_before row xs)
 All-inserted {A = A} P comes_before row xs p h = All-from_contains P (inserted comes_before row xs) (λ x k. go x (contains-inserted comes_before row xs x k))
@@ -90,7 +115,7 @@ All-inserted {A = A} P comes_before row xs p h = All-from_contains P (inserted c
     go x (inl e) = subst P e p
     go x (inr k) = All-contains P xs x h k
 
--- a row put in its place: the relation holds of it and each other row, on the side where it comes to stand
+-- the row is related to each other row on the side where it comes to stand, so all are related with it put in
 pub AllPairs-inserted : {A : Type 0} (R : A → A → Type 0) (comes_before : A → A → Bool) (row : A) (xs : List A)
     → ((x : A) → Contains xs x → comes_before row x ≡ true → R row x)
     → ((x : A) → Contains xs x → comes_before row x ≡ false → R x row)
