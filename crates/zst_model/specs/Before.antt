@@ -1,5 +1,5 @@
 -- Which snapshots and bookmarks stand before a snapshot, a head or a partial state.
-use Rattle.std.specs.Prelude.{ℕ, ◌<◌, ◌≤◌, ◌≡◌, ◌⊎◌, true, List, Option, Some, None, Contains, AllPairs, All}
+use Rattle.std.specs.Prelude.{ℕ, ◌<◌, ◌≡◌, ◌⊎◌, List, Option, Some, None, Contains}
 use Rattle.zst_model.specs.Pool.{Pool, Dataset, Snapshot, Bookmark, Partial, HasDataset, dataset_of_snapshot, dataset_of_bookmark}
 
 -- a number below a bound; every number is below no bound

@@ -2,7 +2,6 @@
 use Rattle.std.specs.Prelude.{ℕ, pred, ◌==◌, if◌then◌else◌, List, [], ◌∷◌, ◌++◌, length, flat_map, map, filter, codes, decimal, Option, Some, None, is_some, bytes_eq, not}
 use Rattle.std.specs.List.{concat}
 use Rattle.hex.specs.Hex.{encode_lower}
-use Rattle.zst_model.specs.declared.attr.Attr.{Attr}
 use Rattle.zst_model.specs.Texts.{guid_text}
 use Rattle.zst_model.specs.State.{Object, end_of, number_bound}
 use Rattle.zst_model.specs.Items.{rising}

@@ -1,9 +1,9 @@
 -- Which pools are sound: what a later state hasn't dated since is as it was in each snapshot before it.
-use Rattle.std.specs.Prelude.{ℕ, ◌<◌, ◌≤◌, ◌≡◌, true, List, All, AllPairs, Contains}
+use Rattle.std.specs.Prelude.{ℕ, ◌<◌, ◌≤◌, ◌≡◌, true, All, AllPairs, Contains}
 use Rattle.zst_model.specs.State.{attr_at, content_at, is_number, index_bound}
 use Rattle.zst_model.specs.Dated.{DatedState}
 use Rattle.zst_model.specs.Pool.{Pool, Dataset, Snapshot, Bookmark, Partial, HasDataset, dataset_of_snapshot, dataset_of_bookmark}
-use Rattle.zst_model.specs.Before.{IsOrigin, IsMadeOf, IsBeforeSnapshot, IsBeforeHead, IsBeforePartial}
+use Rattle.zst_model.specs.Before.{IsOrigin, IsBeforeSnapshot, IsBeforeHead, IsBeforePartial}
 
 -- each number and index that the later state dates at or below the snapshot's number has in the snapshot the same content and the same date
 pub record Agrees (earlier : Snapshot) (later : DatedState) : Type 0 where

@@ -1,5 +1,5 @@
 -- What a command makes of a pool, or its first refusal: where several come, the outermost one is the first.
-use Rattle.std.specs.Prelude.{◌≡◌, ◌<◌, ◌≤◌, IfSome, ℕ, ◌+◌, ◌*◌, ◌-◌, ◌^◌, Bool, true, false, List, [], ◌∷◌, ◌++◌, length, map, filter, count_by, replicate, Option, Some, None, is_some, option_map, Result, Ok, Err, if◌then◌else◌, nat_le, nat_lt, bytes_eq, not, codes}
+use Rattle.std.specs.Prelude.{◌≡◌, ◌<◌, ◌≤◌, IfSome, ℕ, ◌+◌, ◌*◌, ◌-◌, ◌^◌, true, false, List, [], ◌∷◌, ◌++◌, length, map, count_by, replicate, Option, Some, None, is_some, option_map, Result, Ok, Err, if◌then◌else◌, nat_lt, bytes_eq, not, codes}
 use Rattle.zst_names.specs.Names.{IsDataset, IsSnapshot, dataset_of}
 use Rattle.zst_model.specs.declared.apply_fault.ApplyFault.{ApplyFault}
 use Rattle.zst_model.specs.declared.apply_fault.ApplyFault.TheVariants.{NoObject}
@@ -18,11 +18,11 @@ use Rattle.zst_model.specs.declared.named.Holder.TheVariants as holders
 use Rattle.zst_model.specs.declared.plan_fault.PlanFault.TheVariants as plans
 use Rattle.zst_model.specs.declared.refusal.Refusal.{Refusal}
 use Rattle.zst_model.specs.declared.refusal.Refusal.TheVariants as refusals
-use Rattle.zst_model.specs.State.{Block, Hole, Redacted, Data, Object, number_bound, index_bound, is_block_size}
+use Rattle.zst_model.specs.State.{Block, Hole, Redacted, Data, number_bound, index_bound, is_block_size}
 use Rattle.zst_model.specs.Apply.{unless, ◌>>=◌}
 use Rattle.zst_model.specs.Items.{spill_change}
 use Rattle.zst_model.specs.Dated.{DatedState, size_at, apply_all_dated}
-use Rattle.zst_model.specs.Pool.{Pool, Dataset, Snapshot, Partial, dataset_named, snapshot_named, partial_of, is_before, snapshot_is_before, inserted, untouched}
+use Rattle.zst_model.specs.Pool.{Pool, Dataset, Snapshot, dataset_named, snapshot_named, partial_of, is_before, snapshot_is_before, inserted, untouched}
 use Rattle.zst_model.specs.Lines.{ok_line, pool_lines, object_lines, data_line}
 
 -- a name of a dataset or a snapshot, which have objects
