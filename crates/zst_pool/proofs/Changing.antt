@@ -1,5 +1,5 @@
 -- What the definitions of changes make of a head.
-use Rattle.std.specs.Prelude.{Result, Ok, Err, OnOk, IfErr}
+use Rattle.std.specs.Prelude.{Result, Ok, Err, OnOk, IfErr, IsErrAnd}
 use Rattle.std.proofs.Common.{◌≡◌, ℕ, ◌+◌, ◌*◌, ◌≤◌, ◌<◌, ◌^◌, Bool, true, false, ◌||◌, ◌&&◌, ◌==◌, not, length, length-append, map, List, [], ◌∷◌, Option, Some, None, is_some, nat_lt, if◌then◌else◌, refl, sym, ap, ◌∙◌, subst, arith}
 use Rattle.std.proofs.Math.Nat.{mul-mod_left, zero-mul, mul-pos}
 use Rattle.std.proofs.Math.ListN.{length-replicate}
@@ -14,19 +14,23 @@ use Rattle.zst_model.specs.declared.item.Change.{Change}
 use Rattle.zst_model.specs.declared.item.Change.TheVariants.{Free, Put, Spill, Write}
 use Rattle.zst_model.specs.declared.item.Item.{Item}
 use Rattle.zst_model.specs.declared.item.Item.TheVariants.{At, FreeObjects}
+use Rattle.zst_model.specs.declared.plan_fault.PlanFault.{PlanFault}
 use Rattle.zst_model.specs.declared.refusal.Refusal.{Refusal}
 use Rattle.zst_model.specs.declared.refusal.Refusal.TheVariants as refusals
 use Rattle.zst_model.specs.State.{State, Object, Hole, Data, IsObjectOrNone, is_odd_size, attr_at, number_bound, index_bound}
 use Rattle.zst_model.specs.Apply.{unless, ◌>>=◌, apply, apply_change, put_at, within, is_unaligned, attr_with}
 use Rattle.zst_model.specs.Dated.{DatedState, apply_dated, apply_all_dated, size_at, touches_index, touches_number}
 use Rattle.zst_model.specs.Pool.{Pool}
+use Rattle.zst_model.specs.Refusal.{refusal_of}
 use Rattle.zst_model.specs.Step.{applied, cannot_apply, committed, in_indices, in_numbers, of_applying, filled, punched, written}
-use Rattle.zst_pool.specs.Checks.{ChangesHead, freed, next_of, put_in, with_head_of}
+use Rattle.zst_pool.specs.Checks.{ChangesHead, PlansHead, freed, next_of, put_in, with_head_of}
 use Rattle.zst_objset.specs.Meaning.{Blocks, AttrIs, SetIs}
 use Rattle.zst_objset.specs.Rows.{Lists}
 use Rattle.zst_pool.specs.Faults.{WriteFault}
 use Rattle.zst_pool.specs.declared.fault.PoolFault.{PoolFault}
+use Rattle.zst_pool.specs.declared.fault.PoolFault.TheVariants.{Plan}
 use Rattle.zst_pool.proofs.Doing.{write_fault}
+use Rattle.zst_pool.proofs.Judging.{err_is}
 use Rattle.zst_model.specs.declared.attr.ObjectHead.{ObjectHead}
 use Rattle.zst_model.specs.Items.{spill_change}
 use Rattle.zst_objset.specs.declared.rows.StoredObject.{StoredObject}
@@ -43,6 +47,17 @@ indices_pass past rest test = ap (λ b. unless b (refusals.Limit quantities.Bloc
 pub indices_end : {A : Type 0} (past : ℕ) (rest : Result A Refusal) → nat_lt (2 ^ 43) past ≡ true → in_indices past rest ≡ Err (refusals.Limit quantities.Block (2 ^ 43))
 unfolding index_bound
 indices_end past rest test = ap (λ b. unless b (refusals.Limit quantities.Block (2 ^ 43)) rest) test
+
+-- what refuses a change refuses its command
+pub refused : (name : List ℕ) (pool : Pool) {change : Result DatedState Refusal} {refusal : Refusal} → change ≡ Err refusal → (change >>= λ after. committed (with_head_of name after pool)) ≡ Err refusal
+refused name pool is = ap (λ (r : Result DatedState Refusal). r >>= λ after. committed (with_head_of name after pool)) is
+
+-- a change that can be made, of a pool whose last commit was made
+pub planned_last : {T : Type 0} (Makes : T → DatedState → Type 0) (name : List ℕ) (pool : Pool) {change : Result DatedState Refusal} {after : DatedState} (fault : PlanFault) (result : Result T PoolFault)
+    → IsErrAnd result (λ e. e ≡ Plan fault) → change ≡ Ok after → committed (with_head_of name after pool) ≡ Err (refusal_of fault) → PlansHead Makes name pool change result
+planned_last Makes name pool {change = change} fault result answer made last =
+    let is = ap (λ (r : Result DatedState Refusal). r >>= λ after. committed (with_head_of name after pool)) made ∙ last in
+    subst (PlansHead Makes name pool change) (sym (err_is result (Plan fault) answer)) (is, tt)
 
 -- one item
 pub applied_one : (pool : Pool) (item : Item) (head after : DatedState) → apply_dated (pool.number + 1) item head ≡ Ok after → applied pool (item ∷ []) head ≡ Ok after
@@ -94,14 +109,26 @@ at_there number k change head object after there made =
     ap (λ (r : Result (Option Object) ApplyFault). (r >>= λ (o : Option Object). Ok (put_at head.state k o)) >>= λ state. Ok (dated number (At k change) head state))
     (ap (apply_change change) there ∙ made)
 
+-- an object is there, with blocks of so many bytes
+abbrev pub IsThere : Option Object → ℕ → Type 0
+IsThere o size = (object : Object) × (o ≡ Some object) × (object.attr.block_size ≡ size)
+
 -- what is kept of a number says whether its object is there
-pub absent_at : (has : Blocks) (o : Option Object) → AttrIs has None (attr_at o) → o ≡ None
+absent_at : (has : Blocks) (o : Option Object) → AttrIs has None (attr_at o) → o ≡ None
 absent_at has None is = refl
 absent_at has (Some object) is = absurd is
 
-pub there_at : (has : Blocks) (stored : StoredObject) (o : Option Object) → AttrIs has (Some stored) (attr_at o) → (object : Object) × (o ≡ Some object) × (object.attr.block_size ≡ stored.head.block_size)
+there_at : (has : Blocks) (stored : StoredObject) (o : Option Object) → AttrIs has (Some stored) (attr_at o) → IsThere o stored.head.block_size
 there_at has stored None is = absurd is
 there_at has stored (Some object) is = (object, refl, is.size_is)
+
+-- the object that a row on loan stands for, or none
+pub stored_at : (has : Blocks) (row : Option (Bor StoredObject)) (stored : StoredObject) (o : Option Object) → option_copied row ≡ Some stored → AttrIs has (option_copied row) (attr_at o)
+    → IsThere o stored.head.block_size
+stored_at has row stored o same is = there_at has stored o (subst (λ (s : Option StoredObject). AttrIs has s (attr_at o)) same is)
+
+pub none_at : (has : Blocks) (row : Option (Bor StoredObject)) (o : Option Object) → option_copied row ≡ None → AttrIs has (option_copied row) (attr_at o) → o ≡ None
+none_at has row o same is = absent_at has o (subst (λ (s : Option StoredObject). AttrIs has s (attr_at o)) same is)
 
 pub none_copied : (o : Option (Bor StoredObject)) → is_some o ≡ false → option_copied o ≡ None
 none_copied None h = refl

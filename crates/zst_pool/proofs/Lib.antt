@@ -9,6 +9,7 @@ pub mod Judging
 pub mod Known
 pub mod Matching
 pub mod NextPools
+pub mod OnHeads
 pub mod Opened
 pub mod Parts
 pub mod Replying

@@ -1,5 +1,5 @@
 -- How the parts of a command follow one another.
-use Rattle.std.specs.Prelude.{Result, Ok, Err, OnErr}
+use Rattle.std.specs.Prelude.{Result, Ok, Err, IsErrAnd, OnErr}
 use Rattle.std.proofs.Common.{◌≡◌, ℕ, ◌+◌, Bool, true, false, ◌||◌, refl, sym, ap, ◌∙◌, subst, length, arith}
 use Rattle.std.proofs.lemmas.Bool.{true≢false}
 use Rattle.zst_outside.specs.Causes.{Rose-earlier}
@@ -10,15 +10,19 @@ use Rattle.zst_block.specs.BlocksLaws.{IsTaken-head, FillsFree-reads, FillsFree-
 use Rattle.zst_uber.specs.Body.{InRange}
 use Rattle.zst_uber.specs.Slots.{IsNext}
 use Rattle.zst_uber.specs.declared.uber.Uber.{Uber}
+use Rattle.zst_model.specs.declared.refusal.Refusal.{Refusal}
 use Rattle.zst_model.specs.Pool.{Pool}
+use Rattle.zst_model.specs.Step.{Stepped}
+use Rattle.zst_pool.specs.declared.kept.Kept.{Kept}
 use Rattle.zst_dir.specs.Rows.{Rows}
-use Rattle.zst_pool.specs.Faults.{HasDiskCause, is_disk_fault}
+use Rattle.zst_pool.specs.Faults.{HasDiskCause, StepFault, is_disk_fault}
 use Rattle.zst_pool.specs.Reads.{Describes, Rests, free_by}
-use Rattle.zst_pool.specs.Work.{Ready, Works}
+use Rattle.zst_pool.specs.Work.{Did, Ready, Works}
 use Rattle.zst_pool.specs.declared.fault.PoolFault.{PoolFault}
 use Rattle.zst_pool.specs.declared.fault.PoolFault.TheVariants.{Plan, CannotApply, Redacted, Full, Damaged, NoPool, BadVersion, DiskFault, Failed, OutOfMemory}
-use Rattle.zst_pool.proofs.Doing.{free_by_fits}
+use Rattle.zst_pool.proofs.Doing.{fell, free_by_fits}
 use Rattle.zst_pool.proofs.Growing.{Describes-grows}
+use Rattle.zst_pool.proofs.Judging.{err_is}
 
 -- a fault is the disk's whatever the part would have given
 pub disk_fault_same : (T U : Type 0) (fault : PoolFault) → is_disk_fault {T = T} (Err fault) ≡ is_disk_fault {T = U} (Err fault)
@@ -46,30 +50,19 @@ failed_then first mid last disk one two = two ∙ ap (λ b. b || disk) (one ∙ 
 pub cause_then : {T U : Type 0} (first mid last : ℕ) (value : T) (r : Result U PoolFault) → HasDiskCause {T = T} first mid (Ok value) → HasDiskCause mid last r → HasDiskCause first last r
 cause_then first mid last value r one two = record { later = omega (arith, one.later, two.later); fault = λ is. Rose-earlier first mid last one.later (two.fault is) }
 
-module _ (T U : Type 0) (old : DiskState) (space : FreeSectors) (failed : Bool) (new : DiskState) (less : FreeSectors) (now : Bool) where
-  -- a part that fell is one of a command that fell so
-  pub works_err : (fault : PoolFault) (r : Result U PoolFault) → r ≡ Err fault → Works {T = T} old space failed new less now (Err fault) → Works old space failed new less now r
-  works_err fault r same works =
-      let fell : Works {T = U} old space failed new less now (Err fault) = record {
-        fills = works.fills;
-        fits = works.fits;
-        head = works.head;
-        latest_stays = works.latest_stays;
-        failed = works.failed ∙ ap (λ b. failed || b) (disk_fault_same T U fault);
-        cause = record { later = works.cause.later; fault = λ is. let disk : fault ≡ DiskFault = cc in works.cause.fault (ap (λ f. Err f) disk) };
-      } in
-      subst (λ (x : Result U PoolFault). Works old space failed new less now x) (sym same) fell
-
-  -- a part that went well is one of a command that fell by no fault of the disk
-  pub works_ok : (value : T) (r : Result U PoolFault) → is_disk_fault r ≡ false → Works {T = T} old space failed new less now (Ok value) → Works old space failed new less now r
-  works_ok value r apart works = record {
-    fills = works.fills;
-    fits = works.fits;
-    head = works.head;
-    latest_stays = works.latest_stays;
-    failed = works.failed ∙ ap (λ b. failed || b) (sym apart);
-    cause = record { later = works.cause.later; fault = λ is. absurd (not_disk r apart is) };
-  }
+-- a part that fell is one of a command that fell so
+pub works_err : (T U : Type 0) (old : DiskState) (space : FreeSectors) (failed : Bool) (new : DiskState) (less : FreeSectors) (now : Bool) (fault : PoolFault) (r : Result U PoolFault)
+    → r ≡ Err fault → Works {T = T} old space failed new less now (Err fault) → Works old space failed new less now r
+works_err T U old space failed new less now fault r same works =
+    let fell : Works {T = U} old space failed new less now (Err fault) = record {
+      fills = works.fills;
+      fits = works.fits;
+      head = works.head;
+      latest_stays = works.latest_stays;
+      failed = works.failed ∙ ap (λ b. failed || b) (disk_fault_same T U fault);
+      cause = record { later = works.cause.later; fault = λ is. let disk : fault ≡ DiskFault = cc in works.cause.fault (ap (λ f. Err f) disk) };
+    } in
+    subst (λ (x : Result U PoolFault). Works old space failed new less now x) (sym same) fell
 
 -- one part and then another
 pub works_then : (T U : Type 0) (old : DiskState) (space : FreeSectors) (failed : Bool) (mid : DiskState) (less : FreeSectors) (then : Bool) (new : DiskState) (least : FreeSectors) (now : Bool)
@@ -116,3 +109,17 @@ pub described_on : (start now : DiskState) (space : FreeSectors) (uber : Uber) (
     → Describes uber rows pool (Has now.seen space)
 described_on start now space uber rows pool rests fills =
     Describes-grows uber rows pool (Has start.seen (free_by uber)) (Has now.seen space) (KeepsBlocks-fills start now (free_by uber) space fills) rests.reads.described
+
+-- over the sectors that are free by the body a command begins with what was described
+pub described_in : (old : DiskState) (space : FreeSectors) (uber : Uber) (rows : Rows) (pool : Pool) → space ≡ free_by uber → Rests old uber rows pool → Describes uber rows pool (Has old.seen space)
+described_in old space uber rows pool free rests = subst (λ (s : FreeSectors). Describes uber rows pool (Has old.seen s)) (sym free) rests.reads.described
+
+-- and before its first part it wrote nothing
+pub fills_none : (old : DiskState) (space : FreeSectors) (uber : Uber) → space ≡ free_by uber → FillsFree old (free_by uber) old space
+fills_none old space uber free = subst (λ (s : FreeSectors). FillsFree old s old space) free (FillsFree-reads old old space (OnlyReads-none old))
+
+-- a command that fell once it had written into free sectors alone
+pub did_fall : (old new : DiskState) (space : FreeSectors) (uber : Uber) (rows : Rows) (pool : Pool) (definition : Result Stepped Refusal) (fault : PoolFault) (answer : Result Kept PoolFault)
+    → IsErrAnd answer (λ e. e ≡ fault) → Rests old uber rows pool → FillsFree old (free_by uber) new space → StepFault (Unit {0}) definition fault → Did old new uber rows pool definition answer
+did_fall old new space uber rows pool definition fault answer is rests fills refused =
+    subst (Did old new uber rows pool definition) (sym (err_is answer fault is)) (fell old new space uber rows pool (taken old uber rows pool rests) rests fills definition fault refused)

@@ -12,10 +12,10 @@ use Rattle.zst_block.specs.Blocks.{Has}
 use Rattle.zst_uber.specs.declared.uber.Uber.{Uber}
 use Rattle.zst_model.specs.State.{is_block_size}
 use Rattle.zst_objset.specs.Rows.{Lists}
-use Rattle.zst_objset.specs.Spelling.{IsRun, lists_bytes}
+use Rattle.zst_objset.specs.Spelling.{lists_bytes}
 use Rattle.zst_dir.specs.Rows.{Rows}
 use Rattle.zst_dir.specs.Spelling.{dir_bytes}
-use Rattle.zst_pool.specs.Faults.{IsStepFault, LoadFault, WriteFault}
+use Rattle.zst_pool.specs.Faults.{IsStepFault, WriteFault}
 use Rattle.zst_pool.specs.Reads.{HasDir, dir_sectors, free_by}
 use Rattle.zst_pool.specs.Room.{AreHeadRows, FindsNoRoom, FullBelow, NotFull, sectors_of, set_sectors}
 use Rattle.zst_pool.specs.declared.fault.PoolFault.{PoolFault}
@@ -84,15 +84,7 @@ pub full-then : {T : Type 0} (old new : FreeSectors) (took count : ℕ) (result 
 full-then old new took count result le is =
     IfErr-weaker result (FullBelow new count) (FullBelow old (took + count)) (λ fault full need largest same. omega (arith, le, full need largest same)) is
 
--- a read never answers E24
-pub NotFull-load : {T : Type 0} (result : Result T PoolFault) → IfErr result LoadFault → IfErr result NotFull
-NotFull-load result is = IfErr-weaker result LoadFault NotFull (λ fault load need largest same. subst LoadFault same load) is
-
--- rows are no longer than their run
-pub rows-short : (lists : Lists) (bytes : List ℕ) → IsRun lists bytes → length (lists_bytes lists) ≤ length bytes
-rows-short lists bytes run = omega (arith, ap length run.spelled ∙ length-append (lists_bytes lists) (zeros run.fill))
-
--- nor is a directory that is there
+-- a directory that is there is no longer than its run
 pub dir-short : (image : List ℕ) (space : FreeSectors) (uber : Uber) (rows : Rows) → HasDir (Has image space) uber rows → length (dir_bytes rows) ≤ uber.dir_root.length
 dir-short image space uber rows has =
     let block = has.there.block in

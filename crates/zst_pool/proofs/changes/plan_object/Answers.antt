@@ -1,18 +1,14 @@
-use Rattle.std.specs.Prelude.{Result, Ok}
-use Rattle.std.proofs.Common.{◌≡◌, ℕ, ◌+◌, ◌^◌, ◌∷◌, map, false, nat_lt, sym, ap, ◌∙◌, subst, arith}
+use Rattle.std.specs.Prelude.{Result}
+use Rattle.std.proofs.Common.{◌≡◌, ℕ, ◌+◌, ◌^◌, ◌∷◌, map, false, nat_lt, sym, ap, ◌∙◌, arith}
 use Rattle.std.proofs.lemmas.Bool.Decides.{nat_tests}
 use Rattle.zst_model.specs.declared.apply_fault.ApplyFault.{ApplyFault}
 use Rattle.zst_model.specs.declared.item.Change.TheVariants.{Put}
 use Rattle.zst_model.specs.declared.item.Item.TheVariants.{At}
-use Rattle.zst_model.specs.declared.refusal.Refusal.{Refusal}
 use Rattle.zst_model.specs.Apply.{◌>>=◌}
 use Rattle.zst_model.specs.Dated.{DatedState, apply_all_dated}
 use Rattle.zst_model.specs.Items.{spill_change}
-use Rattle.zst_model.specs.Step.{committed}
-use Rattle.zst_pool.specs.Checks.{PlansHead, put_in, with_head_of}
-use Rattle.zst_pool.specs.declared.fault.PoolFault.TheVariants.{Plan}
-use Rattle.zst_pool.proofs.Changing.{put_is, put_steps}
-use Rattle.zst_pool.proofs.Judging.{err_is}
+use Rattle.zst_pool.specs.Checks.{with_head_of}
+use Rattle.zst_pool.proofs.Changing.{planned_last, put_is, put_steps}
 use Rattle.zst_pool.proofs.changes.plan_object.Goals as goal
 
 pub returns-clause-planned : goal.returns-clause-planned
@@ -30,10 +26,7 @@ returns-clause-planned c = λ head bonus spill name pool old number.
 pub returns-in_err-check_number-clause-planned : goal.returns-in_err-check_number-clause-planned
 returns-in_err-check_number-clause-planned c = λ head bonus spill name pool old number.
     let k = c.args.object in
-    let fault = c.in_err-check_number.field-0.0 in
     let low : nat_lt (2 ^ 48) (k + 1) ≡ false = grind (arith, nat_tests, c.if-object-ge-NUMBER_BOUND.false) in
     let made = put_steps (pool.number + 1) k head bonus spill old in
-    let is = ap (λ (r : Result DatedState Refusal). r >>= λ after. committed (with_head_of name after pool)) (put_is pool k head bonus spill old made.0 made.1 low made.2)
-    ∙ c.in_err-check_number.ensures.judged (with_head_of name made.0 pool) number in
-    subst (PlansHead {T = Unit {0}} (λ found after. apply_all_dated (c.args.number + 1) (map (At k) (Put head bonus false 0 ∷ spill_change spill)) old ≡ Ok after) name pool (put_in pool k head bonus spill old))
-    (sym (err_is c.from_residual.result (Plan fault) c.from_residual.ensures.1)) (is, tt)
+    planned_last _ name pool c.in_err-check_number.field-0.0 c.from_residual.result c.from_residual.ensures.1 (put_is pool k head bonus spill old made.0 made.1 low made.2)
+    (c.in_err-check_number.ensures.judged (with_head_of name made.0 pool) number)

@@ -1,19 +1,16 @@
-use Rattle.std.proofs.Common.{sym, ap, ◌∙◌, subst, length, arith}
-use Rattle.zst_outside.specs.Images.{OnlyReads-none}
-use Rattle.zst_space.specs.FreeSectors.{FreeSectors}
-use Rattle.zst_block.specs.Blocks.{Has, FillsFree}
-use Rattle.zst_block.specs.BlocksLaws.{FillsFree-reads}
+use Rattle.std.proofs.Common.{ap, ◌∙◌, subst, length, arith}
+use Rattle.zst_block.specs.Blocks.{Has}
 use Rattle.zst_names.specs.Names.{IsDataset}
 use Rattle.zst_model.specs.Pool.{is_before, inserted}
 use Rattle.zst_model.specs.Step.{with_dataset}
 use Rattle.zst_pool.specs.Checks.{next_of, with_new}
 use Rattle.zst_dir.specs.Rows.{Rows}
-use Rattle.zst_pool.specs.Reads.{Describes, free_by}
 use Rattle.zst_dir.specs.declared.rows.Dataset.{Dataset}
 use Rattle.zst_dir.specs.Spelling.{dir_bytes}
 use Rattle.zst_pool.proofs.Doing.{did}
 use Rattle.zst_pool.proofs.Known.{if_known_write}
 use Rattle.zst_pool.proofs.NextPools.{dataset_is_next, dataset_is_lawful}
+use Rattle.zst_pool.proofs.Parts.{described_in, fills_none}
 use Rattle.zst_pool.proofs.Room.{no_room-dir}
 use Rattle.zst_pool.proofs.commands.make_dataset.Goals as goal
 
@@ -21,22 +18,20 @@ pub returns-clause-did : goal.returns-clause-did
 returns-clause-did g c = λ pool told rests.
     let old = g.D.Disk.state c.args.io.now.disk.now in
     let space = c.args.io.now.space in
-    let body = c.args.kept.now.body in
-    let rows = c.args.kept.now.dir in
+    let kept = c.args.kept.now in
     let kind = c.args.kind in
     let name = c.args.name.now in
     let done = next_of (with_new kind name pool) in
-    let described = subst (λ (s : FreeSectors). Describes body rows pool (Has old.seen s)) (sym c.requires.space) rests.reads.described in
+    let described = described_in old space kept.body kept.dir pool c.requires.space rests in
     let made = c.in_ok-check_new_dataset.ensures.judged old.seen space kind pool described.rows_are ∙ c.in_ok-check_number.ensures.judged (with_new kind name pool) described.number in
     let named = subst IsDataset (ap (λ (d : Dataset). d.name) c.new_dataset.ensures.same) c.new_dataset.ensures.row.name in
     let lawful = dataset_is_lawful c.steps_keep_pools.ensures.pools kind name pool done c.requires.kind named described.lawful made in
     let dir = c.in_ok-add_dataset.ensures.added
     ∙ ap (λ (d : Rows). record d { datasets = inserted (λ (a b : Dataset). is_before a.name b.name) c.new_dataset.result d.datasets }) c.in_ok-dir.ensures
-    ∙ ap (λ (row : Dataset). record rows { datasets = inserted (λ (a b : Dataset). is_before a.name b.name) row rows.datasets }) c.new_dataset.ensures.same in
-    let next = dataset_is_next (Has old.seen space) body rows c.add_dataset.new.self pool kind name described dir lawful in
-    let fills = subst (λ (s : FreeSectors). FillsFree old (free_by body) old s) (sym c.requires.space) (FillsFree-reads old old (free_by body) (OnlyReads-none old)) in
-    did old (g.D.Disk.state c.commit_dir.new.io.disk.now) body rows pool (with_dataset kind name pool) done made c.commit_dir.result
-    (c.commit_dir.ensures.commits c.args.io.now.disk.now rows pool done.pool told rests fills next)
+    ∙ ap (λ (row : Dataset). record kept.dir { datasets = inserted (λ (a b : Dataset). is_before a.name b.name) row kept.dir.datasets }) c.new_dataset.ensures.same in
+    let next = dataset_is_next (Has old.seen space) kept.body kept.dir c.add_dataset.new.self pool kind name described dir lawful in
+    did old (g.D.Disk.state c.commit_dir.new.io.disk.now) kept.body kept.dir pool (with_dataset kind name pool) done made c.commit_dir.result
+    (c.commit_dir.ensures.commits c.args.io.now.disk.now kept.dir pool done.pool told rests (fills_none old space kept.body c.requires.space) next)
 
 pub returns-clause-known : goal.returns-clause-known
 returns-clause-known g c = if_known_write c.commit_dir.result c.commit_dir.ensures.fault

@@ -1,13 +1,19 @@
 use Rattle.std.proofs.Common.{refl, ap, ◌||◌, sym, ◌∙◌}
 use Rattle.std.proofs.lemmas.Result.{err_from_is_err_and}
-use Rattle.std.specs.Prelude.{Err}
+use Rattle.std.specs.Prelude.{Err, IsTrue}
+use Rattle.zst_outside.specs.Images.{Leaves}
+use Rattle.zst_block.specs.Blocks.{Has}
 use Rattle.zst_block.specs.BlocksLaws.{IsTaken-head}
+use Rattle.zst_model.specs.Pool.{Pool}
+use Rattle.zst_pool.specs.Work.{NextIs, OldOrNext}
 use Rattle.zst_pool.specs.Faults.{of_uber, is_disk_fault}
 use Rattle.zst_pool.specs.declared.fault.PoolFault.{PoolFault}
 use Rattle.zst_pool.specs.declared.kept.Kept.{Kept}
-use Rattle.zst_pool.proofs.Committed.{prepared, commit-moments, commit-rests, over-refused, disk-refused, Ready-works, Commits-over, Stays-from}
+use Rattle.zst_pool.proofs.Committed.{IsPrepared, prepared, commit-moments, commit-rests, over-refused, disk-refused, Ready-works, Commits-over, Stays-from}
 use Rattle.zst_pool.proofs.Parts.{failed_then}
+use Rattle.zst_pool.proofs.committing.commit_dir.Given.{Over}
 use Rattle.zst_pool.proofs.committing.commit_dir.Goals as goal
+use Rattle.zst_pool.proofs.committing.commit_dir.Goals.{After-commit_event}
 
 pub commit_event-requires-clause-settled : goal.commit_event-requires-clause-settled
 commit_event-requires-clause-settled g c = λ told. c.write_dir.ensures.works.head (c.requires.ready.head told)
@@ -28,8 +34,12 @@ returns-in_err-root-clause-stays g c = λ sound.
     let p = err_from_is_err_and c.from_residual.result c.from_residual.ensures.1 in
     rw (p.1) (Ready-works g.D.Disk.tells_reads _ _ c.args.io.now.space c.write_dir.new.io.space _ _ c.write_dir.result c.args.body.now c.write_dir.ensures.works c.requires.ready)
 
-pub returns-in-Ok-clause-over : goal.returns-in-Ok-clause-over
-returns-in-Ok-clause-over g c = λ next told is.
+-- what the event was begun with, and what each image inside it reads as
+began : (g : Over) (c : After-commit_event g) (next : Pool) → IsTrue g.D.Disk.tells_reads
+    → NextIs (Has (g.D.Disk.state c.args.io.now.disk.now).seen c.args.io.now.space) c.args.body.now c.args.guids c.args.dir next
+    → IsPrepared c.next_body-next.result c.args.dir next (g.D.Disk.state c.write_dir.new.io.disk.now).seen
+    × Leaves (g.D.Disk.state c.args.io.now.disk.now) (g.D.Disk.state c.commit_event.new.io.disk.now) (OldOrNext c.args.io.now.space (g.D.Disk.state c.args.io.now.disk.now) next)
+began g c next told is =
     let old = g.D.Disk.state c.args.io.now.disk.now in
     let mid = g.D.Disk.state c.write_dir.new.io.disk.now in
     let space = c.args.io.now.space in
@@ -37,9 +47,14 @@ returns-in-Ok-clause-over g c = λ next told is.
     let ready = prepared old mid space less c.args.body.now c.next_body-next.result c.args.guids c.end.result c.in_ok-root.length c.in_ok-root.root c.args.dir next
     c.next_body-next.ensures c.end.ensures c.in_ok-root.ensures.sectors c.requires.sectors c.in_ok-root.ensures.extents c.requires.ready.in_range c.write_dir.ensures.works.fills c.write_dir.ensures.works.fits
     (g.met.D.Disk.seen_size c.write_dir.new.io.disk.now told) c.commit_event.ensures.uber_fits c.in_ok-root.ensures.kind (c.in_ok-root.ensures.there told) is in
+    (ready, commit-moments old mid _ space less c.next_body-next.result c.args.dir next (IsTaken-head old.size space c.requires.fits) c.write_dir.ensures.works.fills ready (c.commit_event.ensures.moments told))
+
+pub returns-in-Ok-clause-over : goal.returns-in-Ok-clause-over
+returns-in-Ok-clause-over g c = λ next told is.
+    let event = began g (goal.at.returns-in-Ok-clause-over g c).After-commit_event next told is in
     record {
-      moments = commit-moments old mid _ space less c.next_body-next.result c.args.dir next (IsTaken-head old.size space c.requires.fits) c.write_dir.ensures.works.fills ready (c.commit_event.ensures.moments told);
-      answer = commit-rests mid _ c.next_body-next.result c.args.dir next ready c.commit_event.ensures.writes (c.in-Ok.ensures.stands told) c.in-Ok.ensures.durable;
+      moments = event.1;
+      answer = commit-rests (g.D.Disk.state c.write_dir.new.io.disk.now) _ c.next_body-next.result c.args.dir next event.0 c.commit_event.ensures.writes (c.in-Ok.ensures.stands told) c.in-Ok.ensures.durable;
     }
 
 pub returns-in-Ok-clause-commits : goal.returns-in-Ok-clause-commits
@@ -48,17 +63,8 @@ returns-in-Ok-clause-commits g c = λ start rows pool next told rests fills is.
 
 pub returns-in-Err-clause-over : goal.returns-in-Err-clause-over
 returns-in-Err-clause-over g c = λ next told is.
-    let old = g.D.Disk.state c.args.io.now.disk.now in
-    let mid = g.D.Disk.state c.write_dir.new.io.disk.now in
-    let space = c.args.io.now.space in
-    let less = c.write_dir.new.io.space in
-    let ready = prepared old mid space less c.args.body.now c.next_body-next.result c.args.guids c.end.result c.in_ok-root.length c.in_ok-root.root c.args.dir next
-    c.next_body-next.ensures c.end.ensures c.in_ok-root.ensures.sectors c.requires.sectors c.in_ok-root.ensures.extents c.requires.ready.in_range c.write_dir.ensures.works.fills c.write_dir.ensures.works.fits
-    (g.met.D.Disk.seen_size c.write_dir.new.io.disk.now told) c.commit_event.ensures.uber_fits c.in_ok-root.ensures.kind (c.in_ok-root.ensures.there told) is in
-    record {
-      moments = commit-moments old mid _ space less c.next_body-next.result c.args.dir next (IsTaken-head old.size space c.requires.fits) c.write_dir.ensures.works.fills ready (c.commit_event.ensures.moments told);
-      answer = disk-refused _ c.in-Err.fault c.from.result c.from.ensures (c.in-Err.ensures.only c.in-Err.fault refl);
-    }
+    let event = began g (goal.at.returns-in-Err-clause-over g c).After-commit_event next told is in
+    record { moments = event.1; answer = disk-refused _ c.in-Err.fault c.from.result c.from.ensures (c.in-Err.ensures.only c.in-Err.fault refl) }
 
 pub returns-in-Err-clause-commits : goal.returns-in-Err-clause-commits
 returns-in-Err-clause-commits g c = λ start rows pool next told rests fills is.

@@ -1,11 +1,13 @@
-use Rattle.std.specs.Prelude.{Result}
+use Rattle.std.specs.Prelude.{IsErrAnd, Result}
 use Rattle.std.proofs.Common.{◌≡◌, sym, ap, ◌∙◌, subst, ℕ, ◌+◌, ◌*◌, ◌/◌, length, arith}
-use Rattle.zst_block.specs.Blocks.{Has}
+use Rattle.zst_outside.specs.Images.{DiskState}
+use Rattle.zst_block.specs.Blocks.{FillsFree, Has}
 use Rattle.zst_block.specs.BlocksLaws.{FillsFree-then}
+use Rattle.zst_model.specs.Pool.{Pool}
 use Rattle.zst_pool.specs.Checks.{next_of, with_head_of}
 use Rattle.zst_dir.specs.Rows.{Rows, with_head}
-use Rattle.zst_pool.specs.Faults.{is_disk_fault}
-use Rattle.zst_pool.specs.Reads.{free_by, dir_sectors}
+use Rattle.zst_pool.specs.Faults.{WriteFault, is_disk_fault}
+use Rattle.zst_pool.specs.Reads.{Rests, free_by, dir_sectors}
 use Rattle.zst_pool.specs.Work.{Commits, Ready}
 use Rattle.zst_pool.specs.declared.fault.PoolFault.{PoolFault}
 use Rattle.zst_pool.specs.declared.fault.PoolFault.TheVariants.{OutOfMemory}
@@ -17,36 +19,34 @@ use Rattle.zst_pool.proofs.Judging.{err_is}
 use Rattle.zst_pool.proofs.NextPools.{head_is_next}
 use Rattle.zst_pool.proofs.Parts.{ready_works, failed_then, cause_then, on_err, taken, described_on}
 use Rattle.zst_pool.proofs.Room.{full-run, full-then, if_err}
+use Rattle.zst_pool.proofs.heads.commit_head.Given.{Over}
 use Rattle.zst_pool.proofs.heads.commit_head.Goals as goal
+use Rattle.zst_pool.proofs.heads.commit_head.Goals.{After-store}
 
 pub commit_dir-requires-clause-ready : goal.commit_dir-requires-clause-ready
 commit_dir-requires-clause-ready g c =
     ready_works g.D.Disk.tells_reads _ c.args.io.now.space c.args.io.now.failed _ c.store.new.io.space c.store.new.io.failed _ c.args.kept.now.body c.requires.ready c.store.ensures.works
 
+-- a commit that fell once its rows were stored, or before
+fell_at : (g : Over) (c : After-store g) (from : DiskState) (pool next : Pool) (fault : PoolFault) (answer : Result Kept PoolFault) → Rests from c.args.kept.now.body c.args.kept.now.dir pool
+    → FillsFree from (free_by c.args.kept.now.body) (g.D.Disk.state c.args.io.now.disk.now) c.args.io.now.space → WriteFault fault → IsErrAnd answer (λ e. e ≡ fault)
+    → Commits from (g.D.Disk.state c.store.new.io.disk.now) c.args.kept.now.body c.args.kept.now.dir pool next answer
+fell_at g c from pool next fault answer rests fills known is =
+    let new = g.D.Disk.state c.store.new.io.disk.now in
+    let kept = c.args.kept.now in
+    let through = FillsFree-then from (g.D.Disk.state c.args.io.now.disk.now) new (free_by kept.body) c.args.io.now.space c.store.new.io.space fills c.store.ensures.works.fills in
+    subst (Commits from new kept.body kept.dir pool next) (sym (err_is answer fault is))
+    (fell_before from new c.store.new.io.space kept.body kept.dir pool (taken from kept.body kept.dir pool rests) rests through next fault known)
+
 pub returns-in_err-head-clause-commits : goal.returns-in_err-head-clause-commits
 returns-in_err-head-clause-commits g c = λ start pool head told rests fills is lawful.
-    let from = g.D.Disk.state start in
-    let old = g.D.Disk.state c.args.io.now.disk.now in
-    let new = g.D.Disk.state c.store.new.io.disk.now in
-    let body = c.args.kept.now.body in
-    let rows = c.args.kept.now.dir in
-    let next = (next_of (with_head_of c.args.name.now head pool)).pool in
-    let fault = c.in_err-head.field-0.0 in
-    let through = FillsFree-then from old new (free_by body) c.args.io.now.space c.store.new.io.space fills c.store.ensures.works.fills in
-    subst (λ (r : Result Kept PoolFault). Commits from new body rows pool next r) (sym (err_is c.from_residual.result fault c.from_residual.ensures.1))
-    (fell_before from new c.store.new.io.space body rows pool (taken from body rows pool rests) rests through next fault c.in_err-head.ensures.fault)
+    fell_at g (goal.at.returns-in_err-head-clause-commits g c).After-store (g.D.Disk.state start) pool (next_of (with_head_of c.args.name.now head pool)).pool c.in_err-head.field-0.0 c.from_residual.result
+    rests fills c.in_err-head.ensures.fault c.from_residual.ensures.1
 
 pub returns-in_err-dir-clause-commits : goal.returns-in_err-dir-clause-commits
 returns-in_err-dir-clause-commits g c = λ start pool head told rests fills is lawful.
-    let from = g.D.Disk.state start in
-    let old = g.D.Disk.state c.args.io.now.disk.now in
-    let new = g.D.Disk.state c.store.new.io.disk.now in
-    let body = c.args.kept.now.body in
-    let rows = c.args.kept.now.dir in
-    let next = (next_of (with_head_of c.args.name.now head pool)).pool in
-    let through = FillsFree-then from old new (free_by body) c.args.io.now.space c.store.new.io.space fills c.store.ensures.works.fills in
-    subst (λ (r : Result Kept PoolFault). Commits from new body rows pool next r) (sym (err_is c.from_residual-in_err-dir.result OutOfMemory c.from_residual-in_err-dir.ensures.1))
-    (fell_before from new c.store.new.io.space body rows pool (taken from body rows pool rests) rests through next OutOfMemory tt)
+    let fell = c.from_residual-in_err-dir in
+    fell_at g (goal.at.returns-in_err-dir-clause-commits g c).After-store (g.D.Disk.state start) pool (next_of (with_head_of c.args.name.now head pool)).pool OutOfMemory fell.result rests fills tt fell.ensures.1
 
 pub returns-clause-commits : goal.returns-clause-commits
 returns-clause-commits g c = λ start pool head told rests fills is lawful.
