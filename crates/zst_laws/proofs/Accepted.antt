@@ -1,5 +1,5 @@
 -- What an accepted command found, and what it made of the pool.
-use Rattle.std.proofs.Common.{inl, inr, ◌≡◌, ℕ, ◌+◌, ◌≤◌, false, List, length, Some, is_some, Result, Ok, sym, ap}
+use Rattle.std.proofs.Common.{◌≡◌, ℕ, ◌+◌, ◌≤◌, false, List, length, Some, is_some, Result, Ok, sym, ap}
 use Rattle.zst_names.specs.Names.{dataset_of}
 use Rattle.zst_model.specs.declared.apply_fault.ApplyFault.TheVariants.{NoObject}
 use Rattle.zst_model.specs.declared.command.Command.TheVariants as commands
@@ -12,7 +12,6 @@ use Rattle.zst_model.specs.Dated.{DatedState}
 use Rattle.zst_model.specs.Lines.{object_lines, pool_lines}
 use Rattle.zst_model.specs.Pool.{Pool, Dataset, dataset_named, snapshot_named, partial_of, is_before, snapshot_is_before, inserted}
 use Rattle.zst_model.specs.Step.{Stepped, no_such, exists_already, cannot_apply, committed, count_datasets, most_datasets, most_snapshots, last_guid, new_dataset, with_dataset, on_head, snapshot_of, with_snapshot, state_named, answered, block_read, stepped}
-use Rattle.zst_laws.specs.Stepping.{StepsCount}
 use Rattle.zst_laws.proofs.Runs.{unless_ok, ok_inj}
 use Rattle.zst_laws.proofs.Rows.{or_else_ok, limited_ok, committed_ok, on_dataset_ok, on_head_ok}
 
@@ -75,18 +74,5 @@ list_objects_keeps now name pool after h =
 pub commit_counts : (pool : Pool) (after : Stepped) → committed pool ≡ Ok after → after.pool.number ≡ pool.number + 1
 commit_counts pool after h = sym (ap (λ s. s.pool.number) (committed_ok pool after h).1)
 
-head_counts : (name : List ℕ) (pool : Pool) (change : DatedState → Result DatedState Refusal) (after : Stepped) → on_head name pool change ≡ Ok after → after.pool.number ≡ pool.number + 1
+pub head_counts : (name : List ℕ) (pool : Pool) (change : DatedState → Result DatedState Refusal) (after : Stepped) → on_head name pool change ≡ Ok after → after.pool.number ≡ pool.number + 1
 head_counts name pool change after h = commit_counts _ after (on_head_ok name pool change after h).5
-
-pub steps_count : StepsCount
-unfolding stepped
-steps_count now (commands.Fs name) pool after h = inr (commit_counts _ after (with_dataset_ok 2 name pool after h).made)
-steps_count now (commands.Volume name) pool after h = inr (commit_counts _ after (with_dataset_ok 3 name pool after h).made)
-steps_count now (commands.Object name k head bonus spill) pool after h = inr (head_counts name pool _ after h)
-steps_count now (commands.Write name k i bytes) pool after h = inr (head_counts name pool _ after h)
-steps_count now (commands.Punch name k first count) pool after h = inr (head_counts name pool _ after h)
-steps_count now (commands.Free name first count) pool after h = inr (head_counts name pool _ after h)
-steps_count now (commands.Snapshot name) pool after h = inr (commit_counts _ after (with_snapshot_ok now name pool after h).made)
-steps_count now (commands.Read name k i) pool after h = inl (read_keeps now name k i pool after h)
-steps_count now commands.List pool after h = inl (list_keeps now pool after h)
-steps_count now (commands.ListObjects name) pool after h = inl (list_objects_keeps now name pool after h)

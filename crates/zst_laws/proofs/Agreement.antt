@@ -1,12 +1,13 @@
 -- Items of a later commit, and what agrees with the state under them.
 use Rattle.std.proofs.Common.{◌≡◌, ℕ, ◌<◌, ◌≤◌, Bool, true, false, List, [], ◌∷◌, Ok, sym, ◌∙◌, subst, arith, if◌then◌else◌}
 use Rattle.zst_model.specs.declared.item.Item.{Item}
-use Rattle.zst_model.specs.State.{IsState}
+use Rattle.zst_model.specs.State.{State, IsState}
 use Rattle.zst_model.specs.Dated.{DatedState, touches_number, touches_index, apply_dated, apply_all_dated}
 use Rattle.zst_model.specs.Pool.{Snapshot}
 use Rattle.zst_model.specs.Sound.{Agrees, DatedUpTo}
+use Rattle.zst_model.specs.Target.{Remembers}
 use Rattle.zst_laws.specs.Dating.{AreLawfulItems}
-use Rattle.zst_laws.proofs.Dating.{changes_dated, dates_exact, kept_date, dated_parts, applied_state}
+use Rattle.zst_laws.proofs.Dating.{changes_dated, dates_exact, kept_date, remembered_on, dated_parts, applied_state}
 use Rattle.zst_laws.proofs.Runs.{bind_ok, ok_inj}
 
 -- a snapshot that agrees with a state agrees with it after an item of a later commit
@@ -48,8 +49,9 @@ dated_on next item snap after applied h =
     most true old date l e = omega arith
     most false old date l e = omega arith
 
--- the next commit's items keep what agrees with a head, and its dates
+-- the next commit's items keep what a head remembers, what agrees with it, and its dates
 pub record Keeps (next : ℕ) (head after : DatedState) : Type 0 where
+  pub remembers : (number : ℕ) (state : State) → number < next → Remembers head number state → Remembers after number state
   pub agrees : (earlier : Snapshot) → earlier.number < next → Agrees earlier head → Agrees earlier after
   pub dated : DatedUpTo next head → DatedUpTo next after
 
@@ -58,6 +60,7 @@ pub keeps_one : (next : ℕ) (item : Item) (head after : DatedState) → IsState
 keeps_one next item head after s applied =
     let found = bind_ok (apply_dated next item head) (apply_all_dated next []) after applied in
     let whole : apply_dated next item head ≡ Ok after = found.1 ∙ found.2 in record {
+      remembers = λ number state less h. remembered_on head after number next item state s less h whole;
       agrees = λ earlier less h. agrees_on earlier next item head after less s whole h;
       dated = dated_on next item head after whole;
     }
@@ -65,11 +68,12 @@ keeps_one next item head after s applied =
 -- lawful items keep them
 pub keeps_all : (next : ℕ) (items : List Item) (head after : DatedState) → IsState head.state → AreLawfulItems items head.state → apply_all_dated next items head ≡ Ok after
     → Keeps next head after
-keeps_all next [] head after s lawful applied = subst (Keeps next head) (ok_inj _ _ applied) (record { agrees = λ earlier less h. h; dated = λ h. h })
+keeps_all next [] head after s lawful applied = subst (Keeps next head) (ok_inj _ _ applied) (record { remembers = λ number state less h. h; agrees = λ earlier less h. h; dated = λ h. h })
 keeps_all next (item ∷ rest) head after s lawful applied =
     let found = bind_ok (apply_dated next item head) (apply_all_dated next rest) after applied in
     let state = (dated_parts next item head found.0 found.1).0 in
     let more = keeps_all next rest found.0 after (applied_state next item head found.0 s lawful.0 found.1) (lawful.1 found.0.state state) found.2 in record {
+      remembers = λ number old less h. more.remembers number old less (remembered_on head found.0 number next item old s less h found.1);
       agrees = λ earlier less h. more.agrees earlier less (agrees_on earlier next item head found.0 less s found.1 h);
       dated = λ h. more.dated (dated_on next item head found.0 found.1 h);
     }

@@ -20,7 +20,10 @@ mod Receives
 mod Standing
 mod Agreement
 mod Rows
+mod SourceBases
 mod Accepted
+mod Counted
+mod Descent
 mod OtherDatasets
 mod SoundHeads
 mod SoundDatasets
@@ -31,3 +34,9 @@ mod LawfulPools
 mod StepExamples
 mod Refused
 mod RedactExamples
+mod CloneExamples
+mod Meant
+mod LinesTold
+mod SentObjects
+mod SoundClones
+mod Commanded

@@ -1,67 +1,74 @@
 -- The next commit's pool with other datasets and the same snapshots.
-use Rattle.std.proofs.Common.{inl, inr, ℕ, ◌+◌, ◌≤◌, List, Some, None, All, Contains, subst, sym, ◌∙◌, arith}
-use Rattle.std.proofs.lemmas.List.Elements.{All-weaker}
-use Rattle.zst_model.specs.Pool.{Pool, Dataset, Snapshot, Partial, HasDataset, dataset_of_snapshot, dataset_of_bookmark}
-use Rattle.zst_model.specs.Before.{IsBeforeHead, IsBeforePartial, StandsBefore}
-use Rattle.zst_model.specs.Sound.{Agrees, DatedUpTo, IsBookmarkOf, Sound}
+use Rattle.std.proofs.Common.{inl, ◌⊎◌, refl, ℕ, ◌+◌, ◌≤◌, List, Some, Contains, arith}
+use Rattle.std.proofs.lemmas.List.Elements.{All-contains}
+use Rattle.zst_model.specs.Pool.{Pool, Dataset, Snapshot, Partial, HasDataset, IsLinked, dataset_of_snapshot}
+use Rattle.zst_model.specs.Rows.{Row, snapshot_row, head_row, partial_row}
+use Rattle.zst_model.specs.Sound.{Sound}
 use Rattle.zst_laws.proofs.Agreement.{dated_higher}
-use Rattle.zst_laws.proofs.Standing.{HasOrigins, stands_on}
+use Rattle.zst_laws.proofs.Standing.{HasOrigins, stands_on, before_partial_on}
+use Rattle.zst_laws.proofs.Descent.{IsRow, SnapshotRow, HeadRow, PartialRow, snapshot_has_row, partial_has_row, row_cases, ComesFrom, IsFirst, IsNext, next_sound}
 
 -- the next commit's pool with these datasets
 abbrev pub with_datasets : Pool → List Dataset → Pool
 with_datasets pool datasets = record pool { datasets = datasets; number = pool.number + 1 }
 
--- the datasets have the old names and no new origin, and what stands before one of them has an old one of the same name
-pub record KeepsNames (pool : Pool) (datasets : List Dataset) : Type 0 where
+-- a row comes from one of the pool, or is a first
+abbrev pub Descends : Pool → Pool → Row → Type 0
+Descends pool other row = ComesFrom pool other row ⊎ IsFirst pool other row
+
+-- the datasets have the old names, no new origin and no new target, and each of their heads comes from an old one, or is a first
+pub record KeepsDatasets (pool : Pool) (datasets : List Dataset) : Type 0 where
   pub origins : HasOrigins pool (with_datasets pool datasets)
   pub names : (name : List ℕ) → HasDataset pool name → HasDataset (with_datasets pool datasets) name
-  pub old : (earlier : Snapshot) (later : Dataset) → Contains pool.snapshots earlier → Contains datasets later → StandsBefore pool earlier later.name None
-      → HasDataset pool later.name
+  pub targets : (partial : Partial) → Contains pool.partials partial → HasDataset (with_datasets pool datasets) partial.target → HasDataset pool partial.target
+  pub heads : (dataset : Dataset) → Contains datasets dataset → Descends pool (with_datasets pool datasets) (head_row (pool.number + 1) dataset)
 
-module _ (pool : Pool) (datasets : List Dataset) (keeps : KeepsNames pool datasets) where
-  -- what stands before a dataset of the new pool, or before a partial state, did so in the old one
-  pub before_name : (earlier : Snapshot) (later : Dataset) → IsBeforeHead (with_datasets pool datasets) earlier later → StandsBefore pool earlier later.name None
-  before_name earlier later before = stands_on (with_datasets pool datasets) pool earlier keeps.origins later.name None before
+module _ (pool : Pool) (datasets : List Dataset) (keeps : KeepsDatasets pool datasets) where
+  abbrev next_pool : Pool
+  next_pool = with_datasets pool datasets
 
-  before_partial : (earlier : Snapshot) → Contains pool.snapshots earlier → (partial : Partial) → IsBeforePartial (with_datasets pool datasets) earlier partial → IsBeforePartial pool earlier partial
-  before_partial earlier here partial (inl base) = inl (record { there = base.there; is_base = base.is_base })
-  before_partial earlier here partial (inr (inl (base, is, before))) =
-      inr (inl (
-        base,
-        record { there = is.there; is_base = is.is_base },
-        stands_on (with_datasets pool datasets) pool earlier keeps.origins (dataset_of_snapshot base) (Some base.number) before,
-      ))
-  before_partial earlier here partial (inr (inr (later, there, target, before))) =
-      let stands = before_name earlier later before in
-      let (old, is, named) = keeps.old earlier later here there stands in
-      inr (inr (old, is, named ∙ target, subst (λ name. StandsBefore pool earlier name None) (sym named) stands))
-
-  -- heads with which the snapshots before them agree, and with dates up to the commit's number, leave a sound pool
-  pub datasets_sound : Sound pool
-      → ((earlier : Snapshot) (later : Dataset) → Contains pool.snapshots earlier → Contains datasets later → StandsBefore pool earlier later.name None → Agrees earlier later.head)
-      → All (λ dataset. DatedUpTo (pool.number + 1) dataset.head) datasets
-      → Sound (with_datasets pool datasets)
-  datasets_sound sound agree dated = record {
-    agree = record {
-      snapshots = λ earlier later here there before.
-          sound.agree.snapshots earlier later here there
-          (stands_on (with_datasets pool datasets) pool earlier keeps.origins (dataset_of_snapshot later) (Some later.number) before);
-      heads = λ earlier later here there before. agree earlier later here there (before_name earlier later before);
-      partials = λ earlier later here there before. sound.agree.partials earlier later here there (before_partial earlier here later before);
-    };
-    dated = record {
-      heads = dated;
-      partials = All-weaker (λ p. DatedUpTo pool.number p.objects) (λ p. DatedUpTo (pool.number + 1) p.objects)
-          (λ p h. dated_higher pool.number (pool.number + 1) (omega arith) p.objects h) pool.partials sound.dated.partials;
-      snapshots = sound.dated.snapshots;
-      numbers = All-weaker (λ s. s.number ≤ pool.number) (λ s. s.number ≤ pool.number + 1) (λ s l. omega arith) pool.snapshots sound.dated.numbers;
-      rise = sound.dated.rise;
-      above = λ origin later here is. sound.dated.above origin later here (keeps.origins origin (dataset_of_snapshot later) is);
-    };
-    bookmarks = All-weaker (IsBookmarkOf pool) (IsBookmarkOf (with_datasets pool datasets)) (λ b h. record {
-      dataset = keeps.names (dataset_of_bookmark b) h.dataset;
-      above = λ origin is. h.above origin (keeps.origins origin (dataset_of_bookmark b) is);
-      number = let l = h.number in omega arith;
-      guid = h.guid;
-    }) pool.bookmarks sound.bookmarks;
+  snapshot_comes : (snapshot : Snapshot) → Contains pool.snapshots snapshot → ComesFrom pool next_pool (snapshot_row snapshot)
+  snapshot_comes snapshot there = record {
+    old = snapshot_row snapshot;
+    there = snapshot_has_row pool snapshot there;
+    before = λ source before. stands_on next_pool pool source keeps.origins (dataset_of_snapshot snapshot) (Some snapshot.number) before;
+    remembers = λ number state l h. h;
+    agrees = λ earlier l h. h;
+    dated = λ h. h;
   }
+
+  partial_comes : (partial : Partial) → Contains pool.partials partial → ComesFrom pool next_pool (partial_row (pool.number + 1) partial)
+  partial_comes partial there = record {
+    old = partial_row pool.number partial;
+    there = partial_has_row pool partial there;
+    before = λ source before. before_partial_on next_pool pool source partial (record {
+      origins = keeps.origins;
+      bases = λ base is. record { there = is.there; is_base = is.is_base };
+      target = keeps.targets partial there;
+      target_back = keeps.names partial.target;
+    }) before;
+    remembers = λ number state l h. h;
+    agrees = λ earlier l h. h;
+    dated = dated_higher pool.number (pool.number + 1) (omega arith) partial.objects;
+  }
+
+  row_descends : (row : Row) → IsRow next_pool row → Descends pool next_pool row
+  row_descends row (SnapshotRow snapshot there) = inl (snapshot_comes snapshot there)
+  row_descends row (HeadRow dataset there) = keeps.heads dataset there
+  row_descends row (PartialRow partial there) = inl (partial_comes partial there)
+
+  pub datasets_next : IsNext pool next_pool
+  datasets_next = record {
+    number = refl;
+    origins = keeps.origins;
+    names = keeps.names;
+    bookmarks = refl;
+    snapshots = λ snapshot there. inl there;
+    rows = λ row there. row_descends row (row_cases next_pool row there);
+  }
+
+  -- such datasets leave a sound pool
+  pub datasets_sound : IsLinked pool → Sound pool → Sound next_pool
+  datasets_sound linked sound = next_sound pool next_pool linked sound datasets_next sound.dated.rise
+      (λ earlier row here e there before.
+      let l : earlier.number ≤ pool.number = All-contains (λ s. s.number ≤ pool.number) pool.snapshots earlier sound.dated.numbers here in absurd (omega arith))

@@ -5,13 +5,16 @@ use Rattle.std.proofs.lemmas.List.Elements.{All-contains, All-weaker, All-nil, A
 use Rattle.std.proofs.lemmas.List.Kept.{AllPairs-cons}
 use Rattle.std.proofs.lemmas.Option.{same_Some}
 use Rattle.zst_model.specs.Dated.{DatedState}
-use Rattle.zst_model.specs.Pool.{Pool, Dataset, Snapshot, Bookmark, Partial, HasSnapshot, IsNamed, IsLinked, dataset_of_snapshot, dataset_of_bookmark, is_before, snapshot_is_before, inserted}
-use Rattle.zst_model.specs.Before.{IsOrigin, IsBase, IsBeforeSnapshot, IsBeforeHead, IsBeforePartial, StandsBefore}
-use Rattle.zst_model.specs.Sound.{Agrees, DatedUpTo, IsBookmarkOf, Sound}
+use Rattle.zst_model.specs.Pool.{Pool, Dataset, Snapshot, Partial, HasSnapshot, IsNamed, IsLinked, dataset_of_snapshot, is_before, snapshot_is_before, inserted}
+use Rattle.zst_model.specs.Before.{IsOrigin, IsBase, Source, OfSnapshot, StandsBefore, IsBeforeClone, IsBeforePartial, IsBefore}
+use Rattle.zst_model.specs.Rows.{Row, snapshot_row, head_row, partial_row}
+use Rattle.zst_model.specs.Sound.{Agrees, DatedUpTo, Sound}
+use Rattle.zst_model.specs.Target.{Remembers}
 use Rattle.zst_model.specs.InsertedLaws.{contains_cases, contains_nothing, contains-inserted, All-inserted, AllPairs-head, AllPairs-tail}
 use Rattle.zst_model.specs.OrderLaws.{not_before_itself, RowIsBefore, row_before_parts}
-use Rattle.zst_laws.proofs.Standing.{HasOrigins, IsAbove, stands_on, stands_before_head, above_absent, above_before, above_before_head}
+use Rattle.zst_laws.proofs.Standing.{HasOrigins, IsAbove, stands_on, before_partial_on, stands_before_head, above_marks, above_before, above_before_head}
 use Rattle.zst_laws.proofs.Agreement.{dated_higher}
+use Rattle.zst_laws.proofs.Descent.{Rises, IsRow, SnapshotRow, HeadRow, PartialRow, snapshot_has_row, head_has_row, partial_has_row, row_cases, ComesFrom, IsNext, next_sound}
 
 -- the names of two datasets are in order
 abbrev pub AreOrdered : Dataset → Dataset → Type 0
@@ -35,10 +38,6 @@ same_dataset (x ∷ xs) order a b here there same =
     go rest (inl e) (inr k) = absurd (behind a b e k same)
     go rest (inr k) (inl f) = absurd (behind b a f k (sym same))
     go rest (inr k) (inr l) = rest k l same
-
--- a later snapshot of a dataset has a greater number
-abbrev pub Rises : Snapshot → Snapshot → Type 0
-Rises a b = dataset_of_snapshot a ≡ dataset_of_snapshot b → a.number < b.number
 
 -- snapshots in their order, and a new one with the greatest number in its place: they rise where they did
 rise-inserted : (row : Snapshot) (xs : List Snapshot) → AllPairs (λ a b. snapshot_is_before b a ≡ false) xs → All (λ s. s.number < row.number) xs
@@ -84,8 +83,11 @@ abbrev pub with_new_snapshot : Pool → Snapshot → Pool
 with_new_snapshot pool row = record pool { guids = pool.guids + 1; snapshots = inserted snapshot_is_before row pool.snapshots; number = pool.number + 1 }
 
 module _ (pool : Pool) (row : Snapshot) (dataset : Dataset) (new : IsNew pool row dataset) (named : IsNamed pool) (linked : IsLinked pool) (sound : Sound pool) where
+  abbrev next_pool : Pool
+  next_pool = with_new_snapshot pool row
+
   -- a snapshot is the new one or an old one
-  new_or_old : (snapshot : Snapshot) → Contains (with_new_snapshot pool row).snapshots snapshot → (row ≡ snapshot) ⊎ Contains pool.snapshots snapshot
+  new_or_old : (snapshot : Snapshot) → Contains next_pool.snapshots snapshot → (row ≡ snapshot) ⊎ Contains pool.snapshots snapshot
   new_or_old snapshot there = contains-inserted snapshot_is_before row pool.snapshots snapshot there
 
   -- no name that is linked is the new snapshot's
@@ -94,7 +96,7 @@ module _ (pool : Pool) (row : Snapshot) (dataset : Dataset) (new : IsNew pool ro
   not_linked (Some name) has e = new.name_free (subst (HasSnapshot pool) (same_Some name row.name e) has)
 
   -- so the origins and bases are the same
-  snapshot_origins : HasOrigins pool (with_new_snapshot pool row)
+  snapshot_origins : HasOrigins pool next_pool
   snapshot_origins origin of is = go (new_or_old origin is.snapshot_there)
     where
       go : (row ≡ origin) ⊎ Contains pool.snapshots origin → IsOrigin pool origin of
@@ -102,7 +104,7 @@ module _ (pool : Pool) (row : Snapshot) (dataset : Dataset) (new : IsNew pool ro
           (is.is_origin ∙ ap (λ s. Some s.name) (sym e)))
       go (inr old) = record { dataset = is.dataset; there = is.there; named = is.named; snapshot_there = old; is_origin = is.is_origin }
 
-  snapshot_bases : (base : Snapshot) (partial : Partial) → Contains pool.partials partial → IsBase (with_new_snapshot pool row) base partial → IsBase pool base partial
+  snapshot_bases : (base : Snapshot) (partial : Partial) → Contains pool.partials partial → IsBase next_pool base partial → IsBase pool base partial
   snapshot_bases base partial there is = go (new_or_old base is.there)
     where
       go : (row ≡ base) ⊎ Contains pool.snapshots base → IsBase pool base partial
@@ -110,109 +112,121 @@ module _ (pool : Pool) (row : Snapshot) (dataset : Dataset) (new : IsNew pool ro
           (is.is_base ∙ ap (λ s. Some s.name) (sym e)))
       go (inr old) = record { there = old; is_base = is.is_base }
 
-  old_before : (earlier : Snapshot) (name : List ℕ) (bound : Option ℕ) → StandsBefore (with_new_snapshot pool row) earlier name bound → StandsBefore pool earlier name bound
-  old_before earlier name bound before = stands_on (with_new_snapshot pool row) pool earlier snapshot_origins name bound before
+  old_before : (source : Source) (name : List ℕ) (bound : Option ℕ) → StandsBefore next_pool source name bound → StandsBefore pool source name bound
+  old_before source name bound before = stands_on next_pool pool source snapshot_origins name bound before
+
+  old_before_partial : (source : Source) (partial : Partial) → Contains pool.partials partial → IsBeforePartial next_pool source partial → IsBeforePartial pool source partial
+  old_before_partial source partial there before = before_partial_on next_pool pool source partial (record {
+    origins = snapshot_origins;
+    bases = λ base is. snapshot_bases base partial there is;
+    target = λ has. has;
+    target_back = λ has. has;
+  }) before
+
+  -- the new snapshot's row comes from its dataset's head, and each other row is as it was
+  higher : (state : DatedState) → DatedUpTo pool.number state → DatedUpTo (pool.number + 1) state
+  higher state h = dated_higher pool.number (pool.number + 1) (omega arith) state h
+
+  new_comes : ComesFrom pool next_pool (snapshot_row row)
+  new_comes = record {
+    old = head_row pool.number dataset;
+    there = head_has_row pool dataset new.there;
+    before = λ source before.
+        subst (λ n. StandsBefore pool source n None) (sym new.named)
+        (stands_before_head pool source (dataset_of_snapshot row) (Some row.number) (old_before source (dataset_of_snapshot row) (Some row.number) before));
+    remembers = λ number state l h. subst (λ d. Remembers d number state) (sym new.objects) h;
+    agrees = λ earlier l h. subst (Agrees earlier) (sym new.objects) h;
+    dated = λ h. subst (DatedUpTo row.number) (sym new.objects) (subst (λ n. DatedUpTo n dataset.head) (sym new.number) (higher dataset.head h));
+  }
+
+  old_comes : (snapshot : Snapshot) → Contains pool.snapshots snapshot → ComesFrom pool next_pool (snapshot_row snapshot)
+  old_comes snapshot there = record {
+    old = snapshot_row snapshot;
+    there = snapshot_has_row pool snapshot there;
+    before = λ source before. old_before source (dataset_of_snapshot snapshot) (Some snapshot.number) before;
+    remembers = λ number state l h. h;
+    agrees = λ earlier l h. h;
+    dated = λ h. h;
+  }
+
+  row_comes : (later : Row) → IsRow next_pool later → ComesFrom pool next_pool later
+  row_comes later (SnapshotRow snapshot there) = elim (new_or_old snapshot there) [
+    | inl e ↦ subst (λ s. ComesFrom pool next_pool (snapshot_row s)) e new_comes
+    | inr old ↦ old_comes snapshot old
+  ]
+  row_comes later (HeadRow of there) = record {
+    old = head_row pool.number of;
+    there = head_has_row pool of there;
+    before = λ source before. old_before source of.name None before;
+    remembers = λ number state l h. h;
+    agrees = λ earlier l h. h;
+    dated = higher of.head;
+  }
+  row_comes later (PartialRow partial there) = record {
+    old = partial_row pool.number partial;
+    there = partial_has_row pool partial there;
+    before = λ source before. old_before_partial source partial there before;
+    remembers = λ number state l h. h;
+    agrees = λ earlier l h. h;
+    dated = higher partial.objects;
+  }
+
+  pub snapshot_next : IsNext pool next_pool
+  snapshot_next = record {
+    number = refl;
+    origins = snapshot_origins;
+    names = λ name has. has;
+    bookmarks = refl;
+    snapshots = λ snapshot there. elim (new_or_old snapshot there) [
+      | inl e ↦ inr (sym (ap (λ s. s.number) e) ∙ new.number)
+      | inr old ↦ inl old
+    ];
+    rows = λ later there. inl (row_comes later (row_cases next_pool later there));
+  }
 
   -- the new number is above all
-  is_above : IsAbove row pool
+  is_above : IsAbove (OfSnapshot row) pool
   is_above = All-weaker (λ s. s.number ≤ pool.number) (λ s. s.number < row.number) (λ s l. let e = new.number in omega arith) pool.snapshots sound.dated.numbers
 
   -- so the new snapshot stands before no snapshot
-  not_before : (later : Snapshot) → later.number ≤ row.number → IsBeforeSnapshot pool row later → ⊥
-  not_before later most before = above_before pool row is_above (dataset_of_snapshot later) later.number most before
+  not_before : (later : Snapshot) → later.number ≤ row.number → StandsBefore pool (OfSnapshot row) (dataset_of_snapshot later) (Some later.number) → ⊥
+  not_before later most before = above_before pool (OfSnapshot row) is_above (dataset_of_snapshot later) later.number most before
 
-  old_number : (later : Snapshot) → Contains pool.snapshots later → later.number ≤ row.number
-  old_number later there = let l : later.number < row.number = All-contains (λ s. s.number < row.number) pool.snapshots later is_above there in omega arith
+  next_number : (later : Snapshot) → (row ≡ later) ⊎ Contains pool.snapshots later → later.number ≤ row.number
+  next_number later (inl e) = let n = ap (λ s. s.number) e in omega arith
+  next_number later (inr there) = let l : later.number < row.number = All-contains (λ s. s.number < row.number) pool.snapshots later is_above there in omega arith
 
-  snapshots_agree : (earlier later : Snapshot) → IsBeforeSnapshot pool earlier later
-      → (row ≡ earlier) ⊎ Contains pool.snapshots earlier → (row ≡ later) ⊎ Contains pool.snapshots later → Agrees earlier later.objects
-  snapshots_agree earlier later before (inl e) (inl f) =
-      absurd (not_before later (let n : row.number ≡ later.number = ap (λ s. s.number) f in omega arith) (subst (λ s. IsBeforeSnapshot pool s later) (sym e) before))
-  snapshots_agree earlier later before (inl e) (inr there) = absurd (not_before later (old_number later there) (subst (λ s. IsBeforeSnapshot pool s later) (sym e) before))
-  snapshots_agree earlier later before (inr here) (inl f) =
-      subst (Agrees earlier) (sym new.objects ∙ ap (λ s. s.objects) f)
-      (sound.agree.heads earlier dataset here new.there
-      (subst (λ n. StandsBefore pool earlier n None) (ap dataset_of_snapshot (sym f) ∙ sym new.named)
-      (stands_before_head pool earlier (dataset_of_snapshot later) (Some later.number) before)))
-  snapshots_agree earlier later before (inr here) (inr there) = sound.agree.snapshots earlier later here there before
+  -- nor before a partial state
+  not_before_clone : (later : Partial) → IsBeforeClone pool (OfSnapshot row) later → ⊥
+  not_before_clone later clone = elim clone.before [
+    | inl marks ↦ above_marks pool (OfSnapshot row) is_above clone.base clone.is_base.there marks
+    | inr before ↦ not_before clone.base (next_number clone.base (inr clone.is_base.there)) before
+  ]
 
-  -- and agrees with its head, which is its own state
-  heads_agree : (earlier : Snapshot) (later : Dataset) → Contains pool.datasets later → IsBeforeHead pool earlier later
-      → (row ≡ earlier) ⊎ Contains pool.snapshots earlier → Agrees earlier later.head
-  heads_agree earlier later there before (inl e) =
-      let same : dataset_of_snapshot row ≡ later.name = above_before_head pool row is_above later.name (subst (λ s. StandsBefore pool s later.name None) (sym e) before) in
-      let one : dataset ≡ later = same_dataset pool.datasets named.datasets dataset later new.there there (new.named ∙ same) in
-      subst (Agrees earlier) (ap (λ s. s.objects) (sym e) ∙ new.objects ∙ ap (λ d. d.head) one)
+  not_before_partial : (later : Partial) → Contains pool.partials later → IsBeforePartial pool (OfSnapshot row) later → ⊥
+  not_before_partial later there (inl h) = new.not_received later there (sym (above_before_head pool (OfSnapshot row) is_above later.target h.before))
+  not_before_partial later there (inr h) = not_before_clone later h.1
+
+  -- but before the head of its dataset, whose state is its own
+  new_agrees : (later : Row) → IsBefore next_pool (OfSnapshot row) later.place → IsRow next_pool later → Agrees row later.objects
+  new_agrees later before (SnapshotRow snapshot there) =
+      absurd (not_before snapshot (next_number snapshot (new_or_old snapshot there)) (old_before (OfSnapshot row) (dataset_of_snapshot snapshot) (Some snapshot.number) before))
+  new_agrees later before (HeadRow of there) =
+      let same : dataset_of_snapshot row ≡ of.name = above_before_head pool (OfSnapshot row) is_above of.name (old_before (OfSnapshot row) of.name None before) in
+      let one : dataset ≡ of = same_dataset pool.datasets named.datasets dataset of new.there there (new.named ∙ same) in
+      subst (Agrees row) (new.objects ∙ ap (λ d. d.head) one)
       (record { numbers = λ k n d. refl; number_dates = λ k n d. refl; indices = λ k i n l d. refl; index_dates = λ k i n l d. refl })
-  heads_agree earlier later there before (inr here) = sound.agree.heads earlier later here there before
+  new_agrees later before (PartialRow partial there) = absurd (not_before_partial partial there (old_before_partial (OfSnapshot row) partial there before))
 
-  -- nor does it before a partial state
-  old_before_partial : (earlier : Snapshot) (later : Partial) → Contains pool.partials later → IsBeforePartial (with_new_snapshot pool row) earlier later → IsBeforePartial pool earlier later
-  old_before_partial earlier later there (inl is) = inl (snapshot_bases earlier later there is)
-  old_before_partial earlier later there (inr (inl (base, is, before))) =
-      inr (inl (base, snapshot_bases base later there is, old_before earlier (dataset_of_snapshot base) (Some base.number) before))
-  old_before_partial earlier later there (inr (inr (target, of, same, before))) = inr (inr (target, of, same, old_before earlier target.name None before))
-
-  not_before_partial : (later : Partial) → Contains pool.partials later → IsBeforePartial pool row later → ⊥
-  not_before_partial later there (inl is) = above_absent pool row is_above is.there
-  not_before_partial later there (inr (inl (base, is, before))) = not_before base (old_number base is.there) before
-  not_before_partial later there (inr (inr (target, of, same, before))) =
-      new.not_received later there (sym same ∙ sym (above_before_head pool row is_above target.name before))
-
-  partials_agree : (earlier : Snapshot) (later : Partial) → Contains pool.partials later → IsBeforePartial pool earlier later
+  agrees_of_new : (earlier : Snapshot) (later : Row) → IsRow next_pool later → earlier.number ≡ pool.number + 1 → IsBefore next_pool (OfSnapshot earlier) later.place
       → (row ≡ earlier) ⊎ Contains pool.snapshots earlier → Agrees earlier later.objects
-  partials_agree earlier later there before (inl e) = absurd (not_before_partial later there (subst (λ s. IsBeforePartial pool s later) (sym e) before))
-  partials_agree earlier later there before (inr here) = sound.agree.partials earlier later here there before
-
-  -- the new snapshot's origin is an old one, and no bookmark has its number
-  new_above : (origin later : Snapshot) → IsOrigin pool origin (dataset_of_snapshot later) → (row ≡ later) ⊎ Contains pool.snapshots later → origin.number < later.number
-  new_above origin later is (inl e) =
-      subst (λ s. origin.number < s.number) e (All-contains (λ s. s.number < row.number) pool.snapshots origin is_above is.snapshot_there)
-  new_above origin later is (inr there) = sound.dated.above origin later there is
-
-  new_bookmark : (bookmark : Bookmark) → IsBookmarkOf pool bookmark → IsBookmarkOf (with_new_snapshot pool row) bookmark
-  new_bookmark bookmark h = record {
-    dataset = h.dataset;
-    above = λ origin is. h.above origin (snapshot_origins origin (dataset_of_bookmark bookmark) is);
-    number = let l = h.number in omega arith;
-    guid = λ snapshot there of same. guid snapshot of same (new_or_old snapshot there);
-  }
-    where
-      guid : (snapshot : Snapshot) → dataset_of_snapshot snapshot ≡ dataset_of_bookmark bookmark → snapshot.number ≡ bookmark.number
-          → (row ≡ snapshot) ⊎ Contains pool.snapshots snapshot → bookmark.guid ≡ snapshot.guid
-      guid snapshot of same (inl e) =
-          let l = h.number in
-          let n = new.number in
-          let m : row.number ≡ snapshot.number = ap (λ s. s.number) e in
-          absurd (omega arith)
-      guid snapshot of same (inr there) = h.guid snapshot there of same
+  agrees_of_new earlier later is n before (inl e) =
+      subst (λ s. Agrees s later.objects) e (new_agrees later (subst (λ s. IsBefore next_pool (OfSnapshot s) later.place) (sym e) before) is)
+  agrees_of_new earlier later is n before (inr here) =
+      let l : earlier.number ≤ pool.number = All-contains (λ s. s.number ≤ pool.number) pool.snapshots earlier sound.dated.numbers here in absurd (omega arith)
 
   -- a new snapshot of a head leaves a sound pool
-  pub snapshot_sound : Sound (with_new_snapshot pool row)
-  snapshot_sound = record {
-    agree = record {
-      snapshots = λ earlier later here there before.
-          snapshots_agree earlier later (old_before earlier (dataset_of_snapshot later) (Some later.number) before) (new_or_old earlier here) (new_or_old later there);
-      heads = λ earlier later here there before. heads_agree earlier later there (old_before earlier later.name None before) (new_or_old earlier here);
-      partials = λ earlier later here there before. partials_agree earlier later there (old_before_partial earlier later there before) (new_or_old earlier here);
-    };
-    dated = record {
-      heads = All-weaker (λ d. DatedUpTo pool.number d.head) (λ d. DatedUpTo (pool.number + 1) d.head) (λ d h. higher d.head h) pool.datasets sound.dated.heads;
-      partials = All-weaker (λ p. DatedUpTo pool.number p.objects) (λ p. DatedUpTo (pool.number + 1) p.objects) (λ p h. higher p.objects h) pool.partials sound.dated.partials;
-      snapshots = All-inserted (λ s. DatedUpTo s.number s.objects) snapshot_is_before row pool.snapshots row_dated sound.dated.snapshots;
-      numbers = All-inserted (λ s. s.number ≤ pool.number + 1) snapshot_is_before row pool.snapshots (let e = new.number in omega arith)
-          (All-weaker (λ s. s.number ≤ pool.number) (λ s. s.number ≤ pool.number + 1) (λ s l. omega arith) pool.snapshots sound.dated.numbers);
-      rise = rise-inserted row pool.snapshots named.snapshots is_above sound.dated.rise;
-      above = λ origin later here is. new_above origin later (snapshot_origins origin (dataset_of_snapshot later) is) (new_or_old later here);
-    };
-    bookmarks = All-weaker (IsBookmarkOf pool) (IsBookmarkOf (with_new_snapshot pool row)) (λ b h. new_bookmark b h) pool.bookmarks sound.bookmarks;
-  }
-    where
-      higher : (state : DatedState) → DatedUpTo pool.number state → DatedUpTo (pool.number + 1) state
-      higher state h = dated_higher pool.number (pool.number + 1) (omega arith) state h
-
-      row_dated : DatedUpTo row.number row.objects
-      row_dated =
-          subst (DatedUpTo row.number) (sym new.objects)
-          (dated_higher pool.number row.number (let e = new.number in omega arith) dataset.head
-          (All-contains (λ d. DatedUpTo pool.number d.head) pool.datasets dataset sound.dated.heads new.there))
+  pub snapshot_sound : Sound next_pool
+  snapshot_sound =
+      next_sound pool next_pool linked sound snapshot_next (rise-inserted row pool.snapshots named.snapshots is_above sound.dated.rise)
+      (λ earlier later here n there before. agrees_of_new earlier later (row_cases next_pool later there) n before (new_or_old earlier here))

@@ -1,15 +1,9 @@
 -- What commands keep of a pool.
-use Rattle.std.specs.Prelude.{◌≡◌, ◌⊎◌, ℕ, ◌+◌, Ok}
+use Rattle.std.specs.Prelude.{◌≡◌, ℕ, Ok}
 use Rattle.zst_model.specs.declared.command.Command.{Command}
 use Rattle.zst_model.specs.Pool.{Pool, IsPool}
 use Rattle.zst_model.specs.Sound.{Sound}
 use Rattle.zst_model.specs.Step.{Stepped, stepped, IsCommand}
-
--- a command leaves the pool as it was, or makes the next commit
-abbrev pub StepsCount : Type 0
-StepsCount =
-    (now : ℕ) (command : Command) (pool : Pool) (after : Stepped) → stepped now command pool ≡ Ok after
-    → (after.pool ≡ pool) ⊎ (after.pool.number ≡ pool.number + 1)
 
 -- a command makes a lawful pool of a lawful pool
 abbrev pub StepsKeepPools : Type 0

@@ -9,22 +9,42 @@ ghost use Rattle.zst_laws.specs.Resuming.{ResumeIsExact, StartStands, CutStands}
 ghost use Rattle.zst_laws.specs.Sending.{SnapshotHasView, SendIsExact, FullIsExact, RedactedIsState, StreamsAgree, ViewsAgree};
 ghost use Rattle.zst_laws.specs.Walk.{WalkBegins, WalkEnds, ObjectIsNext, GoneIsNext, GoneRunIsNext, BlockIsNext, BlockRunIsNext};
 
+mod clone_example;
+mod command_examples;
 mod commits;
 mod dates;
+mod line_examples;
+mod meanings;
 mod points;
 mod redact_example;
+mod remembering;
+mod send_examples;
 mod sessions;
 mod step_examples;
 mod step_refusals;
 mod stepping;
 
+pub use clone_example::clones_stand;
+pub use command_examples::{object_is_replaced, range_is_punched};
 pub use commits::{history_remembers, increment_is_exact};
 pub use dates::{
     applied_is_state, changes_are_dated, dates_are_exact, remembers_itself, remembers_on,
     remembers_through,
 };
+pub use line_examples::{blocks_are_read, objects_are_listed, pool_is_listed};
+pub use meanings::{
+    attributes_date_numbers, block_sizes_are_multiples, blocks_date_no_number, contents_are_told,
+    equal_dates_are_left, frees_fail, headers_say_resuming, lists_are_of_user_data,
+    lists_can_be_redacted, other_heads_stay, ranges_date_blocks, redacts_fail, rows_stand_in_order,
+    snapshots_keep_guids, sources_are_included, spills_are_kept, spills_fail,
+    user_data_has_two_types, volumes_are_made, writes_fail,
+};
 pub use points::point_after;
 pub use redact_example::two_clones_list_one_block;
+pub use remembering::{
+    history_is_base, own_is_remembered, remembered_is_base, sources_are_bases, steps_remember,
+};
+pub use send_examples::{changed_objects_are_sent, whole_object_is_sent};
 pub use sessions::{cuts_are_exact, cuts_complete, full_cuts_are_exact, increment_cuts_are_exact};
 pub use step_examples::{rewritten_is_made, small_is_changed, small_is_made, small_is_put_again};
 pub use step_refusals::{

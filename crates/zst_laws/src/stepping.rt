@@ -1,8 +1,11 @@
-ghost use Rattle.zst_laws.specs.Stepping.{StepsCount, StepsKeepPools, StepsKeepSound};
+ghost use Rattle.zst_laws.specs.Counting.{CommitsCount, AnswersKeep};
+ghost use Rattle.zst_laws.specs.Stepping.{StepsKeepPools, StepsKeepSound};
 
-/// A command makes at most one commit, and a lawful pool of a lawful pool.
+/// A command that commits raises the pool's number by exactly one, one that commits nothing leaves the pool equal, and each
+/// makes a lawful pool of a lawful pool.
 pub fn steps_keep_pools()
-    ensures count { StepsCount }
+    ensures commits { CommitsCount }
+    ensures answers { AnswersKeep }
     ensures pools { StepsKeepPools }
 {}
 

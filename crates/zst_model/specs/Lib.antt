@@ -16,6 +16,7 @@ pub mod Points
 pub mod Pool
 pub mod RedSet
 pub mod Refusal
+pub mod Rows
 pub mod Sound
 pub mod StandsFor
 pub mod State

@@ -2,8 +2,9 @@
 use Rattle.std.specs.Prelude.{ℕ, ◌<◌, ◌≤◌, ◌≡◌, true, All, AllPairs, Contains}
 use Rattle.zst_model.specs.State.{attr_at, content_at, is_number, index_bound}
 use Rattle.zst_model.specs.Dated.{DatedState}
-use Rattle.zst_model.specs.Pool.{Pool, Dataset, Snapshot, Bookmark, Partial, HasDataset, dataset_of_snapshot, dataset_of_bookmark}
-use Rattle.zst_model.specs.Before.{IsOrigin, IsBeforeSnapshot, IsBeforeHead, IsBeforePartial}
+use Rattle.zst_model.specs.Pool.{Pool, Snapshot, Bookmark, HasDataset, dataset_of_snapshot, dataset_of_bookmark}
+use Rattle.zst_model.specs.Before.{IsOrigin, OfSnapshot, IsBefore}
+use Rattle.zst_model.specs.Rows.{Row, rows}
 
 -- each number and index that the later state dates at or below the snapshot's number has in the snapshot the same content and the same date
 pub record Agrees (earlier : Snapshot) (later : DatedState) : Type 0 where
@@ -12,22 +13,18 @@ pub record Agrees (earlier : Snapshot) (later : DatedState) : Type 0 where
   pub indices : (k i : ℕ) → is_number k ≡ true → i < index_bound → later.index_date k i ≤ earlier.number → content_at (earlier.objects.state k) i ≡ content_at (later.state k) i
   pub index_dates : (k i : ℕ) → is_number k ≡ true → i < index_bound → later.index_date k i ≤ earlier.number → earlier.objects.index_date k i ≡ later.index_date k i
 
--- part 1: each snapshot agrees with all that it stands before
-pub record Agree (pool : Pool) : Type 0 where
-  pub snapshots : (earlier later : Snapshot) → Contains pool.snapshots earlier → Contains pool.snapshots later → IsBeforeSnapshot pool earlier later → Agrees earlier later.objects
-  pub heads : (earlier : Snapshot) (later : Dataset) → Contains pool.snapshots earlier → Contains pool.datasets later → IsBeforeHead pool earlier later → Agrees earlier later.head
-  pub partials : (earlier : Snapshot) (later : Partial) → Contains pool.snapshots earlier → Contains pool.partials later → IsBeforePartial pool earlier later → Agrees earlier later.objects
+-- part 1: each snapshot agrees with each row that it stands before
+abbrev pub Agree : Pool → Type 0
+Agree pool = (earlier : Snapshot) (later : Row) → Contains pool.snapshots earlier → Contains (rows pool) later → IsBefore pool (OfSnapshot earlier) later.place → Agrees earlier later.objects
 
 -- no date of the state exceeds the number
 pub record DatedUpTo (number : ℕ) (state : DatedState) : Type 0 where
   pub numbers : (k : ℕ) → state.number_date k ≤ number
   pub indices : (k i : ℕ) → state.index_date k i ≤ number
 
--- part 2: no date and no snapshot's number exceeds the pool's number, no date in a snapshot exceeds its own, and the snapshots of a dataset rise in number above its origin
+-- part 2: each row is dated up to its number, no snapshot's number exceeds the pool's, and the snapshots of a dataset rise in number above its origin
 pub record Dated (pool : Pool) : Type 0 where
-  pub heads : All (λ dataset. DatedUpTo pool.number dataset.head) pool.datasets
-  pub partials : All (λ partial. DatedUpTo pool.number partial.objects) pool.partials
-  pub snapshots : All (λ snapshot. DatedUpTo snapshot.number snapshot.objects) pool.snapshots
+  pub states : All (λ row. DatedUpTo row.number row.objects) (rows pool)
   pub numbers : All (λ snapshot. snapshot.number ≤ pool.number) pool.snapshots
   pub rise : AllPairs (λ a b. dataset_of_snapshot a ≡ dataset_of_snapshot b → a.number < b.number) pool.snapshots
   pub above : (origin later : Snapshot) → Contains pool.snapshots later → IsOrigin pool origin (dataset_of_snapshot later) → origin.number < later.number

@@ -1,0 +1,5 @@
+use Rattle.zst_laws.proofs.SourceBases.{history_base}
+use Rattle.zst_laws.proofs.remembering.history_is_base.Goals as goal
+
+pub returns : goal.returns
+returns c = history_base

@@ -1,0 +1,5 @@
+use Rattle.zst_laws.proofs.SourceBases.{remembered_base}
+use Rattle.zst_laws.proofs.remembering.remembered_is_base.Goals as goal
+
+pub returns : goal.returns
+returns c = remembered_base
