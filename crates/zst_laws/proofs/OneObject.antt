@@ -38,7 +38,7 @@ none_passes test zero h = refl
 none_passes test (suc n) h = or_from (test n) (any_below test n) (h n) (none_passes test n h)
 
 module _ (view : View) (object : ObjectView) (outside : view.shown 0 ≡ Left) (own : view.shown 1 ≡ There object) where
-  abbrev in_object : ℕ → Point
+  abbrev pub in_object : ℕ → Point
   in_object offset = record { object = 1; offset = offset }
 
   none_below : (slot : Bool) → NothingBelow view origin slot 1
@@ -63,7 +63,7 @@ module _ (view : View) (object : ObjectView) (outside : view.shown 0 ≡ Left) (
       ∙ object_next view (in_object offset) true 1 object one_is (left_below view (in_object offset) true) (omega arith) (λ e. absurd (cc)) own)
 
   -- the object's blocks are done
-  abbrev Done : ℕ → Type 0
+  abbrev pub Done : ℕ → Type 0
   Done offset = (j : ℕ) → j < object.end → offset ≤ j * object.attr.block_size → object.blocks j ≡ None
 
   done_own : (offset : ℕ) → Done offset → left_at view (in_object offset) false 1 ≡ []
@@ -75,7 +75,7 @@ module _ (view : View) (object : ObjectView) (outside : view.shown 0 ≡ Left) (
       none j l (inl low) = cond-false (nat_le offset (j * object.attr.block_size)) _ _ (lt-leb _ _ low)
       none j l (inr up) = cond-true (nat_le offset (j * object.attr.block_size)) _ _ (le-leb _ _ up) ∙ ap (block_change object.attr j) (done j l up)
 
-  done_below : (offset : ℕ) → Done offset → NothingBelow view (in_object offset) false 2
+  pub done_below : (offset : ℕ) → Done offset → NothingBelow view (in_object offset) false 2
   done_below offset done j l = go (cases_lt j 1)
     where
       go : (j < 1) ⊎ (1 ≤ j) → left_at view (in_object offset) false j ≡ []

@@ -277,12 +277,12 @@ fourth_end : past_last fourth_block index_bound ≡ 4
 fourth_end = end_is fourth_block 3 index_bound index_far refl (λ i l. cond-false (i == 3) _ _ (ne_eqb i 3 (λ e. omega (arith, e))))
 
 -- nothing stands in a pass over numbers that gives nothing
-none_given : {A : Type 0} (f : ℕ → List A) (first count : ℕ) → ((k : ℕ) → first ≤ k → f k ≡ []) → flat_map f (rising first count) ≡ []
+pub none_given : {A : Type 0} (f : ℕ → List A) (first count : ℕ) → ((k : ℕ) → first ≤ k → f k ≡ []) → flat_map f (rising first count) ≡ []
 unfolding rising
 none_given f first zero none = refl
 none_given f first (suc count) none = ap (λ l. l ++ flat_map f (rising (suc first) count)) (none first (omega arith)) ∙ none_given f (suc first) count (λ k l. none k (omega arith))
 
-rising_first : {A : Type 0} (f : ℕ → List A) (first count : ℕ) → flat_map f (rising first (suc count)) ≡ f first ++ flat_map f (rising (suc first) count)
+pub rising_first : {A : Type 0} (f : ℕ → List A) (first count : ℕ) → flat_map f (rising first (suc count)) ≡ f first ++ flat_map f (rising (suc first) count)
 unfolding rising
 rising_first f first count = refl
 

@@ -1,0 +1,5 @@
+use Rattle.zst_laws.proofs.Commanded.{object_replaced}
+use Rattle.zst_laws.proofs.command_examples.object_is_replaced.Goals as goal
+
+pub returns : goal.returns
+returns c = object_replaced

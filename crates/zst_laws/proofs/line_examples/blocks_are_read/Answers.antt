@@ -1,0 +1,5 @@
+use Rattle.zst_laws.proofs.LinesTold.{blocks_read}
+use Rattle.zst_laws.proofs.line_examples.blocks_are_read.Goals as goal
+
+pub returns : goal.returns
+returns c = blocks_read

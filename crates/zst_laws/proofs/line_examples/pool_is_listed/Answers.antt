@@ -1,0 +1,5 @@
+use Rattle.zst_laws.proofs.LinesTold.{pool_listed}
+use Rattle.zst_laws.proofs.line_examples.pool_is_listed.Goals as goal
+
+pub returns : goal.returns
+returns c = pool_listed

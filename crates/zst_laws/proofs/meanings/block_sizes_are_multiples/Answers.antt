@@ -1,0 +1,5 @@
+use Rattle.zst_laws.proofs.Meant.{block_sizes}
+use Rattle.zst_laws.proofs.meanings.block_sizes_are_multiples.Goals as goal
+
+pub returns : goal.returns
+returns c = block_sizes

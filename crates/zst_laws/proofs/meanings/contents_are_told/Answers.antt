@@ -1,0 +1,5 @@
+use Rattle.zst_laws.proofs.Meant.{contents}
+use Rattle.zst_laws.proofs.meanings.contents_are_told.Goals as goal
+
+pub returns : goal.returns
+returns c = contents

@@ -1,0 +1,5 @@
+use Rattle.zst_laws.proofs.Meant.{free_fails, free_makes}
+use Rattle.zst_laws.proofs.meanings.frees_fail.Goals as goal
+
+pub returns : goal.returns
+returns c = record { refused = free_fails; made = free_makes }

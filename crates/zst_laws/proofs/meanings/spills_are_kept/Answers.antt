@@ -1,0 +1,5 @@
+use Rattle.zst_laws.proofs.Meant.{put_makes, put_allocates}
+use Rattle.zst_laws.proofs.meanings.spills_are_kept.Goals as goal
+
+pub returns : goal.returns
+returns c = record { again = put_makes; anew = put_allocates }
