@@ -1,5 +1,5 @@
 -- Which dates items give, and what a snapshot remembers under them.
-use Rattle.std.proofs.Common.{subst, ◌≡◌, ℕ, ◌+◌, ◌*◌, ◌<◌, ◌≤◌, Bool, true, false, not, List, [], ◌∷◌, length, Option, Some, None, Ok, refl, sym, ap, ◌∙◌, arith, ◌==◌, nat_lt, nat_le, ◌&&◌, ◌||◌, if◌then◌else◌, eqb-true, mul-le-mul_right}
+use Rattle.std.proofs.Common.{subst, ◌≡◌, ℕ, ◌+◌, ◌*◌, ◌<◌, ◌≤◌, Bool, true, false, not, List, [], ◌∷◌, length, Option, Some, None, IfSome, Ok, refl, sym, ap, ◌∙◌, arith, ◌==◌, nat_lt, nat_le, ◌&&◌, ◌||◌, if◌then◌else◌, eqb-true, mul-le-mul_right}
 use Rattle.std.proofs.lemmas.Bool.{true≢false, not-false, cond-false, lt-ltb, le-ltb, and_right}
 use Rattle.std.proofs.lemmas.Bool.Decides.{nat_tests}
 use Rattle.zst_model.specs.declared.attr.Attr.{Attr}
@@ -8,7 +8,9 @@ use Rattle.zst_model.specs.declared.item.Change.TheVariants.{Put, Spill, FreeFro
 use Rattle.zst_model.specs.declared.item.Item.{Item}
 use Rattle.zst_model.specs.declared.item.Item.TheVariants.{FreeObjects, At}
 use Rattle.zst_model.specs.declared.apply_fault.ApplyFault.TheVariants.{SizeDiffers, Unaligned, OddBlock, NotUserData}
-use Rattle.zst_model.specs.State.{State, Block, BlockFits, IsObject, IsObjectOrNone, Hole, Redacted, Data, Object, attr_at, content_at, block_content, IsState, is_odd_size, is_user_data, is_number, number_bound, index_bound}
+use Rattle.zst_model.specs.declared.attr.ObjectHead.{ObjectHead}
+use Rattle.zst_model.proofs.Sizes.{size_of_lawful}
+use Rattle.zst_model.specs.State.{State, Block, BlockFits, IsHead, IsBonus, IsSpill, IsAttr, IsObject, IsObjectOrNone, Hole, Redacted, Data, Object, attr_at, content_at, block_content, IsState, is_odd_size, is_user_data, is_number, number_bound, index_bound}
 use Rattle.zst_model.specs.Apply.{apply, apply_change, attr_with, is_unaligned, within, put_at}
 use Rattle.zst_model.specs.Dated.{DatedState, dates_number, dates_index, touches_number, touches_index, apply_dated, apply_all_dated}
 use Rattle.zst_model.specs.Target.{Remembers}
@@ -180,7 +182,7 @@ set_lawful : (object : Object) (test : ℕ → Bool) (new : Block) → IsObject 
     → ((i : ℕ) → index_bound ≤ i → test i ≡ true → new ≡ Hole)
     → IsObject (record { attr = object.attr; blocks = λ i. if test i then new else object.blocks i })
 set_lawful object test new o f odd far = record {
-  size = o.size;
+  attr = o.attr;
   fits = λ i. fits i (test i);
   odd = λ i l t. hole i (test i) refl (odd i l t) (o.odd i l t);
   bounded = λ i l. hole i (test i) refl (far i l) (o.bounded i l);
@@ -195,22 +197,33 @@ set_lawful object test new o f odd far = record {
     hole i false e h old = old
 
 -- a new object of holes is lawful, and one of equal block size keeps lawful blocks
-new_lawful : (attr : Attr) → 0 < attr.block_size → IsObject (record { attr = attr; blocks = λ i. Hole })
-new_lawful attr l = record { size = l; fits = λ i. tt; odd = λ i m t. refl; bounded = λ i m. refl }
+new_lawful : (attr : Attr) → IsAttr attr → IsObject (record { attr = attr; blocks = λ i. Hole })
+new_lawful attr l = record { attr = l; fits = λ i. tt; odd = λ i m t. refl; bounded = λ i m. refl }
 
-put_lawful : (attr : Attr) (object : Object) (t : Bool) → (object.attr.block_size == attr.block_size) ≡ t → 0 < attr.block_size → IsObject object
+put_lawful : (attr : Attr) (object : Object) (t : Bool) → (object.attr.block_size == attr.block_size) ≡ t → IsAttr attr → IsObject object
     → IsObject (record { attr = attr; blocks = if t then object.blocks else λ i. Hole })
 put_lawful attr object true e l o =
     let same : object.attr.block_size ≡ attr.block_size = eqb-true _ _ e in record {
-      size = l;
+      attr = l;
       fits = λ i. subst (λ size. BlockFits size (object.blocks i)) same (o.fits i);
       odd = λ i m t. o.odd i m (ap is_odd_size same ∙ t);
       bounded = o.bounded;
     }
 put_lawful attr object false e l o = new_lawful attr l
 
-spill_lawful : (object : Object) (bytes : List ℕ) → IsObject object → IsObject (record { attr = record object.attr { spill = Some bytes }; blocks = object.blocks })
-spill_lawful object bytes o = record { size = o.size; fits = o.fits; odd = o.odd; bounded = o.bounded }
+spill_lawful : (object : Object) (bytes : List ℕ) → IsSpill bytes → IsObject object → IsObject (record { attr = record object.attr { spill = Some bytes }; blocks = object.blocks })
+spill_lawful object bytes l o = record {
+  attr = record { head = o.attr.head; bonus = o.attr.bonus; spill = l };
+  fits = o.fits;
+  odd = o.odd;
+  bounded = o.bounded;
+}
+
+-- the attributes that an OBJECT gives are lawful, with the spill that it keeps
+put_attr_lawful : (head : ObjectHead) (bonus : List ℕ) (keep_spill : Bool) (spill : Option (List ℕ)) → IsHead head × IsBonus bonus → IfSome spill IsSpill
+    → IsAttr (attr_with head bonus (if keep_spill then spill else None))
+put_attr_lawful head bonus true spill l s = record { head = l.0; bonus = l.1; spill = s }
+put_attr_lawful head bonus false spill l s = record { head = l.0; bonus = l.1; spill = tt }
 
 -- the place of an index over 0 is at or past the block size
 past_first : (size i : ℕ) → 0 < i → size ≤ i * size
@@ -221,12 +234,13 @@ odd_range size offset length place l w = grind (arith, nat_tests)
 
 change_lawful : (change : Change) (o p : Option Object) → IsObjectOrNone o → IsLawfulChange change o → apply_change change o ≡ Ok p → IsObjectOrNone p
 unfolding apply_change
-change_lawful (Put head bonus keep_spill max_block) None p s l h = subst IsObjectOrNone (ok_inj _ _ h) (new_lawful (attr_with head bonus None) l)
+change_lawful (Put head bonus keep_spill max_block) None p s l h = subst IsObjectOrNone (ok_inj _ _ h) (new_lawful (attr_with head bonus None) (put_attr_lawful head bonus false None l tt))
 change_lawful (Put head bonus keep_spill max_block) (Some object) p s l h =
     subst IsObjectOrNone (ok_inj _ _ h)
-    (put_lawful (attr_with head bonus (if keep_spill then object.attr.spill else None)) object (object.attr.block_size == head.block_size) refl l s)
+    (put_lawful (attr_with head bonus (if keep_spill then object.attr.spill else None)) object (object.attr.block_size == head.block_size) refl
+    (put_attr_lawful head bonus keep_spill object.attr.spill l s.attr.spill) s)
 change_lawful (Spill bytes) None p s l h = absurd (cc)
-change_lawful (Spill bytes) (Some object) p s l h = subst IsObjectOrNone (ok_inj _ _ h) (spill_lawful object bytes s)
+change_lawful (Spill bytes) (Some object) p s l h = subst IsObjectOrNone (ok_inj _ _ h) (spill_lawful object bytes l s)
 change_lawful (FreeFrom offset) None p s l h = absurd (cc)
 change_lawful (FreeFrom offset) (Some object) p s l h =
     subst IsObjectOrNone (ok_inj _ _ (unless_ok _ _ _ p h).1)
@@ -252,7 +266,7 @@ change_lawful (Write offset type bytes) (Some object) p s l h =
     (λ i m t w.
     let first : size ≤ i * size = past_first size i m in
     let place : i * size ≡ offset = eqb-true (i * size) offset w in
-    let some : 0 < offset = subst (λ n. 0 < n) place (over_none size (i * size) s.size first) in
+    let some : 0 < offset = subst (λ n. 0 < n) place (over_none size (i * size) (size_of_lawful object s) first) in
     absurd (true≢false (sym (lt-ltb 0 offset some) ∙ right_fails (is_odd_size size) (nat_lt 0 offset) given.1 t)))
     (λ i m w. absurd (true≢false (sym w ∙ l i m))))
   where

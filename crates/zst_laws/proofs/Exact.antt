@@ -10,6 +10,7 @@ use Rattle.zst_model.specs.Dated.{DatedState}
 use Rattle.zst_model.specs.Included.{Choice, Pairs, is_after, includes_pair, includes_number}
 use Rattle.zst_model.specs.View.{View, Left, There, shown_block, object_view, shown_object, view_of, MayShow, IsShown}
 use Rattle.zst_model.specs.Items.{origin}
+use Rattle.zst_model.proofs.Sizes.{size_of_lawful}
 use Rattle.zst_model.specs.Target.{redacted, redacted_object, MayRedact, CanRedact, BaseOk}
 use Rattle.zst_laws.specs.History.{AnyIsFullBase}
 use Rattle.zst_laws.specs.Sending.{RedactedIsState, SnapshotHasView, full, FullIsExact, SendIsExact}
@@ -98,7 +99,7 @@ module _ (snap : DatedState) (choice : Choice) (k : ℕ) (object : Object) (stan
   opened_below : (base : Option Object) (i : ℕ) → IsObjectOrNone base → i < end_of object → content_at base i ≡ content_at (Some object) i → opened (object_view snap choice k object) base i ≡ object.blocks i
   opened_below base i b l same =
       let size = object.attr.block_size in
-      let pos : 0 < size = lawful.size in
+      let pos : 0 < size = size_of_lawful object lawful in
       let m : suc i * size ≤ end_of object * size = mul-le-mul_right size l in
       let less : i * size < end_of object * size = place_below size i (end_of object) pos m in
       cond-false (nat_le (end_of object * size) (i * size)) _ _ (lt-leb _ _ less) ∙ kept_content object base i same b lawful
@@ -171,7 +172,7 @@ module _ (snap : DatedState) (choice : Choice) (k : ℕ) (object : Object) (stan
           (found.0, λ l. false_from_ne_true _ (λ t. let both : Data found.1 ≡ Hole = sym found.2 ∙ lawful.odd i l t in absurd (cc)))
 
   object_shown : IsShown (There (object_view snap choice k object))
-  object_shown = (lawful.size, λ i l. may_show i)
+  object_shown = (size_of_lawful object lawful, λ i l. may_show i)
 
 -- the view of a lawful snapshot can be sent
 pub view_is_view : SnapshotHasView
@@ -259,7 +260,7 @@ full_exact header snap redact lawful can = send_exact no_objects header snap (fu
 -- a redacted object is lawful
 redacted_object_lawful : (object : Object) (pairs : ℕ → Bool) → IsObject object → MayRedact object pairs → IsObject (redacted_object pairs object)
 redacted_object_lawful object pairs o may = record {
-  size = o.size;
+  attr = o.attr;
   fits = λ i. fits i (pairs i);
   odd = λ i l t. cond-false (pairs i) Redacted (object.blocks i) (unlisted i (o.odd i l t)) ∙ o.odd i l t;
   bounded = λ i l. cond-false (pairs i) Redacted (object.blocks i) (unlisted i (o.bounded i l)) ∙ o.bounded i l;

@@ -1,18 +1,19 @@
 -- The items of a command that is accepted leave a lawful head.
-use Rattle.std.proofs.Common.{inl, inr, subst, ◌≡◌, ℕ, ◌+◌, ◌*◌, ◌%◌, ◌<◌, ◌≤◌, true, false, ◌&&◌, List, [], ◌∷◌, length, map, Option, Some, None, Ok, refl, sym, arith, ◌==◌, nat_lt, nat_le, mul-le-mul_right, ne_eqb}
-use Rattle.std.proofs.lemmas.Bool.{and_parts, and_from, cases_lt, lt-ltb, leb-true}
+use Rattle.std.proofs.Common.{inl, inr, subst, ◌≡◌, ℕ, ◌+◌, ◌*◌, ◌<◌, ◌≤◌, true, false, List, [], ◌∷◌, length, map, Option, Some, None, IfSome, Ok, refl, sym, arith, ◌==◌, nat_lt, mul-le-mul_right, ne_eqb}
+use Rattle.std.proofs.lemmas.Bool.{and_from, cases_lt, lt-ltb}
 use Rattle.zst_model.specs.declared.attr.ObjectHead.{ObjectHead}
 use Rattle.zst_model.specs.declared.faults.Quantity.TheVariants as quantities
 use Rattle.zst_model.specs.declared.item.Change.{Change}
 use Rattle.zst_model.specs.declared.item.Change.TheVariants.{Put, Free, Write}
 use Rattle.zst_model.specs.declared.item.Item.{Item}
 use Rattle.zst_model.specs.declared.item.Item.TheVariants.{FreeObjects, At}
-use Rattle.zst_model.specs.State.{State, Object, IsObject, IsObjectOrNone, IsState, is_number, number_bound, index_bound, is_block_size}
+use Rattle.zst_model.specs.State.{State, Object, IsObject, IsObjectOrNone, IsState, is_number, number_bound, index_bound, IsHead, IsBonus, IsSpill}
 use Rattle.zst_model.specs.Apply.{apply, apply_change, put_at}
 use Rattle.zst_model.specs.Dated.{DatedState, size_at, apply_dated, apply_all_dated}
 use Rattle.zst_model.specs.Items.{spill_change}
 use Rattle.zst_model.specs.Pool.{Pool}
 use Rattle.zst_model.specs.Step.{in_numbers, applied, filled, written, punched}
+use Rattle.zst_model.proofs.Sizes.{size_of_lawful}
 use Rattle.zst_laws.specs.Dating.{AreLawfulItems}
 use Rattle.zst_laws.proofs.Runs.{bind_ok, ok_inj}
 use Rattle.zst_laws.proofs.Dating.{remembered_itself, remembered_through}
@@ -64,31 +65,23 @@ place_differs size i j some l =
     let m : (i + 1) * size ≤ j * size = mul-le-mul_right size (omega arith) in
     ne_eqb (j * size) (i * size) (λ e. omega (arith, m, e))
 
--- a block size is over 0
-pub block_size_over_none : (size : ℕ) → is_block_size size ≡ true → 0 < size
-unfolding is_block_size
-block_size_over_none size h =
-    let range = (and_parts (nat_le 512 size && nat_le size 131072) (size % 512 == 0) h).0 in
-    let least = leb-true 512 size (and_parts (nat_le 512 size) (nat_le size 131072) range).0 in
-    omega (arith, least)
-
 -- object
 abbrev pub object_items : ℕ → ObjectHead → List ℕ → Option (List ℕ) → List Item
 object_items k object bonus spill = map (At k) (Put object bonus false 0 ∷ spill_change spill)
 
 pub object_items_are_lawful : (k : ℕ) (object : ObjectHead) (bonus : List ℕ) (spill : Option (List ℕ)) (state : State)
-    → is_number k ≡ true → 0 < object.block_size → AreLawfulItems (object_items k object bonus spill) state
-object_items_are_lawful k object bonus None state number sized = ((number, sized), λ after e. tt)
-object_items_are_lawful k object bonus (Some bytes) state number sized = ((number, sized), λ after e. ((number, tt), λ last f. tt))
+    → is_number k ≡ true → IsHead object → IsBonus bonus → IfSome spill IsSpill → AreLawfulItems (object_items k object bonus spill) state
+object_items_are_lawful k object bonus None state number head few is_spill = ((number, (head, few)), λ after e. tt)
+object_items_are_lawful k object bonus (Some bytes) state number head few is_spill = ((number, (head, few)), λ after e. ((number, is_spill), λ last f. tt))
 
 pub object_is_lawful : (pool : Pool) (k : ℕ) (object : ObjectHead) (bonus : List ℕ) (spill : Option (List ℕ)) (head after : DatedState)
-    → IsState head.state → 0 < k → is_block_size object.block_size ≡ true
+    → IsState head.state → 0 < k → IsHead object → IsBonus bonus → IfSome spill IsSpill
     → in_numbers (k + 1) (applied pool (map (At k) (Put object bonus false 0 ∷ spill_change spill)) head) ≡ Ok after → IsState after.state
-object_is_lawful pool k object bonus spill head after s some size h =
+object_is_lawful pool k object bonus spill head after s some is_head few is_spill h =
     let below = limited_ok quantities.Object number_bound (k + 1) _ after h in
     let number = number_from k some (omega (arith, below.0)) in
     applied_is_lawful pool (object_items k object bonus spill) head after s
-    (object_items_are_lawful k object bonus spill head.state number (block_size_over_none object.block_size size)) below.1
+    (object_items_are_lawful k object bonus spill head.state number is_head few is_spill) below.1
 
 -- write
 pub write_is_lawful : (pool : Pool) (k i : ℕ) (bytes : List ℕ) (head after : DatedState)
@@ -100,7 +93,7 @@ write_is_lawful pool k i bytes head after s some h =
     let below = limited_ok quantities.Block index_bound (i + 1) _ after made.2 in
     let there = object_there (pool.number + 1) k _ head made.0 (write_needs _ _ _) (of_applying_ok _ made.0 made.1) in
     let object : IsObject there.0 = subst IsObjectOrNone there.1 (s.objects k) in
-    let sized : 0 < size = subst (λ o. 0 < size_at o) (sym there.1) object.size in
+    let sized : 0 < size = subst (λ o. 0 < size_at o) (sym there.1) (size_of_lawful there.0 object) in
     let lawful : AreLawfulItems items head.state = ((number_of_object head.state k there.0 s some there.1, λ j past. place_differs size i j sized (omega (arith, below.0))), λ later e. tt) in
     subst (λ d. IsState d.state) (ok_inj made.0 after below.1) (applied_is_lawful pool items head made.0 s lawful made.1)
 

@@ -1,5 +1,5 @@
 -- What commands make of a lawful pool is lawful.
-use Rattle.std.proofs.Common.{inl, inr, subst, ◌≡◌, ◌≢◌, ℕ, ◌+◌, ◌^◌, ◌≤◌, true, false, List, ◌∷◌, ◌++◌, Option, Some, None, IfSome, is_some, Result, Ok, refl, sym, ap, ◌∙◌, arith}
+use Rattle.std.proofs.Common.{inl, inr, subst, ◌≡◌, ◌≢◌, ℕ, ◌+◌, ◌^◌, ◌<◌, ◌≤◌, true, false, List, ◌∷◌, ◌++◌, Option, Some, None, IfSome, is_some, Result, Ok, refl, sym, ap, ◌∙◌, arith}
 use Rattle.std.specs.List.{All, Contains}
 use Rattle.std.proofs.lemmas.List.Elements.{All-weaker, All-contains}
 use Rattle.zst_names.specs.Names.{IsDataset, IsSnapshot, IsComponent, dataset_of}
@@ -9,8 +9,8 @@ use Rattle.zst_model.specs.declared.refusal.Refusal.{Refusal}
 use Rattle.zst_model.specs.State.{IsState, no_objects}
 use Rattle.zst_model.specs.Dated.{DatedState}
 use Rattle.zst_model.specs.Guids.{IsGuidSet}
-use Rattle.zst_model.specs.Pool.{Pool, Dataset, Snapshot, IsPool, IsKind, HasDataset, HasSnapshot, dataset_named, snapshot_named, partial_of, dataset_of_snapshot, is_before, snapshot_is_before, inserted}
-use Rattle.zst_model.specs.Step.{Stepped, committed, last_number, last_guid, new_dataset, with_head_at, with_head, snapshot_of, with_dataset, on_head, with_snapshot, stepped}
+use Rattle.zst_model.specs.Pool.{Pool, Dataset, Snapshot, IsPool, IsKind, IsGuid, HasDataset, HasSnapshot, dataset_named, snapshot_named, partial_of, dataset_of_snapshot, is_before, snapshot_is_before, inserted}
+use Rattle.zst_model.specs.Step.{Stepped, committed, last_number, last_guid, next_guid, new_dataset, with_head_at, with_head, snapshot_of, with_dataset, on_head, with_snapshot, stepped}
 use Rattle.zst_model.specs.InsertedLaws.{All-from_contains, contains-map, contains-inserted, inserted_has_rest, All-inserted, AllPairs-map}
 use Rattle.zst_model.specs.OrderLaws.{names_differ-inserted, names_rise-inserted, rows_rise-inserted}
 use Rattle.zst_laws.specs.Stepping.{StepsKeepPools}
@@ -91,6 +91,10 @@ dataset_added kind name pool p is_name is_kind absent =
       bookmarks = p.bookmarks;
       partials = p.partials;
     }
+
+-- the next guid is one that a snapshot may have
+next_is_guid : (pool : Pool) → pool.id < 2 ^ 31 → pool.guids + 1 < 2 ^ 32 → IsGuid (next_guid pool)
+next_is_guid pool id guids = (omega arith, omega arith)
 
 -- what holds of each dataset whatever its head holds under another head
 under_head : (P : Dataset → Type 0) (name : List ℕ) (head : DatedState) (datasets : List Dataset)
@@ -195,8 +199,8 @@ snapshot_added now name pool dataset p is_name there free absent guids =
       };
       datasets = p.datasets;
       snapshots =
-          All-inserted (λ s. IsGuidSet s.redact × IsState s.objects.state) snapshot_is_before row rows
-          (of_dataset.1, of_dataset.2) p.snapshots;
+          All-inserted (λ s. IsGuid s.guid × IsGuidSet s.redact × IsState s.objects.state) snapshot_is_before row rows
+          (next_is_guid pool p.id.1 (omega (arith, guids)), of_dataset.1, of_dataset.2) p.snapshots;
       bookmarks = p.bookmarks;
       partials = p.partials;
     }
@@ -227,7 +231,7 @@ unfolding stepped
 steps_keep_lawful now (commands.Fs name) pool after c p h = dataset_steps 2 name pool after p c (inl refl) h
 steps_keep_lawful now (commands.Volume name) pool after c p h = dataset_steps 3 name pool after p c (inr refl) h
 steps_keep_lawful now (commands.Object name k head bonus spill) pool after c p h =
-    head_steps name pool _ after p (λ old new s made. object_is_lawful pool k head bonus spill old new s c.1 c.3 made) h
+    head_steps name pool _ after p (λ old new s made. object_is_lawful pool k head bonus spill old new s c.1 c.2 c.3 c.4 made) h
 steps_keep_lawful now (commands.Write name k i bytes) pool after c p h =
     head_steps name pool _ after p (λ old new s made. write_is_lawful pool k i bytes old new s c.1 made) h
 steps_keep_lawful now (commands.Punch name k first count) pool after c p h =

@@ -4,7 +4,7 @@ use Rattle.zst_model.specs.declared.item.Change.{Change}
 use Rattle.zst_model.specs.declared.item.Change.TheVariants.{Put, Spill, FreeFrom, Free, Redact, Write}
 use Rattle.zst_model.specs.declared.item.Item.{Item}
 use Rattle.zst_model.specs.declared.item.Item.TheVariants.{FreeObjects, At}
-use Rattle.zst_model.specs.State.{State, Object, IsState, attr_at, content_at, is_number, index_bound}
+use Rattle.zst_model.specs.State.{State, Object, IsState, IsHead, IsBonus, IsSpill, attr_at, content_at, is_number, index_bound}
 use Rattle.zst_model.specs.Apply.{apply, within}
 use Rattle.zst_model.specs.Dated.{DatedState, touches_number, touches_index, size_at, apply_dated, apply_all_dated}
 use Rattle.zst_model.specs.Target.{Remembers}
@@ -34,10 +34,10 @@ RemembersOn =
     → IsState snap.state → number < next → Remembers snap number state → apply_dated next item snap ≡ Ok after
     → Remembers after number state
 
--- a change that is lawful where it comes: an OBJECT has a block size, and a REDACT or WRITE takes no index from the bound on
+-- a change that is lawful where it comes: an OBJECT has a head and a bonus that an object may have, a SPILL such a spill, and a REDACT or WRITE takes no index from the bound on
 abbrev pub IsLawfulChange : Change → Option Object → Type 0
-IsLawfulChange (Put head bonus keep_spill max_block) object = 0 < head.block_size
-IsLawfulChange (Spill bytes) object = Unit {0}
+IsLawfulChange (Put head bonus keep_spill max_block) object = IsHead head × IsBonus bonus
+IsLawfulChange (Spill bytes) object = IsSpill bytes
 IsLawfulChange (FreeFrom offset) object = Unit {0}
 IsLawfulChange (Free offset length) object = Unit {0}
 IsLawfulChange (Redact offset length) object = (i : ℕ) → index_bound ≤ i → within offset length (i * size_at object) ≡ false

@@ -151,20 +151,25 @@ both_none words bonus spill (inr (inr h)) = h
 
 pub object_said : (words : List (List ℕ)) (name : List ℕ) (k kind size bonus_kind : ℕ) → AllZip Fits (slots_of kinds.Object) words → name ≡ word_at words 1 → IsDataset name
     → word_at words 2 ≡ decimal k → k < 2 ^ 64 → word_at words 3 ≡ decimal kind → kind < 2 ^ 64 → word_at words 4 ≡ decimal size → size < 2 ^ 64 → word_at words 5 ≡ decimal bonus_kind
-    → word_at words 6 ≡ codes "none" → word_at words 7 ≡ codes "none"
+    → bonus_kind < 2 ^ 64 → word_at words 6 ≡ codes "none" → word_at words 7 ≡ codes "none"
     → LineAnswers (word_of kinds.Object ∷ words) (Ok (Step (commands.Object name k (record { type_ = kind; bonus_type = bonus_kind; block_size = size }) [] None)))
-object_said words name k kind size bonus_kind fits same is of_k fit_k of_kind fit_kind of_size fit_size of_bonus bonus spill =
+object_said words name k kind size bonus_kind fits same is of_k fit_k of_kind fit_kind of_size fit_size of_bonus fit_bonus bonus spill =
     let slots = slots_of kinds.Object in
     let are : words ≡ words_from words 0 8 = words_are slots words fits in
-    let kinds_range = in_range (word_at words 3) kind 1 (2 ^ 32 - 1) (fit_at slots words 3 fits (lit< tt)) (lit< tt) fit_kind of_kind in (
+    let kinds_range = in_range (word_at words 3) kind 1 (2 ^ 32 - 1) (fit_at slots words 3 fits (lit< tt)) (lit< tt) fit_kind of_kind in
+    let bonus_range = in_range (word_at words 5) bonus_kind 0 (2 ^ 32 - 1) (fit_at slots words 5 fits (lit< tt)) (lit< tt) fit_bonus of_bonus in (
       is_line kinds.Object words fits (object_names words fits (rw same at is)) (λ h. both_none words bonus spill (last_two words fits h)),
       (
         (word_at words 0, (refl, refl, cc)),
         (
           is,
           over_none words 2 k (fit_at slots words 2 fits (lit< tt)) of_k fit_k,
-          omega (arith, kinds_range.0),
-          size_is_block (word_at words 4) size (fit_at slots words 4 fits (lit< tt)) of_size fit_size,
+          record {
+            some_type = omega (arith, kinds_range.0);
+            type_fits = omega (arith, kinds_range.1);
+            bonus_type_fits = omega (arith, bonus_range.1);
+            size = size_is_block (word_at words 4) size (fit_at slots words 4 fits (lit< tt)) of_size fit_size;
+          },
           lit≤ tt,
           tt,
         ),

@@ -3,7 +3,7 @@ use Rattle.std.specs.Prelude.{◌≡◌, ◌≢◌, ◌⊎◌, ℕ, ◌+◌, ◌
 use Rattle.std.specs.List.{AllPass, AllZip, Contains}
 use Rattle.hex.specs.Hex.{is_hex_digit}
 use Rattle.zst_names.specs.Names.{IsDataset, IsSnapshot, StopsAt}
-use Rattle.zst_model.specs.State.{is_block_size}
+use Rattle.zst_model.specs.State.{is_block_size, is_spill_size}
 use Rattle.zst_line.specs.declared.kind.Kind.{Kind}
 use Rattle.zst_line.specs.declared.kind.Kind.TheVariants.{Dump, Create, Fs, Volume, Object, Write, Punch, Free, Snapshot}
 use Rattle.zst_line.specs.declared.slot.Slot.{Slot}
@@ -38,7 +38,7 @@ pub record IsSpill (word : List ℕ) : Type 0 where
   pub size : ℕ
   pub bytes : List ℕ
   pub spelled : word ≡ decimal size ++ 58 ∷ bytes
-  pub block : is_block_size size ≡ true
+  pub block : is_spill_size size ≡ true
   pub digits : IsHex 0 size bytes
 
 -- a word that may stand at a place: `@` makes a name a snapshot's, `#` alone a bookmark's, and whether it is a name is judged after all places

@@ -2,7 +2,7 @@ ghost use Rattle.std.specs.Prelude.{◌≡◌, ◌↔◌, IsTrue, codes};
 ghost use Rattle.std.specs.List.{AllPass, Contains};
 ghost use Rattle.hex.specs.Hex.{is_hex_digit};
 ghost use Rattle.zst_line.specs.Grammar.{IsOption, IsHex, IsNumber, IsSize, IsSpill, Fits};
-ghost use Rattle.zst_model.specs.State.{is_block_size};
+ghost use Rattle.zst_model.specs.State.{is_block_size, is_spill_size};
 
 use zst_bytes::decimal;
 
@@ -10,6 +10,9 @@ use zst_bytes::decimal;
 const SMALLEST_BLOCK: u64 = 512;
 
 const LARGEST_BLOCK: u64 = 131_072;
+
+/// The most bytes of a spill block (SPA_OLD_MAXBLOCKSIZE of spa.h), which larger blocks don't raise.
+const LARGEST_SPILL: u64 = 131_072;
 
 /// The most bytes of a bonus.
 const BONUS_BYTES: u64 = 320;
@@ -36,11 +39,18 @@ pub enum Slot {
     HexBytes { most: u64 },
 }
 
-#[tactic(auto, unfolding(zst_model::specs::State::is_block_size))]
+#[tactic(auto, unfolding(zst_model::specs::State::is_block_size, zst_model::specs::State::largest_block))]
 fn is_block_size(size: u64) -> bool
     ensures { result ≡ is_block_size size }
 {
     SMALLEST_BLOCK <= size && size <= LARGEST_BLOCK && size % SMALLEST_BLOCK == 0
+}
+
+#[tactic(auto, unfolding(zst_model::specs::State::is_spill_size))]
+fn is_spill_size(size: u64) -> bool
+    ensures { result ≡ is_spill_size size }
+{
+    SMALLEST_BLOCK <= size && size <= LARGEST_SPILL && size % SMALLEST_BLOCK == 0
 }
 
 /// Whether a word begins as an option does.
@@ -104,13 +114,13 @@ fn is_size(word: &str) -> bool
     }
 }
 
-/// Whether a word is a block size, `:` and at most so many bytes.
+/// Whether a word is a spill size, `:` and at most so many bytes.
 fn is_spill(word: &str) -> bool
     ensures { IsTrue result ↔ IsSpill word.now }
 {
     match word.split_once(':') {
         Some((size, bytes)) => match decimal(size) {
-            Some(size) => is_block_size(size) && is_hex(bytes, 0, size),
+            Some(size) => is_spill_size(size) && is_hex(bytes, 0, size),
             None => false,
         },
         None => false,

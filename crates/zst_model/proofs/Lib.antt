@@ -1,3 +1,4 @@
 mod Appended
 mod RunLists
+pub mod Sizes
 mod Rising

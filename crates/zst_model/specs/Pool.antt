@@ -9,6 +9,7 @@ use Rattle.zst_model.specs.declared.header.Point.{Point}
 use Rattle.zst_model.specs.Dated.{DatedState}
 use Rattle.zst_model.specs.State.{IsState, no_objects}
 use Rattle.zst_model.specs.Guids.{IsGuidSet}
+use Rattle.zst_model.specs.Lists.{IsRunList}
 
 -- a dataset: its name, its kind (2 a file system, 3 a volume), the name of the snapshot that it is a clone of, its head, and the head's redaction guids
 pub record Dataset : Type 0 where
@@ -126,7 +127,24 @@ pub record IsLinked (pool : Pool) : Type 0 where
 abbrev pub IsKind : ℕ → Type 0
 IsKind kind = (kind ≡ 2) ⊎ (kind ≡ 3)
 
--- a lawful pool: its numbers are in their ranges, its names are in order and there, its kinds are kinds, its guid sets are sets, and its states are lawful
+-- a guid that a snapshot may have: 0 stands for no snapshot
+abbrev pub IsGuid : ℕ → Type 0
+IsGuid guid = (0 < guid) × (guid < 2 ^ 64)
+
+-- a header that a stream which isn't resumed can state
+pub record IsStated (header : Header) : Type 0 where
+  pub kind : IsKind header.kind
+  pub flags : header.flags < 2 ^ 32
+  pub features : header.features < 2 ^ 30
+  pub time : header.time < 2 ^ 64
+  pub to : IsGuid header.to
+  pub from : header.from < 2 ^ 64
+  pub redact : IsGuidSet header.redact
+  pub from_redact : IsGuidSet header.from_redact
+  pub guids : All (λ guid. guid < 2 ^ 64) (header.redact ++ header.from_redact)
+  pub resume : header.resume ≡ None
+
+-- a lawful pool: its numbers are in their ranges, its names are in order and there, its kinds are kinds, its guids are guids and their sets sets, its lists are lists, its headers can be stated, and its states are lawful
 pub record IsPool (pool : Pool) : Type 0 where
   pub id : (0 < pool.id) × (pool.id < 2 ^ 31)
   pub number : pool.number ≤ 2 ^ 63
@@ -134,6 +152,6 @@ pub record IsPool (pool : Pool) : Type 0 where
   pub named : IsNamed pool
   pub linked : IsLinked pool
   pub datasets : All (λ dataset. IsKind dataset.kind × IsGuidSet dataset.redact × IsState dataset.head.state) pool.datasets
-  pub snapshots : All (λ snapshot. IsGuidSet snapshot.redact × IsState snapshot.objects.state) pool.snapshots
-  pub bookmarks : All (λ bookmark. IsGuidSet bookmark.redact) pool.bookmarks
-  pub partials : All (λ partial. IsKind partial.header.kind × (partial.header.resume ≡ None) × IsState partial.objects.state) pool.partials
+  pub snapshots : All (λ snapshot. IsGuid snapshot.guid × IsGuidSet snapshot.redact × IsState snapshot.objects.state) pool.snapshots
+  pub bookmarks : All (λ bookmark. IsGuid bookmark.guid × IsGuidSet bookmark.redact × IsRunList bookmark.runs) pool.bookmarks
+  pub partials : All (λ partial. IsStated partial.header × IsState partial.objects.state) pool.partials

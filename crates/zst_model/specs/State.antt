@@ -1,6 +1,7 @@
 -- What a snapshot, a head or a partial state has, without any date.
-use Rattle.std.specs.Prelude.{◌≡◌, ℕ, zero, suc, ◌^◌, ◌%◌, ◌≤◌, ◌<◌, Bool, true, false, not, List, length, count_ones, Option, Some, None, if◌then◌else◌, nat_lt, nat_le, ◌==◌, ◌||◌, ◌&&◌}
+use Rattle.std.specs.Prelude.{◌≡◌, ℕ, zero, suc, ◌^◌, ◌%◌, ◌≤◌, ◌<◌, Bool, true, false, not, List, length, count_ones, Option, Some, None, IfSome, if◌then◌else◌, nat_lt, nat_le, ◌==◌, ◌||◌, ◌&&◌}
 use Rattle.zst_model.specs.declared.attr.Attr.{Attr}
+use Rattle.zst_model.specs.declared.attr.ObjectHead.{ObjectHead}
 
 -- what stands at an index of an object: a hole, a redacted block, or data
 pub data Block : Type 0 where
@@ -83,9 +84,38 @@ is_user_data attr = attr.type_ == 19 || attr.type_ == 23
 abbrev pub is_odd_size : ℕ → Bool
 is_odd_size size = not (count_ones size == 1)
 
--- a block size: a multiple of 512 from 512 to 131,072 (SPA_MINBLOCKSIZE and SPA_OLD_MAXBLOCKSIZE of spa.h)
+-- the bytes of the largest block (SPA_OLD_MAXBLOCKSIZE of spa.h)
+unfoldable pub largest_block : ℕ
+largest_block = 131072
+
+-- a block size: a multiple of 512 from 512 (SPA_MINBLOCKSIZE of spa.h) to that of the largest block
 unfoldable pub is_block_size : ℕ → Bool
-is_block_size size = nat_le 512 size && nat_le size 131072 && (size % 512 == 0)
+is_block_size size = nat_le 512 size && nat_le size largest_block && (size % 512 == 0)
+
+-- a spill size: a multiple of 512 from 512 to 131,072 (SPA_OLD_MAXBLOCKSIZE of spa.h), which larger blocks don't raise
+unfoldable pub is_spill_size : ℕ → Bool
+is_spill_size size = nat_le 512 size && nat_le size 131072 && (size % 512 == 0)
+
+-- a head that an object may have: its type isn't 0, both types are numbers of 32 bits, and it has a block size
+pub record IsHead (head : ObjectHead) : Type 0 where
+  pub some_type : 0 < head.type_
+  pub type_fits : head.type_ < 2 ^ 32
+  pub bonus_type_fits : head.bonus_type < 2 ^ 32
+  pub size : is_block_size head.block_size ≡ true
+
+-- a bonus that an object may have: at most 320 bytes (DN_OLD_MAX_BONUSLEN of dnode.h)
+abbrev pub IsBonus : List ℕ → Type 0
+IsBonus bytes = length bytes ≤ 320
+
+-- a spill block that an object may have
+abbrev pub IsSpill : List ℕ → Type 0
+IsSpill bytes = is_spill_size (length bytes) ≡ true
+
+-- attributes that an object may have
+pub record IsAttr (attr : Attr) : Type 0 where
+  pub head : IsHead (record { type_ = attr.type_; bonus_type = attr.bonus_type; block_size = attr.block_size })
+  pub bonus : IsBonus attr.bonus
+  pub spill : IfSome attr.spill IsSpill
 
 -- data fills its block
 abbrev pub BlockFits : ℕ → Block → Type 0
@@ -93,9 +123,9 @@ BlockFits size Hole = Unit {0}
 BlockFits size Redacted = Unit {0}
 BlockFits size (Data bytes) = length bytes ≡ size
 
--- a lawful object: it has a block size, its data fills its blocks, an odd size has index 0 alone, and each index is below the bound
+-- a lawful object: its attributes are ones that it may have, its data fills its blocks, an odd size has index 0 alone, and each index is below the bound
 pub record IsObject (object : Object) : Type 0 where
-  pub size : 0 < object.attr.block_size
+  pub attr : IsAttr object.attr
   pub fits : (i : ℕ) → BlockFits object.attr.block_size (object.blocks i)
   pub odd : (i : ℕ) → 0 < i → is_odd_size object.attr.block_size ≡ true → object.blocks i ≡ Hole
   pub bounded : (i : ℕ) → index_bound ≤ i → object.blocks i ≡ Hole

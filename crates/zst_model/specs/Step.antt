@@ -1,5 +1,5 @@
 -- What a command makes of a pool, or its first refusal: where several come, the outermost one is the first.
-use Rattle.std.specs.Prelude.{◌≡◌, ◌<◌, ◌≤◌, IfSome, ℕ, ◌+◌, ◌*◌, ◌-◌, ◌^◌, true, false, List, [], ◌∷◌, ◌++◌, length, map, count_by, replicate, Option, Some, None, is_some, option_map, Result, Ok, Err, if◌then◌else◌, nat_lt, bytes_eq, not, codes}
+use Rattle.std.specs.Prelude.{◌<◌, ◌≤◌, IfSome, ℕ, ◌+◌, ◌*◌, ◌-◌, ◌^◌, false, List, [], ◌∷◌, ◌++◌, length, map, count_by, replicate, Option, Some, None, is_some, option_map, Result, Ok, Err, if◌then◌else◌, nat_lt, bytes_eq, not, codes}
 use Rattle.zst_names.specs.Names.{IsDataset, IsSnapshot, dataset_of}
 use Rattle.zst_model.specs.declared.apply_fault.ApplyFault.{ApplyFault}
 use Rattle.zst_model.specs.declared.apply_fault.ApplyFault.TheVariants.{NoObject}
@@ -18,7 +18,7 @@ use Rattle.zst_model.specs.declared.named.Holder.TheVariants as holders
 use Rattle.zst_model.specs.declared.plan_fault.PlanFault.TheVariants as plans
 use Rattle.zst_model.specs.declared.refusal.Refusal.{Refusal}
 use Rattle.zst_model.specs.declared.refusal.Refusal.TheVariants as refusals
-use Rattle.zst_model.specs.State.{Block, Hole, Redacted, Data, number_bound, index_bound, is_block_size}
+use Rattle.zst_model.specs.State.{Block, Hole, Redacted, Data, number_bound, index_bound, IsHead, IsBonus, IsSpill}
 use Rattle.zst_model.specs.Apply.{unless, ◌>>=◌}
 use Rattle.zst_model.specs.Items.{spill_change}
 use Rattle.zst_model.specs.Dated.{DatedState, size_at, apply_all_dated}
@@ -36,7 +36,7 @@ abbrev pub IsCommand : Command → Type 0
 IsCommand (commands.Fs dataset) = IsDataset dataset
 IsCommand (commands.Volume dataset) = IsDataset dataset
 IsCommand (commands.Object dataset k head bonus spill) =
-    IsDataset dataset × (0 < k) × (0 < head.type_) × (is_block_size head.block_size ≡ true) × (length bonus ≤ 320) × IfSome spill (λ block. is_block_size (length block) ≡ true)
+    IsDataset dataset × (0 < k) × IsHead head × IsBonus bonus × IfSome spill IsSpill
 IsCommand (commands.Write dataset k i bytes) = IsDataset dataset × (0 < k) × (0 < length bytes) × (length bytes ≤ 2 ^ 20)
 IsCommand (commands.Punch dataset k first count) = IsDataset dataset × (0 < k) × (0 < count)
 IsCommand (commands.Free dataset first count) = IsDataset dataset × (0 < first) × (0 < count)

@@ -1,13 +1,13 @@
 -- What the rows stand for after a change of objects.
-use Rattle.std.proofs.Common.{◌≡◌, inl, ℕ, ◌+◌, ◌<◌, ◌≤◌, Bool, true, false, not, List, Option, Some, None, Ok, refl, sym, ap, ◌∙◌, subst, arith, nat_lt, nat_le, ◌==◌, ◌&&◌, if◌then◌else◌, eqb-true}
-use Rattle.std.proofs.lemmas.Bool.{true≢false, and_from, and_parts, lt-ltb, leb-true, ltb-false}
+use Rattle.std.proofs.Common.{◌≡◌, inl, ℕ, ◌+◌, ◌<◌, ◌≤◌, Bool, true, false, not, List, Option, Some, None, Ok, refl, sym, ap, ◌∙◌, subst, nat_lt, ◌==◌, ◌&&◌, if◌then◌else◌, eqb-true}
+use Rattle.std.proofs.lemmas.Bool.{true≢false, and_from, lt-ltb, ltb-false}
 use Rattle.zst_block.specs.declared.ptr.Ptr.{Ptr}
 use Rattle.zst_block.specs.Ptr.{hole_of}
 use Rattle.zst_model.specs.declared.attr.Attr.{Attr}
 use Rattle.zst_model.specs.declared.attr.ObjectHead.{ObjectHead}
 use Rattle.zst_model.specs.declared.item.Item.TheVariants.{At, FreeObjects}
 use Rattle.zst_model.specs.declared.item.Change.TheVariants.{Put}
-use Rattle.zst_model.specs.State.{Hole, Object, IsState, attr_at, index_bound, number_bound, is_number, is_block_size}
+use Rattle.zst_model.specs.State.{Hole, Object, IsState, attr_at, index_bound, number_bound, is_number, IsHead, IsBonus}
 use Rattle.zst_model.specs.Apply.{within, attr_with}
 use Rattle.zst_model.specs.Dated.{DatedState, makes_anew, apply_dated}
 use Rattle.zst_laws.specs.Dating.{AppliedIsState}
@@ -83,12 +83,10 @@ attr_with_is has head bonus ptr spill attr is e =
 
 -- an OBJECT that is lawful leaves a lawful state
 put_lawful : AppliedIsState → (j number max_block : ℕ) (head : ObjectHead) (bonus : List ℕ) (keep_spill : Bool) (snap after : DatedState)
-    → 0 < j → j < number_bound → is_block_size head.block_size ≡ true → IsState snap.state
+    → 0 < j → j < number_bound → IsHead head → IsBonus bonus → IsState snap.state
     → apply_dated number (At j (Put head bonus keep_spill max_block)) snap ≡ Ok after → IsState after.state
-unfolding is_block_size
-put_lawful law j number max_block head bonus keep_spill snap after some below size s h =
-    let least : 512 ≤ head.block_size = leb-true _ _ (and_parts (nat_le 512 head.block_size) _ (and_parts (nat_le 512 head.block_size && nat_le head.block_size 131072) _ size).0).0 in
-    law number (At j (Put head bonus keep_spill max_block)) snap after s (and_from _ _ (lt-ltb 0 j some) (lt-ltb j number_bound below), omega (arith, least)) h
+put_lawful law j number max_block head bonus keep_spill snap after some below is_head few s h =
+    law number (At j (Put head bonus keep_spill max_block)) snap after s (and_from _ _ (lt-ltb 0 j some) (lt-ltb j number_bound below), (is_head, few)) h
 
 pub block_stays : (has : Blocks) (lists : Lists) (snap : DatedState) (j k i : ℕ) (object x y : Object) → SetIs has lists snap → snap.state j ≡ Some object → x.blocks i ≡ object.blocks i
     → (t : Bool) → (k == j) ≡ t → (if t then Some x else snap.state k) ≡ Some y → BlockIs has (ptr_at lists k i) (y.blocks i)
@@ -105,10 +103,10 @@ not_dated false anew l number date e = refl
 
 -- a row of an object in front stands for an OBJECT of equal block size
 pub object_made : AppliedIsState → (has : Blocks) (lists : Lists) (j number max_block : ℕ) (head : ObjectHead) (bonus : List ℕ) (keep_spill : Bool) (snap after : DatedState)
-    → 0 < j → j < number_bound → is_block_size head.block_size ≡ true → has_size head.block_size (stored_at lists j) ≡ true → SetIs has lists snap
+    → 0 < j → j < number_bound → IsHead head → IsBonus bonus → has_size head.block_size (stored_at lists j) ≡ true → SetIs has lists snap
     → apply_dated number (At j (Put head bonus keep_spill max_block)) snap ≡ Ok after
     → SetIs has (with_object lists j number (stored_with head bonus (kept_spill keep_spill (stored_at lists j) number))) after
-object_made law has lists j number max_block head bonus keep_spill snap after some below size equal s h =
+object_made law has lists j number max_block head bonus keep_spill snap after some below is_head few equal s h =
     let stored = stored_with head bonus (kept_spill keep_spill (stored_at lists j) number) in
     let got = changed number j (Put head bonus keep_spill max_block) snap after h in
     let given = put_gives head bonus keep_spill max_block (snap.state j) got.0 got.1 in
@@ -120,7 +118,7 @@ object_made law has lists j number max_block head bonus keep_spill snap after so
     let states : (k : ℕ) → after.state k ≡ (if k == j then Some x else snap.state k) = λ k. ap (λ d. d.state k) (sym got.2) ∙ ap (λ o. if k == j then o else snap.state k) given.1 in
     let stays : (i : ℕ) → x.blocks i ≡ old_object.blocks i = λ i. given.3 i ∙ ap (λ b. if b then Hole else block_at (snap.state j) i) old ∙ ap (λ p. block_at p i) there.1 in
     record {
-      lawful = put_lawful law j number max_block head bonus keep_spill snap after some below size s.lawful h;
+      lawful = put_lawful law j number max_block head bonus keep_spill snap after some below is_head few s.lawful h;
       attrs = λ k.
           subst (λ o. AttrIs has o (attr_at (after.state k))) (sym (stored_new lists lists.indices j number stored k))
           (subst (λ p. AttrIs has (if k == j then Some stored else stored_at lists k) (attr_at p)) (sym (states k)) (attr_new has lists snap k stored x s is (k == j)));
@@ -161,10 +159,10 @@ dated_anew false anew l number date old e d = d
 
 -- with a row of holes beside it, it stands for an OBJECT that makes all blocks anew
 pub object_made_anew : AppliedIsState → (has : Blocks) (lists : Lists) (j number max_block : ℕ) (head : ObjectHead) (bonus : List ℕ) (keep_spill : Bool) (snap after : DatedState)
-    → AreRows lists → 0 < j → j < number_bound → is_block_size head.block_size ≡ true → has_size head.block_size (stored_at lists j) ≡ false → SetIs has lists snap
+    → AreRows lists → 0 < j → j < number_bound → IsHead head → IsBonus bonus → has_size head.block_size (stored_at lists j) ≡ false → SetIs has lists snap
     → apply_dated number (At j (Put head bonus keep_spill max_block)) snap ≡ Ok after
     → SetIs has (with_object_anew lists j number (stored_with head bonus (kept_spill keep_spill (stored_at lists j) number))) after
-object_made_anew law has lists j number max_block head bonus keep_spill snap after rows some below size other s h =
+object_made_anew law has lists j number max_block head bonus keep_spill snap after rows some below is_head few other s h =
     let stored = stored_with head bonus (kept_spill keep_spill (stored_at lists j) number) in
     let objects = with_numbers (object_row_of j number stored) lists.objects in
     let indices = with_indices (all_holes j 1 number) lists.indices in
@@ -178,7 +176,7 @@ object_made_anew law has lists j number max_block head bonus keep_spill snap aft
     let ptrs : (k i : ℕ) → ptr_at (record { objects = objects; indices = indices }) k i ≡ (if k == j && nat_lt i index_bound then hole_of number else ptr_at lists k i) = λ k i.
     ptr_anew lists objects j 1 number k i ∙ ap (λ b. if b && nat_lt i index_bound then hole_of number else ptr_at lists k i) (within_one j k) in
     record {
-      lawful = put_lawful law j number max_block head bonus keep_spill snap after some below size s.lawful h;
+      lawful = put_lawful law j number max_block head bonus keep_spill snap after some below is_head few s.lawful h;
       attrs = λ k.
           subst (λ o. AttrIs has o (attr_at (after.state k))) (sym (stored_new lists indices j number stored k))
           (subst (λ p. AttrIs has (if k == j then Some stored else stored_at lists k) (attr_at p)) (sym (states k)) (attr_new has lists snap k stored x s is (k == j)));

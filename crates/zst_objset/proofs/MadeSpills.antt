@@ -14,7 +14,7 @@ use Rattle.zst_block.specs.Ptr.{PtrFits}
 use Rattle.zst_model.specs.declared.attr.Attr.{Attr}
 use Rattle.zst_model.specs.declared.item.Item.TheVariants.{At}
 use Rattle.zst_model.specs.declared.item.Change.TheVariants.{Spill}
-use Rattle.zst_model.specs.State.{Object, attr_at, index_bound}
+use Rattle.zst_model.specs.State.{Object, IsSpill, is_spill_size, attr_at, index_bound}
 use Rattle.zst_model.specs.Apply.{within}
 use Rattle.zst_model.specs.Dated.{DatedState, apply_dated}
 use Rattle.zst_laws.specs.Dating.{AppliedIsState}
@@ -36,8 +36,8 @@ spilled_is spill number row stored e =
     ap (λ o. if is_some o then record { first = row.first; count = row.count; date = number; object = option_map (with_spill spill) o } else row) e
 
 -- it is in its ranges
-pub spilled_fits : (spill : Ptr) (number : ℕ) (row : ObjectRow) → IsObjectRow row → PtrFits spill → spill.kind ≡ 1 → number < 2 ^ 64 → IsObjectRow (spilled spill number row)
-spilled_fits spill number row r fits kind date = one row.object refl
+pub spilled_fits : (spill : Ptr) (number : ℕ) (row : ObjectRow) → IsObjectRow row → PtrFits spill → spill.kind ≡ 1 → is_spill_size spill.length ≡ true → number < 2 ^ 64 → IsObjectRow (spilled spill number row)
+spilled_fits spill number row r fits kind size date = one row.object refl
   where
     one : (o : Option StoredObject) → row.object ≡ o → IsObjectRow (spilled spill number row)
     one None e = subst IsObjectRow (sym (ap (λ o. if is_some o then record { first = row.first; count = row.count; date = number; object = option_map (with_spill spill) o } else row) e)) r
@@ -51,13 +51,12 @@ spilled_fits spill number row r fits kind date = one row.object refl
           date = date;
           one = alone;
           stored = record {
-            type_fits = is.type_fits;
-            bonus_type_fits = is.bonus_type_fits;
-            size = is.size;
+            head = is.head;
             bonus = is.bonus;
             bonus_bytes = is.bonus_bytes;
             spill = fits;
             spill_kind = inr kind;
+            spill_size = λ e. size;
           };
         })
 
@@ -149,10 +148,10 @@ kept_there has (Some stored) object is = (stored, refl, is)
 
 -- a row that is written over stands for a SPILL
 pub spill_made : AppliedIsState → (has : Blocks) (lists : Lists) (j i number : ℕ) (bytes : List ℕ) (spill : Ptr) (row : ObjectRow) (snap after : DatedState)
-    → AreRows lists → position (is_of_number j) lists.objects ≡ Some i → get_or lists.objects i row ≡ row → spill.kind ≡ 1 → has spill bytes → SetIs has lists snap
+    → AreRows lists → position (is_of_number j) lists.objects ≡ Some i → get_or lists.objects i row ≡ row → spill.kind ≡ 1 → IsSpill bytes → has spill bytes → SetIs has lists snap
     → apply_dated number (At j (Spill bytes)) snap ≡ Ok after
     → SetIs has (record { objects = set lists.objects i (spilled spill number row); indices = lists.indices }) after
-spill_made law has lists j i number bytes spill row snap after rows at here kind block s h =
+spill_made law has lists j i number bytes spill row snap after rows at here kind size block s h =
     let got = changed number j (Spill bytes) snap after h in
     let given = spill_gives bytes (snap.state j) got.0 got.1 in
     let old = given.0 in
@@ -167,7 +166,7 @@ spill_made law has lists j i number bytes spill row snap after rows at here kind
     let is : HasAttr has (with_spill spill stored) x.attr = attr_spilled has stored old.attr spill bytes kept.2 kind block in
     let states : (k : ℕ) → after.state k ≡ (if k == j then Some x else snap.state k) = λ k. ap (λ d. d.state k) (sym got.2) ∙ ap (λ o. if k == j then o else snap.state k) given.2 in
     let result : SetIs has (record { objects = set lists.objects i new; indices = lists.indices }) after = record {
-      lawful = law number (At j (Spill bytes)) snap after s.lawful (there_number snap.state j old s.lawful given.1, tt) h;
+      lawful = law number (At j (Spill bytes)) snap after s.lawful (there_number snap.state j old s.lawful given.1, size) h;
       attrs = λ k.
           subst (λ o. AttrIs has o (attr_at (after.state k))) (sym (stored_spilled lists j i k row new (with_spill spill stored) at here one refl refl refl))
           (subst (λ p. AttrIs has (if k == j then Some (with_spill spill stored) else stored_at lists k) (attr_at p)) (sym (states k)) (attr_new has lists snap k (with_spill spill stored) x s is (k == j)));

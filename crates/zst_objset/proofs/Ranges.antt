@@ -1,8 +1,13 @@
 -- Ranges of indices, and of the bytes at which they stand.
-use Rattle.std.proofs.Common.{◌≡◌, ◌⊎◌, inl, inr, ℕ, ◌+◌, ◌*◌, ◌<◌, ◌≤◌, true, Some, None, sym, ap, ◌∙◌, subst, arith, nat_lt, nat_le, ◌==◌, ◌&&◌, mul-le-mul_right}
+use Rattle.std.proofs.Common.{◌≡◌, ◌⊎◌, inl, inr, ℕ, ◌+◌, ◌*◌, ◌<◌, ◌≤◌, true, List, length, Some, None, sym, ap, ◌∙◌, subst, arith, nat_lt, nat_le, ◌==◌, ◌&&◌, mul-le-mul_right}
 use Rattle.std.proofs.lemmas.Bool.{cases_lt, cases_order, le-leb, lt-leb, eq-eqb, lt-ltb, and_from}
 use Rattle.std.proofs.lemmas.Bool.Decides.{nat_tests}
+use Rattle.zst_space.specs.FreeSectors.{FreeSectors}
+use Rattle.zst_outside.specs.Ranges.{length-bytes_at}
+use Rattle.zst_block.specs.declared.ptr.Ptr.{Ptr}
+use Rattle.zst_block.specs.Blocks.{Has}
 use Rattle.zst_model.specs.State.{Object, State, IsState, IsObject, IsObjectOrNone, is_number, number_bound}
+use Rattle.zst_model.proofs.Sizes.{size_of_lawful}
 use Rattle.zst_model.specs.Apply.{within}
 
 -- a greater number of blocks takes more bytes
@@ -52,6 +57,10 @@ within_below first count bound i past = grind (arith, nat_tests)
 pub within_number : (first count bound k : ℕ) → 0 < first → first + count ≤ bound → within first count k ≡ (within first count k && (nat_lt 0 k && nat_lt k bound))
 within_number first count bound k some past = grind (arith, nat_tests)
 
+-- the bytes that a pointer names are as many as it says
+pub length-block : (image : List ℕ) (space : FreeSectors) (ptr : Ptr) (bytes : List ℕ) → Has image space ptr bytes → length bytes ≡ ptr.length
+length-block image space ptr bytes has = sym (ap length has.block.bytes_are) ∙ length-bytes_at image (512 * ptr.sector) ptr.length has.block.placed.inside
+
 -- a number at which an object stands is one that an object may have
 pub there_number : (state : State) (j : ℕ) (object : Object) → IsState state → state j ≡ Some object → is_number j ≡ true
 there_number state j object s there = and_from _ _ (lt-ltb 0 j (some (cases_lt 0 j))) (lt-ltb j number_bound (below (cases_lt j number_bound)))
@@ -68,4 +77,4 @@ there_number state j object s there = and_from _ _ (lt-ltb 0 j (some (cases_lt 0
     below (inr past) = absurd (gone (s.bounded j past))
 
 pub there_size : (state : State) (j : ℕ) (object : Object) → IsState state → state j ≡ Some object → 0 < object.attr.block_size
-there_size state j object s there = let o : IsObject object = subst IsObjectOrNone there (s.objects j) in o.size
+there_size state j object s there = let o : IsObject object = subst IsObjectOrNone there (s.objects j) in size_of_lawful object o

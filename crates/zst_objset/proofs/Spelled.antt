@@ -5,7 +5,7 @@ use Rattle.std.proofs.lemmas.Bool.{and_parts, leb-true}
 use Rattle.zst_block.specs.Ptr.{ptr_bytes}
 use Rattle.zst_bytes.specs.Words.{word, text_bytes}
 use Rattle.zst_block.specs.declared.ptr.Ptr.{Ptr}
-use Rattle.zst_model.specs.State.{is_block_size, number_bound, index_bound}
+use Rattle.zst_model.specs.State.{is_block_size, largest_block, number_bound, index_bound}
 use Rattle.zst_model.specs.declared.attr.ObjectHead.{ObjectHead}
 use Rattle.zst_objset.specs.Rows.{IsStored, IsObjectRow, IsIndexRow}
 use Rattle.zst_objset.specs.Spelling.{stored_bytes, object_bytes, index_bytes}
@@ -15,7 +15,7 @@ use Rattle.zst_objset.specs.declared.rows.StoredObject.{StoredObject}
 
 -- a block size fits 32 bits
 pub size_fits : (size : ℕ) → is_block_size size ≡ true → size < 2 ^ 32
-unfolding is_block_size
+unfolding is_block_size largest_block
 size_fits size is =
     let bounds = and_parts (nat_le 512 size && nat_le size 131072) (size % 512 == 0) is in
     let small : size ≤ 131072 = leb-true size 131072 (and_parts (nat_le 512 size) (nat_le size 131072) bounds.0).1 in

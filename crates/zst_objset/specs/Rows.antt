@@ -1,9 +1,9 @@
 -- The rows of an object set: of several that say something of a number or an index, the first one counts.
-use Rattle.std.specs.Prelude.{◌≡◌, ◌⊎◌, ◌<◌, ◌≤◌, ◌^◌, ◌+◌, ◌&&◌, ℕ, Bool, true, false, not, nat_le, ◌==◌, if◌then◌else◌, is_some, option_map, List, [], ◌∷◌, length, filter, Option, Some, None, find, All, IfSome, option_and_then}
+use Rattle.std.specs.Prelude.{◌≡◌, ◌⊎◌, ◌<◌, ◌≤◌, ◌^◌, ◌+◌, ◌&&◌, ℕ, Bool, true, false, not, nat_le, ◌==◌, if◌then◌else◌, is_some, option_map, List, [], ◌∷◌, filter, Option, Some, None, find, All, IfSome, option_and_then}
 use Rattle.std.specs.Option.{option_map_or}
 use Rattle.zst_block.specs.declared.ptr.Ptr.{Ptr}
 use Rattle.zst_block.specs.Ptr.{PtrFits, hole_of}
-use Rattle.zst_model.specs.State.{number_bound, index_bound, is_block_size}
+use Rattle.zst_model.specs.State.{number_bound, index_bound, is_spill_size, IsHead, IsBonus}
 use Rattle.zst_model.specs.Apply.{within}
 use Rattle.zst_objset.specs.declared.rows.StoredObject.{StoredObject}
 use Rattle.zst_objset.specs.declared.rows.ObjectRow.{ObjectRow}
@@ -94,15 +94,14 @@ with_spill spill object = record { head = object.head; bonus = object.bonus; spi
 abbrev pub spilled : Ptr → ℕ → ObjectRow → ObjectRow
 spilled spill number row = if is_some row.object then record { first = row.first; count = row.count; date = number; object = option_map (with_spill spill) row.object } else row
 
--- a stored object is in its ranges: its spill pointer is a hole or names a block
+-- a stored object is in its ranges: its spill pointer is a hole or names a block of a spill size
 pub record IsStored (object : StoredObject) : Type 0 where
-  pub type_fits : object.head.type_ < 2 ^ 32
-  pub bonus_type_fits : object.head.bonus_type < 2 ^ 32
-  pub size : is_block_size object.head.block_size ≡ true
-  pub bonus : length object.bonus ≤ 320
+  pub head : IsHead object.head
+  pub bonus : IsBonus object.bonus
   pub bonus_bytes : All (λ byte. byte < 2 ^ 8) object.bonus
   pub spill : PtrFits object.spill
   pub spill_kind : (object.spill.kind ≡ 0) ⊎ (object.spill.kind ≡ 1)
+  pub spill_size : object.spill.kind ≡ 1 → is_spill_size object.spill.length ≡ true
 
 -- a row of numbers is in its ranges: an object stands at one number
 pub record IsObjectRow (row : ObjectRow) : Type 0 where

@@ -2,7 +2,7 @@ ghost use Rattle.std.specs.Prelude.{◌≡◌, ◌⊎◌, ◌^◌, ◌+◌, ◌*
 ghost use Rattle.zst_space.specs.FreeSectors.{FreeSectors};
 ghost use Rattle.zst_block.specs.Blocks.{Has};
 ghost use Rattle.zst_block.specs.Ptr.{PtrFits};
-ghost use Rattle.zst_model.specs.State.{number_bound, index_bound, is_block_size};
+ghost use Rattle.zst_model.specs.State.{number_bound, index_bound, is_spill_size, IsHead, IsBonus};
 ghost use Rattle.zst_model.specs.Dated.{DatedState, size_at, apply_dated};
 ghost use Rattle.zst_model.specs.declared.item.Change.TheVariants.{Put, Spill, Free, Write};
 ghost use Rattle.zst_model.specs.declared.item.Item.TheVariants.{At, FreeObjects};
@@ -34,8 +34,8 @@ impl Flat {
     ) -> Result<(), AllocError>
         requires first { 0 < object }
         requires bound { object < number_bound }
-        requires size { is_block_size head.block_size ≡ true }
-        requires bonus { length bonus ≤ 320 }
+        requires head { IsHead head }
+        requires bonus { IsBonus bonus }
         ensures made { OnOk result ((max_block : ℕ) → Makes self.old self.new number (At object (Put head bonus keep_spill max_block))) }
         ensures same { OnErr result (self.new ≡ self.old) }
         ensures grows { length (lists_bytes self.new) ≤ length (lists_bytes self.old) + 1024 }
@@ -61,6 +61,7 @@ impl Flat {
     /// Gives an object that is there the spill block that this pointer names.
     pub fn put_spill(&mut self, object: u64, spill: Ptr, number: u64)
         requires kind { spill.kind ≡ 1 }
+        requires size { is_spill_size spill.length ≡ true }
         ensures made { (image : List ℕ) (space : FreeSectors) (bytes : List ℕ) (snap after : DatedState) → Has image space spill bytes → SetIs (Has image space) self.old snap
             → apply_dated number (At object (Spill bytes)) snap ≡ Ok after → SetIs (Has image space) self.new after }
         ensures grows { length (lists_bytes self.new) ≤ length (lists_bytes self.old) + 1024 }
@@ -152,6 +153,7 @@ impl Flat {
         ensures kept { result ≡ kept_spill keep_spill (stored_at self.now object) number }
         ensures fits { PtrFits result }
         ensures kind { (result.kind ≡ 0) ⊎ (result.kind ≡ 1) }
+        ensures size { result.kind ≡ 1 → is_spill_size result.length ≡ true }
     {
         match self.object(object) {
             Some(stored) => {

@@ -1,7 +1,7 @@
 //! Whether rows are in their ranges.
 ghost use Rattle.std.specs.Prelude.{◌≡◌, ◌⊎◌, ◌+◌, ◌^◌, ◌<◌, ◌≤◌, ◌↔◌, true, length, All, IsTrue};
 ghost use Rattle.zst_block.specs.Ptr.{PtrFits};
-ghost use Rattle.zst_model.specs.State.{index_bound, is_block_size, number_bound};
+ghost use Rattle.zst_model.specs.State.{index_bound, is_block_size, is_spill_size, number_bound, IsHead, IsBonus};
 
 use crate::rows::{INDEX_BOUND, IndexRow, ObjectRow, StoredObject};
 use zst_block::Ptr;
@@ -11,9 +11,17 @@ use zst_model::ObjectHead;
 const NUMBER_BOUND: u64 = 1 << 48;
 
 // Whether a block may have so many bytes: a multiple of 512 from 512 to 131,072.
-#[tactic(auto, unfolding(zst_model::specs::State::is_block_size))]
+#[tactic(auto, unfolding(zst_model::specs::State::is_block_size, zst_model::specs::State::largest_block))]
 fn is_size(bytes: u32) -> bool
     ensures { result ≡ is_block_size bytes }
+{
+    bytes >= 512 && bytes <= 131_072 && bytes % 512 == 0
+}
+
+// Whether a spill block may have so many bytes: a multiple of 512 from 512 to 131,072.
+#[tactic(auto, unfolding(zst_model::specs::State::is_spill_size))]
+fn is_spill_size(bytes: u32) -> bool
+    ensures { result ≡ is_spill_size bytes }
 {
     bytes >= 512 && bytes <= 131_072 && bytes % 512 == 0
 }
@@ -36,23 +44,23 @@ fn are_numbers(first: u64, count: u64) -> bool
 
 // Whether an object may have this head.
 fn is_head(head: ObjectHead) -> bool
-    ensures { IsTrue result ↔ ((head.type_ < 2 ^ 32) × (head.bonus_type < 2 ^ 32) × (is_block_size head.block_size ≡ true)) }
+    ensures { IsTrue result ↔ IsHead head }
 {
-    is_size(head.block_size)
+    0 < head.type_ && is_size(head.block_size)
 }
 
 // Whether an object may have these bytes as its bonus.
 fn is_bonus(bytes: &[u8]) -> bool
-    ensures { IsTrue result ↔ ((length bytes.now ≤ 320) × All (λ byte. byte < 2 ^ 8) bytes.now) }
+    ensures { IsTrue result ↔ (IsBonus bytes.now × All (λ byte. byte < 2 ^ 8) bytes.now) }
 {
     bytes.len() <= 320
 }
 
 // Whether an object may have this pointer to its spill block.
 fn is_spill(ptr: Ptr) -> bool
-    ensures { IsTrue result ↔ (PtrFits ptr × ((ptr.kind ≡ 0) ⊎ (ptr.kind ≡ 1))) }
+    ensures { IsTrue result ↔ (PtrFits ptr × ((ptr.kind ≡ 0) ⊎ (ptr.kind ≡ 1)) × (ptr.kind ≡ 1 → is_spill_size ptr.length ≡ true)) }
 {
-    ptr.kind <= 1
+    ptr.kind == 0 || (ptr.kind == 1 && is_spill_size(ptr.length))
 }
 
 impl StoredObject {

@@ -1,5 +1,5 @@
 ghost use Rattle.std.specs.Prelude.{◌≡◌, ◌<◌, true};
-ghost use Rattle.zst_model.specs.State.{index_bound, is_block_size};
+ghost use Rattle.zst_model.specs.State.{index_bound, is_block_size, is_spill_size};
 
 use crate::Flat;
 use std::alloc::{AllocError, Global};
@@ -9,8 +9,10 @@ use zst_fletcher::Sum;
 use zst_model::{Bytes, ObjectHead};
 
 // A pointer to data of a commit.
+#[tactic(auto, unfolding(zst_model::specs::State::is_spill_size))]
 fn data(number: u64) -> Ptr
-    ensures { result.kind ≡ 1 }
+    ensures kind { result.kind ≡ 1 }
+    ensures size { is_spill_size result.length ≡ true }
 {
     Ptr {
         kind: 1,
@@ -67,7 +69,7 @@ fn check(rt: &impl Abort, flat: &Flat, expected: &[(u8, u64)], end: u64) {
 }
 
 #[test]
-#[tactic(auto, unfolding(zst_model::specs::State::number_bound, zst_model::specs::State::index_bound, zst_model::specs::State::is_block_size))]
+#[tactic(auto, unfolding(zst_model::specs::State::number_bound, zst_model::specs::State::index_bound, zst_model::specs::State::is_block_size, zst_model::specs::State::largest_block))]
 fn an_object_that_is_made_again_has_new_holes(rt: HostRuntime) -> Result<(), AllocError> {
     let mut flat = Flat::new(rt.alloc());
     check(&rt, &flat, &[(0, 0), (0, 0)], 0);
@@ -87,7 +89,7 @@ fn an_object_that_is_made_again_has_new_holes(rt: HostRuntime) -> Result<(), All
 }
 
 #[test]
-#[tactic(auto, unfolding(zst_model::specs::State::index_bound, zst_model::specs::State::is_block_size))]
+#[tactic(auto, unfolding(zst_model::specs::State::index_bound, zst_model::specs::State::is_block_size, zst_model::specs::State::largest_block))]
 fn an_equal_block_size_keeps_the_blocks(rt: HostRuntime) -> Result<(), AllocError> {
     let mut flat = Flat::new(rt.alloc());
     put_file(&mut flat, rt.alloc(), 512, false, 1)?;
@@ -102,7 +104,7 @@ fn an_equal_block_size_keeps_the_blocks(rt: HostRuntime) -> Result<(), AllocErro
 }
 
 #[test]
-#[tactic(auto, unfolding(zst_model::specs::State::number_bound, zst_model::specs::State::index_bound, zst_model::specs::State::is_block_size))]
+#[tactic(auto, unfolding(zst_model::specs::State::number_bound, zst_model::specs::State::index_bound, zst_model::specs::State::is_block_size, zst_model::specs::State::largest_block))]
 fn a_punch_is_of_its_indices_alone(rt: HostRuntime) -> Result<(), AllocError> {
     let mut flat = Flat::new(rt.alloc());
     put_file(&mut flat, rt.alloc(), 512, false, 1)?;
@@ -125,7 +127,7 @@ fn a_punch_is_of_its_indices_alone(rt: HostRuntime) -> Result<(), AllocError> {
 }
 
 #[test]
-#[tactic(auto, unfolding(zst_model::specs::State::number_bound, zst_model::specs::State::index_bound, zst_model::specs::State::is_block_size))]
+#[tactic(auto, unfolding(zst_model::specs::State::number_bound, zst_model::specs::State::index_bound, zst_model::specs::State::is_block_size, zst_model::specs::State::largest_block))]
 fn a_range_of_numbers_is_dated(rt: HostRuntime) -> Result<(), AllocError> {
     let mut flat = Flat::new(rt.alloc());
     put_file(&mut flat, rt.alloc(), 512, false, 1)?;
@@ -144,7 +146,7 @@ fn a_range_of_numbers_is_dated(rt: HostRuntime) -> Result<(), AllocError> {
 }
 
 #[test]
-#[tactic(auto, unfolding(zst_model::specs::State::number_bound, zst_model::specs::State::index_bound, zst_model::specs::State::is_block_size))]
+#[tactic(auto, unfolding(zst_model::specs::State::number_bound, zst_model::specs::State::index_bound, zst_model::specs::State::is_block_size, zst_model::specs::State::largest_block))]
 fn a_block_that_is_written_again_has_one_row(rt: HostRuntime) -> Result<(), AllocError> {
     let mut flat = Flat::new(rt.alloc());
     put_file(&mut flat, rt.alloc(), 512, false, 1)?;
@@ -168,7 +170,7 @@ fn spill_kind(flat: &Flat) -> u8 {
 }
 
 #[test]
-#[tactic(auto, unfolding(zst_model::specs::State::is_block_size))]
+#[tactic(auto, unfolding(zst_model::specs::State::is_block_size, zst_model::specs::State::largest_block))]
 fn a_spill_goes_unless_it_is_kept(rt: HostRuntime) -> Result<(), AllocError> {
     let mut flat = Flat::new(rt.alloc());
     flat.put_spill(1, data(1), 1);

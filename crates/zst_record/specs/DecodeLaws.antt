@@ -4,7 +4,7 @@ use Rattle.std.proofs.lemmas.Bool.{ne_eqb, leb-true, ltb-true, and_parts, le-leb
 use Rattle.zst_bytes.specs.Bytes.{bytes_at, number_bytes}
 use Rattle.zst_bytes.specs.Fields.{zeros}
 use Rattle.zst_bytes.specs.FieldsLaws.{number-back}
-use Rattle.zst_model.specs.State.{is_block_size}
+use Rattle.zst_model.specs.State.{is_block_size, largest_block}
 use Rattle.zst_record.specs.declared.head.Head.{Head}
 use Rattle.zst_record.specs.declared.head.Head.TheVariants as heads
 use Rattle.zst_record.specs.Table.{sum_fields, fields_of, head_bytes, sealed_bytes}
@@ -20,7 +20,7 @@ object-small object is =
     let below = ltb-true _ _ (and_parts (ltb 0 object) (ltb object (2 ^ 48)) is).1 in omega arith
 
 size-small : (size : ℕ) → is_block_size size ≡ true → size < 256 ^ 4
-unfolding is_block_size
+unfolding is_block_size largest_block
 size-small size is =
     let both = (and_parts (leb 512 size && leb size 131072) ((size % 512) == 0) is).0 in
     let below = leb-true _ _ (and_parts (leb 512 size) (leb size 131072) both).1 in omega arith

@@ -4,7 +4,7 @@ use Rattle.std.proofs.lemmas.Bool.{leb-true, eqb-true, and_parts}
 use Rattle.std.specs.Prelude.{bit_and}
 use Rattle.zst_bytes.specs.Bytes.{number_at}
 use Rattle.zst_model.specs.declared.header.Header.{Header}
-use Rattle.zst_model.specs.State.{is_block_size}
+use Rattle.zst_model.specs.State.{is_block_size, largest_block}
 use Rattle.zst_record.specs.declared.head.Head.{Head}
 use Rattle.zst_record.specs.declared.head.Head.TheVariants as heads
 use Rattle.zst_record.specs.declared.fault.StreamFault.{StreamFault}
@@ -42,7 +42,7 @@ gives-named P next make None h = gives-err P _
 gives-named P next make (Some name) h = h (make name)
 
 block-bounded : (size : ℕ) → is_block_size size ≡ true → (size % 4 ≡ 0) × (size ≤ 131072)
-unfolding is_block_size
+unfolding is_block_size largest_block
 block-bounded size is =
     let all = and_parts (leb 512 size && leb size 131072) ((size % 512) == 0) is in
     let rest = eqb-true (size % 512) 0 all.1 in

@@ -34,7 +34,7 @@ fn names_object(object: u64) -> bool
     0 < object && object < 0x1_0000_0000_0000
 }
 
-#[tactic(auto, unfolding(zst_model::specs::State::is_block_size))]
+#[tactic(auto, unfolding(zst_model::specs::State::is_block_size, zst_model::specs::State::largest_block))]
 fn sizes_block(size: u64) -> bool
     ensures { result ≡ is_block_size size }
 {

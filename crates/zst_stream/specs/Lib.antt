@@ -6,3 +6,4 @@ pub mod Findings
 pub mod Whole
 pub mod Example
 pub mod ExampleLaws
+pub mod Records

@@ -2,6 +2,7 @@
 #![tactic(auto)]
 
 ghost use Rattle.zst_stream.specs.Example.{ExampleIsStream};
+ghost use Rattle.zst_stream.specs.Records.{ItemsFit};
 ghost use Rattle.zst_stream.specs.Laws.{FrontsAgree, FaultsAreFound, ImageIsRead, FrontIsRead, CoversArePieces, FirstPieces, PieceGoesOn};
 
 mod forms;
@@ -46,4 +47,9 @@ pub fn piece_goes_on()
 /// Streams of which these laws speak exist: a small one is among them.
 pub fn example_is_a_stream()
     ensures { ExampleIsStream }
+{}
+
+/// Each item of a lawful snapshot's view fits a record, whatever is chosen, as far as the features allow it.
+pub fn items_fit()
+    ensures { ItemsFit }
 {}

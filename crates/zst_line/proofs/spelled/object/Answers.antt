@@ -54,5 +54,5 @@ pub returns : goal.returns
 returns c =
     let words = map string_bytes c.args.words.now in
     let said = object_said words c.in_ok-dataset.dataset c.number.result c.number-2.result c.number-4.result c.number-3.result c.requires c.in_ok-dataset.ensures.same c.in_ok-dataset.ensures.name
-    c.number.ensures c.number.type_inv c.number-2.ensures c.number-2.type_inv c.number-4.ensures c.number-4.type_inv c.number-3.ensures c.if-has_block.ensures.0 c.if-has_block.ensures.1 in
+    c.number.ensures c.number.type_inv c.number-2.ensures c.number-2.type_inv c.number-4.ensures c.number-4.type_inv c.number-3.ensures c.number-3.type_inv c.if-has_block.ensures.0 c.if-has_block.ensures.1 in
     rw (c.new-2.ensures, c.new.ensures.items) said

@@ -5,14 +5,14 @@ use Rattle.zst_objset.proofs.decoding.read_object.Goals as goal
 pub returns-in_default : goal.returns-in_default
 returns-in_default c = record {
   exact = λ object rest stored is.
-      let head = c.in_default.ensures.exact object.head (behind_head object rest) stored.type_fits stored.bonus_type_fits (size_fits object.head.block_size stored.size) (behind_one object c.args.cursor.now rest is) in
+      let head = c.in_default.ensures.exact object.head (behind_head object rest) stored.head.type_fits stored.head.bonus_type_fits (size_fits object.head.block_size stored.head.size) (behind_one object c.args.cursor.now rest is) in
       absurd (cc head.0);
 }
 
 pub returns-in_default-text : goal.returns-in_default-text
 returns-in_default-text c = record {
   exact = λ object rest stored is.
-      let head = c.in-Some.ensures.exact object.head (behind_head object rest) stored.type_fits stored.bonus_type_fits (size_fits object.head.block_size stored.size) (behind_one object c.args.cursor.now rest is) in
+      let head = c.in-Some.ensures.exact object.head (behind_head object rest) stored.head.type_fits stored.head.bonus_type_fits (size_fits object.head.block_size stored.head.size) (behind_one object c.args.cursor.now rest is) in
       let bonus = c.in_default-text.ensures.exact object.bonus (behind_bonus object rest) (omega (arith, stored.bonus)) head.1 in
       absurd (cc bonus.0);
 }
@@ -20,7 +20,7 @@ returns-in_default-text c = record {
 pub returns-in_default-read_ptr : goal.returns-in_default-read_ptr
 returns-in_default-read_ptr c = record {
   exact = λ object rest stored is.
-      let head = c.in-Some.ensures.exact object.head (behind_head object rest) stored.type_fits stored.bonus_type_fits (size_fits object.head.block_size stored.size) (behind_one object c.args.cursor.now rest is) in
+      let head = c.in-Some.ensures.exact object.head (behind_head object rest) stored.head.type_fits stored.head.bonus_type_fits (size_fits object.head.block_size stored.head.size) (behind_one object c.args.cursor.now rest is) in
       let bonus = c.in-Some-text.ensures.exact object.bonus (behind_bonus object rest) (omega (arith, stored.bonus)) head.1 in
       let spill = c.in_default-read_ptr.ensures.exact object.spill rest stored.spill bonus.1 in
       absurd (cc spill.0);
@@ -29,7 +29,7 @@ returns-in_default-read_ptr c = record {
 pub returns : goal.returns
 returns c = record {
   exact = λ object rest stored is.
-      let head = c.in-Some.ensures.exact object.head (behind_head object rest) stored.type_fits stored.bonus_type_fits (size_fits object.head.block_size stored.size) (behind_one object c.args.cursor.now rest is) in
+      let head = c.in-Some.ensures.exact object.head (behind_head object rest) stored.head.type_fits stored.head.bonus_type_fits (size_fits object.head.block_size stored.head.size) (behind_one object c.args.cursor.now rest is) in
       let bonus = c.in-Some-text.ensures.exact object.bonus (behind_bonus object rest) (omega (arith, stored.bonus)) head.1 in
       let spill = c.in-Some-read_ptr.ensures.exact object.spill rest stored.spill bonus.1 in
       let same_head : c.in-Some.head ≡ object.head = cc head.0 in

@@ -16,13 +16,12 @@ put_numbers-requires c = record {
   date = search rules;
   one = search rules;
   stored = record {
-    type_fits = search rules;
-    bonus_type_fits = search rules;
-    size = c.requires.size;
+    head = c.requires.head;
     bonus = c.requires.bonus;
     bonus_bytes = rw (← c.as_slice.ensures) c.are_bytes.ensures;
     spill = c.kept_spill-spill.ensures.fits;
     spill_kind = c.kept_spill-spill.ensures.kind;
+    spill_size = c.kept_spill-spill.ensures.size;
   };
 }
 
@@ -34,13 +33,12 @@ put_rows-requires-clause-numbers c = record {
   date = search rules;
   one = search rules;
   stored = record {
-    type_fits = search rules;
-    bonus_type_fits = search rules;
-    size = c.requires.size;
+    head = c.requires.head;
     bonus = c.requires.bonus;
     bonus_bytes = rw (← c.as_slice.ensures) c.are_bytes.ensures;
     spill = c.kept_spill-spill.ensures.fits;
     spill_kind = c.kept_spill-spill.ensures.kind;
+    spill_size = c.kept_spill-spill.ensures.size;
   };
 }
 
@@ -52,7 +50,7 @@ returns-then-keeps_blocks-clause-made c =
     subst (λ lists. SetIs (Has image space) lists after)
     (sym (done ∙ ap (λ spill. with_object c.args.self.now c.args.object c.args.number (stored spill)) c.kept_spill-spill.ensures.kept))
     (object_made c.applied_is_state.ensures (Has image space) c.args.self.now c.args.object c.args.number max_block c.args.head c.args.bonus c.args.keep_spill snap after
-    c.requires.first c.requires.bound c.requires.size (sym c.has_size-keeps_blocks.ensures ∙ c.if-keeps_blocks.true) s h))
+    c.requires.first c.requires.bound c.requires.head c.requires.bonus (sym c.has_size-keeps_blocks.ensures ∙ c.if-keeps_blocks.true) s h))
     c.put_numbers.ensures.done
 
 pub returns-else-keeps_blocks-clause-made : goal.returns-else-keeps_blocks-clause-made
@@ -66,7 +64,7 @@ returns-else-keeps_blocks-clause-made c =
     ∙ ap (λ row. record { objects = numbers c.kept_spill-spill.result; indices = with_indices row c.args.self.now.indices }) c.all_holes.ensures.row
     ∙ ap (λ spill. with_object_anew c.args.self.now c.args.object c.args.number (stored spill)) c.kept_spill-spill.ensures.kept))
     (object_made_anew c.applied_is_state.ensures (Has image space) c.args.self.now c.args.object c.args.number max_block c.args.head c.args.bonus c.args.keep_spill snap after
-    c.put_rows.ensures.ranges c.requires.first c.requires.bound c.requires.size (sym c.has_size-keeps_blocks.ensures ∙ c.if-keeps_blocks.false) s h))
+    c.put_rows.ensures.ranges c.requires.first c.requires.bound c.requires.head c.requires.bonus (sym c.has_size-keeps_blocks.ensures ∙ c.if-keeps_blocks.false) s h))
     c.put_rows.ensures.done
 
 pub returns-then-keeps_blocks-clause-grows : goal.returns-then-keeps_blocks-clause-grows

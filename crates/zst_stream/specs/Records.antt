@@ -1,0 +1,47 @@
+-- The records that items are.
+use Rattle.std.specs.Prelude.{ℕ, ◌≡◌, ◌==◌, ◌-◌, ◌^◌, ◌<◌, true, not, length, bit_and, All}
+use Rattle.zst_model.specs.declared.header.Header.{Header}
+use Rattle.zst_model.specs.declared.header.Point.{Point}
+use Rattle.zst_model.specs.declared.item.Change.{Change}
+use Rattle.zst_model.specs.declared.item.Change.TheVariants.{Put, Spill, FreeFrom, Free, Redact, Write}
+use Rattle.zst_model.specs.declared.item.Item.{Item}
+use Rattle.zst_model.specs.declared.item.Item.TheVariants.{FreeObjects, At}
+use Rattle.zst_model.specs.State.{IsState}
+use Rattle.zst_model.specs.Dated.{DatedState}
+use Rattle.zst_model.specs.Included.{Choice}
+use Rattle.zst_model.specs.View.{view_of}
+use Rattle.zst_model.specs.Items.{items}
+use Rattle.zst_record.specs.declared.TheConstants.{REDACTED}
+use Rattle.zst_record.specs.declared.head.Head.{Head}
+use Rattle.zst_record.specs.declared.head.Head.TheVariants as heads
+use Rattle.zst_record.specs.Fits.{Fits}
+
+-- what the record of a change of an object says, in a stream to this guid
+abbrev pub change_head : ℕ → ℕ → Change → Head
+change_head to k (Put head bonus keep_spill max_block) = heads.Object k head.type_ head.bonus_type head.block_size (length bonus) max_block to
+change_head to k (Spill bytes) = heads.Spill k (length bytes) to
+change_head to k (FreeFrom offset) = heads.Free k offset (2 ^ 64 - 1) to
+change_head to k (Free offset count) = heads.Free k offset count to
+change_head to k (Redact offset count) = heads.Redact k offset count to
+change_head to k (Write offset type bytes) = heads.Write k type offset (length bytes) to
+
+-- what the record of an item says
+abbrev pub item_head : ℕ → Item → Head
+item_head to (FreeObjects first count) = heads.FreeObjects first count to
+item_head to (At k change) = change_head to k change
+
+-- a REDACT needs the feature REDACTED
+abbrev pub AllowsChange : ℕ → Change → Type 0
+AllowsChange features (Redact offset count) = not (bit_and features REDACTED == 0) ≡ true
+AllowsChange features _ = Unit {0}
+
+-- a stream with these features may have the item
+abbrev pub Allows : ℕ → Item → Type 0
+Allows features (FreeObjects first count) = Unit {0}
+Allows features (At k change) = AllowsChange features change
+
+-- a stream can carry each item of the view of a lawful snapshot, whatever is chosen and wherever it begins, as far as its features allow the item
+abbrev pub ItemsFit : Type 0
+ItemsFit =
+    (header : Header) (snap : DatedState) (choice : Choice) (point : Point) → IsState snap.state → header.to < 2 ^ 64
+    → All (λ item. Allows header.features item → Fits header.features (item_head header.to item)) (items (view_of header snap choice) point)
