@@ -206,11 +206,11 @@ images_after old new P leaves before only now c image =
     ⊎_elim (λ was. before c (only c was)) (λ is. is) (leaves.adds old.moment c (omega arith) (now old.moment c leaves.later image))
 
 -- opening was refused
-pub stepping_unopened : (tells : Bool) (now : ℕ) (command : Command) (here here' : DiskState) (fault : PoolFault)
-    → ((uber : Uber) (rows : Rows) (pool : Pool) → IsTrue tells → ReadsAs uber rows pool here.seen → GivesPool uber rows (Err fault))
-    → (IsTrue tells → OpenAnswers here (Err fault)) → OnlyReads here here' → HasDiskCause {T = Kept} here.faults here'.faults (Err fault) → fault ≢ faults.Failed
-    → Stepping tells now command here here' (Err (pool_refusal fault))
-stepping_unopened tells now command here here' fault there answer reads cause alive = record {
+pub stepping_unopened : (now : ℕ) (command : Command) (here here' : DiskState) (fault : PoolFault)
+    → ((uber : Uber) (rows : Rows) (pool : Pool) → here'.honest → ReadsAs uber rows pool here.seen → GivesPool uber rows (Err fault))
+    → (here'.honest → OpenAnswers here (Err fault)) → OnlyReads here here' → HasDiskCause {T = Kept} here.faults here'.faults (Err fault) → fault ≢ faults.Failed
+    → Stepping now command here here' (Err (pool_refusal fault))
+stepping_unopened now command here here' fault there answer reads cause alive = record {
   moments = λ pool told holds. moments_read here here' pool (stepped now command pool) holds reads;
   images = λ pool told holds c image. inl (holds.images c (reads.crash c image));
   answers = λ pool told holds.
@@ -223,55 +223,55 @@ stepping_unopened tells now command here here' fault there answer reads cause al
 }
 
 -- the command ran on what was opened
-module _ (tells : Bool) (now : ℕ) (command : Command) (here mid here' : DiskState) (kept kept' : Kept)
-    (there : (uber : Uber) (rows : Rows) (pool : Pool) → IsTrue tells → ReadsAs uber rows pool here.seen → GivesPool uber rows (Ok kept))
-    (answer : IsTrue tells → OpenAnswers here (Ok kept)) (reads : OnlyReads here mid) (synced : IsSynced mid) (later : here.faults ≤ mid.faults)
-    (step : (pool : Pool) → IsTrue tells → Rests mid kept.body kept.dir pool → Leaves mid here' (BeforeOrAfter pool (stepped now command pool)))
+module _ (now : ℕ) (command : Command) (here mid here' : DiskState) (kept kept' : Kept)
+    (there : (uber : Uber) (rows : Rows) (pool : Pool) → mid.honest → ReadsAs uber rows pool here.seen → GivesPool uber rows (Ok kept))
+    (falls : here'.honest → mid.honest) (answer : mid.honest → OpenAnswers here (Ok kept)) (reads : OnlyReads here mid) (synced : IsSynced mid) (later : here.faults ≤ mid.faults)
+    (step : (pool : Pool) → here'.honest → Rests mid kept.body kept.dir pool → Leaves mid here' (BeforeOrAfter pool (stepped now command pool)))
     (only : (c : List ℕ) → here.left_since here.moment c → here.images c) (now_left : (t : ℕ) (c : List ℕ) → t ≤ here'.moment → here'.images c → here'.left_since t c) where
-  rests : (pool : Pool) → IsTrue tells → Holds here pool → Rests mid kept.body kept.dir pool
+  rests : (pool : Pool) → mid.honest → Holds here pool → Rests mid kept.body kept.dir pool
   rests pool told holds =
       rests_opened here mid kept holds.seen.0 holds.seen.1 pool holds.seen.2 reads synced (there holds.seen.0 holds.seen.1 pool told holds.seen.2)
 
-  moments : (pool : Pool) → IsTrue tells → Holds here pool → Leaves here here' (BeforeOrAfter pool (stepped now command pool))
-  moments pool told holds = moments_then here mid here' pool (stepped now command pool) holds reads (step pool told (rests pool told holds))
+  moments : (pool : Pool) → here'.honest → Holds here pool → Leaves here here' (BeforeOrAfter pool (stepped now command pool))
+  moments pool told holds = moments_then here mid here' pool (stepped now command pool) holds reads (step pool told (rests pool (falls told) holds))
 
-  images : (pool : Pool) → IsTrue tells → Holds here pool → (c : List ℕ) → here'.images c → BeforeOrAfter pool (stepped now command pool) c
+  images : (pool : Pool) → here'.honest → Holds here pool → (c : List ℕ) → here'.images c → BeforeOrAfter pool (stepped now command pool) c
   images pool told holds = images_after here here' (BeforeOrAfter pool (stepped now command pool)) (moments pool told holds) (λ c image. inl (holds.images c image)) only now_left
 
   pub stepping_done : (lines : List (List ℕ)) → mid.faults ≤ here'.faults
-      → ((pool : Pool) → IsTrue tells → Rests mid kept.body kept.dir pool → StepAnswer here' kept'.body kept'.dir pool (stepped now command pool) (Ok lines))
-      → Stepping tells now command here here' (Ok lines)
+      → ((pool : Pool) → here'.honest → Rests mid kept.body kept.dir pool → StepAnswer here' kept'.body kept'.dir pool (stepped now command pool) (Ok lines))
+      → Stepping now command here here' (Ok lines)
   stepping_done lines after did = record {
     moments = moments;
     images = images;
-    answers = λ pool told holds. answers_done here' kept'.body kept'.dir pool (stepped now command pool) lines (did pool told (rests pool told holds));
-    opened = λ told. opened_done here kept lines (answer told);
+    answers = λ pool told holds. answers_done here' kept'.body kept'.dir pool (stepped now command pool) lines (did pool told (rests pool (falls told) holds));
+    opened = λ told. opened_done here kept lines (answer (falls told));
     full = λ uber rows pool need largest told reads is. absurd (cc is);
     refused = tt;
     later = omega (arith, later, after);
   }
 
   pub stepping_refused : (fault : PoolFault) → HasDiskCause {T = List (List ℕ)} mid.faults here'.faults (Err fault) → IsStepFault fault
-      → ((pool : Pool) (need largest : ℕ) → IsTrue tells → Rests mid kept.body kept.dir pool → fault ≡ faults.Full need largest → HasNoRoom kept.body kept.dir need largest)
-      → ((pool : Pool) → IsTrue tells → Rests mid kept.body kept.dir pool → StepAnswer here' kept'.body kept'.dir pool (stepped now command pool) (Err fault))
-      → Stepping tells now command here here' (Err (pool_refusal fault))
+      → ((pool : Pool) (need largest : ℕ) → here'.honest → Rests mid kept.body kept.dir pool → fault ≡ faults.Full need largest → HasNoRoom kept.body kept.dir need largest)
+      → ((pool : Pool) → here'.honest → Rests mid kept.body kept.dir pool → StepAnswer here' kept'.body kept'.dir pool (stepped now command pool) (Err fault))
+      → Stepping now command here here' (Err (pool_refusal fault))
   stepping_refused fault cause known room did = record {
     moments = moments;
     images = images;
-    answers = λ pool told holds. answers_refused here' kept'.body kept'.dir pool (stepped now command pool) fault (did pool told (rests pool told holds));
-    opened = λ told. opened_then here kept fault (answer told) known;
+    answers = λ pool told holds. answers_refused here' kept'.body kept'.dir pool (stepped now command pool) fault (did pool told (rests pool (falls told) holds));
+    opened = λ told. opened_then here kept fault (answer (falls told)) known;
     full = λ uber rows pool need largest told is_pool is.
-        let same = there uber rows pool told is_pool in
+        let same = there uber rows pool (falls told) is_pool in
         rw (← same.0, ← same.1) (room pool need largest told (rests_opened here mid kept uber rows pool is_pool reads synced same) (full_only fault need largest (cc is)));
     refused = IsPoolRefusal-part here mid here' fault later cause (λ is. subst IsStepFault is known);
     later = omega (arith, later, cause.later);
   }
 
 -- a refused command writes nothing
-pub steps_refused : (tells : Bool) (now : ℕ) (command : Command) (here here' : DiskState) (out : SinkState) (refusal : Refusal)
-    → Stepping tells now command here here' (Err refusal) → Steps tells now command here here' out out (Err refusal)
-steps_refused tells now command here here' out refusal stepping = record { answer = Err refusal; stepping = stepping; replied = (refl, refl) }
+pub steps_refused : (now : ℕ) (command : Command) (here here' : DiskState) (out : SinkState) (refusal : Refusal)
+    → Stepping now command here here' (Err refusal) → Steps now command here here' out out (Err refusal)
+steps_refused now command here here' out refusal stepping = record { answer = Err refusal; stepping = stepping; replied = (refl, refl) }
 
-pub steps_replied : (tells : Bool) (now : ℕ) (command : Command) (here here' : DiskState) (out out' : SinkState) (lines : List (List ℕ)) (result : Result (Unit {0}) Refusal)
-    → Stepping tells now command here here' (Ok lines) → Replied out out' (Ok lines) result → Steps tells now command here here' out out' result
-steps_replied tells now command here here' out out' lines result stepping replied = record { answer = Ok lines; stepping = stepping; replied = replied }
+pub steps_replied : (now : ℕ) (command : Command) (here here' : DiskState) (out out' : SinkState) (lines : List (List ℕ)) (result : Result (Unit {0}) Refusal)
+    → Stepping now command here here' (Ok lines) → Replied out out' (Ok lines) result → Steps now command here here' out out' result
+steps_replied now command here here' out out' lines result stepping replied = record { answer = Ok lines; stepping = stepping; replied = replied }

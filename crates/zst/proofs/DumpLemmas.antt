@@ -1,14 +1,13 @@
 -- What each turn of a dump leaves.
-use Rattle.std.proofs.Common.{◌≡◌, ℕ, ◌+◌, ◌<◌, ◌≤◌, inl, inr, List, [], ◌∷◌, ◌++◌, length, Err, Ok, refl, sym, ap, ◌∙◌, arith, append_assoc, length-append}
+use Rattle.std.proofs.Common.{◌≡◌, ℕ, ◌+◌, ◌<◌, ◌≤◌, inl, inr, ⊎_elim, Result, List, [], ◌∷◌, ◌++◌, length, Err, Ok, refl, sym, ap, ◌∙◌, arith, append_assoc, length-append}
 use Rattle.std.proofs.lemmas.List.{append-nil}
 use Rattle.std.proofs.lemmas.Grind.{flat_map-append}
-use Rattle.std.specs.Io.KnownBytes.{Consumes}
-use Rattle.std.proofs.KnownBytes.{Consumes-nil, Consumes-trans}
-use Rattle.zst_outside.specs.Causes.{Rose-earlier}
-use Rattle.zst_outside.specs.States.{SourceState, SinkState}
-use Rattle.zst_outside.specs.Printing.{Wrote, Prints, Wrote-then, Wrote-longer, Wrote-start}
+use Rattle.zst_outside.specs.Causes.{Rose, Rose-earlier}
+use Rattle.zst_outside.specs.States.{SourceState, SinkState, Gave, HandedOn}
+use Rattle.zst_outside.specs.Printing.{Wrote, Prints, Wrote-kept, Wrote-then, Wrote-longer, Wrote-start}
 use Rattle.zst_outside.specs.declared.Fault.{Fault}
 use Rattle.zst_model.specs.declared.faults.Quantity.TheVariants.{Stream}
+use Rattle.zst_model.specs.declared.refusal.Refusal.{Refusal}
 use Rattle.zst_model.specs.declared.refusal.Refusal.TheVariants as refusals
 use Rattle.zst_record.specs.Faults.{refusal_of}
 use Rattle.zst_record.specs.Heads.{Covered}
@@ -24,7 +23,7 @@ use Rattle.zst_dump.specs.Summary.{counts_of, summary_text}
 use Rattle.zst_dump.specs.declared.counts.Counts.{Counts}
 use Rattle.zst.specs.Limits.{stream_limit}
 use Rattle.zst.specs.Dumps.{Dumps, Ends, WroteAll, IsWithin, dump_text, ending_of}
-use Rattle.zst.specs.Dumping.{Dumping, progress_of}
+use Rattle.zst.specs.Dumping.{Dumping, HandsOn, progress_of}
 use Rattle.zst.specs.Intake.{waiting_in, Takes}
 use Rattle.zst.specs.declared.intake.Intake.{Intake}
 use Rattle.zst.specs.declared.intake.Taken.TheVariants as takens
@@ -62,13 +61,54 @@ front_written out out' text handed rest left is w =
 
 -- all is written where no last lines come
 all_written : (out out' : SinkState) (text : List ℕ) (handed : List Covered) (o : Outcome) → reading text ≡ record { covered = handed; outcome = o }
-    → ending_of o handed ≡ [] → Wrote out out' (lines_of handed) [] → WroteAll text out out'
+    → ending_of o handed ≡ [] → Wrote out out' (lines_of handed) [] → Wrote out out' (dump_text (reading text)) []
 all_written out out' text handed o is none w = rw is (rw (none, append-nil (lines_of handed)) w)
 
 all_read : (i : Intake) (text : List ℕ) → length text + length (waiting_in i) ≤ stream_limit → length (text ++ waiting_in i) ≤ stream_limit
 all_read i text within = omega (arith, length-append text (waiting_in i))
 
+-- where a whole dump was written: it is handed on, or that fails and is the answer
+pub ended : (text : List ℕ) (start input : SourceState) (begun mid out : SinkState) (answer result : Result (Unit {0}) Refusal)
+    → Gave start input text → Wrote begun mid (dump_text (reading text)) [] → HandsOn mid out answer result
+    → (WroteAll text begun out → Ends text start input begun out answer) → IsWithin text answer → length text ≤ stream_limit → start.faults ≤ input.faults
+    → Dumps start input begun out result
+ended text start input begun mid out answer result consumed wrote hands ends within bounded later =
+    let all = Wrote-kept begun mid out (dump_text (reading text)) [] wrote hands.written hands.later in
+    ⊎_elim
+    (λ done. rw done.0 (record { text = text; consumed = consumed; front = ([], all); ends = ends (all, done.1); within = within; later = later }))
+    (λ lost. rw lost.0 (record { text = text; consumed = consumed; front = ([], all); ends = Rose-earlier begun.faults mid.faults out.faults wrote.later lost.1; within = bounded; later = later }))
+    hands.outcome
+
 -- ---- turns
+
+-- the lines so far are handed on, and the dump is under way as before
+pub flushed : (start input : SourceState) (begun mid out : SinkState) (r : Reader) (i : Intake) (n : Counts)
+    → Dumping start input begun mid r i n → out.written ≡ mid.written → mid.faults ≤ out.faults → Dumping start input begun out r i n
+flushed start input begun mid out r i n d kept later = record {
+  text = d.text;
+  handed = d.handed;
+  stands = d.stands;
+  consumed = d.consumed;
+  within = d.within;
+  wrote = Wrote-kept begun mid out (lines_of d.handed) [] d.wrote kept later;
+  counted = d.counted;
+  later = d.later;
+}
+
+-- they could not be handed on
+pub unflushed : (start input : SourceState) (begun mid out : SinkState) (r : Reader) (i : Intake) (n : Counts)
+    → Dumping start input begun mid r i n → out.written ≡ mid.written → mid.faults ≤ out.faults → Rose mid.faults out.faults
+    → Dumps start input begun out (Err refusals.SinkFault)
+unflushed start input begun mid out r i n d kept later rose =
+    let f = d.stands.front (waiting_in i) in
+    record {
+      text = d.text ++ waiting_in i;
+      consumed = d.consumed;
+      front = front_written begun out (d.text ++ waiting_in i) d.handed f.0 [] f.1 (Wrote-kept begun mid out (lines_of d.handed) [] d.wrote kept later);
+      ends = Rose-earlier begun.faults mid.faults out.faults d.wrote.later rose;
+      within = all_read i d.text d.within;
+      later = d.later;
+    }
 
 -- a record's line is written and the record is counted
 pub recorded : (start input : SourceState) (begun mid out : SinkState) (old new : Reader) (i : Intake) (n n' : Counts) (c : Covered)
@@ -105,21 +145,15 @@ unrecorded start input begun mid out old new i n c e d s p =
     }
 
 -- the two last lines are written
-pub completed : (start input : SourceState) (begun mid out : SinkState) (old new : Reader) (i : Intake) (n : Counts)
-    → (d : Dumping start input begun mid old i n) → HandsOut new d.text d.handed complete → Prints {T = Unit {0}} {E = Fault} mid out (summary_text n) (Ok tt)
-    → Dumps start input begun out (Ok tt)
-completed start input begun mid out old new i n d h p =
+pub completed : (start input : SourceState) (begun mid last out : SinkState) (old new : Reader) (i : Intake) (n : Counts) (result : Result (Unit {0}) Refusal)
+    → (d : Dumping start input begun mid old i n) → HandsOut new d.text d.handed complete → Prints {T = Unit {0}} {E = Fault} mid last (summary_text n) (Ok tt)
+    → HandsOn last out (Ok tt) result → Dumps start input begun out result
+completed start input begun mid last out old new i n result d h p hands =
     let text = d.text ++ waiting_in i in
     let is = settled d.text (waiting_in i) d.handed complete (λ e. cc) h.whole in
-    let all : WroteAll text begun out = rw is (rw (← d.counted) (Wrote-then begun mid out (lines_of d.handed) (summary_text n) [] d.wrote p.whole)) in
-    record {
-      text = text;
-      consumed = d.consumed;
-      front = ([], all);
-      ends = (ap (λ (r : Reading). r.outcome) is, all);
-      within = all_read i d.text d.within;
-      later = d.later;
-    }
+    let all : Wrote begun last (dump_text (reading text)) [] = rw is (rw (← d.counted) (Wrote-then begun mid last (lines_of d.handed) (summary_text n) [] d.wrote p.whole)) in
+    let bounded = all_read i d.text d.within in
+    ended text start input begun last out (Ok tt) result d.consumed all hands (λ wrote. (ap (λ (r : Reading). r.outcome) is, wrote)) bounded bounded d.later
 
 -- they could not be written
 pub uncompleted : (start input : SourceState) (begun mid out : SinkState) (old new : Reader) (i : Intake) (n : Counts) (e : Fault)
@@ -151,28 +185,24 @@ within_by text (faults.Unsupported at lack) h = h
 within_by text (faults.Truncated at) h = h
 
 -- the stream is faulty
-pub refused : (start input : SourceState) (begun out : SinkState) (old new : Reader) (i : Intake) (n : Counts) (f : StreamFault)
-    → (d : Dumping start input begun out old i n) → HandsOut new d.text d.handed (faulty f) → Dumps start input begun out (Err (refusal_of f))
-refused start input begun out old new i n f d h =
+pub refused : (start input : SourceState) (begun mid out : SinkState) (old new : Reader) (i : Intake) (n : Counts) (f : StreamFault) (result : Result (Unit {0}) Refusal)
+    → (d : Dumping start input begun mid old i n) → HandsOut new d.text d.handed (faulty f) → HandsOn mid out (Err (refusal_of f)) result
+    → Dumps start input begun out result
+refused start input begun mid out old new i n f result d h hands =
     let text = d.text ++ waiting_in i in
     let is = settled d.text (waiting_in i) d.handed (faulty f) (λ e. cc) h.whole in
-    let all = all_written begun out text d.handed (faulty f) is refl d.wrote in
-    record {
-      text = text;
-      consumed = d.consumed;
-      front = ([], all);
-      ends = ends_by text start input begun out f (ap (λ (r : Reading). r.outcome) is) all (Finds-reading text);
-      within = within_by text f (all_read i d.text d.within);
-      later = d.later;
-    }
+    let all = all_written begun mid text d.handed (faulty f) is refl d.wrote in
+    let bounded = all_read i d.text d.within in
+    ended text start input begun mid out (Err (refusal_of f)) result d.consumed all hands
+    (λ wrote. ends_by text start input begun out f (ap (λ (r : Reading). r.outcome) is) wrote (Finds-reading text)) (within_by text f bounded) bounded d.later
 
 -- ---- more of the input
 
 -- what was read in all
-read_in_all : (start mid input : SourceState) (text waits got pushed rest : List ℕ) → Consumes start.left mid.left (text ++ waits) → Consumes mid.left input.left got
-    → waits ++ got ≡ pushed ++ rest → Consumes start.left input.left ((text ++ pushed) ++ rest)
+read_in_all : (start mid input : SourceState) (text waits got pushed rest : List ℕ) → Gave start mid (text ++ waits) → Gave mid input got
+    → waits ++ got ≡ pushed ++ rest → Gave start input ((text ++ pushed) ++ rest)
 read_in_all start mid input text waits got pushed rest before more parts =
-    rw (append_assoc text pushed rest, ← parts, ← append_assoc text waits got) (Consumes-trans start.left mid.left input.left (text ++ waits) got before more)
+    rw (append_assoc text pushed rest, ← parts, ← append_assoc text waits got) (more ∙ ap (λ (l : List ℕ). l ++ got) before ∙ append_assoc start.given (text ++ waits) got)
 
 pub taken_some : (start mid input : SourceState) (begun out : SinkState) (old lent new : Reader) (i i' : Intake) (n : Counts)
     → (d : Dumping start mid begun out old i n) → HandsOut lent d.text d.handed waiting
@@ -198,16 +228,16 @@ nothing_more : (text pushed rest : List ℕ) → pushed ≡ [] → rest ≡ [] �
 nothing_more text pushed rest p r = rw (p, r, append-nil text, append-nil text) refl
 
 pub taken_nothing : (start mid input : SourceState) (begun out : SinkState) (old lent new : Reader) (i i' : Intake) (n : Counts) (at : ℕ)
-    → (d : Dumping start mid begun out old i n) → HandsOut lent d.text d.handed waiting → Takes mid input lent new i i' takens.Nothing → at ≡ length d.text
+    → (d : Dumping start mid begun out old i n) → HandsOut lent d.text d.handed waiting → Takes mid input lent new i i' takens.Nothing → at ≡ length d.text → HandedOn out
     → Dumps start input begun out (Err (refusals.Truncated at))
-taken_nothing start mid input begun out old lent new i i' n at d h t is_at =
+taken_nothing start mid input begun out old lent new i i' n at d h t is_at handed_on =
     let same = nothing_more d.text t.pushed t.rest t.took.1 t.took.2 in
     let all = all_written begun out d.text d.handed waiting h.whole refl d.wrote in
     record {
       text = d.text;
       consumed = rw same at (read_in_all start mid input d.text (waiting_in i) t.got t.pushed t.rest d.consumed t.consumed t.parts);
       front = ([], all);
-      ends = (ap (λ (r : Reading). r.outcome) h.whole, is_at, t.took.0, all);
+      ends = (ap (λ (r : Reading). r.outcome) h.whole, is_at, t.took.0, (all, handed_on));
       within = h.stands.bounded;
       later = let a = d.later in let b = t.later in omega arith;
     }
@@ -229,16 +259,16 @@ taken_too_much start mid input begun out old lent new i i' n d h t =
     }
 
 pub taken_failed : (start mid input : SourceState) (begun out : SinkState) (old lent new : Reader) (i i' : Intake) (n : Counts)
-    → (d : Dumping start mid begun out old i n) → HandsOut lent d.text d.handed waiting → Takes mid input lent new i i' takens.Failed
+    → (d : Dumping start mid begun out old i n) → HandsOut lent d.text d.handed waiting → Takes mid input lent new i i' takens.Failed → HandedOn out
     → Dumps start input begun out (Err refusals.SourceFault)
-taken_failed start mid input begun out old lent new i i' n d h t =
+taken_failed start mid input begun out old lent new i i' n d h t handed_on =
     let same = nothing_more d.text t.pushed t.rest t.took.1 t.took.2 in
     let all = all_written begun out d.text d.handed waiting h.whole refl d.wrote in
     record {
       text = d.text;
       consumed = rw same at (read_in_all start mid input d.text (waiting_in i) t.got t.pushed t.rest d.consumed t.consumed t.parts);
       front = ([], all);
-      ends = (ap (λ (r : Reading). r.outcome) h.whole, Rose-earlier start.faults mid.faults input.faults d.later t.took.0, all);
+      ends = (ap (λ (r : Reading). r.outcome) h.whole, Rose-earlier start.faults mid.faults input.faults d.later t.took.0, (all, handed_on));
       within = h.stands.bounded;
       later = let a = d.later in let b = t.later in omega arith;
     }
@@ -251,7 +281,7 @@ started start begun r i n s none counted = record {
   text = [];
   handed = [];
   stands = s;
-  consumed = rw none (Consumes-nil start.left);
+  consumed = rw none (sym (append-nil start.given));
   within = rw none (omega arith);
   wrote = Wrote-start begun [];
   counted = counted;
@@ -261,7 +291,7 @@ started start begun r i n s none counted = record {
 pub no_memory : (start : SourceState) (begun : SinkState) → Dumps start start begun begun (Err refusals.OutOfMemory)
 no_memory start begun = record {
   text = [];
-  consumed = Consumes-nil start.left;
+  consumed = sym (append-nil start.given);
   front = (dump_text (reading []), Wrote-start begun (dump_text (reading [])));
   ends = tt;
   within = omega arith;

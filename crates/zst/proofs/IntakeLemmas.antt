@@ -1,7 +1,7 @@
 -- What is in the piece that was read last.
 use Rattle.std.proofs.Common.{◌≡◌, ℕ, ◌+◌, ◌-◌, ◌<◌, ◌≤◌, List, [], ◌++◌, length, take, drop, min, refl, sym, ◌∙◌, arith, length-take, length-drop, take-append-drop}
 use Rattle.std.proofs.lemmas.List.{take_at, length-take-le, append-nil}
-use Rattle.std.specs.Io.KnownBytes.{Consumes}
+use Rattle.zst_outside.specs.States.{Gave}
 use Rattle.zst_outside.specs.States.{SourceState}
 use Rattle.zst_record.specs.Heads.{Covered}
 use Rattle.zst_reader.specs.StandsFor.{StandsFor, pushed_of, handed_of, mark_of}
@@ -27,7 +27,7 @@ pub record Pushes (old new : Reader) (waits : List ℕ) (room : ℕ) (i : Intake
   pub stands : (text : List ℕ) (handed : List Covered) → StandsFor old text handed → StandsFor new (text ++ take (min (length waits) room) waits) handed
 
 pub pushed_some : (input input' : SourceState) (old new : Reader) (i i' : Intake) (waits got : List ℕ) (room : ℕ)
-    → waiting_in i ++ got ≡ waits → Consumes input.left input'.left got → input.faults ≤ input'.faults
+    → waiting_in i ++ got ≡ waits → Gave input input' got → input.faults ≤ input'.faults
     → 0 < room → 0 < length waits → pushed_of old + length waits ≤ stream_limit → Pushes old new waits room i' → Takes input input' old new i i' takens.Some
 pushed_some input input' old new i i' waits got room all consumed later has_room some within p =
     let n = min (length waits) room in

@@ -45,11 +45,11 @@ makes_refused sectors id here here' faults.Failed is left = absurd is
 makes_refused sectors id here here' faults.OutOfMemory is left = (is.0, left ∙ is.0)
 
 -- making was refused, and nothing is written
-pub creates_refused : (tells : Bool) (sectors id : ℕ) (here here' : DiskState) (out : SinkState) (fault : PoolFault)
-    → (IsTrue tells → CreateAnswers here.size (latest here.seen) sectors (Err fault)) → RefusedLeaves here here' fault
-    → (IsTrue tells → Leaves here here' (λ c. ((d : List ℕ) × here.images d × (latest c ≡ latest d)) ⊎ Reads (new_pool id) c))
-    → HasDiskCause {T = Kept} here.faults here'.faults (Err fault) → fault ≢ faults.Failed → Creates tells sectors id here here' out out (Err (pool_refusal fault))
-creates_refused tells sectors id here here' out fault answers left moments cause alive = record {
+pub creates_refused : (sectors id : ℕ) (here here' : DiskState) (out : SinkState) (fault : PoolFault)
+    → (here'.honest → CreateAnswers here.size (latest here.seen) sectors (Err fault)) → RefusedLeaves here here' fault
+    → (here'.honest → Leaves here here' (λ c. ((d : List ℕ) × here.images d × (latest c ≡ latest d)) ⊎ Reads (new_pool id) c))
+    → HasDiskCause {T = Kept} here.faults here'.faults (Err fault) → fault ≢ faults.Failed → Creates sectors id here here' out out (Err (pool_refusal fault))
+creates_refused sectors id here here' out fault answers left moments cause alive = record {
   answer = Err (pool_refusal fault);
   making = record {
     moments = moments;
@@ -61,11 +61,11 @@ creates_refused tells sectors id here here' out fault answers left moments cause
 }
 
 -- the pool was made, and its line is written or not
-pub creates_made : (tells : Bool) (sectors id : ℕ) (here here' : DiskState) (out out' : SinkState) (kept : Kept) (result : Result (Unit {0}) Refusal)
-    → (IsTrue tells → CreateAnswers here.size (latest here.seen) sectors (Ok kept)) → (IsTrue tells → Rests here' kept.body kept.dir (new_pool id))
-    → (IsTrue tells → Leaves here here' (λ c. ((d : List ℕ) × here.images d × (latest c ≡ latest d)) ⊎ Reads (new_pool id) c))
-    → here.faults ≤ here'.faults → Replied out out' (Ok (ok_line 1 ∷ [])) result → Creates tells sectors id here here' out out' result
-creates_made tells sectors id here here' out out' kept result answers made moments later replied = record {
+pub creates_made : (sectors id : ℕ) (here here' : DiskState) (out out' : SinkState) (kept : Kept) (result : Result (Unit {0}) Refusal)
+    → (here'.honest → CreateAnswers here.size (latest here.seen) sectors (Ok kept)) → (here'.honest → Rests here' kept.body kept.dir (new_pool id))
+    → (here'.honest → Leaves here here' (λ c. ((d : List ℕ) × here.images d × (latest c ≡ latest d)) ⊎ Reads (new_pool id) c))
+    → here.faults ≤ here'.faults → Replied out out' (Ok (ok_line 1 ∷ [])) result → Creates sectors id here here' out out' result
+creates_made sectors id here here' out out' kept result answers made moments later replied = record {
   answer = Ok (ok_line 1 ∷ []);
   making = record {
     moments = moments;

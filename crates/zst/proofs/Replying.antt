@@ -5,7 +5,7 @@ use Rattle.std.specs.Fmt.{digits}
 use Rattle.std.proofs.lemmas.Grind.{flat_map-append}
 use Rattle.std.proofs.lemmas.List.{append-nil, take_more}
 use Rattle.zst_outside.specs.Printing.{Prints}
-use Rattle.zst_outside.specs.States.{SinkState}
+use Rattle.zst_outside.specs.States.{SinkState, HandedOn}
 use Rattle.zst_model.specs.Lines.{ok_line}
 use Rattle.zst_model.specs.declared.refusal.Refusal.TheVariants as refusals
 use Rattle.zst.specs.Replies.{Replied, reply_text}
@@ -28,17 +28,17 @@ reply_more lines i d h =
     ∙ ap (λ (t : List ℕ). reply_text (take i lines) ++ t) (append-nil (ended (get_or lines i d)))
 
 -- the answer of what writes the lines
-pub replied_all : {E : Type 0} (out out' : SinkState) (lines : List (List ℕ)) → Prints {E = E} out out' (reply_text lines) (Ok (tt {0})) → Replied out out' (Ok lines) (Ok (tt {0}))
-replied_all out out' lines prints = (record { front = prints.front; whole = prints.whole; fault = tt }, tt)
+pub replied_all : {E : Type 0} (out out' : SinkState) (lines : List (List ℕ)) → Prints {E = E} out out' (reply_text lines) (Ok (tt {0})) → HandedOn out' → Replied out out' (Ok lines) (Ok (tt {0}))
+replied_all out out' lines prints handed_on = (record { front = prints.front; whole = prints.whole; fault = tt }, handed_on, tt)
 
 pub replied_front : {E : Type 0} (out out' : SinkState) (lines : List (List ℕ)) (fault : E) → Prints {T = Unit {0}} out out' (reply_text lines) (Err fault)
     → Replied out out' (Ok lines) (Err refusals.SinkFault)
-replied_front out out' lines fault prints = (record { front = prints.front; whole = tt; fault = prints.fault }, refl)
+replied_front out out' lines fault prints = (record { front = prints.front; whole = tt; fault = prints.fault }, tt, refl)
 
 -- the line of a new pool
-pub first_written : {E : Type 0} (out out' : SinkState) → Prints {E = E} out out' (codes "ok 1\n") (Ok (tt {0})) → Replied out out' (Ok (ok_line 1 ∷ [])) (Ok (tt {0}))
+pub first_written : {E : Type 0} (out out' : SinkState) → Prints {E = E} out out' (codes "ok 1\n") (Ok (tt {0})) → HandedOn out' → Replied out out' (Ok (ok_line 1 ∷ [])) (Ok (tt {0}))
 unfolding digits
-first_written out out' prints = replied_all out out' (ok_line 1 ∷ []) prints
+first_written out out' prints handed_on = replied_all out out' (ok_line 1 ∷ []) prints handed_on
 
 pub first_lost : {E : Type 0} (out out' : SinkState) (fault : E) → Prints {T = Unit {0}} out out' (codes "ok 1\n") (Err fault)
     → Replied out out' (Ok (ok_line 1 ∷ [])) (Err refusals.SinkFault)

@@ -60,20 +60,20 @@ Opened here answer = (body : List ℕ) × (uber : Uber) × (rows : Rows) × (lat
 
 -- One command on the pool of an image: at every moment, and in the end, each image reads as the pool before it or as
 -- what the definition makes of it. E24 comes only where fewer sectors are free than the command may take.
-pub record Stepping (tells : Bool) (now : ℕ) (command : Command) (here here' : DiskState) (answer : Result (List (List ℕ)) Refusal) : Type 0 where
-  pub moments : (pool : Pool) → IsTrue tells → Holds here pool → Leaves here here' (BeforeOrAfter pool (stepped now command pool))
-  pub images : (pool : Pool) → IsTrue tells → Holds here pool → (c : List ℕ) → here'.images c → BeforeOrAfter pool (stepped now command pool) c
-  pub answers : (pool : Pool) → IsTrue tells → Holds here pool → Answers here' pool (stepped now command pool) answer
-  pub opened : IsTrue tells → Opened here answer
-  pub full : (uber : Uber) (rows : Rows) (pool : Pool) (need largest : ℕ) → IsTrue tells → ReadsAs uber rows pool here.seen
+pub record Stepping (now : ℕ) (command : Command) (here here' : DiskState) (answer : Result (List (List ℕ)) Refusal) : Type 0 where
+  pub moments : (pool : Pool) → here'.honest → Holds here pool → Leaves here here' (BeforeOrAfter pool (stepped now command pool))
+  pub images : (pool : Pool) → here'.honest → Holds here pool → (c : List ℕ) → here'.images c → BeforeOrAfter pool (stepped now command pool) c
+  pub answers : (pool : Pool) → here'.honest → Holds here pool → Answers here' pool (stepped now command pool) answer
+  pub opened : here'.honest → Opened here answer
+  pub full : (uber : Uber) (rows : Rows) (pool : Pool) (need largest : ℕ) → here'.honest → ReadsAs uber rows pool here.seen
       → answer ≡ Err (refusals.Full need largest) → HasNoRoom uber rows need largest
   pub refused : IfErr answer (IsPoolRefusal here here')
   pub later : here.faults ≤ here'.faults
 
 -- and its lines are written
-pub record Steps (tells : Bool) (now : ℕ) (command : Command) (here here' : DiskState) (out out' : SinkState) (result : Result (Unit {0}) Refusal) : Type 0 where
+pub record Steps (now : ℕ) (command : Command) (here here' : DiskState) (out out' : SinkState) (result : Result (Unit {0}) Refusal) : Type 0 where
   pub answer : Result (List (List ℕ)) Refusal
-  pub stepping : Stepping tells now command here here' answer
+  pub stepping : Stepping now command here here' answer
   pub replied : Replied out out' answer result
 
 -- ---- making a pool
@@ -91,14 +91,14 @@ Makes sectors id here here' (Err refusals.DiskFault) = Unit {0}
 Makes sectors id here here' (Err refusal) = ⊥
 
 -- Making a pool in an image: at every moment each image has the latest body that one had before, or reads as the new pool.
-pub record Making (tells : Bool) (sectors id : ℕ) (here here' : DiskState) (answer : Result (List (List ℕ)) Refusal) : Type 0 where
-  pub moments : IsTrue tells → Leaves here here' (λ c. ((d : List ℕ) × here.images d × (latest c ≡ latest d)) ⊎ Reads (new_pool id) c)
-  pub makes : IsTrue tells → Makes sectors id here here' answer
+pub record Making (sectors id : ℕ) (here here' : DiskState) (answer : Result (List (List ℕ)) Refusal) : Type 0 where
+  pub moments : here'.honest → Leaves here here' (λ c. ((d : List ℕ) × here.images d × (latest c ≡ latest d)) ⊎ Reads (new_pool id) c)
+  pub makes : here'.honest → Makes sectors id here here' answer
   pub refused : IfErr answer (IsPoolRefusal here here')
   pub later : here.faults ≤ here'.faults
 
 -- and its line is written
-pub record Creates (tells : Bool) (sectors id : ℕ) (here here' : DiskState) (out out' : SinkState) (result : Result (Unit {0}) Refusal) : Type 0 where
+pub record Creates (sectors id : ℕ) (here here' : DiskState) (out out' : SinkState) (result : Result (Unit {0}) Refusal) : Type 0 where
   pub answer : Result (List (List ℕ)) Refusal
-  pub making : Making tells sectors id here here' answer
+  pub making : Making sectors id here here' answer
   pub replied : Replied out out' answer result

@@ -1,9 +1,10 @@
 -- A dump that is under way.
-use Rattle.std.specs.Prelude.{ℕ, ◌≡◌, ◌+◌, ◌<◌, ◌≤◌, List, [], ◌++◌, length, Option, None, Some, Result}
-use Rattle.std.specs.Io.KnownBytes.{Consumes}
-use Rattle.zst_outside.specs.States.{SourceState, SinkState}
+use Rattle.std.specs.Prelude.{ℕ, ◌≡◌, ◌⊎◌, ◌+◌, ◌<◌, ◌≤◌, List, [], ◌++◌, length, Option, None, Some, Result, Err}
+use Rattle.zst_outside.specs.Causes.{Rose}
+use Rattle.zst_outside.specs.States.{SourceState, SinkState, Gave, HandedOn}
 use Rattle.zst_outside.specs.Printing.{Wrote}
 use Rattle.zst_model.specs.declared.refusal.Refusal.{Refusal}
+use Rattle.zst_model.specs.declared.refusal.Refusal.TheVariants as refusals
 use Rattle.zst_record.specs.Heads.{Covered}
 use Rattle.zst_reader.specs.StandsFor.{StandsFor, pushed_of, handed_of}
 use Rattle.zst_reader.specs.declared.reader.Reader.{Reader}
@@ -20,7 +21,7 @@ pub record Dumping (input input' : SourceState) (out out' : SinkState) (r : Read
   pub text : List ℕ
   pub handed : List Covered
   pub stands : StandsFor r text handed
-  pub consumed : Consumes input.left input'.left (text ++ waiting_in i)
+  pub consumed : Gave input input' (text ++ waiting_in i)
   pub within : length text + length (waiting_in i) ≤ stream_limit
   pub wrote : Wrote out out' (lines_of handed) []
   pub counted : c ≡ counts_of handed
@@ -34,3 +35,9 @@ progress_of r = pushed_of r + handed_of r
 abbrev pub Turned : (input input' : SourceState) → (out out' : SinkState) → (old new : Reader) → Intake → Counts → Option (Result (Unit {0}) Refusal) → Type 0
 Turned input input' out out' old new i c None = Dumping input input' out out' new i c × (progress_of old < progress_of new)
 Turned input input' out out' old new i c (Some result) = Dumps input input' out out' result
+
+-- What waited was handed on and the answer stands, or that failed and is the answer (E30).
+pub record HandsOn (out out' : SinkState) (answer result : Result (Unit {0}) Refusal) : Type 0 where
+  pub written : out'.written ≡ out.written
+  pub later : out.faults ≤ out'.faults
+  pub outcome : ((result ≡ answer) × HandedOn out') ⊎ ((result ≡ Err refusals.SinkFault) × Rose out.faults out'.faults)

@@ -1,8 +1,7 @@
 -- What a dump writes, and why it ends.
-use Rattle.std.specs.Prelude.{ℕ, ◌≡◌, ◌<◌, ◌≤◌, List, [], ◌++◌, length, Result, Ok, Err}
-use Rattle.std.specs.Io.KnownBytes.{Consumes, IsAtEnd}
+use Rattle.std.specs.Prelude.{ℕ, ◌≡◌, ◌<◌, ◌≤◌, List, [], ◌++◌, length, IsTrue, Result, Ok, Err}
 use Rattle.zst_outside.specs.Causes.{Rose}
-use Rattle.zst_outside.specs.States.{SourceState, SinkState}
+use Rattle.zst_outside.specs.States.{SourceState, SinkState, Gave, HandedOn}
 use Rattle.zst_outside.specs.Printing.{Wrote}
 use Rattle.zst_model.specs.declared.faults.Quantity.TheVariants.{Stream}
 use Rattle.zst_model.specs.declared.refusal.Refusal.{Refusal}
@@ -24,9 +23,9 @@ ending_of (faulty fault) cs = []
 abbrev pub dump_text : Reading → List ℕ
 dump_text r = lines_of r.covered ++ ending_of r.outcome r.covered
 
--- all of the dump of a text was written
+-- all of the dump of a text was written and handed on
 abbrev pub WroteAll : List ℕ → SinkState → SinkState → Type 0
-WroteAll text out out' = Wrote out out' (dump_text (reading text)) []
+WroteAll text out out' = Wrote out out' (dump_text (reading text)) [] × HandedOn out'
 
 -- Why the dump of a text ended, and that it was written up to there.
 abbrev pub Ends : List ℕ → SourceState → SourceState → SinkState → SinkState → Result (Unit {0}) Refusal → Type 0
@@ -35,7 +34,7 @@ Ends text input input' out out' (Err (refusals.Grammar at flaw)) = ((reading tex
 Ends text input input' out out' (Err (refusals.Checksum at stated found)) = ((reading text).outcome ≡ faulty (faults.Checksum at stated found)) × WroteAll text out out'
 Ends text input input' out out' (Err (refusals.Unsupported at lack)) = ((reading text).outcome ≡ faulty (faults.Unsupported at lack)) × WroteAll text out out'
 Ends text input input' out out' (Err (refusals.Truncated at)) =
-    ((reading text).outcome ≡ waiting) × (at ≡ length text) × IsAtEnd input'.left × WroteAll text out out'
+    ((reading text).outcome ≡ waiting) × (at ≡ length text) × IsTrue input'.ended × WroteAll text out out'
 Ends text input input' out out' (Err (refusals.Limit which number)) = (which ≡ Stream) × (number ≡ stream_limit) × (stream_limit < length text)
 Ends text input input' out out' (Err refusals.SourceFault) = ((reading text).outcome ≡ waiting) × Rose input.faults input'.faults × WroteAll text out out'
 Ends text input input' out out' (Err refusals.SinkFault) = Rose out.faults out'.faults
@@ -50,7 +49,7 @@ IsWithin text result = length text ≤ stream_limit
 -- This text was read of the input, and a front of its dump was written.
 pub record Dumps (input input' : SourceState) (out out' : SinkState) (result : Result (Unit {0}) Refusal) : Type 0 where
   pub text : List ℕ
-  pub consumed : Consumes input.left input'.left text
+  pub consumed : Gave input input' text
   pub front : (rest : List ℕ) × Wrote out out' (dump_text (reading text)) rest
   pub ends : Ends text input input' out out' result
   pub within : IsWithin text result

@@ -19,14 +19,14 @@ IsBuilt (Create sectors id) = IsCreate sectors id
 IsBuilt (Step command) = IsCommand command × (is_built command ≡ true)
 
 -- What a line does: `dump` reads the input and leaves the image alone, and all others leave the input alone.
-abbrev pub DoesLine : {D : Type 0} → Bool → (D → DiskState) → ℕ → Line → Devices D → Devices D → Result (Unit {0}) Refusal → Type 0
-DoesLine tells state now Dump old new result = Dumps old.input new.input old.out new.out result × (new.here ≡ old.here)
-DoesLine tells state now (Create sectors id) old new result =
-    Creates tells sectors id (state old.here) (state new.here) old.out new.out result × (new.input ≡ old.input)
-DoesLine tells state now (Step command) old new result =
-    Steps tells now command (state old.here) (state new.here) old.out new.out result × (new.input ≡ old.input)
+abbrev pub DoesLine : {D : Type 0} → (D → DiskState) → ℕ → Line → Devices D → Devices D → Result (Unit {0}) Refusal → Type 0
+DoesLine state now Dump old new result = Dumps old.input new.input old.out new.out result × (new.here ≡ old.here)
+DoesLine state now (Create sectors id) old new result =
+    Creates sectors id (state old.here) (state new.here) old.out new.out result × (new.input ≡ old.input)
+DoesLine state now (Step command) old new result =
+    Steps now command (state old.here) (state new.here) old.out new.out result × (new.input ≡ old.input)
 
 -- What words do: those that are no line are refused, and nothing is done.
-abbrev pub Does : {D : Type 0} → Bool → (D → DiskState) → ℕ → Result Line LineFault → Devices D → Devices D → Result (Unit {0}) Refusal → Type 0
-Does tells state now (Ok line) old new result = DoesLine tells state now line old new result
-Does tells state now (Err fault) old new result = (result ≡ Err (refusal_of fault)) × (new ≡ old)
+abbrev pub Does : {D : Type 0} → (D → DiskState) → ℕ → Result Line LineFault → Devices D → Devices D → Result (Unit {0}) Refusal → Type 0
+Does state now (Ok line) old new result = DoesLine state now line old new result
+Does state now (Err fault) old new result = (result ≡ Err (refusal_of fault)) × (new ≡ old)

@@ -1,6 +1,6 @@
 -- How the reply of a command is written.
-use Rattle.std.specs.Prelude.{ℕ, ◌≡◌, List, ◌++◌, flat_map, codes, IfErr, Result, Ok, Err}
-use Rattle.zst_outside.specs.States.{SinkState}
+use Rattle.std.specs.Prelude.{ℕ, ◌≡◌, List, ◌++◌, flat_map, codes, IfErr, OnOk, Result, Ok, Err}
+use Rattle.zst_outside.specs.States.{SinkState, HandedOn}
 use Rattle.zst_outside.specs.Printing.{Prints}
 use Rattle.zst_model.specs.declared.refusal.Refusal.{Refusal}
 use Rattle.zst_model.specs.declared.refusal.Refusal.TheVariants as refusals
@@ -9,7 +9,7 @@ use Rattle.zst_model.specs.declared.refusal.Refusal.TheVariants as refusals
 abbrev pub reply_text : List (List ℕ) → List ℕ
 reply_text lines = flat_map (λ line. line ++ codes "\n") lines
 
--- The lines of an answer are written, or the output failed (E30); a refusal is handed on, and nothing is written.
+-- The lines of an answer are written and handed on, or the output failed (E30); a refusal is passed on, and nothing is written.
 abbrev pub Replied : SinkState → SinkState → Result (List (List ℕ)) Refusal → Result (Unit {0}) Refusal → Type 0
-Replied out out' (Ok lines) result = Prints out out' (reply_text lines) result × IfErr result (λ refusal. refusal ≡ refusals.SinkFault)
+Replied out out' (Ok lines) result = Prints out out' (reply_text lines) result × OnOk result (HandedOn out') × IfErr result (λ refusal. refusal ≡ refusals.SinkFault)
 Replied out out' (Err refusal) result = (result ≡ Err refusal) × (out' ≡ out)

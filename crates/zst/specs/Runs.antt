@@ -2,7 +2,7 @@
 use Rattle.std.specs.Prelude.{ℕ, ◌≡◌, ◌⊎◌, ◌==◌, if◌then◌else◌, Bool, List, [], ◌++◌, Result, Ok, Err, codes, decimal}
 use Rattle.zst_outside.specs.Causes.{Rose}
 use Rattle.zst_outside.specs.Images.{DiskState}
-use Rattle.zst_outside.specs.States.{SinkState}
+use Rattle.zst_outside.specs.States.{SinkState, HandedOn}
 use Rattle.zst_outside.specs.Printing.{Wrote}
 use Rattle.zst_model.specs.Refusal.{number_of, text_of}
 use Rattle.zst_model.specs.declared.plan_fault.PlanFault.{PlanFault}
@@ -47,10 +47,10 @@ status_of refusals.OutOfMemory = 10
 unfoldable pub note_of : Refusal → List ℕ
 note_of refusal = codes "zst: E" ++ (decimal (number_of refusal) ++ (codes " " ++ (text_of refusal ++ codes "\n")))
 
--- a front of a text was noted, and all of it unless a fault was counted
+-- a front of a text was noted, and all of it, handed on, unless a fault was counted
 pub record Noted (note note' : SinkState) (text : List ℕ) : Type 0 where
   pub front : (rest : List ℕ) × Wrote note note' text rest
-  pub whole : Wrote note note' text [] ⊎ Rose note.faults note'.faults
+  pub whole : (Wrote note note' text [] × HandedOn note') ⊎ Rose note.faults note'.faults
 
 -- The answer is told by the status, 0 where nothing was refused, and a refusal is noted.
 abbrev pub Told : SinkState → SinkState → ℕ → Result (Unit {0}) Refusal → Type 0
@@ -59,9 +59,9 @@ Told note note' status (Err refusal) = (status ≡ status_of refusal) × Noted n
 
 -- A run of the program on these words, at this time: the line that they are, or why they are none, then what it does,
 -- and what is told of that.
-pub record Runs {D : Type 0} (tells : Bool) (state : D → DiskState) (now : ℕ) (words : List (List ℕ)) (old new : Devices D) (note note' : SinkState) (status : ℕ) : Type 0 where
+pub record Runs {D : Type 0} (state : D → DiskState) (now : ℕ) (words : List (List ℕ)) (old new : Devices D) (note note' : SinkState) (status : ℕ) : Type 0 where
   pub line : Result Line LineFault
   pub says : LineAnswers words line
   pub result : Result (Unit {0}) Refusal
-  pub does : Does tells state now line old new result
+  pub does : Does state now line old new result
   pub told : Told note note' status result

@@ -1,6 +1,6 @@
 ghost use Rattle.zst_outside.specs.States.{SourceState, SinkState};
 ghost use Rattle.zst.specs.Dumps.{Dumps};
-ghost use Rattle.zst.specs.Dumping.{Dumping, Turned};
+ghost use Rattle.zst.specs.Dumping.{Dumping, HandsOn, Turned};
 
 use crate::intake::{Intake, STREAM_LIMIT, Taken};
 use std::alloc::Global;
@@ -8,6 +8,16 @@ use zst_dump::{Counts, line_of, summary};
 use zst_model::{Quantity, Refusal};
 use zst_outside::{Sink, Source};
 use zst_reader::{Reader, Step};
+
+// Hands on what waits. A fault there takes the place of the answer.
+fn hand_on<K: Sink>(answer: Result<(), Refusal>, out: &mut K) -> Result<(), Refusal>
+    ensures { HandsOn (K.state out.old) (K.state out.new) answer result }
+{
+    match out.flush() {
+        Ok(()) => answer,
+        Err(_) => Err(Refusal::SinkFault),
+    }
+}
 
 // One step: the line of a record is written, or more of the input is taken, or the dump ends.
 fn turn<S: Source, K: Sink>(
@@ -29,22 +39,26 @@ fn turn<S: Source, K: Sink>(
             }
             Err(_) => Some(Err(Refusal::SinkFault)),
         },
-        Ok(Step::NeedMore) => match intake.take(reader, input) {
-            Taken::Some => None,
-            Taken::Nothing => Some(Err(Refusal::Truncated {
-                at: reader.pushed(),
-            })),
-            Taken::TooMuch => Some(Err(Refusal::Limit {
-                which: Quantity::Stream,
-                number: STREAM_LIMIT,
-            })),
-            Taken::Failed => Some(Err(Refusal::SourceFault)),
-        },
-        Ok(Step::End) => match summary(counts, out) {
-            Ok(()) => Some(Ok(())),
+        // The lines so far are seen before more of the input is waited for.
+        Ok(Step::NeedMore) => match out.flush() {
+            Ok(()) => match intake.take(reader, input) {
+                Taken::Some => None,
+                Taken::Nothing => Some(Err(Refusal::Truncated {
+                    at: reader.pushed(),
+                })),
+                Taken::TooMuch => Some(Err(Refusal::Limit {
+                    which: Quantity::Stream,
+                    number: STREAM_LIMIT,
+                })),
+                Taken::Failed => Some(Err(Refusal::SourceFault)),
+            },
             Err(_) => Some(Err(Refusal::SinkFault)),
         },
-        Err(fault) => Some(Err(Refusal::from(fault))),
+        Ok(Step::End) => match summary(counts, out) {
+            Ok(()) => Some(hand_on(Ok(()), out)),
+            Err(_) => Some(Err(Refusal::SinkFault)),
+        },
+        Err(fault) => Some(hand_on(Err(Refusal::from(fault)), out)),
     }
 }
 

@@ -1,10 +1,14 @@
 // How the program opens the image that a line names.
+ghost use Rattle.std.specs.Prelude.{◌≡◌, IfOk, []};
+ghost use Rattle.zst_file.specs.FileDisk.{history_of};
 
-use crate::file_disk::FileDisk;
 use std::alloc::{AllocError, Global};
-use std::fs::File;
+use std::fs::{self, File};
 use std::io::{self, ErrorKind};
+use std::path::Path;
+use zst_file::{FileDisk, Start};
 use zst_line::{Line, LineFault, parse};
+use zst_model::Command;
 
 /// The bytes of a sector.
 const SECTOR: u64 = 512;
@@ -12,10 +16,20 @@ const SECTOR: u64 = 512;
 /// How the image of a line is opened.
 #[derive(Clone, Copy)]
 pub(crate) enum Opening {
-    /// The file is there.
-    There,
-    /// A file that isn't there is made, of so many bytes, all zero.
+    /// It is only read, beside others that only read it.
+    Shared,
+    /// It is read and written, with nobody beside.
+    Alone,
+    /// As `Alone`, and a file that isn't there is made, of so many bytes, all zero.
     Made { bytes: u64 },
+}
+
+/// How a command on a pool opens its image.
+fn opening_for(command: &Command) -> Opening {
+    match command {
+        Command::Read { .. } | Command::List | Command::ListObjects { .. } => Opening::Shared,
+        _ => Opening::Alone,
+    }
 }
 
 /// How the image that the words name is opened, or None where they name none or are no line.
@@ -24,34 +38,80 @@ pub(crate) fn opening_of(alloc: Global, words: &[String]) -> Result<Option<Openi
         Ok(Line::Create { sectors, .. }) => Ok(Some(Opening::Made {
             bytes: sectors * SECTOR,
         })),
-        Ok(Line::Step(_)) => Ok(Some(Opening::There)),
+        Ok(Line::Step(command)) => Ok(Some(opening_for(&command))),
         Ok(Line::Dump) => Ok(None),
         Err(LineFault::Memory) => Err(AllocError),
         Err(_) => Ok(None),
     }
 }
 
+/// Syncs the folder of a path, and with it the entry of a file that was made there.
+fn sync_folder(rt: &HostRuntime, path: &str) -> io::Result<()> {
+    let folder = match Path::new(path).parent() {
+        Some(folder) if !folder.as_str().is_empty() => folder,
+        _ => Path::new("."),
+    };
+    File::open(rt, folder)?.sync_all()
+}
+
+/// Locks a file that was just made, gives it its length, and makes sure of both it and its folder's entry.
+fn settle(rt: &HostRuntime, path: &str, file: &File, bytes: u64) -> io::Result<()> {
+    file.try_lock()?;
+    file.set_len(bytes)?;
+    file.sync_all()?;
+    sync_folder(rt, path)
+}
+
+/// Makes the file of a new image, which is on the disk before anything is said of it. Where that can't be had, the file
+/// that was made is taken away again.
 fn make(rt: &HostRuntime, path: &str, bytes: u64) -> io::Result<File> {
     let file = File::options()
         .read(true)
         .write(true)
         .create_new(true)
         .open(rt, path)?;
-    file.set_len(bytes)?;
-    Ok(file)
+    match settle(rt, path, &file, bytes) {
+        Ok(()) => Ok(file),
+        Err(error) => {
+            let _ = fs::remove_file(rt, path);
+            Err(error)
+        }
+    }
 }
 
-/// Opens an image for reading and writing.
+/// Takes the lock that keeps an image from being written by two. It goes with the last descriptor of this opening, also
+/// where the program is killed.
+fn lock(file: &File, opening: Opening) -> io::Result<()> {
+    match opening {
+        Opening::Shared => file.try_lock_shared()?,
+        Opening::Alone | Opening::Made { .. } => file.try_lock()?,
+    }
+    Ok(())
+}
+
+/// Opens an image and locks it before anything is read of it. Where another has its lock, this fails at once.
 ///
 /// The descriptor that is kept is a copy, which is 3 or more: where a standard stream is closed, the file itself may have
 /// got its number, and what is written to that stream must not land in the image.
-pub(crate) fn open(rt: &HostRuntime, path: &str, opening: Opening) -> io::Result<FileDisk> {
-    let there = File::options().read(true).write(true).open(rt, path);
+pub(crate) fn open<S: Start>(
+    rt: &HostRuntime,
+    path: &str,
+    opening: Opening,
+    start: S,
+) -> io::Result<FileDisk<S>>
+    ensures { IfOk result (λ disk. history_of disk ≡ []) }
+{
+    let writes = !matches!(opening, Opening::Shared);
+    let there = File::options().read(true).write(writes).open(rt, path);
     let file = match (there, opening) {
         (Err(error), Opening::Made { bytes }) if error.kind() == ErrorKind::NotFound => {
             make(rt, path, bytes)?
         }
-        (there, _) => there?,
+        (there, _) => {
+            let file = there?;
+            lock(&file, opening)?;
+            file
+        }
     };
-    FileDisk::new(file.try_clone()?)
+    FileDisk::new(file.try_clone()?, start)
 }

@@ -35,8 +35,8 @@ pub(crate) enum Taken {
 }
 
 impl Intake {
-    ghost use Rattle.std.specs.Prelude.{◌++◌, IfOk, OnErr};
-    ghost use Rattle.std.specs.Io.KnownBytes.{Consumes, IsAtEnd, Keeps};
+    ghost use Rattle.std.specs.Prelude.{◌++◌, IfOk, IsTrue, OnErr};
+    ghost use Rattle.zst_outside.specs.States.{Gave};
     ghost use Rattle.zst_outside.specs.Causes.{HasCause};
     ghost use Rattle.zst_record.specs.Heads.{Covered};
     ghost use Rattle.zst_reader.specs.StandsFor.{StandsFor, pushed_of, handed_of, mark_of, room_of};
@@ -58,9 +58,9 @@ impl Intake {
     fn read<S: Source>(&mut self, input: &mut S) -> Result<usize, Fault>
         requires { waiting_in self.old ≡ [] }
         ensures count { IfOk result (λ count. count ≡ length (waiting_in self.new)) }
-        ensures got { IfOk result (λ count. Consumes (S.state input.old).left (S.state input.new).left (waiting_in self.new)) }
-        ensures end { IfOk result (λ count. count ≡ 0 → IsAtEnd (S.state input.new).left) }
-        ensures kept { OnErr result (Keeps (S.state input.old).left (S.state input.new).left) }
+        ensures got { IfOk result (λ count. Gave (S.state input.old) (S.state input.new) (waiting_in self.new)) }
+        ensures end { IfOk result (λ count. count ≡ 0 → IsTrue (S.state input.new).ended) }
+        ensures kept { OnErr result ((S.state input.new).given ≡ (S.state input.old).given) }
         ensures none { OnErr result (waiting_in self.new ≡ []) }
         ensures cause { HasCause (S.state input.old).faults (S.state input.new).faults result }
     {

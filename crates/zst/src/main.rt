@@ -1,12 +1,14 @@
 //! OpenZFS send streams: the program `zst`.
 #![tactic(auto)]
 
-mod adapters;
+ghost use Rattle.std.specs.Prelude.{◌≡◌, []};
+ghost use Rattle.zst_file.specs.FileDisk.{history_of};
+
 mod dump;
-mod file_disk;
 mod image;
 mod intake;
 mod note;
+mod on_file;
 mod pools;
 mod reply;
 #[cfg(test)]
@@ -15,16 +17,36 @@ mod run;
 #[cfg(test)]
 mod tests;
 
-use adapters::{Reading, Writing};
+use on_file::run_on_file;
 use run::run;
 use std::env;
-use std::io::{self, LineWriter, Write};
+use std::io::{self, Stderr, Stdin, Stdout, Write};
 use std::process::ExitCode;
 use std::time::{SystemTime, UNIX_EPOCH};
-use zst_outside::{Disk, SureDisk};
+use zst_file::{FileDisk, Input, Output, Start, Unknown};
+use zst_outside::SureDisk;
 
 /// The status where a file can't be opened.
 const CANNOT_OPEN: u8 = 11;
+
+/// The standard streams, of which nothing was read or written yet.
+#[derive(Drop)]
+struct Streams {
+    input: Input<Stdin>,
+    out: Output<Stdout>,
+    note: Output<Stderr>,
+}
+
+impl Streams {
+    fn new(rt: &HostRuntime) -> io::Result<Streams> {
+        let alloc = rt.alloc();
+        Ok(Streams {
+            input: Input::new(rt.stdin()),
+            out: Output::new(alloc, rt.stdout())?,
+            note: Output::new(alloc, rt.stderr())?,
+        })
+    }
+}
 
 /// The seconds since 1970, 0 where the clock stands before that.
 fn seconds(rt: &HostRuntime) -> io::Result<u64> {
@@ -35,16 +57,42 @@ fn seconds(rt: &HostRuntime) -> io::Result<u64> {
     })
 }
 
-/// Runs the words over the standard streams and this image.
-fn run_over<D: Disk>(rt: &HostRuntime, words: &[String], here: &mut D) -> io::Result<ExitCode> {
-    let alloc = rt.alloc();
-    let mut there = SureDisk::new(Vec::new(alloc));
-    let mut input = Reading::new(rt.stdin());
-    let mut out = Writing::new(LineWriter::new(alloc, rt.stdout())?);
-    let mut note = Writing::new(LineWriter::new(alloc, rt.stderr())?);
-    let now = seconds(rt)?;
+/// Runs the words over this image, which was just opened, and the standard streams.
+fn run_over_file<F: Start>(
+    rt: &HostRuntime,
+    words: &[String],
+    here: &mut FileDisk<F>,
+) -> io::Result<ExitCode>
+    requires { history_of here.old ≡ [] }
+{
+    let mut there = SureDisk::new(Vec::new(rt.alloc()));
+    let mut streams = Streams::new(rt)?;
+    Ok(ExitCode::from(run_on_file(
+        rt.alloc(),
+        words,
+        seconds(rt)?,
+        here,
+        &mut there,
+        &mut streams.input,
+        &mut streams.out,
+        &mut streams.note,
+    )))
+}
+
+/// Runs words that name no image over the standard streams.
+fn run_over_none(rt: &HostRuntime, words: &[String]) -> io::Result<ExitCode> {
+    let mut here = SureDisk::new(Vec::new(rt.alloc()));
+    let mut there = SureDisk::new(Vec::new(rt.alloc()));
+    let mut streams = Streams::new(rt)?;
     Ok(ExitCode::from(run(
-        alloc, words, now, here, &mut there, &mut input, &mut out, &mut note,
+        rt.alloc(),
+        words,
+        seconds(rt)?,
+        &mut here,
+        &mut there,
+        &mut streams.input,
+        &mut streams.out,
+        &mut streams.note,
     )))
 }
 
@@ -52,10 +100,10 @@ fn main(rt: HostRuntime) -> io::Result<ExitCode> {
     let alloc = rt.alloc();
     let words: Vec<String> = env::args(&rt)?.skip(1).collect(alloc)?;
     let (Some(opening), Some(path)) = (image::opening_of(alloc, &words)?, words.get(1)) else {
-        return run_over(&rt, &words, &mut SureDisk::new(Vec::new(alloc)));
+        return run_over_none(&rt, &words);
     };
-    match image::open(&rt, path.as_str(), opening) {
-        Ok(mut disk) => run_over(&rt, &words, &mut disk),
+    match image::open(&rt, path.as_str(), opening, Unknown) {
+        Ok(mut disk) => run_over_file(&rt, &words, &mut disk),
         Err(_) => {
             let _ = rt.stderr().write_all(b"zst: cannot open\n");
             Ok(ExitCode::from(CANNOT_OPEN))

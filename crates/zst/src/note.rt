@@ -62,11 +62,12 @@ fn write_note<N: Sink>(refusal: &Refusal, note: &mut N) -> Result<(), Fault>
     write_all(note, b"\n")
 }
 
-/// Notes a refusal. A fault of the note changes nothing.
+/// Notes a refusal, and hands the note on. A fault of the note changes nothing.
 pub(crate) fn note_refusal<N: Sink>(refusal: &Refusal, note: &mut N)
     ensures { Noted (N.state note.old) (N.state note.new) (note_of refusal.now) }
 {
     let _ = write_note(refusal, note);
+    let _ = note.flush();
 }
 
 #[cfg(test)]

@@ -4,7 +4,7 @@ ghost use Rattle.zst_model.specs.Step.{IsCommand};
 ghost use Rattle.zst_pool.specs.Stepping.{is_built};
 ghost use Rattle.zst.specs.Commands.{Creates, Stepping, Steps};
 
-use crate::reply::{write_line, write_reply};
+use crate::reply::{print_line, print_reply};
 use std::alloc::Global;
 use zst_model::{Command, Refusal, Reply};
 use zst_outside::{Disk, Sink};
@@ -20,10 +20,10 @@ pub(crate) fn create_pool<D: Disk, K: Sink>(
 ) -> Result<(), Refusal>
     requires sectors { (128 ≤ sectors) × (sectors ≤ 2 ^ 31) }
     requires id { (0 < id) × (id < 2 ^ 31) }
-    ensures { Creates D.tells_reads sectors id (D.state here.old) (D.state here.new) (K.state out.old) (K.state out.new) result }
+    ensures { Creates sectors id (D.state here.old) (D.state here.new) (K.state out.old) (K.state out.new) result }
 {
     Kept::create(alloc, here, sectors, id)?;
-    match write_line(b"ok 1", out) {
+    match print_line(b"ok 1", out) {
         Ok(()) => Ok(()),
         Err(_) => Err(Refusal::SinkFault),
     }
@@ -38,7 +38,7 @@ fn step_image<D: Disk>(
 ) -> Result<Reply, Refusal>
     requires command { IsCommand command }
     requires built { is_built command ≡ true }
-    ensures { Stepping D.tells_reads now command (D.state here.old) (D.state here.new) result }
+    ensures { Stepping now command (D.state here.old) (D.state here.new) result }
 {
     let kept = Kept::open(alloc, here)?;
     let mut pool = Pool::new(alloc, here, kept);
@@ -58,10 +58,10 @@ pub(crate) fn step_pool<D: Disk, K: Sink>(
 ) -> Result<(), Refusal>
     requires command { IsCommand command }
     requires built { is_built command ≡ true }
-    ensures { Steps D.tells_reads now command (D.state here.old) (D.state here.new) (K.state out.old) (K.state out.new) result }
+    ensures { Steps now command (D.state here.old) (D.state here.new) (K.state out.old) (K.state out.new) result }
 {
     let reply = step_image(alloc, here, now, command)?;
-    match write_reply(&reply, out) {
+    match print_reply(&reply, out) {
         Ok(()) => Ok(()),
         Err(_) => Err(Refusal::SinkFault),
     }

@@ -1,24 +1,35 @@
-ghost use Rattle.std.specs.Prelude.{◌++◌, codes};
+ghost use Rattle.std.specs.Prelude.{◌++◌, OnOk, codes};
 ghost use Rattle.zst_outside.specs.Printing.{Prints};
+ghost use Rattle.zst_outside.specs.States.{HandedOn};
 ghost use Rattle.zst.specs.Replies.{reply_text};
 
 use zst_model::Reply;
 use zst_outside::{Fault, Sink, write_all};
 
-/// Writes a line, and its line feed.
-pub(crate) fn write_line<K: Sink>(line: &[u8], out: &mut K) -> Result<(), Fault>
+// Writes a line, and its line feed.
+fn write_line<K: Sink>(line: &[u8], out: &mut K) -> Result<(), Fault>
     ensures { Prints (K.state out.old) (K.state out.new) (line.now ++ codes "\n") result }
 {
     write_all(out, line)?;
     write_all(out, b"\n")
 }
 
-/// Writes the lines of a reply.
-pub(crate) fn write_reply<K: Sink>(reply: &Reply, out: &mut K) -> Result<(), Fault>
-    ensures { Prints (K.state out.old) (K.state out.new) (reply_text reply.now) result }
+/// Writes a line and its line feed, and hands them on.
+pub(crate) fn print_line<K: Sink>(line: &[u8], out: &mut K) -> Result<(), Fault>
+    ensures prints { Prints (K.state out.old) (K.state out.new) (line.now ++ codes "\n") result }
+    ensures handed_on { OnOk result (HandedOn (K.state out.new)) }
+{
+    write_line(line, out)?;
+    out.flush()
+}
+
+/// Writes the lines of a reply, and hands them on.
+pub(crate) fn print_reply<K: Sink>(reply: &Reply, out: &mut K) -> Result<(), Fault>
+    ensures prints { Prints (K.state out.old) (K.state out.new) (reply_text reply.now) result }
+    ensures handed_on { OnOk result (HandedOn (K.state out.new)) }
 {
     for line in reply.lines() {
         write_line(line.as_slice(), out)?;
     }
-    Ok(())
+    out.flush()
 }

@@ -24,7 +24,7 @@ pub fn run<D: Disk, E: Disk, S: Source, K: Sink, N: Sink>(
     out: &mut K,
     note: &mut N,
 ) -> u8
-    ensures runs { Runs D.tells_reads D.state now (map string_bytes words.now)
+    ensures runs { Runs D.state now (map string_bytes words.now)
         (devices here.old (S.state input.old) (K.state out.old)) (devices here.new (S.state input.new) (K.state out.new))
         (N.state note.old) (N.state note.new) result }
     ensures there { there.new ≡ there.old }
@@ -52,7 +52,7 @@ fn run_line<D: Disk, S: Source, K: Sink>(
     out: &mut K,
 ) -> Result<(), Refusal>
     requires { IsBuilt line }
-    ensures { DoesLine D.tells_reads D.state now line
+    ensures { DoesLine D.state now line
         (devices here.old (S.state input.old) (K.state out.old)) (devices here.new (S.state input.new) (K.state out.new)) result }
 {
     match line {

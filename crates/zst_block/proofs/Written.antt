@@ -1,9 +1,9 @@
 -- What the write of a run of sectors leaves.
-use Rattle.std.proofs.Common.{◌≡◌, ℕ, ◌+◌, ◌*◌, ◌/◌, ◌%◌, ◌<◌, ◌≤◌, List, length, refl, sym, ◌∙◌, ap, subst, arith}
+use Rattle.std.proofs.Common.{◌≡◌, ℕ, ◌+◌, ◌*◌, ◌/◌, ◌%◌, ◌<◌, ◌≤◌, List, length, sym, ◌∙◌, ap, arith}
 use Rattle.zst_fletcher.specs.WeightSum.{weight_sum}
 use Rattle.zst_outside.specs.Images.{DiskState, WritesIn}
 use Rattle.zst_outside.specs.Ranges.{bytes_at}
-use Rattle.zst_space.specs.FreeSectors.{FreeSectors, IsFree, IsWithin, IsSpaceFrom}
+use Rattle.zst_space.specs.FreeSectors.{FreeSectors, IsWithin, IsSpaceFrom}
 use Rattle.zst_space.specs.FreeSectorsLaws.{IsFree-from}
 use Rattle.zst_space.specs.Taking.{Takes}
 use Rattle.zst_block.specs.Blocks.{Has, FillsFree}

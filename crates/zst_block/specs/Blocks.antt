@@ -50,6 +50,7 @@ pub record FillsFree (old : DiskState) (old_space : FreeSectors) (new : DiskStat
   pub size : new.size ≡ old.size
   pub fewer : (sector : ℕ) → IsFree new_space sector → IsFree old_space sector
   pub seen : SparesTaken old_space old.seen new.seen
+  pub honest : new.honest → old.honest
   pub crash : (c : List ℕ) → new.images c → Spared old_space old c
   pub time : Leaves old new (Spared old_space old)
   pub kept : Keeps old new

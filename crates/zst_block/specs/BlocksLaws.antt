@@ -1,11 +1,11 @@
 -- How writes into free sectors follow one another, and what they leave of blocks.
-use Rattle.std.proofs.Common.{◌≡◌, ◌⊎◌, inl, inr, ⊎_elim, ℕ, ◌+◌, ◌*◌, ◌/◌, ◌<◌, ◌≤◌, List, length, refl, sym, ◌∙◌, ap, subst, arith}
+use Rattle.std.proofs.Common.{◌≡◌, inl, inr, ℕ, ◌+◌, ◌*◌, ◌/◌, ◌<◌, ◌≤◌, List, refl, sym, ◌∙◌, subst, arith}
 use Rattle.std.proofs.lemmas.Bool.{cases_lt}
-use Rattle.zst_outside.specs.Images.{DiskState, TornImage, WritesIn, OnlyReads, Leaves, Keeps, Leaves-weaker, Leaves-then, Keeps-then}
+use Rattle.zst_outside.specs.Images.{DiskState, TornImage, WritesIn, OnlyReads, Leaves-weaker, Leaves-then, Keeps-then}
 use Rattle.zst_outside.specs.Ranges.{bytes_at, Torn}
-use Rattle.zst_space.specs.FreeSectors.{FreeSectors, IsFree, IsSpaceFrom}
+use Rattle.zst_space.specs.FreeSectors.{FreeSectors, IsFree}
 use Rattle.zst_space.specs.FreeSectorsLaws.{IsFree-from}
-use Rattle.zst_block.specs.Blocks.{IsPlaced, IsBlock, IsTaken, Has, FitsDisk, SparesTaken, Spared, FillsFree, KeepsBlocks, Follows, named}
+use Rattle.zst_block.specs.Blocks.{IsTaken, Has, FitsDisk, SparesTaken, Spared, FillsFree, KeepsBlocks, Follows}
 use Rattle.zst_block.specs.declared.ptr.Ptr.{Ptr}
 
 -- sectors 0 to 7 are never free
@@ -81,6 +81,7 @@ FillsFree-reads old new space reads = record {
   size = reads.size;
   fewer = λ sector free. free;
   seen = subst (λ (c : List ℕ). SparesTaken space old.seen c) (sym reads.seen) (SparesTaken-same space old.seen);
+  honest = reads.honest;
   crash = λ c now. (c, reads.crash c now, SparesTaken-same space c);
   time = Leaves-weaker old new old.images (Spared space old) reads.time (λ c now. (c, now, SparesTaken-same space c));
   kept = reads.kept;
@@ -95,6 +96,7 @@ FillsFree-writes old new space less place count some free fewer writes =
       size = writes.size;
       fewer = fewer;
       seen = SparesTaken-torn space place count old.seen new.seen some free writes.seen;
+      honest = writes.honest;
       crash = λ c now. spared c (writes.crash c now);
       time = Leaves-weaker old new (TornImage place count old) (Spared space old) writes.time spared;
       kept = writes.kept;
@@ -109,6 +111,7 @@ FillsFree-then old mid new first second third one two =
       size = two.size ∙ one.size;
       fewer = λ sector free. one.fewer sector (two.fewer sector free);
       seen = SparesTaken-then first old.seen mid.seen new.seen one.seen (SparesTaken-fewer first second mid.seen new.seen one.fewer two.seen);
+      honest = λ is. one.honest (two.honest is);
       crash = λ c now. back c (two.crash c now);
       time = Leaves-then old mid new (Spared first old) (Spared second mid) one.time two.time back;
       kept = Keeps-then old mid new one.time.later one.kept two.kept;

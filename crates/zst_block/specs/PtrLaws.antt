@@ -1,11 +1,10 @@
 -- A pointer is read back from its bytes.
-use Rattle.std.proofs.Common.{◌≡◌, ℕ, ◌+◌, ◌^◌, ◌<◌, ◌≤◌, Bool, true, List, [], ◌∷◌, length, refl, sym, ◌∙◌, ap, arith}
+use Rattle.std.proofs.Common.{◌≡◌, ℕ, ◌+◌, ◌^◌, ◌<◌, ◌≤◌, true, List, length, refl, sym, ◌∙◌, ap, arith}
 use Rattle.zst_bytes.specs.Bytes.{bytes_at, number_at, number_bytes}
 use Rattle.zst_bytes.specs.BytesLaws.{number_at-bytes_at}
-use Rattle.zst_bytes.specs.Fields.{Field, number, laid, found, is_clear, zeros}
+use Rattle.zst_bytes.specs.Fields.{found, is_clear, zeros}
 use Rattle.zst_bytes.specs.FieldsLaws.{number-back, length-laid}
-use Rattle.zst_fletcher.specs.declared.sum.Sum.{Sum}
-use Rattle.zst_block.specs.Ptr.{ptr_fields, ptr_bytes, ptr_at, sum_at, PtrFits}
+use Rattle.zst_block.specs.Ptr.{ptr_fields, ptr_bytes, ptr_at, PtrFits}
 use Rattle.zst_block.specs.declared.ptr.Ptr.{Ptr}
 
 pub length-ptr_bytes : (ptr : Ptr) → length (ptr_bytes ptr) ≡ 64

@@ -60,8 +60,8 @@ pub fn read<D: Disk>(io: &mut Io<'_, D>, ptr: Ptr, into: &mut [u8]) -> Result<()
     requires fits { FitsDisk (D.state io.old.disk.now).size io.old.space }
 
     // What is read is the block. Each answer has its cause, and a block that is there is read.
-    ensures answer { IsTrue D.tells_reads → ReadAnswers (D.state io.old.disk.now).seen (D.state io.old.disk.now).size ptr into.new result }
-    ensures there { (bytes : List ℕ) → IsTrue D.tells_reads → Has (D.state io.old.disk.now).seen io.old.space ptr bytes → GivesBlock bytes into.new result }
+    ensures answer { (D.state io.new.disk.now).honest → ReadAnswers (D.state io.old.disk.now).seen (D.state io.old.disk.now).size ptr into.new result }
+    ensures there { (bytes : List ℕ) → (D.state io.new.disk.now).honest → Has (D.state io.old.disk.now).seen io.old.space ptr bytes → GivesBlock bytes into.new result }
     ensures sum { OnOk result (weight_sum into.new ≡ ptr.sum) }
     ensures placed { OnOk result (IsPlaced (D.state io.old.disk.now).size ptr) }
     ensures never_full { (need largest : ℕ) → ¬ (result ≡ Err (BlockFault.Full need largest)) }
@@ -85,7 +85,7 @@ pub fn read<D: Disk>(io: &mut Io<'_, D>, ptr: Ptr, into: &mut [u8]) -> Result<()
 
 fn read_block<D: Disk>(disk: &mut D, ptr: &Ptr, into: &mut [u8]) -> Result<(), BlockFault>
     requires { length into.old ≡ ptr.now.length }
-    ensures answer { IsTrue D.tells_reads → ReadAnswers (D.state disk.old).seen (D.state disk.old).size ptr.now into.new result }
+    ensures answer { (D.state disk.new).honest → ReadAnswers (D.state disk.old).seen (D.state disk.old).size ptr.now into.new result }
     ensures sum { OnOk result (weight_sum into.new ≡ ptr.now.sum) }
     ensures placed { OnOk result (IsPlaced (D.state disk.old).size ptr.now) }
     ensures never_full { (need largest : ℕ) → ¬ (result ≡ Err (BlockFault.Full need largest)) }
@@ -138,7 +138,7 @@ pub fn write<D: Disk>(
     requires small { length bytes.now < 2 ^ 32 }
     requires fits { FitsDisk (D.state io.old.disk.now).size io.old.space }
 
-    ensures wrote { IsTrue D.tells_reads → IfOk result (λ ptr. Has (D.state io.new.disk.now).seen io.new.space ptr bytes.now) }
+    ensures wrote { IfOk result (λ ptr. Has (D.state io.new.disk.now).seen io.new.space ptr bytes.now) }
     ensures pointer { IfOk result (λ ptr. ptr ≡ record { kind = 1; level = level; length = length bytes.now; sector = place_of io.old.space (length bytes.now / 512); number = number; sum = weight_sum bytes.now }) }
 
     // Free sectors alone are written, and are then taken.

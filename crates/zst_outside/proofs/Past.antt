@@ -132,6 +132,7 @@ module _ (old new : MemDisk) (entry : Entry) (is : new.log.items ≡ old.log.ite
       record {
         size = ap length same;
         seen = same;
+        honest = λ is. is;
         crash = crash;
         time = Leaves-weaker (memory_state old) (memory_state new) (memory_state new).images (memory_state old).images disk_time crash;
         kept = disk_kept;
@@ -188,6 +189,7 @@ module _ (old new : MemDisk) (number place count : ℕ) (before : Vec ℕ Global
       record {
         size = alike.size;
         seen = torn_from_alike place count old.bytes.items new.bytes.items alike;
+        honest = λ is. is;
         crash = crash;
         time = Leaves-weaker (memory_state old) (memory_state new) (memory_state new).images (TornImage place count (memory_state old)) write_time crash;
         kept = disk_kept old new (record { number = number; call = Write place before }) is write_undone;

@@ -1,13 +1,15 @@
 -- What a disk is to those who use it: what a read gives, and what a crash may leave.
-use Rattle.std.specs.Prelude.{◌≡◌, ◌⊎◌, ℕ, ◌+◌, ◌≤◌, List, [], refl}
+use Rattle.std.specs.Prelude.{◌≡◌, ◌⊎◌, ℕ, ◌+◌, ◌≤◌, List, refl}
 use Rattle.std.proofs.Common.{inl, inr, ⊎_elim, ◌∙◌, subst, sym, arith}
 use Rattle.zst_outside.specs.Ranges.{Torn, Torn-same, Torn-then, Torn-wider}
 
 pub record DiskState : Type 1 where
   -- how many bytes it has
   pub size : ℕ
-  -- what a read gives
+  -- what a read gives, where the disk is honest
   pub seen : List ℕ
+  -- no read so far gave other bytes
+  pub honest : Type 0
   -- what a crash now may leave, as far as it is told
   pub images : List ℕ → Type 0
   -- the moment, as a number that doesn't fall
@@ -18,10 +20,6 @@ pub record DiskState : Type 1 where
   pub calls : ℕ
   -- the count of faults
   pub faults : ℕ
-
--- a disk that tells neither what a read gives nor its images
-abbrev pub untold : ℕ → ℕ → ℕ → DiskState
-untold size calls faults = record { size = size; seen = []; images = λ c. ⊥; moment = 0; left_since = λ t c. ⊥; calls = calls; faults = faults }
 
 -- there is no image but what a read gives
 abbrev pub IsSynced : DiskState → Type 0
@@ -44,6 +42,7 @@ Keeps old new = (t : ℕ) (c : List ℕ) → t ≤ old.moment → old.left_since
 pub record OnlyReads (old new : DiskState) : Type 0 where
   pub size : new.size ≡ old.size
   pub seen : new.seen ≡ old.seen
+  pub honest : new.honest → old.honest
   pub crash : (c : List ℕ) → new.images c → old.images c
   pub time : Leaves old new old.images
   pub kept : Keeps old new
@@ -52,6 +51,7 @@ pub record OnlyReads (old new : DiskState) : Type 0 where
 pub record WritesIn (place count : ℕ) (old new : DiskState) : Type 0 where
   pub size : new.size ≡ old.size
   pub seen : Torn place count old.seen new.seen
+  pub honest : new.honest → old.honest
   pub crash : (c : List ℕ) → new.images c → TornImage place count old c
   pub time : Leaves old new (TornImage place count old)
   pub kept : Keeps old new
@@ -82,13 +82,14 @@ Keeps-then old mid new later first second = λ t c le left. second t c (omega (a
 
 -- where nothing is done, it only reads
 pub OnlyReads-none : (disk : DiskState) → OnlyReads disk disk
-OnlyReads-none disk = record { size = refl; seen = refl; crash = λ c image. image; time = Leaves-none disk disk.images; kept = λ t c le left. left }
+OnlyReads-none disk = record { size = refl; seen = refl; honest = λ is. is; crash = λ c image. image; time = Leaves-none disk disk.images; kept = λ t c le left. left }
 
 -- two parts that only read
 pub OnlyReads-then : (old mid new : DiskState) → OnlyReads old mid → OnlyReads mid new → OnlyReads old new
 OnlyReads-then old mid new first second = record {
   size = second.size ∙ first.size;
   seen = second.seen ∙ first.seen;
+  honest = λ is. first.honest (second.honest is);
   crash = λ c image. first.crash c (second.crash c image);
   time = Leaves-then old mid new old.images mid.images first.time second.time first.crash;
   kept = Keeps-then old mid new first.time.later first.kept second.kept;
@@ -99,6 +100,7 @@ pub WritesIn-reads : (place count : ℕ) (old new : DiskState) → OnlyReads old
 WritesIn-reads place count old new reads = record {
   size = reads.size;
   seen = subst (λ (bytes : List ℕ). Torn place count old.seen bytes) (sym reads.seen) (Torn-same place count old.seen);
+  honest = reads.honest;
   crash = λ c image. (c, reads.crash c image, Torn-same place count c);
   time = Leaves-weaker old new old.images (TornImage place count old) reads.time (λ c image. (c, image, Torn-same place count c));
   kept = reads.kept;
@@ -115,6 +117,7 @@ pub WritesIn-then : (place count : ℕ) (old mid new : DiskState) → WritesIn p
 WritesIn-then place count old mid new first second = record {
   size = second.size ∙ first.size;
   seen = Torn-then place count old.seen mid.seen new.seen first.seen second.seen;
+  honest = λ is. first.honest (second.honest is);
   crash = λ c image. TornImage-back place count old mid first c (second.crash c image);
   time = Leaves-then old mid new (TornImage place count old) (TornImage place count mid) first.time second.time (TornImage-back place count old mid first);
   kept = Keeps-then old mid new first.time.later first.kept second.kept;
@@ -127,6 +130,7 @@ WritesIn-wider place count p n old new starts ends writes =
     record {
       size = writes.size;
       seen = Torn-wider place count p n old.seen new.seen starts ends writes.seen;
+      honest = writes.honest;
       crash = λ c image. wider c (writes.crash c image);
       time = Leaves-weaker old new (TornImage p n old) (TornImage place count old) writes.time wider;
       kept = writes.kept;

@@ -15,6 +15,7 @@ abbrev pub memory_state : MemDisk → DiskState
 memory_state d = record {
   size = length d.bytes.items;
   seen = d.bytes.items;
+  honest = Unit {0};
   images = λ image. ImageAt d.log.items d.bytes.items (length d.log.items) image;
   moment = length d.log.items;
   left_since = λ t image. ImageSince d.log.items d.bytes.items t image;

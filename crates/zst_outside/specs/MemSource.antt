@@ -1,5 +1,6 @@
 -- An input in memory, as its contracts see it.
-use Rattle.std.specs.Prelude.{ℕ, List, drop}
+use Rattle.std.specs.Prelude.{ℕ, List, take, drop, length, nat_le}
+use Rattle.zst_outside.specs.States.{SourceState}
 use Rattle.zst_outside.specs.Schedule.{Schedule, after_done}
 use Rattle.zst_outside.specs.declared.mem_source.MemSource.{MemSource}
 
@@ -16,3 +17,7 @@ input_of s = record { left = drop s.place s.bytes.items; piece = s.piece; schedu
 -- after a call that gave so many bytes
 abbrev pub after_giving : ℕ → Input → Input
 after_giving count i = record i { left = drop count i.left; schedule = after_done i.schedule }
+
+-- what it gave is the front of its bytes
+abbrev pub source_state : MemSource → SourceState
+source_state s = record { given = take s.place s.bytes.items; ended = nat_le (length s.bytes.items) s.place; faults = s.plan.faults }

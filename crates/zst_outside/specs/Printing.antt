@@ -1,17 +1,14 @@
 -- What calls wrote of a text, and how such calls follow one another.
-use Rattle.std.specs.Prelude.{ℕ, ◌≡◌, List, [], ◌++◌, take, drop, Result, Ok, Err, OnOk, OnErr, IsErr, ◌≤◌, is_some, refl}
-use Rattle.std.specs.Io.KnownBytes.{Appends, Keeps}
+use Rattle.std.specs.Prelude.{ℕ, ◌≡◌, List, [], ◌++◌, take, drop, Result, Ok, Err, OnOk, OnErr, IsErr, ◌≤◌, refl}
 use Rattle.std.proofs.Common.{sym, ap, ◌∙◌, append_assoc, append-nil, take-append-drop, arith}
-use Rattle.std.proofs.KnownBytes.{Appends-nil, Appends-trans, Appends-kept}
-use Rattle.zst_outside.specs.Causes.{Rose, Rose-earlier}
+use Rattle.zst_outside.specs.Causes.{HasCause, Rose, Rose-earlier}
 use Rattle.zst_outside.specs.States.{SinkState}
 
 -- so much of a text was written, and this is left
 pub record Wrote (old new : SinkState) (text rest : List ℕ) : Type 0 where
   pub printed : List ℕ
-  pub appended : Appends old.written new.written printed
+  pub appended : new.written ≡ old.written ++ printed
   pub is : text ≡ printed ++ rest
-  pub tells : is_some new.written ≡ is_some old.written
   pub later : old.faults ≤ new.faults
 
 -- a front of the text was written, all of it at Ok, and not all only where a fault was counted
@@ -20,30 +17,32 @@ pub record Prints {T E : Type 0} (old new : SinkState) (text : List ℕ) (result
   pub whole : OnOk result (Wrote old new text [])
   pub fault : OnErr result (Rose old.faults new.faults)
 
+-- what was written by two calls, one after the other
+written_then : (a b c : SinkState) (first second : List ℕ) → b.written ≡ a.written ++ first → c.written ≡ b.written ++ second → c.written ≡ a.written ++ (first ++ second)
+written_then a b c first second before after = after ∙ ap (λ (t : List ℕ). t ++ second) before ∙ append_assoc a.written first second
+
 -- at the start nothing is written
 pub Wrote-start : (a : SinkState) (text : List ℕ) → Wrote a a text text
-Wrote-start a text = record { printed = []; appended = Appends-nil a.written; is = refl; tells = refl; later = omega arith }
+Wrote-start a text = record { printed = []; appended = sym (append-nil a.written); is = refl; later = omega arith }
 
 -- a fault writes no more
 pub Wrote-kept : (a b c : SinkState) (text rest : List ℕ)
-    → Wrote a b text rest → Keeps b.written c.written → is_some c.written ≡ is_some b.written → b.faults ≤ c.faults → Wrote a c text rest
-Wrote-kept a b c text rest so_far kept tells later = record {
+    → Wrote a b text rest → c.written ≡ b.written → b.faults ≤ c.faults → Wrote a c text rest
+Wrote-kept a b c text rest so_far kept later = record {
   printed = so_far.printed;
-  appended = Appends-kept a.written b.written c.written so_far.printed so_far.appended kept;
+  appended = kept ∙ so_far.appended;
   is = so_far.is;
-  tells = tells ∙ so_far.tells;
   later = let before = so_far.later in omega arith;
 }
 
 -- some of the rest is written
 pub Wrote-more : (a b c : SinkState) (text rest : List ℕ) (n : ℕ)
-    → Wrote a b text rest → Appends b.written c.written (take n rest) → is_some c.written ≡ is_some b.written → b.faults ≤ c.faults
+    → Wrote a b text rest → c.written ≡ b.written ++ take n rest → b.faults ≤ c.faults
     → Wrote a c text (drop n rest)
-Wrote-more a b c text rest n so_far more tells later = record {
+Wrote-more a b c text rest n so_far more later = record {
   printed = so_far.printed ++ take n rest;
-  appended = Appends-trans a.written b.written c.written so_far.printed (take n rest) so_far.appended more;
+  appended = written_then a b c so_far.printed (take n rest) so_far.appended more;
   is = so_far.is ∙ ap (λ (t : List ℕ). so_far.printed ++ t) (sym (take-append-drop n rest)) ∙ sym (append_assoc so_far.printed (take n rest) (drop n rest));
-  tells = tells ∙ so_far.tells;
   later = let before = so_far.later in omega arith;
 }
 
@@ -53,9 +52,8 @@ Wrote-then a b c text next rest first second =
     let all : text ≡ first.printed = first.is ∙ append-nil first.printed in
     record {
       printed = first.printed ++ second.printed;
-      appended = Appends-trans a.written b.written c.written first.printed second.printed first.appended second.appended;
+      appended = written_then a b c first.printed second.printed first.appended second.appended;
       is = ap (λ (t : List ℕ). t ++ next) all ∙ ap (λ (t : List ℕ). first.printed ++ t) second.is ∙ sym (append_assoc first.printed second.printed rest);
-      tells = second.tells ∙ first.tells;
       later = let before = first.later in let after = second.later in omega arith;
     }
 
@@ -65,7 +63,6 @@ Wrote-longer a b text rest more so_far = record {
   printed = so_far.printed;
   appended = so_far.appended;
   is = ap (λ (t : List ℕ). t ++ more) so_far.is ∙ append_assoc so_far.printed rest more;
-  tells = so_far.tells;
   later = so_far.later;
 }
 
@@ -98,3 +95,15 @@ pub Prints-stop : {T T' E E' : Type 0} → (a b c : SinkState) (done text furthe
     → Wrote a b done [] → Prints {T = T} b c text (Err e) → Prints a c (done ++ (text ++ further)) result
 Prints-stop a b c done text further e result failed first stopped =
     Prints-then a b c done (text ++ further) result first (Prints-longer b c text further e result failed stopped)
+
+-- a whole text that is then handed on, or not
+pub Prints-flush : {T E : Type 0} → (a b c : SinkState) (text : List ℕ) (result : Result T E)
+    → Wrote a b text [] → c.written ≡ b.written → HasCause b.faults c.faults result → Prints a c text result
+Prints-flush a b c text (Ok x) wrote kept cause =
+    let all = Wrote-kept a b c text [] wrote kept cause.later in
+    record { front = ([], all); whole = all; fault = tt }
+Prints-flush a b c text (Err e) wrote kept cause = record {
+  front = ([], Wrote-kept a b c text [] wrote kept cause.later);
+  whole = tt;
+  fault = Rose-earlier a.faults b.faults c.faults wrote.later cause.fault;
+}

@@ -10,9 +10,6 @@ use crate::Fault;
 /// Between two syncs every range that was written may hold any bytes after a crash, and all else
 /// is as it was synced. Every call but `bytes`, `calls` and `faults` is counted.
 pub trait Disk {
-    /// Whether it tells what a read gives.
-    ghost tells_reads: { Bool };
-
     /// Whether it tells its images, which are what a crash may leave.
     ghost tells_images: { Bool };
 
@@ -34,20 +31,22 @@ pub trait Disk {
     /// Reads the bytes at a place, all inside the disk. After a fault the buffer holds any bytes.
     fn read(&mut self, place: u64, into: &mut [u8]) -> Result<(), Fault>
         requires { place + length into.old ≤ (state self.old).size }
-        ensures bytes { IsTrue tells_reads → OnOk result (into.new ≡ bytes_at (state self.old).seen place (length into.old)) }
+        ensures bytes { (state self.new).honest → OnOk result (into.new ≡ bytes_at (state self.old).seen place (length into.old)) }
         ensures reads { OnlyReads (state self.old) (state self.new) }
         ensures time { Leaves (state self.old) (state self.new) (state self.new).images }
         ensures calls { (state self.new).calls ≡ next_count (state self.old).calls }
+        ensures count_stays { OnOk result ((state self.new).faults ≡ (state self.old).faults) }
         ensures cause { HasCause (state self.old).faults (state self.new).faults result };
 
     /// Writes bytes at a place, all inside the disk. Until the next sync that succeeds a crash may
     /// leave any bytes in the range, and after a fault a read may give any there.
     fn write_at(&mut self, place: u64, from: &[u8]) -> Result<(), Fault>
         requires { place + length from.now ≤ (state self.old).size }
-        ensures written { IsTrue tells_reads → OnOk result (bytes_at (state self.new).seen place (length from.now) ≡ from.now) }
+        ensures written { OnOk result (bytes_at (state self.new).seen place (length from.now) ≡ from.now) }
         ensures writes { WritesIn place (length from.now) (state self.old) (state self.new) }
         ensures time { Leaves (state self.old) (state self.new) (state self.new).images }
         ensures calls { (state self.new).calls ≡ next_count (state self.old).calls }
+        ensures count_stays { OnOk result ((state self.new).faults ≡ (state self.old).faults) }
         ensures cause { HasCause (state self.old).faults (state self.new).faults result };
 
     /// Makes sure of what was written: after it a crash leaves what a read gives.
@@ -56,10 +55,11 @@ pub trait Disk {
         ensures reads { OnlyReads (state self.old) (state self.new) }
         ensures time { Leaves (state self.old) (state self.new) (state self.new).images }
         ensures calls { (state self.new).calls ≡ next_count (state self.old).calls }
+        ensures count_stays { OnOk result ((state self.new).faults ≡ (state self.old).faults) }
         ensures cause { HasCause (state self.old).faults (state self.new).faults result };
 
     /// What a read gives is as long as the disk.
-    ghost seen_size: { (d : Self) → IsTrue tells_reads → length (state d).seen ≡ (state d).size };
+    ghost seen_size: { (d : Self) → length (state d).seen ≡ (state d).size };
 
     /// So is each image.
     ghost image_size: { (d : Self) (c : List ℕ) → (state d).images c → length c ≡ (state d).size };
@@ -77,7 +77,7 @@ pub trait Disk {
 /// Writes bytes at a place and makes sure of them.
 pub fn put<D: Disk>(disk: &mut D, place: u64, from: &[u8]) -> Result<(), Fault>
     requires { place + length from.now ≤ (D.state disk.old).size }
-    ensures written { IsTrue D.tells_reads → OnOk result (bytes_at (D.state disk.new).seen place (length from.now) ≡ from.now) }
+    ensures written { OnOk result (bytes_at (D.state disk.new).seen place (length from.now) ≡ from.now) }
     ensures durable { OnOk result (IsSynced (D.state disk.new)) }
     ensures writes { WritesIn place (length from.now) (D.state disk.old) (D.state disk.new) }
     ensures cause { HasCause (D.state disk.old).faults (D.state disk.new).faults result }

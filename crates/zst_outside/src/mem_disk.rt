@@ -23,7 +23,7 @@ impl MemDisk {
 
     /// A disk of these bytes, in which the calls of these numbers fail, and all from `stop` on.
     pub fn new(bytes: Vec<u8>, fail: Vec<u64>, stop: Option<u64>) -> Self
-        ensures tells_reads { IsTrue ⟦<MemDisk as Disk>⟧.tells_reads }
+        ensures honest { (⟦<MemDisk as Disk>⟧.state result).honest }
         ensures tells_images { IsTrue ⟦<MemDisk as Disk>⟧.tells_images }
         ensures seen { (⟦<MemDisk as Disk>⟧.state result).seen ≡ bytes.items }
         ensures size { (⟦<MemDisk as Disk>⟧.state result).size ≡ length bytes.items }
@@ -124,13 +124,11 @@ impl Disk for MemDisk {
     ghost use Rattle.zst_outside.specs.CallLog.{now_since, since_now, reads_as_image as at_rest, image_size as size_of_image};
     ghost use Rattle.zst_outside.specs.MemDisk.{memory_state, schedule_of, Logs, LogsWrite, IsStarved};
 
-    ghost tells_reads = { true };
-
     ghost tells_images = { true };
 
     ghost state = { memory_state };
 
-    ghost seen_size = { λ d told. refl };
+    ghost seen_size = { λ d. refl };
 
     ghost image_size = { λ d image now. size_of_image d.log.items d.bytes.items image now };
 
@@ -158,6 +156,7 @@ impl Disk for MemDisk {
         ensures reads { OnlyReads (memory_state self.old) (memory_state self.new) }
         ensures time { Leaves (memory_state self.old) (memory_state self.new) (memory_state self.new).images }
         ensures calls { (memory_state self.new).calls ≡ next_count (memory_state self.old).calls }
+        ensures count_stays { OnOk result ((memory_state self.new).faults ≡ (memory_state self.old).faults) }
         ensures cause { HasCause (memory_state self.old).faults (memory_state self.new).faults result }
 
         // Its fault has one of two causes, and without memory it isn't in the record.
@@ -179,6 +178,7 @@ impl Disk for MemDisk {
         ensures writes { WritesIn place (length from.now) (memory_state self.old) (memory_state self.new) }
         ensures time { Leaves (memory_state self.old) (memory_state self.new) (memory_state self.new).images }
         ensures calls { (memory_state self.new).calls ≡ next_count (memory_state self.old).calls }
+        ensures count_stays { OnOk result ((memory_state self.new).faults ≡ (memory_state self.old).faults) }
         ensures cause { HasCause (memory_state self.old).faults (memory_state self.new).faults result }
 
         // A write that fails is in the record too, so that its range is pending, but writes nothing.
@@ -197,6 +197,7 @@ impl Disk for MemDisk {
         ensures reads { OnlyReads (memory_state self.old) (memory_state self.new) }
         ensures time { Leaves (memory_state self.old) (memory_state self.new) (memory_state self.new).images }
         ensures calls { (memory_state self.new).calls ≡ next_count (memory_state self.old).calls }
+        ensures count_stays { OnOk result ((memory_state self.new).faults ≡ (memory_state self.old).faults) }
         ensures cause { HasCause (memory_state self.old).faults (memory_state self.new).faults result }
 
         // A sync that fails is in the record as one that wasn't done.

@@ -14,7 +14,7 @@ pub struct MemSink {
 }
 
 impl MemSink {
-    ghost use Rattle.std.specs.Prelude.{◌≡◌, [], Some, None};
+    ghost use Rattle.std.specs.Prelude.{◌≡◌, [], None};
     ghost use Rattle.zst_outside.specs.Schedule.{fresh};
     ghost use Rattle.zst_outside.specs.MemSink.{output_of};
 
@@ -41,7 +41,7 @@ impl MemSink {
     /// What was written.
     pub fn bytes(&self) -> &[u8]
         ensures bytes { result.now ≡ (output_of self.now).written }
-        ensures told { (⟦<MemSink as Sink>⟧.state self.now).written ≡ Some result.now }
+        ensures told { (⟦<MemSink as Sink>⟧.state self.now).written ≡ result.now }
     {
         &self.bytes
     }
@@ -55,19 +55,20 @@ impl MemSink {
 }
 
 impl Sink for MemSink {
-    ghost use Rattle.std.specs.Prelude.{◌≡◌, Some, IfOk, OnErr, min, length, take};
+    ghost use Rattle.std.specs.Prelude.{◌≡◌, IfOk, IsOk, OnOk, OnErr, min, length, take};
     ghost use Rattle.std.specs.Io.{WritesAtMost};
-    ghost use Rattle.std.specs.Io.KnownBytes.{WriteAppends};
     ghost use Rattle.zst_outside.specs.Causes.{HasCause};
     ghost use Rattle.zst_outside.specs.Schedule.{MeetsSchedule};
-    ghost use Rattle.zst_outside.specs.MemSink.{output_of, after_taking};
+    ghost use Rattle.zst_outside.specs.States.{TakesFront};
+    ghost use Rattle.zst_outside.specs.MemSink.{output_of, after_taking, sink_state};
 
-    ghost state = { λ s. record { written = Some (output_of s).written; faults = (output_of s).schedule.faults } };
+    ghost state = { sink_state };
 
     fn write(&mut self, from: &[u8]) -> Result<usize, Fault>
         ensures bound { WritesAtMost result from.now }
         ensures some { IfOk result (λ n. 0 < length from.now → 0 < n) }
-        ensures bytes { WriteAppends (Some (output_of self.old).written) (Some (output_of self.new).written) result from.now }
+        ensures bytes { TakesFront (sink_state self.old) (sink_state self.new) result from.now }
+        ensures count_stays { OnOk result ((output_of self.new).schedule.faults ≡ (output_of self.old).schedule.faults) }
         ensures cause { HasCause (output_of self.old).schedule.faults (output_of self.new).schedule.faults result }
 
         // It fails where its call is listed, and else only for want of memory.
@@ -84,6 +85,14 @@ impl Sink for MemSink {
             Ok(()) => Ok(count),
             Err(_) => Err(self.plan.starve()),
         }
+    }
+
+    // Nothing waits, since each call keeps what it took.
+    fn flush(&mut self) -> Result<(), Fault>
+        ensures done { IsOk result }
+        ensures same { self.new ≡ self.old }
+    {
+        Ok(())
     }
 
     fn faults(&self) -> u64 {

@@ -43,25 +43,25 @@ impl MemSource {
     /// What is left of it.
     pub fn left(&self) -> &[u8]
         ensures bytes { result.now ≡ (input_of self.now).left }
-        ensures told { (⟦<MemSource as Source>⟧.state self.now).left ≡ Some result.now }
     {
         &self.bytes[self.place..]
     }
 }
 
 impl Source for MemSource {
-    ghost use Rattle.std.specs.Prelude.{◌≡◌, ◌↔◌, Some, IsTrue, IsErr, IfOk, OnErr, min};
+    ghost use Rattle.std.specs.Prelude.{◌≡◌, ◌↔◌, Some, IsTrue, IsErr, IfOk, OnOk, OnErr, min};
     ghost use Rattle.std.specs.Io.{ReadsAtMost};
-    ghost use Rattle.std.specs.Io.KnownBytes.{ReadConsumes};
+    ghost use Rattle.zst_outside.specs.States.{ReadGives};
     ghost use Rattle.zst_outside.specs.Causes.{HasCause};
     ghost use Rattle.zst_outside.specs.Schedule.{is_to_fail, after_refused};
-    ghost use Rattle.zst_outside.specs.MemSource.{input_of, after_giving};
+    ghost use Rattle.zst_outside.specs.MemSource.{input_of, after_giving, source_state};
 
-    ghost state = { λ s. record { left = Some (input_of s).left; faults = (input_of s).schedule.faults } };
+    ghost state = { source_state };
 
     fn read(&mut self, into: &mut [u8]) -> Result<usize, Fault>
         ensures bound { ReadsAtMost result into.new }
-        ensures bytes { ReadConsumes (Some (input_of self.old).left) (Some (input_of self.new).left) result into.new }
+        ensures bytes { ReadGives (source_state self.old) (source_state self.new) result into.new }
+        ensures count_stays { OnOk result ((input_of self.new).schedule.faults ≡ (input_of self.old).schedule.faults) }
         ensures cause { HasCause (input_of self.old).schedule.faults (input_of self.new).schedule.faults result }
 
         // It fails exactly where its call is listed, and else gives all that has room.

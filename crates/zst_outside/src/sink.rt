@@ -1,23 +1,29 @@
-ghost use Rattle.std.specs.Prelude.{◌≡◌, ◌<◌, IfOk, is_some, length};
+ghost use Rattle.std.specs.Prelude.{◌≡◌, ◌<◌, IfOk, OnOk, length};
 ghost use Rattle.std.specs.Io.{WritesAtMost};
-ghost use Rattle.std.specs.Io.KnownBytes.{WriteAppends};
 ghost use Rattle.zst_outside.specs.Causes.{HasCause};
-ghost use Rattle.zst_outside.specs.States.{SinkState};
+ghost use Rattle.zst_outside.specs.States.{SinkState, TakesFront, HandedOn};
 ghost use Rattle.zst_outside.specs.Printing.{Prints};
 
 use crate::Fault;
 
 /// An output, written at its end.
 pub trait Sink {
-    /// What was written, where it is known, and how often the sink has failed.
+    /// What was written, what of it waits to be handed on, and how often the sink has failed.
     ghost state: { Self → SinkState };
 
     /// Takes a front of the bytes, none only where there are none. A fault takes no byte.
     fn write(&mut self, from: &[u8]) -> Result<usize, Fault>
         ensures bound { WritesAtMost result from.now }
         ensures some { IfOk result (λ n. 0 < length from.now → 0 < n) }
-        ensures bytes { WriteAppends (state self.old).written (state self.new).written result from.now }
-        ensures tells { is_some (state self.new).written ≡ is_some (state self.old).written }
+        ensures bytes { TakesFront (state self.old) (state self.new) result from.now }
+        ensures count_stays { OnOk result ((state self.new).faults ≡ (state self.old).faults) }
+        ensures cause { HasCause (state self.old).faults (state self.new).faults result };
+
+    /// Hands on all that waits. After a fault some of it may still wait.
+    fn flush(&mut self) -> Result<(), Fault>
+        ensures written { (state self.new).written ≡ (state self.old).written }
+        ensures flushed { OnOk result (HandedOn (state self.new)) }
+        ensures count_stays { OnOk result ((state self.new).faults ≡ (state self.old).faults) }
         ensures cause { HasCause (state self.old).faults (state self.new).faults result };
 
     /// The count of faults, which stays at 2^64 - 1 once it is there.

@@ -1,7 +1,7 @@
 use crate::places::{copy_out, overwrite};
 use crate::{Disk, Fault};
 
-/// A disk in memory that never fails. It tells what a read gives, and leaves its images untold.
+/// A disk in memory that never fails. It is always honest, and leaves its images untold.
 #[derive(Drop)]
 pub struct SureDisk {
     bytes: Vec<u8>,
@@ -9,11 +9,11 @@ pub struct SureDisk {
 }
 
 impl SureDisk {
-    ghost use Rattle.std.specs.Prelude.{◌≡◌, IsTrue, length};
+    ghost use Rattle.std.specs.Prelude.{◌≡◌, length};
 
     /// A disk of these bytes.
     pub fn new(bytes: Vec<u8>) -> Self
-        ensures told { IsTrue ⟦<SureDisk as Disk>⟧.tells_reads }
+        ensures honest { (⟦<SureDisk as Disk>⟧.state result).honest }
         ensures seen { (⟦<SureDisk as Disk>⟧.state result).seen ≡ bytes.items }
         ensures size { (⟦<SureDisk as Disk>⟧.state result).size ≡ length bytes.items }
         ensures calls { (⟦<SureDisk as Disk>⟧.state result).calls ≡ 0 }
@@ -27,13 +27,11 @@ impl Disk for SureDisk {
     ghost use Rattle.std.proofs.Common.{refl, rules};
     ghost use Rattle.zst_outside.specs.SureDisk.{sure_state};
 
-    ghost tells_reads = { true };
-
     ghost tells_images = { false };
 
     ghost state = { sure_state };
 
-    ghost seen_size = { λ d told. refl };
+    ghost seen_size = { λ d. refl };
 
     ghost image_size = { λ d c image. absurd image };
 

@@ -17,6 +17,7 @@ use Rattle.zst_model.specs.declared.item.Item.TheVariants.{At, FreeObjects}
 use Rattle.zst_model.specs.declared.plan_fault.PlanFault.{PlanFault}
 use Rattle.zst_model.specs.declared.refusal.Refusal.{Refusal}
 use Rattle.zst_model.specs.declared.refusal.Refusal.TheVariants as refusals
+use Rattle.zst_model.proofs.Sizes.{size_of_lawful}
 use Rattle.zst_model.specs.State.{State, Object, Hole, Data, IsObjectOrNone, is_odd_size, attr_at, number_bound, index_bound}
 use Rattle.zst_model.specs.Apply.{unless, ◌>>=◌, apply, apply_change, put_at, within, is_unaligned, attr_with}
 use Rattle.zst_model.specs.Dated.{DatedState, apply_dated, apply_all_dated, size_at, touches_index, touches_number}
@@ -144,7 +145,7 @@ multiple_is_aligned size n some = ap (λ (m : ℕ). not (m == 0)) (mul-mod_left 
 
 pub size_over_none : (o : Option Object) (object : Object) → IsObjectOrNone o → o ≡ Some object → 0 < object.attr.block_size
 size_over_none None object is there = absurd (cc)
-size_over_none (Some x) object is there = let same : x ≡ object = cc in subst (λ (y : Object). 0 < y.attr.block_size) same is.size
+size_over_none (Some x) object is there = let same : x ≡ object = cc in subst (λ (y : Object). 0 < y.attr.block_size) same (size_of_lawful x is)
 
 -- holes of an object that is absent
 pub punched_absent : (pool : Pool) (k first count : ℕ) (head : DatedState) → head.state k ≡ None → punched pool k first count head ≡ Err (cannot_apply NoObject)

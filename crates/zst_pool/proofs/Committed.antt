@@ -239,10 +239,10 @@ disk-refused before uber_fault fault same failed =
     subst P (sym (same ∙ ap of_uber failed)) (tt, tt)
 
 -- a part of a command leaves the disk ready for the next commit
-pub Ready-works : {T : Type 0} (tells : Bool) (old new : DiskState) (space less : FreeSectors) (old_failed new_failed : Bool) (result : Result T PoolFault) (body : Uber)
-    → Works old space old_failed new less new_failed result → Ready tells old body → Ready tells new body
-Ready-works tells old new space less old_failed new_failed result body works ready = record {
+pub Ready-works : {T : Type 0} (old new : DiskState) (space less : FreeSectors) (old_failed new_failed : Bool) (result : Result T PoolFault) (body : Uber)
+    → Works old space old_failed new less new_failed result → Ready old body → Ready new body
+Ready-works old new space less old_failed new_failed result body works ready = record {
   in_range = subst (λ (size : ℕ). InRange size body) (sym works.fills.size) ready.in_range;
-  next = λ told. subst (λ (l : Option (List ℕ)). IsNext (body.number + 1) l) (sym works.latest_stays) (ready.next told);
-  head = λ told. works.head (ready.head told);
+  next = λ told. subst (λ (l : Option (List ℕ)). IsNext (body.number + 1) l) (sym works.latest_stays) (ready.next (works.fills.honest told));
+  head = λ told. works.head (ready.head (works.fills.honest told));
 }

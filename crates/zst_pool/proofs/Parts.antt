@@ -88,12 +88,12 @@ works_none T disk space failed r fits apart = record {
 }
 
 -- from a disk that is ready, the next commit can be made after a part
-pub ready_works : {T : Type 0} (tells : Bool) (old : DiskState) (space : FreeSectors) (failed : Bool) (new : DiskState) (less : FreeSectors) (now : Bool) (r : Result T PoolFault) (uber : Uber)
-    → Ready tells old uber → Works old space failed new less now r → Ready tells new uber
-ready_works tells old space failed new less now r uber ready works = record {
+pub ready_works : {T : Type 0} (old : DiskState) (space : FreeSectors) (failed : Bool) (new : DiskState) (less : FreeSectors) (now : Bool) (r : Result T PoolFault) (uber : Uber)
+    → Ready old uber → Works old space failed new less now r → Ready new uber
+ready_works old space failed new less now r uber ready works = record {
   in_range = subst (λ (n : ℕ). InRange n uber) (sym works.fills.size) ready.in_range;
-  next = λ told. subst (IsNext (uber.number + 1)) (sym works.latest_stays) (ready.next told);
-  head = λ told. works.head (ready.head told);
+  next = λ told. subst (IsNext (uber.number + 1)) (sym works.latest_stays) (ready.next (works.fills.honest told));
+  head = λ told. works.head (ready.head (works.fills.honest told));
 }
 
 pub on_err : {T F : Type 0} (r : Result T F) (P : Type 0) → P → OnErr r P

@@ -10,7 +10,7 @@ use Rattle.zst_space.specs.Taking.{shortened, extents_without, end_without, with
 use Rattle.zst_space.specs.declared.space.Extent.{Extent}
 use Rattle.zst_block.specs.Blocks.{Has}
 use Rattle.zst_uber.specs.declared.uber.Uber.{Uber}
-use Rattle.zst_model.specs.State.{is_block_size}
+use Rattle.zst_model.specs.State.{is_block_size, largest_block}
 use Rattle.zst_objset.specs.Rows.{Lists}
 use Rattle.zst_objset.specs.Spelling.{lists_bytes}
 use Rattle.zst_dir.specs.Rows.{Rows}
@@ -50,7 +50,7 @@ largest_of-without space count = greatest-without space.free space.end space.sec
 
 -- a block of data has 256 sectors at most
 pub block-sectors : (size : ℕ) → is_block_size size ≡ true → size / 512 ≤ 256
-unfolding is_block_size
+unfolding is_block_size largest_block
 block-sectors size is = grind arith
 
 -- what a `?` answers

@@ -6,7 +6,7 @@ use Rattle.zst_bytes.specs.Fields.{zeros}
 use Rattle.zst_bytes.specs.BytesLaws.{length-number_bytes}
 use Rattle.zst_block.specs.declared.ptr.Ptr.{Ptr}
 use Rattle.zst_model.specs.Dated.{DatedState}
-use Rattle.zst_model.specs.State.{is_block_size}
+use Rattle.zst_model.specs.State.{is_block_size, largest_block}
 use Rattle.zst_objset.specs.Rows.{Lists}
 use Rattle.zst_objset.specs.Meaning.{Blocks, SetIs}
 use Rattle.zst_objset.specs.Spelling.{IsRun, lists_bytes, object_bytes, index_bytes}
@@ -16,7 +16,7 @@ use Rattle.zst_pool.specs.declared.fault.PoolFault.{PoolFault}
 
 -- a size of a block is some whole sectors
 pub is_block_size-whole : (size : ℕ) → is_block_size size ≡ true → (0 < size) × (size % 512 ≡ 0)
-unfolding is_block_size
+unfolding is_block_size largest_block
 is_block_size-whole size is = grind arith
 
 lists_bytes-some : (lists : Lists) → 0 < length (lists_bytes lists)

@@ -1,5 +1,5 @@
 -- What the parts of a command do: they read, they write blocks into free sectors, and one commits.
-use Rattle.std.specs.Prelude.{◌≡◌, ◌⊎◌, ◌+◌, ◌||◌, ℕ, Bool, IsTrue, List, length, Result, Ok, Err}
+use Rattle.std.specs.Prelude.{◌≡◌, ◌⊎◌, ◌+◌, ◌||◌, ℕ, Bool, List, length, Result, Ok, Err}
 use Rattle.zst_outside.specs.Images.{DiskState, Leaves}
 use Rattle.zst_space.specs.FreeSectors.{FreeSectors, IsFree}
 use Rattle.zst_block.specs.Blocks.{FitsDisk, FillsFree, KeepsBlocks}
@@ -18,11 +18,11 @@ use Rattle.zst_pool.specs.declared.fault.PoolFault.{PoolFault}
 use Rattle.zst_pool.specs.declared.fault.PoolFault.TheVariants.{Plan, CannotApply, Redacted, Full, Damaged, NoPool, BadVersion, DiskFault, Failed, OutOfMemory}
 use Rattle.zst_pool.specs.declared.kept.Kept.{Kept}
 
--- a disk from which the next commit can be made: this body is its latest, in its ranges, and nothing is pending in sectors 0 to 7
-pub record Ready (tells : Bool) (disk : DiskState) (uber : Uber) : Type 0 where
+-- a disk from which the next commit can be made: this body is in its ranges and, where the disk is honest, its latest, with nothing pending in sectors 0 to 7
+pub record Ready (disk : DiskState) (uber : Uber) : Type 0 where
   pub in_range : InRange disk.size uber
-  pub next : IsTrue tells → IsNext (uber.number + 1) (latest disk.seen)
-  pub head : IsTrue tells → HeadSettled disk
+  pub next : disk.honest → IsNext (uber.number + 1) (latest disk.seen)
+  pub head : disk.honest → HeadSettled disk
 
 -- a part of a command: it wrote into free sectors alone, took them, and left sectors 0 to 7 as they were
 pub record Works {T : Type 0} (old : DiskState) (old_space : FreeSectors) (old_failed : Bool) (new : DiskState) (new_space : FreeSectors) (new_failed : Bool) (result : Result T PoolFault) : Type 0 where

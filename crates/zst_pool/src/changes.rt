@@ -7,7 +7,7 @@ ghost use Rattle.zst_model.specs.declared.item.Change.TheVariants.{Free, Put, Sp
 ghost use Rattle.zst_model.specs.declared.attr.ObjectHead.{ObjectHead};
 ghost use Rattle.zst_model.specs.declared.item.Item.TheVariants.{At, FreeObjects};
 ghost use Rattle.zst_model.specs.Items.{spill_change};
-ghost use Rattle.zst_model.specs.State.{index_bound, is_block_size, number_bound};
+ghost use Rattle.zst_model.specs.State.{index_bound, is_block_size, number_bound, IsHead, IsBonus, IsSpill};
 ghost use Rattle.zst_model.specs.Dated.{DatedState, size_at, apply_dated, apply_all_dated};
 ghost use Rattle.zst_model.specs.Pool.{Pool};
 ghost use Rattle.zst_model.specs.Step.{filled, punched, written};
@@ -114,7 +114,7 @@ pub fn change_block<D: Disk>(
     requires fits { FitsDisk (D.state io.old.disk.now).size io.old.space }
     requires object { 0 < object }
     ensures number { OnOk result (number < 2 ^ 63) }
-    ensures changed { (name : List ℕ) (pool : Pool) (head : DatedState) → IsTrue D.tells_reads → pool.number ≡ number → SetIs (Has (D.state io.old.disk.now).seen io.old.space) flat.old head
+    ensures changed { (name : List ℕ) (pool : Pool) (head : DatedState) → pool.number ≡ number → SetIs (Has (D.state io.old.disk.now).seen io.old.space) flat.old head
         → ChangesHead (Has (D.state io.new.disk.now).seen io.new.space) name pool (written pool object index bytes.now head) flat.new result }
     ensures known { IfErr result IsStepFault }
     ensures grows { length (lists_bytes flat.new) ≤ length (lists_bytes flat.old) + 1024 }
@@ -253,11 +253,11 @@ pub fn change_object<D: Disk>(
 ) -> Result<(), PoolFault>
     requires fits { FitsDisk (D.state io.old.disk.now).size io.old.space }
     requires object { 0 < object }
-    requires size { is_block_size head.block_size ≡ true }
-    requires bonus { length bonus ≤ 320 }
-    requires spill { IfSome spill (λ block. is_block_size (length block) ≡ true) }
+    requires head { IsHead head }
+    requires bonus { IsBonus bonus }
+    requires spill { IfSome spill IsSpill }
     ensures number { OnOk result (number < 2 ^ 63) }
-    ensures changed { (name : List ℕ) (pool : Pool) (old : DatedState) → IsTrue D.tells_reads → pool.number ≡ number → SetIs (Has (D.state io.old.disk.now).seen io.old.space) flat.old old
+    ensures changed { (name : List ℕ) (pool : Pool) (old : DatedState) → pool.number ≡ number → SetIs (Has (D.state io.old.disk.now).seen io.old.space) flat.old old
         → ChangesHead (Has (D.state io.new.disk.now).seen io.new.space) name pool (put_in pool object head bonus spill old) flat.new result }
     ensures known { IfErr result IsStepFault }
     // The spill is a change of its own.
@@ -286,9 +286,9 @@ fn change_spill<D: Disk>(
     block: &[u8],
 ) -> Result<(), PoolFault>
     requires fits { FitsDisk (D.state io.old.disk.now).size io.old.space }
-    requires size { is_block_size (length block.now) ≡ true }
+    requires spill { IsSpill block.now }
     requires number { number < 2 ^ 63 }
-    ensures changed { (head after : DatedState) → IsTrue D.tells_reads → SetIs (Has (D.state io.old.disk.now).seen io.old.space) flat.old head
+    ensures changed { (head after : DatedState) → SetIs (Has (D.state io.old.disk.now).seen io.old.space) flat.old head
         → apply_dated (number + 1) (At object (Spill block.now)) head ≡ Ok after → OnOk result (SetIs (Has (D.state io.new.disk.now).seen io.new.space) flat.new after) }
     ensures fault { IfErr result WriteFault }
     ensures grows { length (lists_bytes flat.new) ≤ length (lists_bytes flat.old) + 1024 }

@@ -1,5 +1,5 @@
 // The commands that commit, each over the Io of a pool that hasn't failed.
-ghost use Rattle.std.specs.Prelude.{◌≡◌, ◌⊎◌, ◌+◌, ◌*◌, ◌<◌, ◌≤◌, ◌^◌, ◌||◌, false, [], None, bytes_eq, filter, length, not, IsTrue, IfErr, IfOk, OnErr};
+ghost use Rattle.std.specs.Prelude.{◌≡◌, ◌⊎◌, ◌+◌, ◌*◌, ◌<◌, ◌≤◌, ◌^◌, ◌||◌, false, [], None, bytes_eq, filter, length, not, IfErr, IfOk, OnErr};
 ghost use Rattle.zst_names.specs.Names.{dataset_of};
 ghost use Rattle.zst_model.specs.Pool.{Pool, inserted};
 ghost use Rattle.zst_model.specs.Step.{with_dataset, with_snapshot};
@@ -50,15 +50,16 @@ pub fn make_dataset<D: Disk>(
 ) -> Result<Kept, PoolFault>
     requires kind { (kind ≡ 2) ⊎ (kind ≡ 3) }
     requires space { io.old.space ≡ free_by kept.now.body }
-    requires ready { Ready D.tells_reads (D.state io.old.disk.now) kept.now.body }
-    ensures did { (pool : Pool) → IsTrue D.tells_reads → Rests (D.state io.old.disk.now) kept.now.body kept.now.dir pool
+    requires ready { Ready (D.state io.old.disk.now) kept.now.body }
+    ensures did { (pool : Pool) → (D.state io.new.disk.now).honest → Rests (D.state io.old.disk.now) kept.now.body kept.now.dir pool
         → Did (D.state io.old.disk.now) (D.state io.new.disk.now) kept.now.body kept.now.dir pool (with_dataset kind name.now pool) result }
     ensures known { IfErr result IsStepFault }
     ensures full { IfErr result (FindsNoRoom kept.now) }
-    ensures ready { IfOk result (λ kept. Ready D.tells_reads (D.state io.new.disk.now) kept.body) }
-    ensures stays { io.new.failed ≡ false → OnErr result (Ready D.tells_reads (D.state io.new.disk.now) kept.now.body) }
+    ensures ready { IfOk result (λ kept. Ready (D.state io.new.disk.now) kept.body) }
+    ensures stays { io.new.failed ≡ false → OnErr result (Ready (D.state io.new.disk.now) kept.now.body) }
     ensures failed { io.new.failed ≡ (io.old.failed || is_disk_fault result) }
     ensures cause { HasDiskCause (D.state io.old.disk.now).faults (D.state io.new.disk.now).faults result }
+    ensures honest { (D.state io.new.disk.now).honest → (D.state io.old.disk.now).honest }
     ensures same { io.new.disk.ghost_name ≡ io.old.disk.ghost_name }
 {
     check_new_dataset(&kept.dir, name)?;
@@ -113,15 +114,16 @@ pub fn take_snapshot<D: Disk>(
     name: &SnapName,
 ) -> Result<Kept, PoolFault>
     requires space { io.old.space ≡ free_by kept.now.body }
-    requires ready { Ready D.tells_reads (D.state io.old.disk.now) kept.now.body }
-    ensures did { (pool : Pool) → IsTrue D.tells_reads → Rests (D.state io.old.disk.now) kept.now.body kept.now.dir pool
+    requires ready { Ready (D.state io.old.disk.now) kept.now.body }
+    ensures did { (pool : Pool) → (D.state io.new.disk.now).honest → Rests (D.state io.old.disk.now) kept.now.body kept.now.dir pool
         → Did (D.state io.old.disk.now) (D.state io.new.disk.now) kept.now.body kept.now.dir pool (with_snapshot now name.now pool) result }
     ensures known { IfErr result IsStepFault }
     ensures full { IfErr result (FindsNoRoom kept.now) }
-    ensures ready { IfOk result (λ kept. Ready D.tells_reads (D.state io.new.disk.now) kept.body) }
-    ensures stays { io.new.failed ≡ false → OnErr result (Ready D.tells_reads (D.state io.new.disk.now) kept.now.body) }
+    ensures ready { IfOk result (λ kept. Ready (D.state io.new.disk.now) kept.body) }
+    ensures stays { io.new.failed ≡ false → OnErr result (Ready (D.state io.new.disk.now) kept.now.body) }
     ensures failed { io.new.failed ≡ (io.old.failed || is_disk_fault result) }
     ensures cause { HasDiskCause (D.state io.old.disk.now).faults (D.state io.new.disk.now).faults result }
+    ensures honest { (D.state io.new.disk.now).honest → (D.state io.old.disk.now).honest }
     ensures same { io.new.disk.ghost_name ≡ io.old.disk.ghost_name }
 {
     let dataset = plan_snapshot(kept, name)?;

@@ -1,5 +1,5 @@
 // The commit of a directory: the one commit of an event.
-ghost use Rattle.std.specs.Prelude.{◌≡◌, ◌+◌, ◌<◌, ◌^◌, ◌||◌, false, [], ℕ, List, IsTrue, IfOk, IfErr, OnOk, OnErr};
+ghost use Rattle.std.specs.Prelude.{◌≡◌, ◌+◌, ◌<◌, ◌^◌, ◌||◌, false, [], ℕ, List, IfOk, IfErr, OnOk, OnErr};
 ghost use Rattle.zst_space.specs.FreeSectors.{largest_of};
 ghost use Rattle.zst_block.specs.Blocks.{FitsDisk, FillsFree, Has};
 ghost use Rattle.zst_block.specs.Ptr.{hole_of};
@@ -34,25 +34,26 @@ pub fn commit_dir<D: Disk>(
     requires fits { FitsDisk (D.state io.old.disk.now).size io.old.space }
     requires sectors { io.old.space.sectors ≡ body.now.sectors }
     requires extents { io.old.space.free ≡ [] }
-    requires ready { Ready D.tells_reads (D.state io.old.disk.now) body.now }
+    requires ready { Ready (D.state io.old.disk.now) body.now }
     requires number { body.now.number < 2 ^ 63 }
-    ensures commits { (start : D) (rows : Rows) (pool next : Pool) → IsTrue D.tells_reads → Rests (D.state start) body.now rows pool
+    ensures commits { (start : D) (rows : Rows) (pool next : Pool) → (D.state io.new.disk.now).honest → Rests (D.state start) body.now rows pool
         → FillsFree (D.state start) (free_by body.now) (D.state io.old.disk.now) io.old.space
         → NextIs (Has (D.state io.old.disk.now).seen io.old.space) body.now guids dir next
         → Commits (D.state start) (D.state io.new.disk.now) body.now rows pool next result }
     // A pool's first commit has none before it.
-    ensures over { (next : Pool) → IsTrue D.tells_reads → NextIs (Has (D.state io.old.disk.now).seen io.old.space) body.now guids dir next
+    ensures over { (next : Pool) → (D.state io.new.disk.now).honest → NextIs (Has (D.state io.old.disk.now).seen io.old.space) body.now guids dir next
         → CommitsOver (D.state io.old.disk.now) io.old.space (D.state io.new.disk.now) io.new.space next result }
     ensures number { IfOk result (λ kept. kept.body.number ≡ body.now.number + 1) }
     ensures fault { IfErr result WriteFault }
     ensures full { (need largest : ℕ) → result ≡ Err (PoolFault.Full need largest) → (need ≡ dir_sectors dir) × (largest ≡ largest_of io.old.space) }
     // After a refusal that isn't the disk's the latest body is the one from before.
     ensures refused { IfErr result (Stays (latest (D.state io.new.disk.now).seen ≡ latest (D.state io.old.disk.now).seen)) }
-    ensures ready { IfOk result (λ kept. Ready D.tells_reads (D.state io.new.disk.now) kept.body) }
-    ensures stays { io.new.failed ≡ false → OnErr result (Ready D.tells_reads (D.state io.new.disk.now) body.now) }
+    ensures ready { IfOk result (λ kept. Ready (D.state io.new.disk.now) kept.body) }
+    ensures stays { io.new.failed ≡ false → OnErr result (Ready (D.state io.new.disk.now) body.now) }
     ensures size { (D.state io.new.disk.now).size ≡ (D.state io.old.disk.now).size }
     ensures failed { io.new.failed ≡ (io.old.failed || is_disk_fault result) }
     ensures cause { HasDiskCause (D.state io.old.disk.now).faults (D.state io.new.disk.now).faults result }
+    ensures honest { (D.state io.new.disk.now).honest → (D.state io.old.disk.now).honest }
     ensures same { io.new.disk.ghost_name ≡ io.old.disk.ghost_name }
 {
     let (root, length) = write_dir(io, alloc, &dir, body.number + 1)?;
@@ -73,7 +74,7 @@ fn write_dir<D: Disk>(
 ) -> Result<(Ptr, u64), PoolFault>
     requires fits { FitsDisk (D.state io.old.disk.now).size io.old.space }
     requires extents { io.old.space.free ≡ [] }
-    ensures there { IsTrue D.tells_reads → IfOk result (λ run. (bytes : List ℕ) × Has (D.state io.new.disk.now).seen io.new.space run.0 bytes × IsDirRun dir.now run.1 bytes) }
+    ensures there { IfOk result (λ run. (bytes : List ℕ) × Has (D.state io.new.disk.now).seen io.new.space run.0 bytes × IsDirRun dir.now run.1 bytes) }
     ensures kind { IfOk result (λ run. run.0.kind ≡ 1) }
     ensures sectors { OnOk result (io.new.space.sectors ≡ io.old.space.sectors) }
     ensures extents { OnOk result (io.new.space.free ≡ []) }

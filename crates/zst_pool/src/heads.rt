@@ -1,8 +1,8 @@
 // The commands on a dataset's head, each over the Io of a pool that hasn't failed.
-ghost use Rattle.std.specs.Prelude.{◌≡◌, ◌||◌, ◌+◌, ◌<◌, ◌≤◌, ◌^◌, false, true, [], length, IsTrue, IfErr, IfOk, IfSome, OnOk, OnErr};
+ghost use Rattle.std.specs.Prelude.{◌≡◌, ◌||◌, ◌+◌, ◌<◌, ◌≤◌, ◌^◌, false, true, [], length, IfErr, IfOk, IfSome, OnOk, OnErr};
 ghost use Rattle.zst_block.specs.Blocks.{FitsDisk, FillsFree, Has};
 ghost use Rattle.zst_names.specs.Names.{IsDataset};
-ghost use Rattle.zst_model.specs.State.{is_block_size};
+ghost use Rattle.zst_model.specs.State.{IsHead, IsBonus, IsSpill};
 ghost use Rattle.zst_model.specs.Dated.{DatedState};
 ghost use Rattle.zst_model.specs.Pool.{Pool, IsPool};
 ghost use Rattle.zst_model.specs.Step.{on_head, punched, written};
@@ -36,7 +36,7 @@ fn load_head<D: Disk>(
 ) -> Result<Flat, PoolFault>
     requires fits { FitsDisk (D.state io.old.disk.now).size io.old.space }
     ensures named { OnOk result (IsDataset name.now) }
-    ensures found { (pool : Pool) → IsTrue D.tells_reads → RowsAre (Has (D.state io.old.disk.now).seen io.old.space) kept.now.dir pool
+    ensures found { (pool : Pool) → (D.state io.new.disk.now).honest → RowsAre (Has (D.state io.old.disk.now).seen io.old.space) kept.now.dir pool
         → FindsHead (Has (D.state io.old.disk.now).seen io.old.space) name.now pool result }
     ensures known { IfErr result IsStepFault }
     ensures short { IfOk result (AreHeadRows kept.now.dir) }
@@ -62,18 +62,19 @@ fn commit_head<D: Disk>(
     requires fits { FitsDisk (D.state io.old.disk.now).size io.old.space }
     requires sectors { io.old.space.sectors ≡ kept.now.body.sectors }
     requires extents { io.old.space.free ≡ [] }
-    requires ready { Ready D.tells_reads (D.state io.old.disk.now) kept.now.body }
+    requires ready { Ready (D.state io.old.disk.now) kept.now.body }
     requires number { kept.now.body.number < 2 ^ 63 }
-    ensures commits { (start : D) (pool : Pool) (head : DatedState) → IsTrue D.tells_reads → Rests (D.state start) kept.now.body kept.now.dir pool
+    ensures commits { (start : D) (pool : Pool) (head : DatedState) → (D.state io.new.disk.now).honest → Rests (D.state start) kept.now.body kept.now.dir pool
         → FillsFree (D.state start) (free_by kept.now.body) (D.state io.old.disk.now) io.old.space
         → SetIs (Has (D.state io.old.disk.now).seen io.old.space) flat.now head → IsPool (next_of (with_head_of name.now head pool)).pool
         → Commits (D.state start) (D.state io.new.disk.now) kept.now.body kept.now.dir pool (next_of (with_head_of name.now head pool)).pool result }
     ensures fault { IfErr result WriteFault }
     ensures full { IfErr result (FullBelow io.old.space (set_sectors flat.now + dir_sectors kept.now.dir)) }
-    ensures ready { IfOk result (λ kept. Ready D.tells_reads (D.state io.new.disk.now) kept.body) }
-    ensures stays { io.new.failed ≡ false → OnErr result (Ready D.tells_reads (D.state io.new.disk.now) kept.now.body) }
+    ensures ready { IfOk result (λ kept. Ready (D.state io.new.disk.now) kept.body) }
+    ensures stays { io.new.failed ≡ false → OnErr result (Ready (D.state io.new.disk.now) kept.now.body) }
     ensures failed { io.new.failed ≡ (io.old.failed || is_disk_fault result) }
     ensures cause { HasDiskCause (D.state io.old.disk.now).faults (D.state io.new.disk.now).faults result }
+    ensures honest { (D.state io.new.disk.now).honest → (D.state io.old.disk.now).honest }
     ensures same { io.new.disk.ghost_name ≡ io.old.disk.ghost_name }
 {
     let head = store(io, alloc, flat, kept.body.number + 1)?;
@@ -94,20 +95,20 @@ pub fn put_object<D: Disk>(
     spill: Option<Bytes>,
 ) -> Result<Kept, PoolFault>
     requires object { 0 < object }
-    requires object_type { 0 < head.type_ }
-    requires size { is_block_size head.block_size ≡ true }
-    requires bonus { length bonus ≤ 320 }
-    requires spill { IfSome spill (λ block. is_block_size (length block) ≡ true) }
+    requires head { IsHead head }
+    requires bonus { IsBonus bonus }
+    requires spill { IfSome spill IsSpill }
     requires space { io.old.space ≡ free_by kept.now.body }
-    requires ready { Ready D.tells_reads (D.state io.old.disk.now) kept.now.body }
-    ensures did { (pool : Pool) → IsTrue D.tells_reads → Rests (D.state io.old.disk.now) kept.now.body kept.now.dir pool
+    requires ready { Ready (D.state io.old.disk.now) kept.now.body }
+    ensures did { (pool : Pool) → (D.state io.new.disk.now).honest → Rests (D.state io.old.disk.now) kept.now.body kept.now.dir pool
         → Did (D.state io.old.disk.now) (D.state io.new.disk.now) kept.now.body kept.now.dir pool (on_head name.now pool (put_in pool object head bonus spill)) result }
     ensures known { IfErr result IsStepFault }
     ensures full { IfErr result (FindsNoRoom kept.now) }
-    ensures ready { IfOk result (λ kept. Ready D.tells_reads (D.state io.new.disk.now) kept.body) }
-    ensures stays { io.new.failed ≡ false → OnErr result (Ready D.tells_reads (D.state io.new.disk.now) kept.now.body) }
+    ensures ready { IfOk result (λ kept. Ready (D.state io.new.disk.now) kept.body) }
+    ensures stays { io.new.failed ≡ false → OnErr result (Ready (D.state io.new.disk.now) kept.now.body) }
     ensures failed { io.new.failed ≡ (io.old.failed || is_disk_fault result) }
     ensures cause { HasDiskCause (D.state io.old.disk.now).faults (D.state io.new.disk.now).faults result }
+    ensures honest { (D.state io.new.disk.now).honest → (D.state io.old.disk.now).honest }
     ensures same { io.new.disk.ghost_name ≡ io.old.disk.ghost_name }
 {
     let mut flat = load_head(io, alloc, kept, name)?;
@@ -130,15 +131,16 @@ pub fn write_block<D: Disk>(
     requires some { 0 < length bytes.now }
     requires small { length bytes.now ≤ 2 ^ 20 }
     requires space { io.old.space ≡ free_by kept.now.body }
-    requires ready { Ready D.tells_reads (D.state io.old.disk.now) kept.now.body }
-    ensures did { (pool : Pool) → IsTrue D.tells_reads → Rests (D.state io.old.disk.now) kept.now.body kept.now.dir pool
+    requires ready { Ready (D.state io.old.disk.now) kept.now.body }
+    ensures did { (pool : Pool) → (D.state io.new.disk.now).honest → Rests (D.state io.old.disk.now) kept.now.body kept.now.dir pool
         → Did (D.state io.old.disk.now) (D.state io.new.disk.now) kept.now.body kept.now.dir pool (on_head name.now pool (written pool object index bytes.now)) result }
     ensures known { IfErr result IsStepFault }
     ensures full { IfErr result (FindsNoRoom kept.now) }
-    ensures ready { IfOk result (λ kept. Ready D.tells_reads (D.state io.new.disk.now) kept.body) }
-    ensures stays { io.new.failed ≡ false → OnErr result (Ready D.tells_reads (D.state io.new.disk.now) kept.now.body) }
+    ensures ready { IfOk result (λ kept. Ready (D.state io.new.disk.now) kept.body) }
+    ensures stays { io.new.failed ≡ false → OnErr result (Ready (D.state io.new.disk.now) kept.now.body) }
     ensures failed { io.new.failed ≡ (io.old.failed || is_disk_fault result) }
     ensures cause { HasDiskCause (D.state io.old.disk.now).faults (D.state io.new.disk.now).faults result }
+    ensures honest { (D.state io.new.disk.now).honest → (D.state io.old.disk.now).honest }
     ensures same { io.new.disk.ghost_name ≡ io.old.disk.ghost_name }
 {
     let mut flat = load_head(io, alloc, kept, name)?;
@@ -160,15 +162,16 @@ pub fn punch<D: Disk>(
     requires object { 0 < object }
     requires some { 0 < count }
     requires space { io.old.space ≡ free_by kept.now.body }
-    requires ready { Ready D.tells_reads (D.state io.old.disk.now) kept.now.body }
-    ensures did { (pool : Pool) → IsTrue D.tells_reads → Rests (D.state io.old.disk.now) kept.now.body kept.now.dir pool
+    requires ready { Ready (D.state io.old.disk.now) kept.now.body }
+    ensures did { (pool : Pool) → (D.state io.new.disk.now).honest → Rests (D.state io.old.disk.now) kept.now.body kept.now.dir pool
         → Did (D.state io.old.disk.now) (D.state io.new.disk.now) kept.now.body kept.now.dir pool (on_head name.now pool (punched pool object first count)) result }
     ensures known { IfErr result IsStepFault }
     ensures full { IfErr result (FindsNoRoom kept.now) }
-    ensures ready { IfOk result (λ kept. Ready D.tells_reads (D.state io.new.disk.now) kept.body) }
-    ensures stays { io.new.failed ≡ false → OnErr result (Ready D.tells_reads (D.state io.new.disk.now) kept.now.body) }
+    ensures ready { IfOk result (λ kept. Ready (D.state io.new.disk.now) kept.body) }
+    ensures stays { io.new.failed ≡ false → OnErr result (Ready (D.state io.new.disk.now) kept.now.body) }
     ensures failed { io.new.failed ≡ (io.old.failed || is_disk_fault result) }
     ensures cause { HasDiskCause (D.state io.old.disk.now).faults (D.state io.new.disk.now).faults result }
+    ensures honest { (D.state io.new.disk.now).honest → (D.state io.old.disk.now).honest }
     ensures same { io.new.disk.ghost_name ≡ io.old.disk.ghost_name }
 {
     let mut flat = load_head(io, alloc, kept, name)?;
@@ -189,15 +192,16 @@ pub fn free_objects<D: Disk>(
     requires first { 0 < first }
     requires some { 0 < count }
     requires space { io.old.space ≡ free_by kept.now.body }
-    requires ready { Ready D.tells_reads (D.state io.old.disk.now) kept.now.body }
-    ensures did { (pool : Pool) → IsTrue D.tells_reads → Rests (D.state io.old.disk.now) kept.now.body kept.now.dir pool
+    requires ready { Ready (D.state io.old.disk.now) kept.now.body }
+    ensures did { (pool : Pool) → (D.state io.new.disk.now).honest → Rests (D.state io.old.disk.now) kept.now.body kept.now.dir pool
         → Did (D.state io.old.disk.now) (D.state io.new.disk.now) kept.now.body kept.now.dir pool (on_head name.now pool (freed pool first count)) result }
     ensures known { IfErr result IsStepFault }
     ensures full { IfErr result (FindsNoRoom kept.now) }
-    ensures ready { IfOk result (λ kept. Ready D.tells_reads (D.state io.new.disk.now) kept.body) }
-    ensures stays { io.new.failed ≡ false → OnErr result (Ready D.tells_reads (D.state io.new.disk.now) kept.now.body) }
+    ensures ready { IfOk result (λ kept. Ready (D.state io.new.disk.now) kept.body) }
+    ensures stays { io.new.failed ≡ false → OnErr result (Ready (D.state io.new.disk.now) kept.now.body) }
     ensures failed { io.new.failed ≡ (io.old.failed || is_disk_fault result) }
     ensures cause { HasDiskCause (D.state io.old.disk.now).faults (D.state io.new.disk.now).faults result }
+    ensures honest { (D.state io.new.disk.now).honest → (D.state io.old.disk.now).honest }
     ensures same { io.new.disk.ghost_name ≡ io.old.disk.ghost_name }
 {
     let mut flat = load_head(io, alloc, kept, name)?;

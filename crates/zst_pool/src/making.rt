@@ -40,14 +40,15 @@ impl Kept {
     ) -> Result<Kept, PoolFault>
         requires sectors { (128 ≤ sectors) × (sectors ≤ 2 ^ 31) }
         requires id { (0 < id) × (id < 2 ^ 31) }
-        ensures answer { IsTrue D.tells_reads → CreateAnswers (D.state disk.old).size (latest_of (D.state disk.old).seen) sectors result }
-        ensures made { IsTrue D.tells_reads → IfOk result (λ kept. Rests (D.state disk.new) kept.body kept.dir (new_pool id)) }
-        ensures ready { IfOk result (λ kept. Ready D.tells_reads (D.state disk.new) kept.body) }
+        ensures answer { (D.state disk.new).honest → CreateAnswers (D.state disk.old).size (latest_of (D.state disk.old).seen) sectors result }
+        ensures made { (D.state disk.new).honest → IfOk result (λ kept. Rests (D.state disk.new) kept.body kept.dir (new_pool id)) }
+        ensures ready { IfOk result (λ kept. Ready (D.state disk.new) kept.body) }
         // At every moment each image has the latest body that one had before, or reads as the new pool.
-        ensures moments { IsTrue D.tells_reads → Leaves (D.state disk.old) (D.state disk.new) (λ c. ((d : List ℕ) × (D.state disk.old).images d × (latest_of c ≡ latest_of d)) ⊎ Reads (new_pool id) c) }
+        ensures moments { (D.state disk.new).honest → Leaves (D.state disk.old) (D.state disk.new) (λ c. ((d : List ℕ) × (D.state disk.old).images d × (latest_of c ≡ latest_of d)) ⊎ Reads (new_pool id) c) }
         ensures refused { IfErr result (RefusedLeaves (D.state disk.old) (D.state disk.new)) }
         ensures alive { ¬ (result ≡ Err PoolFault.Failed) }
         ensures cause { HasDiskCause (D.state disk.old).faults (D.state disk.new).faults result }
+        ensures honest { (D.state disk.new).honest → (D.state disk.old).honest }
     {
         find_none(disk)?;
         if disk.bytes() / 512 < sectors {
@@ -75,9 +76,9 @@ impl Kept {
     /// with both sums alike.
     pub fn open<D: Disk>(alloc: Global, disk: &mut D) -> Result<Kept, PoolFault>
         // An image that reads as a pool is opened as it, unless the disk or the memory fails.
-        ensures there { (uber : Uber) (rows : Rows) (pool : Pool) → IsTrue D.tells_reads → ReadsAs uber rows pool (D.state disk.old).seen → GivesPool uber rows result }
-        ensures answer { IsTrue D.tells_reads → OpenAnswers (D.state disk.old) result }
-        ensures ready { IfOk result (λ kept. Ready D.tells_reads (D.state disk.new) kept.body) }
+        ensures there { (uber : Uber) (rows : Rows) (pool : Pool) → (D.state disk.new).honest → ReadsAs uber rows pool (D.state disk.old).seen → GivesPool uber rows result }
+        ensures answer { (D.state disk.new).honest → OpenAnswers (D.state disk.old) result }
+        ensures ready { IfOk result (λ kept. Ready (D.state disk.new) kept.body) }
         ensures alive { ¬ (result ≡ Err PoolFault.Failed) }
         ensures synced { OnOk result (IsSynced (D.state disk.new)) }
         ensures reads { OnlyReads (D.state disk.old) (D.state disk.new) }
@@ -92,7 +93,7 @@ impl Kept {
 // Makes sure that the disk has no pool. It begins with a sync.
 fn find_none<D: Disk>(disk: &mut D) -> Result<(), PoolFault>
     ensures alive { ¬ (result ≡ Err PoolFault.Failed) }
-    ensures answer { IsTrue D.tells_reads → NoneAnswers (latest_of (D.state disk.old).seen) result }
+    ensures answer { (D.state disk.new).honest → NoneAnswers (latest_of (D.state disk.old).seen) result }
     ensures head { OnOk result (HeadSettled (D.state disk.new)) }
     ensures reads { OnlyReads (D.state disk.old) (D.state disk.new) }
     ensures cause { HasDiskCause (D.state disk.old).faults (D.state disk.new).faults result }
@@ -127,8 +128,8 @@ fn unborn(sectors: u64, id: u32) -> Uber
 // Reads the directory that a body names.
 fn read_dir<D: Disk>(alloc: Global, disk: &mut D, body: &Uber) -> Result<Dir, PoolFault>
     requires { InRange (D.state disk.old).size body.now }
-    ensures there { (rows : Rows) → IsTrue D.tells_reads → body.now.free_count ≡ 0 → HasDir (Has (D.state disk.old).seen (free_by body.now)) body.now rows → ReadAnswer (λ dir. dir ≡ rows) result }
-    ensures only { IsTrue D.tells_reads → IfOk result (λ dir. (body.now.free_count ≡ 0) × HasDir (Has (D.state disk.old).seen (free_by body.now)) body.now dir) }
+    ensures there { (rows : Rows) → (D.state disk.new).honest → body.now.free_count ≡ 0 → HasDir (Has (D.state disk.old).seen (free_by body.now)) body.now rows → ReadAnswer (λ dir. dir ≡ rows) result }
+    ensures only { (D.state disk.new).honest → IfOk result (λ dir. (body.now.free_count ≡ 0) × HasDir (Has (D.state disk.old).seen (free_by body.now)) body.now dir) }
     ensures fault { IfErr result LoadFault }
     ensures reads { OnlyReads (D.state disk.old) (D.state disk.new) }
     ensures cause { HasDiskCause (D.state disk.old).faults (D.state disk.new).faults result }
@@ -146,8 +147,8 @@ fn read_dir<D: Disk>(alloc: Global, disk: &mut D, body: &Uber) -> Result<Dir, Po
 // Reads the run that a body names as its directory's.
 fn read_root<D: Disk>(alloc: Global, disk: &mut D, body: &Uber) -> Result<Vec<u8>, PoolFault>
     requires { InRange (D.state disk.old).size body.now }
-    ensures there { (bytes : List ℕ) → IsTrue D.tells_reads → Has (D.state disk.old).seen (free_by body.now) body.now.dir_root bytes → ReadAnswer (λ run. run.items ≡ bytes) result }
-    ensures block { IsTrue D.tells_reads → IfOk result (λ run. IsBlock (D.state disk.old).seen body.now.dir_root run.items) }
+    ensures there { (bytes : List ℕ) → (D.state disk.new).honest → Has (D.state disk.old).seen (free_by body.now) body.now.dir_root bytes → ReadAnswer (λ run. run.items ≡ bytes) result }
+    ensures block { (D.state disk.new).honest → IfOk result (λ run. IsBlock (D.state disk.old).seen body.now.dir_root run.items) }
     ensures fault { IfErr result LoadFault }
     ensures reads { OnlyReads (D.state disk.old) (D.state disk.new) }
     ensures cause { HasDiskCause (D.state disk.old).faults (D.state disk.new).faults result }

@@ -1,4 +1,4 @@
-ghost use Rattle.std.specs.Prelude.{◌≡◌, ◌∷◌, ◌||◌, [], ℕ, false, true, not, IfErr, IfOk, IsTrue, OnErr, Ok, Err};
+ghost use Rattle.std.specs.Prelude.{◌≡◌, ◌∷◌, ◌||◌, [], ℕ, false, true, not, IfErr, IfOk, OnErr, Ok, Err};
 ghost use Rattle.zst_outside.specs.Images.{Leaves};
 ghost use Rattle.zst_model.specs.Lines.{ok_line};
 ghost use Rattle.zst_model.specs.Pool.{Pool as Plain};
@@ -62,19 +62,19 @@ impl<'d, D: Disk> Pool<'d, D> {
     /// After E28 the pool answers E31.
     pub fn step(&mut self, alloc: Global, now: u64, command: Command) -> Result<Reply, PoolFault>
         requires command { IsCommand command }
-        requires ready { self.old.io.failed ≡ false → Ready D.tells_reads (D.state self.old.io.disk.now) self.old.kept.body }
+        requires ready { self.old.io.failed ≡ false → Ready (D.state self.old.io.disk.now) self.old.kept.body }
 
         // At every moment each image reads as the pool before the command, or as what the command makes of it.
-        ensures moments { (pool : Plain) → IsTrue D.tells_reads → Rests (D.state self.old.io.disk.now) self.old.kept.body self.old.kept.dir pool
+        ensures moments { (pool : Plain) → (D.state self.new.io.disk.now).honest → Rests (D.state self.old.io.disk.now) self.old.kept.body self.old.kept.dir pool
             → Leaves (D.state self.old.io.disk.now) (D.state self.new.io.disk.now) (BeforeOrAfter pool (stepped now command pool)) }
         // After its answer it is as the definition says; after a refusal the pool is as it was.
-        ensures answer { (pool : Plain) → IsTrue D.tells_reads → is_built command ≡ true → self.old.io.failed ≡ false
+        ensures answer { (pool : Plain) → (D.state self.new.io.disk.now).honest → is_built command ≡ true → self.old.io.failed ≡ false
             → Rests (D.state self.old.io.disk.now) self.old.kept.body self.old.kept.dir pool
             → StepAnswer (D.state self.new.io.disk.now) self.new.kept.body self.new.kept.dir pool (stepped now command pool) result }
         // Whatever the image is, the faults of opening never come.
         ensures known { self.old.io.failed ≡ false → IfErr result IsStepFault }
         // E24 comes only where fewer sectors are free than the command may take.
-        ensures full { (pool : Plain) (need largest : ℕ) → IsTrue D.tells_reads → Rests (D.state self.old.io.disk.now) self.old.kept.body self.old.kept.dir pool
+        ensures full { (pool : Plain) (need largest : ℕ) → Rests (D.state self.old.io.disk.now) self.old.kept.body self.old.kept.dir pool
             → result ≡ Err (PoolFault.Full need largest) → HasNoRoom self.old.kept.body self.old.kept.dir need largest }
         // What later states haven't dated since stays as it was in each snapshot.
         ensures sound { (pool : Plain) (done : Stepped) → Rests (D.state self.old.io.disk.now) self.old.kept.body self.old.kept.dir pool → Sound pool
@@ -86,9 +86,10 @@ impl<'d, D: Disk> Pool<'d, D> {
         ensures idle_disk { (self.old.io.failed || not (is_built command)) ≡ true → self.new.io.disk.now ≡ self.old.io.disk.now }
         ensures idle_pool { (self.old.io.failed || not (is_built command)) ≡ true → self.new.kept ≡ self.old.kept }
 
-        ensures ready { self.new.io.failed ≡ false → Ready D.tells_reads (D.state self.new.io.disk.now) self.new.kept.body }
+        ensures ready { self.new.io.failed ≡ false → Ready (D.state self.new.io.disk.now) self.new.kept.body }
         ensures failed { self.new.io.failed ≡ (self.old.io.failed || is_disk_fault result) }
         ensures cause { HasDiskCause (D.state self.old.io.disk.now).faults (D.state self.new.io.disk.now).faults result }
+        ensures honest { (D.state self.new.io.disk.now).honest → (D.state self.old.io.disk.now).honest }
         ensures same { self.new.io.disk.ghost_name ≡ self.old.io.disk.ghost_name }
     {
         steps_keep_sound();
@@ -137,15 +138,16 @@ fn run<D: Disk>(
 ) -> Result<Kept, PoolFault>
     requires command { IsCommand command }
     requires space { io.old.space ≡ free_by kept.now.body }
-    requires ready { Ready D.tells_reads (D.state io.old.disk.now) kept.now.body }
-    ensures did { (pool : Plain) → IsTrue D.tells_reads → is_built command ≡ true → Rests (D.state io.old.disk.now) kept.now.body kept.now.dir pool
+    requires ready { Ready (D.state io.old.disk.now) kept.now.body }
+    ensures did { (pool : Plain) → (D.state io.new.disk.now).honest → is_built command ≡ true → Rests (D.state io.old.disk.now) kept.now.body kept.now.dir pool
         → Did (D.state io.old.disk.now) (D.state io.new.disk.now) kept.now.body kept.now.dir pool (stepped now command pool) result }
     ensures known { IfErr result IsStepFault }
     ensures full { IfErr result (FindsNoRoom kept.now) }
-    ensures ready { IfOk result (λ kept. Ready D.tells_reads (D.state io.new.disk.now) kept.body) }
-    ensures stays { io.new.failed ≡ false → OnErr result (Ready D.tells_reads (D.state io.new.disk.now) kept.now.body) }
+    ensures ready { IfOk result (λ kept. Ready (D.state io.new.disk.now) kept.body) }
+    ensures stays { io.new.failed ≡ false → OnErr result (Ready (D.state io.new.disk.now) kept.now.body) }
     ensures failed { io.new.failed ≡ (io.old.failed || is_disk_fault result) }
     ensures cause { HasDiskCause (D.state io.old.disk.now).faults (D.state io.new.disk.now).faults result }
+    ensures honest { (D.state io.new.disk.now).honest → (D.state io.old.disk.now).honest }
     ensures same { io.new.disk.ghost_name ≡ io.old.disk.ghost_name }
 {
     match command {

@@ -1,5 +1,5 @@
 // Object sets, read from their runs and written into free sectors.
-ghost use Rattle.std.specs.Prelude.{◌≡◌, ◌+◌, ◌/◌, ◌%◌, ◌<◌, ◌≤◌, ◌^◌, true, ℕ, List, [], length, IsTrue, IfOk, IfErr, OnOk};
+ghost use Rattle.std.specs.Prelude.{◌≡◌, ◌+◌, ◌/◌, ◌%◌, ◌<◌, ◌≤◌, ◌^◌, true, ℕ, List, [], length, IfOk, IfErr, OnOk};
 ghost use Rattle.zst_outside.specs.Images.{OnlyReads};
 ghost use Rattle.zst_space.specs.FreeSectors.{largest_of};
 ghost use Rattle.zst_space.specs.Taking.{without};
@@ -27,7 +27,7 @@ use zst_tree::{ObjSet, Tree};
 /// sums alike.
 pub fn load<D: Disk>(io: &mut Io<'_, D>, alloc: Global, set: &ObjSet) -> Result<Flat, PoolFault>
     requires fits { FitsDisk (D.state io.old.disk.now).size io.old.space }
-    ensures there { (snap : DatedState) → IsTrue D.tells_reads → HeadIs (Has (D.state io.old.disk.now).seen io.old.space) set.now snap
+    ensures there { (snap : DatedState) → (D.state io.new.disk.now).honest → HeadIs (Has (D.state io.old.disk.now).seen io.old.space) set.now snap
         → ReadAnswer (λ lists. SetIs (Has (D.state io.old.disk.now).seen io.old.space) lists snap) result }
     // A set without a run has two counts of rows alone: 16 bytes.
     ensures short { IfOk result (λ lists. length (lists_bytes lists) ≤ set.now.tree.root.length + 16) }
@@ -54,7 +54,7 @@ pub fn load<D: Disk>(io: &mut Io<'_, D>, alloc: Global, set: &ObjSet) -> Result<
 // Reads the rows from the run that a root names.
 fn load_rows<D: Disk>(io: &mut Io<'_, D>, alloc: Global, root: Ptr) -> Result<Flat, PoolFault>
     requires fits { FitsDisk (D.state io.old.disk.now).size io.old.space }
-    ensures there { (bytes : List ℕ) (rows : Lists) → IsTrue D.tells_reads → Has (D.state io.old.disk.now).seen io.old.space root bytes → IsRun rows bytes
+    ensures there { (bytes : List ℕ) (rows : Lists) → (D.state io.new.disk.now).honest → Has (D.state io.old.disk.now).seen io.old.space root bytes → IsRun rows bytes
         → ReadAnswer (λ lists. lists ≡ rows) result }
     ensures short { IfOk result (λ lists. length (lists_bytes lists) ≤ root.length) }
     ensures fault { IfErr result LoadFault }
@@ -73,9 +73,9 @@ fn load_rows<D: Disk>(io: &mut Io<'_, D>, alloc: Global, root: Ptr) -> Result<Fl
 /// Reads the run of blocks that a pointer names.
 pub fn read_run<D: Disk>(io: &mut Io<'_, D>, alloc: Global, ptr: Ptr) -> Result<Vec<u8>, PoolFault>
     requires fits { FitsDisk (D.state io.old.disk.now).size io.old.space }
-    ensures there { (bytes : List ℕ) → IsTrue D.tells_reads → Has (D.state io.old.disk.now).seen io.old.space ptr bytes
+    ensures there { (bytes : List ℕ) → (D.state io.new.disk.now).honest → Has (D.state io.old.disk.now).seen io.old.space ptr bytes
         → ReadAnswer (λ run. run.items ≡ bytes) result }
-    ensures block { IsTrue D.tells_reads → IfOk result (λ run. IsBlock (D.state io.old.disk.now).seen ptr run.items) }
+    ensures block { (D.state io.new.disk.now).honest → IfOk result (λ run. IsBlock (D.state io.old.disk.now).seen ptr run.items) }
     ensures length { IfOk result (λ run. length run.items ≡ ptr.length) }
     ensures fault { IfErr result LoadFault }
     ensures reads { OnlyReads (D.state io.old.disk.now) (D.state io.new.disk.now) }
@@ -96,7 +96,7 @@ pub fn store<D: Disk>(
     number: u64,
 ) -> Result<ObjSet, PoolFault>
     requires fits { FitsDisk (D.state io.old.disk.now).size io.old.space }
-    ensures stored { IsTrue D.tells_reads → IfOk result (λ set. (snap : DatedState) → SetIs (Has (D.state io.old.disk.now).seen io.old.space) flat.now snap
+    ensures stored { IfOk result (λ set. (snap : DatedState) → SetIs (Has (D.state io.old.disk.now).seen io.old.space) flat.now snap
         → HeadIs (Has (D.state io.new.disk.now).seen io.new.space) set snap) }
     ensures set_fits { IfOk result SetFits }
     ensures sectors { OnOk result (io.new.space.sectors ≡ io.old.space.sectors) }
@@ -123,7 +123,7 @@ pub fn store<D: Disk>(
 pub fn put_block<D: Disk>(io: &mut Io<'_, D>, bytes: &[u8], number: u64) -> Result<Ptr, PoolFault>
     requires fits { FitsDisk (D.state io.old.disk.now).size io.old.space }
     requires size { is_block_size (length bytes.now) ≡ true }
-    ensures there { IsTrue D.tells_reads → IfOk result (λ ptr. Has (D.state io.new.disk.now).seen io.new.space ptr bytes.now) }
+    ensures there { IfOk result (λ ptr. Has (D.state io.new.disk.now).seen io.new.space ptr bytes.now) }
     ensures kind { IfOk result (λ ptr. ptr.kind ≡ 1) }
     ensures date { IfOk result (λ ptr. ptr.number ≡ number) }
     ensures sectors { OnOk result (io.new.space.sectors ≡ io.old.space.sectors) }
@@ -144,7 +144,7 @@ pub fn write_run<D: Disk>(io: &mut Io<'_, D>, bytes: &[u8], number: u64) -> Resu
     requires fits { FitsDisk (D.state io.old.disk.now).size io.old.space }
     requires some { 0 < length bytes.now }
     requires whole { length bytes.now % 512 ≡ 0 }
-    ensures there { IsTrue D.tells_reads → IfOk result (λ ptr. Has (D.state io.new.disk.now).seen io.new.space ptr bytes.now) }
+    ensures there { IfOk result (λ ptr. Has (D.state io.new.disk.now).seen io.new.space ptr bytes.now) }
     ensures kind { IfOk result (λ ptr. ptr.kind ≡ 1) }
     ensures date { IfOk result (λ ptr. ptr.number ≡ number) }
     ensures ptr_fits { IfOk result PtrFits }

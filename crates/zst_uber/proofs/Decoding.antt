@@ -1,14 +1,13 @@
 -- What a body says.
-use Rattle.std.proofs.Common.{◌≡◌, ℕ, ◌+◌, ◌^◌, ◌<◌, ◌≤◌, List, Option, Some, None, Result, Ok, Err, IfOk, refl, sym, ◌∙◌, ap, subst, arith}
+use Rattle.std.proofs.Common.{◌≡◌, ℕ, ◌+◌, ◌^◌, ◌<◌, List, Option, Some, Result, Ok, Err, IfOk, sym, ◌∙◌, ap, subst}
 use Rattle.zst_bytes.specs.Bytes.{number_at}
 use Rattle.zst_outside.specs.Images.{DiskState, IsSynced, OnlyReads}
 use Rattle.zst_outside.specs.Ranges.{bytes_at}
-use Rattle.zst_uber.specs.Body.{IsBody, InRange, UberFits, body_bytes, uber_at}
+use Rattle.zst_uber.specs.Body.{IsBody, InRange, body_bytes, uber_at}
 use Rattle.zst_uber.specs.BodyLaws.{uber_at-body_bytes, version-back, number_back}
 use Rattle.zst_uber.specs.Slots.{latest, Stands, IsNext}
 use Rattle.zst_uber.specs.Commit.{HeadSettled}
 use Rattle.zst_uber.specs.Opening.{Decodes, GivesUber, IsLatest, TellsNext}
-use Rattle.zst_uber.specs.declared.TheConstants.{VERSION}
 use Rattle.zst_uber.specs.declared.uber.Uber.{Uber}
 use Rattle.zst_uber.specs.declared.fault.UberFault.{UberFault}
 use Rattle.zst_uber.specs.declared.fault.UberFault.TheVariants.{Damaged, NoPool, BadVersion, DiskFault}

@@ -1,12 +1,12 @@
 -- The latest body of an image after a part of a slot changed.
-use Rattle.std.proofs.Common.{◌≡◌, ◌⊎◌, inl, inr, ℕ, ◌+◌, ◌^◌, ◌<◌, ◌≤◌, ◌==◌, ◌&&◌, Bool, true, false, List, Option, Some, None, length, drop, length-drop, slice_index, nat_lt, refl, sym, ◌∙◌, ap, subst, arith, cond, eq-eqb}
+use Rattle.std.proofs.Common.{◌≡◌, ◌⊎◌, inl, inr, ℕ, ◌+◌, ◌^◌, ◌<◌, ◌==◌, ◌&&◌, Bool, true, false, List, Option, Some, None, length, drop, length-drop, slice_index, nat_lt, refl, sym, ◌∙◌, ap, subst, arith, eq-eqb}
 use Rattle.std.proofs.lemmas.Bool.{cases_Bool, and_parts, and_left, and_from, ne_eqb, cond-true, cond-false, lt-ltb, le-ltb}
 use Rattle.std.proofs.lemmas.List.{length-take}
 use Rattle.zst_bytes.specs.Bytes.{number_at}
 use Rattle.zst_outside.specs.Ranges.{bytes_at, Torn}
 use Rattle.zst_uber.specs.Body.{body_bytes}
 use Rattle.zst_uber.specs.BodyLaws.{length-body, magic-back, number_back}
-use Rattle.zst_uber.specs.Slots.{gate_place, body_place, other, counts, in_slot, gate_of, slot_at, greater, latest, latest_slot, IsOpen, IsNext, Stands}
+use Rattle.zst_uber.specs.Slots.{gate_place, body_place, other, counts, in_slot, gate_of, slot_at, latest, IsOpen, IsNext, Stands}
 use Rattle.zst_uber.specs.SlotsLaws.{of_slot, chosen, latest_is, same_slot}
 use Rattle.zst_uber.specs.declared.TheConstants.{MAGIC}
 use Rattle.zst_uber.specs.declared.uber.Uber.{Uber}

@@ -1,5 +1,5 @@
 -- The table of a body: 512 bytes.
-use Rattle.std.specs.Prelude.{◌≡◌, ℕ, ◌+◌, ◌*◌, ◌^◌, ◌<◌, ◌≤◌, List, [], ◌∷◌, ◌++◌, IsTrue}
+use Rattle.std.specs.Prelude.{◌≡◌, ℕ, ◌*◌, ◌^◌, ◌<◌, ◌≤◌, List, [], ◌∷◌, ◌++◌, IsTrue}
 use Rattle.zst_bytes.specs.Bytes.{number_at}
 use Rattle.zst_bytes.specs.Fields.{Field, number, text, laid}
 use Rattle.zst_fletcher.specs.WeightSum.{weight_sum}

@@ -1,14 +1,12 @@
 -- A body is read back from its bytes.
-use Rattle.std.proofs.Common.{◌≡◌, ℕ, ◌+◌, ◌^◌, ◌<◌, ◌≤◌, Bool, true, List, [], ◌∷◌, length, refl, sym, ◌∙◌, ap, arith, zero-add}
+use Rattle.std.proofs.Common.{◌≡◌, ℕ, ◌+◌, ◌^◌, ◌<◌, ◌≤◌, true, List, ◌∷◌, length, refl, sym, ◌∙◌, ap, arith, zero-add}
 use Rattle.zst_bytes.specs.Bytes.{bytes_at, number_at, number_bytes}
 use Rattle.zst_bytes.specs.BytesLaws.{number_at-bytes_at, bytes_at-bytes_at}
-use Rattle.zst_bytes.specs.Fields.{Field, number, text, laid, found, is_clear, zeros, Fills}
+use Rattle.zst_bytes.specs.Fields.{Field, text, found, is_clear, zeros, Fills}
 use Rattle.zst_bytes.specs.FieldsLaws.{number-back, text-back, length-laid}
-use Rattle.zst_fletcher.specs.declared.sum.Sum.{Sum}
 use Rattle.zst_fletcher.specs.WeightSum.{weight_sum}
-use Rattle.zst_block.specs.Ptr.{sum_fields, sum_at, ptr_bytes, ptr_at, SumFits}
+use Rattle.zst_block.specs.Ptr.{sum_fields, sum_at, ptr_bytes, SumFits}
 use Rattle.zst_block.specs.PtrLaws.{length-ptr_bytes, ptr_at-range}
-use Rattle.zst_block.specs.declared.ptr.Ptr.{Ptr}
 use Rattle.zst_uber.specs.declared.TheConstants.{MAGIC}
 use Rattle.zst_uber.specs.declared.uber.Uber.{Uber}
 use Rattle.zst_uber.specs.Body.{body_fields, front_bytes, body_bytes, uber_at, UberFits}

@@ -1,9 +1,9 @@
 -- What an image reads as: by its latest body, and by the blocks that it has.
-use Rattle.std.proofs.Common.{◌≡◌, ◌⊎◌, inl, inr, ⊎_elim, ℕ, ◌+◌, ◌≤◌, List, ◌∙◌, arith}
+use Rattle.std.proofs.Common.{◌≡◌, ◌⊎◌, inl, inr, ⊎_elim, ℕ, List, ◌∙◌, arith}
 use Rattle.zst_outside.specs.Images.{DiskState}
-use Rattle.zst_outside.specs.Ranges.{bytes_at, Torn}
+use Rattle.zst_outside.specs.Ranges.{Torn}
 use Rattle.zst_space.specs.FreeSectors.{FreeSectors}
-use Rattle.zst_block.specs.Blocks.{Has, IsTaken, SparesTaken, KeepsBlocks}
+use Rattle.zst_block.specs.Blocks.{Has, IsTaken, SparesTaken}
 use Rattle.zst_block.specs.BlocksLaws.{Has-spared, Has-head}
 use Rattle.zst_block.specs.declared.ptr.Ptr.{Ptr}
 use Rattle.zst_uber.specs.Slots.{latest, Stands}

@@ -1,7 +1,7 @@
 -- The two slots of an image, and the latest body.
-use Rattle.std.specs.Prelude.{◌≡◌, ◌⊎◌, ℕ, ◌+◌, ◌<◌, ◌==◌, ◌&&◌, nat_lt, List, length, slice_index, Option, Some, None, MatchOption, Bool, if◌then◌else◌}
+use Rattle.std.specs.Prelude.{◌≡◌, ℕ, ◌+◌, ◌==◌, ◌&&◌, nat_lt, List, length, slice_index, Option, Some, None, MatchOption, Bool, if◌then◌else◌}
 use Rattle.zst_bytes.specs.Bytes.{number_at}
-use Rattle.zst_outside.specs.Ranges.{bytes_at, Torn}
+use Rattle.zst_outside.specs.Ranges.{bytes_at}
 use Rattle.zst_uber.specs.Body.{body_bytes}
 use Rattle.zst_uber.specs.declared.TheConstants.{MAGIC}
 use Rattle.zst_uber.specs.declared.uber.Uber.{Uber}

@@ -1,5 +1,5 @@
 // The commit: one body more, in the slot that isn't the latest.
-ghost use Rattle.std.specs.Prelude.{◌≡◌, ◌+◌, ◌≤◌, ◌||◌, List, ℕ, IsTrue, IfOk, OnOk, is_err};
+ghost use Rattle.std.specs.Prelude.{◌≡◌, ◌+◌, ◌≤◌, ◌||◌, List, ℕ, IfOk, OnOk, is_err};
 ghost use Rattle.zst_outside.specs.Causes.{HasCause};
 ghost use Rattle.zst_outside.specs.Images.{IsSynced, Leaves, OnlyReads, WritesIn};
 ghost use Rattle.zst_outside.specs.Ranges.{bytes_at};
@@ -23,17 +23,17 @@ use zst_outside::{Disk, Fault, put};
 /// The disk's failure is the only fault.
 pub fn commit<D: Disk>(disk: &mut D, uber: &Uber) -> Result<(), UberFault>
     requires room { 4096 ≤ (D.state disk.old).size }
-    requires next { IsTrue D.tells_reads → IsNext uber.now.number (latest (D.state disk.old).seen) }
-    requires settled { IsTrue D.tells_reads → HeadSettled (D.state disk.old) }
+    requires next { (D.state disk.old).honest → IsNext uber.now.number (latest (D.state disk.old).seen) }
+    requires settled { (D.state disk.old).honest → HeadSettled (D.state disk.old) }
 
     // Whatever it answers, and at every moment of it.
-    ensures moments { IsTrue D.tells_reads → Leaves (D.state disk.old) (D.state disk.new) (HasOldOrNew uber.now (D.state disk.old)) }
-    ensures images { (c : List ℕ) → IsTrue D.tells_reads → (D.state disk.new).images c → HasOldOrNew uber.now (D.state disk.old) c }
+    ensures moments { (D.state disk.new).honest → Leaves (D.state disk.old) (D.state disk.new) (HasOldOrNew uber.now (D.state disk.old)) }
+    ensures images { (c : List ℕ) → (D.state disk.new).honest → (D.state disk.new).images c → HasOldOrNew uber.now (D.state disk.old) c }
     ensures writes { WritesIn 0 4096 (D.state disk.old) (D.state disk.new) }
 
     // The new body stands once it is done, and nothing is pending.
-    ensures stands { IsTrue D.tells_reads → OnOk result (Stands uber.now (D.state disk.new).seen) }
-    ensures following { IsTrue D.tells_reads → OnOk result (IsNext (uber.now.number + 1) (latest (D.state disk.new).seen)) }
+    ensures stands { (D.state disk.new).honest → OnOk result (Stands uber.now (D.state disk.new).seen) }
+    ensures following { (D.state disk.new).honest → OnOk result (IsNext (uber.now.number + 1) (latest (D.state disk.new).seen)) }
     ensures durable { OnOk result (IsSynced (D.state disk.new)) }
     ensures head { OnOk result (HeadSettled (D.state disk.new)) }
     ensures fits { UberFits uber.now }
@@ -51,16 +51,16 @@ pub fn commit<D: Disk>(disk: &mut D, uber: &Uber) -> Result<(), UberFault>
 /// blocks of an image from before, or the new one and all blocks that a read gave.
 pub fn commit_event<D: Disk>(io: &mut Io<'_, D>, uber: &Uber) -> Result<(), UberFault>
     requires fits { FitsDisk (D.state io.old.disk.now).size io.old.space }
-    requires next { IsTrue D.tells_reads → IsNext uber.now.number (latest (D.state io.old.disk.now).seen) }
-    requires settled { IsTrue D.tells_reads → HeadSettled (D.state io.old.disk.now) }
+    requires next { (D.state io.old.disk.now).honest → IsNext uber.now.number (latest (D.state io.old.disk.now).seen) }
+    requires settled { (D.state io.old.disk.now).honest → HeadSettled (D.state io.old.disk.now) }
 
-    ensures moments { IsTrue D.tells_reads → Leaves (D.state io.old.disk.now) (D.state io.new.disk.now) (HasOldOrNew uber.now (D.state io.old.disk.now)) }
-    ensures images { (c : List ℕ) → IsTrue D.tells_reads → (D.state io.new.disk.now).images c → KeepsOldOrNew uber.now (D.state io.old.disk.now) c }
+    ensures moments { (D.state io.new.disk.now).honest → Leaves (D.state io.old.disk.now) (D.state io.new.disk.now) (HasOldOrNew uber.now (D.state io.old.disk.now)) }
+    ensures images { (c : List ℕ) → (D.state io.new.disk.now).honest → (D.state io.new.disk.now).images c → KeepsOldOrNew uber.now (D.state io.old.disk.now) c }
     ensures kept { (space : FreeSectors) → KeepsBlocks (D.state io.old.disk.now).seen space (D.state io.new.disk.now).seen space }
     ensures writes { WritesIn 0 4096 (D.state io.old.disk.now) (D.state io.new.disk.now) }
 
-    ensures stands { IsTrue D.tells_reads → OnOk result (Stands uber.now (D.state io.new.disk.now).seen) }
-    ensures following { IsTrue D.tells_reads → OnOk result (IsNext (uber.now.number + 1) (latest (D.state io.new.disk.now).seen)) }
+    ensures stands { (D.state io.new.disk.now).honest → OnOk result (Stands uber.now (D.state io.new.disk.now).seen) }
+    ensures following { (D.state io.new.disk.now).honest → OnOk result (IsNext (uber.now.number + 1) (latest (D.state io.new.disk.now).seen)) }
     ensures durable { OnOk result (IsSynced (D.state io.new.disk.now)) }
     ensures head { OnOk result (HeadSettled (D.state io.new.disk.now)) }
     ensures uber_fits { UberFits uber.now }
@@ -81,11 +81,11 @@ pub fn commit_event<D: Disk>(io: &mut Io<'_, D>, uber: &Uber) -> Result<(), Uber
 
 fn write_body<D: Disk>(disk: &mut D, uber: &Uber) -> Result<(), Fault>
     requires room { 4096 ≤ (D.state disk.old).size }
-    requires next { IsTrue D.tells_reads → IsNext uber.now.number (latest (D.state disk.old).seen) }
-    requires settled { IsTrue D.tells_reads → HeadSettled (D.state disk.old) }
-    ensures moments { IsTrue D.tells_reads → Leaves (D.state disk.old) (D.state disk.new) (HasOldOrNew uber.now (D.state disk.old)) }
+    requires next { (D.state disk.old).honest → IsNext uber.now.number (latest (D.state disk.old).seen) }
+    requires settled { (D.state disk.old).honest → HeadSettled (D.state disk.old) }
+    ensures moments { (D.state disk.new).honest → Leaves (D.state disk.old) (D.state disk.new) (HasOldOrNew uber.now (D.state disk.old)) }
     ensures writes { WritesIn 0 4096 (D.state disk.old) (D.state disk.new) }
-    ensures stands { IsTrue D.tells_reads → OnOk result (Stands uber.now (D.state disk.new).seen) }
+    ensures stands { (D.state disk.new).honest → OnOk result (Stands uber.now (D.state disk.new).seen) }
     ensures durable { OnOk result (IsSynced (D.state disk.new)) }
     ensures fits { UberFits uber.now }
     ensures cause { HasCause (D.state disk.old).faults (D.state disk.new).faults result }
@@ -99,7 +99,7 @@ fn write_body<D: Disk>(disk: &mut D, uber: &Uber) -> Result<(), Fault>
 
 // The slot that isn't the latest body's.
 fn find_idle<D: Disk>(disk: &mut D) -> Result<Slot, Fault>
-    ensures idle { IsTrue D.tells_reads → IfOk result (λ slot. latest_slot (D.state disk.old).seen ≡ other slot) }
+    ensures idle { (D.state disk.new).honest → IfOk result (λ slot. latest_slot (D.state disk.old).seen ≡ other slot) }
     ensures reads { OnlyReads (D.state disk.old) (D.state disk.new) }
     ensures cause { HasCause (D.state disk.old).faults (D.state disk.new).faults result }
 {
@@ -112,9 +112,9 @@ fn find_idle<D: Disk>(disk: &mut D) -> Result<Slot, Fault>
 // hold any byte.
 fn close<D: Disk>(disk: &mut D, slot: Slot) -> Result<(), Fault>
     requires { 2048 ≤ (D.state disk.old).size }
-    ensures closed { IsTrue D.tells_reads → OnOk result (¬ (IsOpen (D.state disk.new).seen slot)) }
+    ensures closed { (D.state disk.new).honest → OnOk result (¬ (IsOpen (D.state disk.new).seen slot)) }
     ensures durable { OnOk result (IsSynced (D.state disk.new)) }
-    ensures closes { IsTrue D.tells_reads → Closes slot (D.state disk.old) (D.state disk.new) }
+    ensures closes { (D.state disk.new).honest → Closes slot (D.state disk.old) (D.state disk.new) }
     ensures writes { WritesIn (gate_place slot) 1 (D.state disk.old) (D.state disk.new) }
     ensures cause { HasCause (D.state disk.old).faults (D.state disk.new).faults result }
 {
@@ -130,7 +130,7 @@ fn close<D: Disk>(disk: &mut D, slot: Slot) -> Result<(), Fault>
 // Writes a body into a slot, and syncs.
 fn fill<D: Disk>(disk: &mut D, slot: Slot, body: &[u8; 512]) -> Result<(), Fault>
     requires { 2048 ≤ (D.state disk.old).size }
-    ensures body { IsTrue D.tells_reads → OnOk result (bytes_at (D.state disk.new).seen (body_place slot) 512 ≡ body.now) }
+    ensures body { OnOk result (bytes_at (D.state disk.new).seen (body_place slot) 512 ≡ body.now) }
     ensures durable { OnOk result (IsSynced (D.state disk.new)) }
     ensures writes { WritesIn (body_place slot) 512 (D.state disk.old) (D.state disk.new) }
     ensures cause { HasCause (D.state disk.old).faults (D.state disk.new).faults result }
@@ -141,7 +141,7 @@ fn fill<D: Disk>(disk: &mut D, slot: Slot, body: &[u8; 512]) -> Result<(), Fault
 // Opens a gate by a write of one byte, and syncs.
 fn open_gate<D: Disk>(disk: &mut D, slot: Slot) -> Result<(), Fault>
     requires { 2048 ≤ (D.state disk.old).size }
-    ensures opened { IsTrue D.tells_reads → OnOk result (IsOpen (D.state disk.new).seen slot) }
+    ensures opened { OnOk result (IsOpen (D.state disk.new).seen slot) }
     ensures durable { OnOk result (IsSynced (D.state disk.new)) }
     ensures writes { WritesIn (gate_place slot) 1 (D.state disk.old) (D.state disk.new) }
     ensures cause { HasCause (D.state disk.old).faults (D.state disk.new).faults result }

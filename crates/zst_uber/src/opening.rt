@@ -23,10 +23,10 @@ use zst_outside::{Disk, Fault};
 /// Unless the disk fails, nothing is pending on it afterwards.
 pub fn latest<D: Disk>(disk: &mut D) -> Result<Uber, UberFault>
     // Each answer has its cause, and a body that stands is read.
-    ensures answer { IsTrue D.tells_reads → Answers (D.state disk.old) result }
-    ensures stands { IsTrue D.tells_reads → IfOk result (λ uber. IsLatest (D.state disk.old).size uber (D.state disk.old).seen) }
-    ensures there { (uber : Uber) → IsTrue D.tells_reads → IsLatest (D.state disk.old).size uber (D.state disk.old).seen → GivesUber uber result }
-    ensures next { IsTrue D.tells_reads → TellsNext result (latest_of (D.state disk.old).seen) }
+    ensures answer { (D.state disk.new).honest → Answers (D.state disk.old) result }
+    ensures stands { (D.state disk.new).honest → IfOk result (λ uber. IsLatest (D.state disk.old).size uber (D.state disk.old).seen) }
+    ensures there { (uber : Uber) → (D.state disk.new).honest → IsLatest (D.state disk.old).size uber (D.state disk.old).seen → GivesUber uber result }
+    ensures next { (D.state disk.new).honest → TellsNext result (latest_of (D.state disk.old).seen) }
 
     ensures in_range { IfOk result (λ uber. InRange (D.state disk.new).size uber) }
 
@@ -47,8 +47,8 @@ pub fn latest<D: Disk>(disk: &mut D) -> Result<Uber, UberFault>
 
 // The slot of the latest body, and the body.
 fn newest<D: Disk>(disk: &mut D) -> Result<(Slot, Option<[u8; 512]>), Fault>
-    ensures slot { IsTrue D.tells_reads → IfOk result (λ found. found.0 ≡ latest_slot (D.state disk.old).seen) }
-    ensures body { IsTrue D.tells_reads → IfOk result (λ found. found.1 ≡ latest_of (D.state disk.old).seen) }
+    ensures slot { (D.state disk.new).honest → IfOk result (λ found. found.0 ≡ latest_slot (D.state disk.old).seen) }
+    ensures body { (D.state disk.new).honest → IfOk result (λ found. found.1 ≡ latest_of (D.state disk.old).seen) }
     ensures reads { OnlyReads (D.state disk.old) (D.state disk.new) }
     ensures cause { HasCause (D.state disk.old).faults (D.state disk.new).faults result }
 {

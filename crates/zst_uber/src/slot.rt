@@ -1,5 +1,5 @@
 // The slots in the first four sectors.
-ghost use Rattle.std.specs.Prelude.{◌≡◌, ◌≤◌, List, ℕ, length, IfOk, IsTrue};
+ghost use Rattle.std.specs.Prelude.{◌≡◌, ◌≤◌, List, ℕ, length, IfOk};
 ghost use Rattle.zst_outside.specs.Causes.{HasCause};
 ghost use Rattle.zst_outside.specs.Images.{OnlyReads};
 ghost use Rattle.zst_outside.specs.Ranges.{bytes_at};
@@ -72,7 +72,7 @@ fn is_live(gate: &[u8], body: &[u8]) -> bool
 
 /// The body in a slot, where it counts.
 pub fn read_slot<D: Disk>(disk: &mut D, slot: Slot) -> Result<Option<[u8; 512]>, Fault>
-    ensures body { IsTrue D.tells_reads → IfOk result (λ body. body ≡ slot_at (D.state disk.old).seen slot) }
+    ensures body { (D.state disk.new).honest → IfOk result (λ body. body ≡ slot_at (D.state disk.old).seen slot) }
     ensures reads { OnlyReads (D.state disk.old) (D.state disk.new) }
     ensures cause { HasCause (D.state disk.old).faults (D.state disk.new).faults result }
 {

@@ -9,14 +9,14 @@ pub returns-in_err-create : goal.returns-in_err-create
 returns-in_err-create g c =
     let e = c.in_err-create.ensures in
     let p = err_from_is_err_and c.from_residual.result c.from_residual.ensures.1 in
-    rw (p.1, p.2) (creates_refused g.D.Disk.tells_reads c.args.sectors c.args.id _ _ _ c.in_err-create.field-0.0 e.answer e.refused e.moments e.cause (λ is. e.alive (ap (λ f. Err f) is)))
+    rw (p.1, p.2) (creates_refused c.args.sectors c.args.id _ _ _ c.in_err-create.field-0.0 e.answer e.refused e.moments e.cause (λ is. e.alive (ap (λ f. Err f) is)))
 
 pub returns-in-Ok : goal.returns-in-Ok
 returns-in-Ok g c =
     let e = c.in_ok-create.ensures in
-    creates_made g.D.Disk.tells_reads c.args.sectors c.args.id _ _ _ _ c.in_ok-create.field-0 _ e.answer e.made e.moments e.cause.later (first_written _ _ c.in-Ok.ensures)
+    creates_made c.args.sectors c.args.id _ _ _ _ c.in_ok-create.field-0 _ e.answer e.made e.moments e.cause.later (first_written _ _ c.in-Ok.ensures.prints c.in-Ok.ensures.handed_on)
 
 pub returns-in-Err : goal.returns-in-Err
 returns-in-Err g c =
     let e = c.in_ok-create.ensures in
-    creates_made g.D.Disk.tells_reads c.args.sectors c.args.id _ _ _ _ c.in_ok-create.field-0 _ e.answer e.made e.moments e.cause.later (first_lost _ _ c.in-Err.field-0 c.in-Err.ensures)
+    creates_made c.args.sectors c.args.id _ _ _ _ c.in_ok-create.field-0 _ e.answer e.made e.moments e.cause.later (first_lost _ _ c.in-Err.field-0 c.in-Err.ensures.prints)

@@ -9,7 +9,7 @@ pub returns-in_err-kept : goal.returns-in_err-kept
 returns-in_err-kept g c =
     let e = c.in_err-kept.ensures in
     let p = err_from_is_err_and c.from_residual.result c.from_residual.ensures.1 in
-    rw (p.1, p.2) (stepping_unopened g.D.Disk.tells_reads c.args.now c.args.command _ _ c.in_err-kept.field-0.0 e.there e.answer e.reads e.cause (λ is. e.alive (ap (λ f. Err f) is)))
+    rw (p.1, p.2) (stepping_unopened c.args.now c.args.command _ _ c.in_err-kept.field-0.0 e.there e.answer e.reads e.cause (λ is. e.alive (ap (λ f. Err f) is)))
 
 pub returns-in_err-reply : goal.returns-in_err-reply
 returns-in_err-reply g c =
@@ -17,12 +17,12 @@ returns-in_err-reply g c =
     let s = c.in_err-reply.ensures in
     let n = c.new-pool.ensures in
     let p = err_from_is_err_and c.from_residual-in_err-reply.result c.from_residual-in_err-reply.ensures.1 in
-    let stepping = stepping_refused g.D.Disk.tells_reads c.args.now c.args.command (g.D.Disk.state c.args.here.now) (g.D.Disk.state c.open.new.disk) (g.D.Disk.state c.step-reply.new.self.io.disk.now)
-    c.in_ok-kept.kept c.step-reply.new.self.kept e.there e.answer e.reads e.synced e.cause.later
+    let stepping = stepping_refused c.args.now c.args.command (g.D.Disk.state c.args.here.now) (g.D.Disk.state c.open.new.disk) (g.D.Disk.state c.step-reply.new.self.io.disk.now)
+    c.in_ok-kept.kept c.step-reply.new.self.kept e.there (λ told. rw (n.disk) at (s.honest told)) e.answer e.reads e.synced e.cause.later
     (λ pool told rests. rw (n.disk) at (s.moments pool told (rw (n.disk, n.kept) rests)))
     (g.met.D.Disk.only_now c.args.here.now) (g.met.D.Disk.counts_now c.step-reply.new.self.io.disk.now)
     c.in_err-reply.field-0.0 (rw (n.disk) at s.cause) (s.known n.failed)
-    (λ pool need largest told rests is. rw (n.kept) at (s.full pool need largest told (rw (n.disk, n.kept) rests) (ap (λ f. Err f) is)))
+    (λ pool need largest told rests is. rw (n.kept) at (s.full pool need largest (rw (n.disk, n.kept) rests) (ap (λ f. Err f) is)))
     (λ pool told rests. s.answer pool told c.requires.built n.failed (rw (n.disk, n.kept) rests)) in
     rw (p.1, p.2) (search (rules, stepping))
 
@@ -31,9 +31,9 @@ returns g c =
     let e = c.in_ok-kept.ensures in
     let s = c.in_ok-reply.ensures in
     let n = c.new-pool.ensures in
-    let stepping = stepping_done g.D.Disk.tells_reads c.args.now c.args.command (g.D.Disk.state c.args.here.now) (g.D.Disk.state c.open.new.disk) (g.D.Disk.state c.step-reply.new.self.io.disk.now)
-    c.in_ok-kept.kept c.step-reply.new.self.kept e.there e.answer e.reads e.synced e.cause.later
+    let stepping = stepping_done c.args.now c.args.command (g.D.Disk.state c.args.here.now) (g.D.Disk.state c.open.new.disk) (g.D.Disk.state c.step-reply.new.self.io.disk.now)
+    c.in_ok-kept.kept c.step-reply.new.self.kept e.there (λ told. rw (n.disk) at (s.honest told)) e.answer e.reads e.synced e.cause.later
     (λ pool told rests. rw (n.disk) at (s.moments pool told (rw (n.disk, n.kept) rests)))
     (g.met.D.Disk.only_now c.args.here.now) (g.met.D.Disk.counts_now c.step-reply.new.self.io.disk.now)
     c.in_ok-reply.field-0 (rw (n.disk) at s.cause.later) (λ pool told rests. s.answer pool told c.requires.built n.failed (rw (n.disk, n.kept) rests)) in
-    subst (λ d. Stepping g.D.Disk.tells_reads c.args.now c.args.command (g.D.Disk.state c.args.here.now) (g.D.Disk.state d) (Ok c.in_ok-reply.field-0)) (search rules) stepping
+    subst (λ d. Stepping c.args.now c.args.command (g.D.Disk.state c.args.here.now) (g.D.Disk.state d) (Ok c.in_ok-reply.field-0)) (search rules) stepping

@@ -1,7 +1,6 @@
-use Rattle.std.proofs.Common.{◌≡◌, ℕ, ◌+◌, ◌*◌, ◌≤◌, length, refl, sym, ◌∙◌, arith}
+use Rattle.std.proofs.Common.{length, refl, arith}
 use Rattle.zst_space.specs.FreeSectorsLaws.{IsSpaceFrom-earlier}
 use Rattle.zst_block.specs.BlocksLaws.{KeepsBlocks-fills, Follows-fills}
-use Rattle.zst_block.specs.Blocks.{FillsFree}
 use Rattle.zst_block.proofs.Written.{fills, has}
 use Rattle.zst_block.proofs.io.write.Goals as goal
 
@@ -9,11 +8,11 @@ pub take-requires : goal.take-requires
 take-requires g c = IsSpaceFrom-earlier 8 0 c.args.io.now.space (omega arith) c.requires.fits.extents
 
 pub returns-in-Ok-write_at-clause-wrote : goal.returns-in-Ok-write_at-clause-wrote
-returns-in-Ok-write_at-clause-wrote g c = λ told.
+returns-in-Ok-write_at-clause-wrote g c =
     let writes = c.write_at.ensures.writes in
-    let long = g.met.D.Disk.seen_size c.write_at.new.self told in
+    let long = g.met.D.Disk.seen_size c.write_at.new.self in
     has _ c.args.io.now.space c.take.new.self _ (record { kind = 1; level = c.args.level; length = length c.args.bytes.now; sector = c.in-Ok.sector; number = c.args.number; sum = c.sum_of.result }) c.args.bytes.now
-    c.requires.fits.extents c.requires.some c.place_in-place.ensures refl c.requires.whole c.in-Ok.ensures.takes (omega (arith, long, writes.size, c.requires.fits.sectors)) (c.in-Ok-write_at.ensures.written told) c.sum_of.ensures
+    c.requires.fits.extents c.requires.some c.place_in-place.ensures refl c.requires.whole c.in-Ok.ensures.takes (omega (arith, long, writes.size, c.requires.fits.sectors)) c.in-Ok-write_at.ensures.written c.sum_of.ensures
 
 pub returns-in-Ok-write_at-clause-fills : goal.returns-in-Ok-write_at-clause-fills
 returns-in-Ok-write_at-clause-fills g c =

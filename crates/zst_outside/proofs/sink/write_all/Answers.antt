@@ -7,4 +7,4 @@ loop-rest-preserved g c =
     let rest = c.loop-rest.rest.now in
     let n = c.in_ok-count.count in
     let e = c.in_ok-count.ensures in
-    rw (take_rest rest n) (Wrote-more _ _ _ c.args.text.now rest n c.loop-rest.invariant e.bytes e.tells e.cause.later)
+    rw (take_rest rest n) (Wrote-more _ _ _ c.args.text.now rest n c.loop-rest.invariant e.bytes e.cause.later)

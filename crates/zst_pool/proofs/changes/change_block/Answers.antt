@@ -14,14 +14,14 @@ use Rattle.zst_pool.proofs.Known.{known_write}
 use Rattle.zst_pool.proofs.changes.change_block.Goals as goal
 
 pub returns-in_err-size-clause-changed : goal.returns-in_err-size-clause-changed
-returns-in_err-size-clause-changed g c = λ name pool head told number is.
+returns-in_err-size-clause-changed g c = λ name pool head number is.
     let old = g.D.Disk.state c.args.io.now.disk.now in
     subst (ChangesHead {T = Unit {0}} (Has old.seen c.args.io.now.space) name pool (written pool c.args.object c.args.index c.args.bytes.now head) c.args.flat.now)
     (sym (err_is c.from_residual.result c.in_err-size.field-0.0 c.from_residual.ensures.1))
     (c.in_err-size.ensures.planned old.seen c.args.io.now.space name pool head number is)
 
 pub returns-in_err-ptr-clause-changed : goal.returns-in_err-ptr-clause-changed
-returns-in_err-ptr-clause-changed g c = λ name pool head told number is.
+returns-in_err-ptr-clause-changed g c = λ name pool head number is.
     let new = g.D.Disk.state c.put_block.new.io.disk.now in
     let fault = c.in_err-ptr.field-0.0 in
     subst (ChangesHead {T = Unit {0}} (Has new.seen c.put_block.new.io.space) name pool (written pool c.args.object c.args.index c.args.bytes.now head) c.args.flat.now)
@@ -29,7 +29,7 @@ returns-in_err-ptr-clause-changed g c = λ name pool head told number is.
     (write_fault _ fault c.in_err-ptr.ensures.fault)
 
 pub returns-clause-changed : goal.returns-clause-changed
-returns-clause-changed g c = λ name pool head told number is.
+returns-clause-changed g c = λ name pool head number is.
     let old = g.D.Disk.state c.args.io.now.disk.now in
     let space = c.args.io.now.space in
     let new = g.D.Disk.state c.put_block.new.io.disk.now in
@@ -42,7 +42,7 @@ returns-clause-changed g c = λ name pool head told number is.
     let planned = c.in_ok-size.ensures.planned old.seen space name pool head number is in
     let grown = SetIs-grows (Has old.seen space) (Has new.seen less) (KeepsBlocks-fills old new space less c.put_block.ensures.works.fills) c.args.flat.now head is in
     let block = c.deref.ensures.value ∙ c.in_ok-block.ensures in
-    let there = subst (λ (b : List ℕ). Has new.seen less ptr b) block (c.in_ok-ptr.ensures.there told) in
+    let there = subst (λ (b : List ℕ). Has new.seen less ptr b) block c.in_ok-ptr.ensures.there in
     let made = ap (λ (n : ℕ). apply_dated n (At object (Write (index * size_at (head.state object)) 0 (filled size bytes))) head) c.in_ok-ptr.ensures.date ∙ planned.2 in
     (planned.0, planned.1, c.in_ok-put_block.ensures.made new.seen less 0 (filled size bytes) head planned.0 there grown made, planned.3)
 

@@ -17,7 +17,7 @@ use Rattle.zst_pool.proofs.changes.change_object.Goals as goal
 use Rattle.zst_pool.proofs.changes.change_object.Goals.{In_ok-put_object}
 
 pub returns-in_err-plan_object-clause-changed : goal.returns-in_err-plan_object-clause-changed
-returns-in_err-plan_object-clause-changed g c = λ name pool old told number is.
+returns-in_err-plan_object-clause-changed g c = λ name pool old number is.
     let disk = g.D.Disk.state c.args.io.now.disk.now in
     subst (ChangesHead {T = Unit {0}} (Has disk.seen c.args.io.now.space) name pool (put_in pool c.args.object c.args.head c.args.bonus c.args.spill old) c.args.flat.now)
     (sym (err_is c.from_residual.result c.in_err-plan_object.field-0.0 c.from_residual.ensures.1))
@@ -38,7 +38,7 @@ put g c old after is made =
     )
 
 pub returns-in-None-clause-changed : goal.returns-in-None-clause-changed
-returns-in-None-clause-changed g c = λ name pool old told number is.
+returns-in-None-clause-changed g c = λ name pool old number is.
     let n = c.args.number + 1 in
     let planned = c.in_ok-plan_object.ensures.planned c.args.head c.args.bonus c.args.spill name pool old number in
     let one = put g (goal.at.returns-in-None-clause-changed g c).In_ok-put_object old planned.0 is planned.2 in
@@ -46,7 +46,7 @@ returns-in-None-clause-changed g c = λ name pool old told number is.
     (planned.0, planned.1, subst (SetIs (Has (g.D.Disk.state c.args.io.now.disk.now).seen c.args.io.now.space) c.put_object.new.self) (none_left n one.0 planned.0 none) one.1, planned.3)
 
 pub returns-in-Some-clause-changed : goal.returns-in-Some-clause-changed
-returns-in-Some-clause-changed g c = λ name pool old told number is.
+returns-in-Some-clause-changed g c = λ name pool old number is.
     let new = g.D.Disk.state c.change_spill.new.io.disk.now in
     let k = c.args.object in
     let n = c.args.number + 1 in
@@ -55,7 +55,7 @@ returns-in-Some-clause-changed g c = λ name pool old told number is.
     let some = subst (λ (s : Option (List ℕ)). apply_all_dated n (map (At k) (spill_change s)) one.0 ≡ Ok planned.0) c.in-Some.is one.2 in
     let spilled = subst (λ (b : List ℕ). apply_dated n (At k (Spill b)) one.0 ≡ Ok planned.0) (sym c.as_slice.ensures) (spill_is n k c.in-Some.block one.0 planned.0 some) in
     changed_by_spill (Has new.seen c.change_spill.new.io.space) name pool (put_in pool k c.args.head c.args.bonus c.args.spill old) c.change_spill.new.flat planned.0 c.change_spill.result planned.1 planned.3
-    (c.change_spill.ensures.changed one.0 planned.0 told one.1 spilled) c.change_spill.ensures.fault
+    (c.change_spill.ensures.changed one.0 planned.0 one.1 spilled) c.change_spill.ensures.fault
 
 pub returns-in-Some-clause-known : goal.returns-in-Some-clause-known
 returns-in-Some-clause-known g c = if_known_write c.change_spill.result c.change_spill.ensures.fault

@@ -1,6 +1,6 @@
 use Rattle.std.proofs.Common.{refl, ap, ◌||◌, sym, ◌∙◌}
 use Rattle.std.proofs.lemmas.Result.{err_from_is_err_and}
-use Rattle.std.specs.Prelude.{Err, IsTrue}
+use Rattle.std.specs.Prelude.{Err}
 use Rattle.zst_outside.specs.Images.{Leaves}
 use Rattle.zst_block.specs.Blocks.{Has}
 use Rattle.zst_block.specs.BlocksLaws.{IsTaken-head}
@@ -16,7 +16,7 @@ use Rattle.zst_pool.proofs.committing.commit_dir.Goals as goal
 use Rattle.zst_pool.proofs.committing.commit_dir.Goals.{After-commit_event}
 
 pub commit_event-requires-clause-settled : goal.commit_event-requires-clause-settled
-commit_event-requires-clause-settled g c = λ told. c.write_dir.ensures.works.head (c.requires.ready.head told)
+commit_event-requires-clause-settled g c = λ told. c.write_dir.ensures.works.head (c.requires.ready.head (c.write_dir.ensures.works.fills.honest told))
 
 pub returns-in_err-root-clause-over : goal.returns-in_err-root-clause-over
 returns-in_err-root-clause-over g c = λ next told is.
@@ -32,10 +32,10 @@ returns-in_err-root-clause-commits g c = λ start rows pool next told rests fill
 pub returns-in_err-root-clause-stays : goal.returns-in_err-root-clause-stays
 returns-in_err-root-clause-stays g c = λ sound.
     let p = err_from_is_err_and c.from_residual.result c.from_residual.ensures.1 in
-    rw (p.1) (Ready-works g.D.Disk.tells_reads _ _ c.args.io.now.space c.write_dir.new.io.space _ _ c.write_dir.result c.args.body.now c.write_dir.ensures.works c.requires.ready)
+    rw (p.1) (Ready-works _ _ c.args.io.now.space c.write_dir.new.io.space _ _ c.write_dir.result c.args.body.now c.write_dir.ensures.works c.requires.ready)
 
 -- what the event was begun with, and what each image inside it reads as
-began : (g : Over) (c : After-commit_event g) (next : Pool) → IsTrue g.D.Disk.tells_reads
+began : (g : Over) (c : After-commit_event g) (next : Pool) → (g.D.Disk.state c.commit_event.new.io.disk.now).honest
     → NextIs (Has (g.D.Disk.state c.args.io.now.disk.now).seen c.args.io.now.space) c.args.body.now c.args.guids c.args.dir next
     → IsPrepared c.next_body-next.result c.args.dir next (g.D.Disk.state c.write_dir.new.io.disk.now).seen
     × Leaves (g.D.Disk.state c.args.io.now.disk.now) (g.D.Disk.state c.commit_event.new.io.disk.now) (OldOrNext c.args.io.now.space (g.D.Disk.state c.args.io.now.disk.now) next)
@@ -46,7 +46,7 @@ began g c next told is =
     let less = c.write_dir.new.io.space in
     let ready = prepared old mid space less c.args.body.now c.next_body-next.result c.args.guids c.end.result c.in_ok-root.length c.in_ok-root.root c.args.dir next
     c.next_body-next.ensures c.end.ensures c.in_ok-root.ensures.sectors c.requires.sectors c.in_ok-root.ensures.extents c.requires.ready.in_range c.write_dir.ensures.works.fills c.write_dir.ensures.works.fits
-    (g.met.D.Disk.seen_size c.write_dir.new.io.disk.now told) c.commit_event.ensures.uber_fits c.in_ok-root.ensures.kind (c.in_ok-root.ensures.there told) is in
+    (g.met.D.Disk.seen_size c.write_dir.new.io.disk.now) c.commit_event.ensures.uber_fits c.in_ok-root.ensures.kind c.in_ok-root.ensures.there is in
     (ready, commit-moments old mid _ space less c.next_body-next.result c.args.dir next (IsTaken-head old.size space c.requires.fits) c.write_dir.ensures.works.fills ready (c.commit_event.ensures.moments told))
 
 pub returns-in-Ok-clause-over : goal.returns-in-Ok-clause-over

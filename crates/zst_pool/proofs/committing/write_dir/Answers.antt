@@ -15,10 +15,10 @@ pub write_run-requires-clause-whole : goal.write_run-requires-clause-whole
 write_run-requires-clause-whole g c = filled-whole c.in_ok-bytes.bytes.items c.deref.result.now (c.deref.ensures.value ∙ c.in_ok-fill_up.ensures)
 
 pub returns-clause-there : goal.returns-clause-there
-returns-clause-there g c = λ told.
+returns-clause-there g c =
     let long : length c.in_ok-bytes.bytes.items ≡ c.len-length.result = search rules in
     let run = dir-run c.args.dir.now c.in_ok-bytes.bytes.items c.deref.result.now _ c.in_ok-bytes.ensures (c.deref.ensures.value ∙ c.in_ok-fill_up.ensures) in
-    (c.deref.result.now, c.in_ok-root.ensures.there told, subst (λ (n : ℕ). IsDirRun c.args.dir.now n c.deref.result.now) long run)
+    (c.deref.result.now, c.in_ok-root.ensures.there, subst (λ (n : ℕ). IsDirRun c.args.dir.now n c.deref.result.now) long run)
 
 pub returns-in_err-root-clause-full : goal.returns-in_err-root-clause-full
 returns-in_err-root-clause-full g c = λ need largest is.

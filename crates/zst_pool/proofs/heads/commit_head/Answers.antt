@@ -25,7 +25,7 @@ use Rattle.zst_pool.proofs.heads.commit_head.Goals.{After-store}
 
 pub commit_dir-requires-clause-ready : goal.commit_dir-requires-clause-ready
 commit_dir-requires-clause-ready g c =
-    ready_works g.D.Disk.tells_reads _ c.args.io.now.space c.args.io.now.failed _ c.store.new.io.space c.store.new.io.failed _ c.args.kept.now.body c.requires.ready c.store.ensures.works
+    ready_works _ c.args.io.now.space c.args.io.now.failed _ c.store.new.io.space c.store.new.io.failed _ c.args.kept.now.body c.requires.ready c.store.ensures.works
 
 -- a commit that fell once its rows were stored, or before
 fell_at : (g : Over) (c : After-store g) (from : DiskState) (pool next : Pool) (fault : PoolFault) (answer : Result Kept PoolFault) → Rests from c.args.kept.now.body c.args.kept.now.dir pool
@@ -62,18 +62,18 @@ returns-clause-commits g c = λ start pool head told rests fills is lawful.
     let through = FillsFree-then from old mid (free_by body) c.args.io.now.space less fills c.store.ensures.works.fills in
     let described = described_on from mid less body rows pool rests through in
     let dir = c.set_head.ensures.headed ∙ ap (λ (d : Rows). record d { datasets = with_head name set d.datasets }) c.in_ok-dir.ensures in
-    let is_next = head_is_next (Has mid.seen less) body rows c.set_head.new.self pool name set head described (c.in_ok-head.ensures.stored told head is) dir lawful in
+    let is_next = head_is_next (Has mid.seen less) body rows c.set_head.new.self pool name set head described (c.in_ok-head.ensures.stored head is) dir lawful in
     c.commit_dir.ensures.commits start rows pool next told rests through is_next
 
 pub returns-in_err-head-clause-stays : goal.returns-in_err-head-clause-stays
 returns-in_err-head-clause-stays g c = λ standing.
-    on_err c.from_residual.result (Ready g.D.Disk.tells_reads (g.D.Disk.state c.store.new.io.disk.now) c.args.kept.now.body)
-    (ready_works g.D.Disk.tells_reads _ c.args.io.now.space c.args.io.now.failed _ c.store.new.io.space c.store.new.io.failed _ c.args.kept.now.body c.requires.ready c.store.ensures.works)
+    on_err c.from_residual.result (Ready (g.D.Disk.state c.store.new.io.disk.now) c.args.kept.now.body)
+    (ready_works _ c.args.io.now.space c.args.io.now.failed _ c.store.new.io.space c.store.new.io.failed _ c.args.kept.now.body c.requires.ready c.store.ensures.works)
 
 pub returns-in_err-dir-clause-stays : goal.returns-in_err-dir-clause-stays
 returns-in_err-dir-clause-stays g c = λ standing.
-    on_err c.from_residual-in_err-dir.result (Ready g.D.Disk.tells_reads (g.D.Disk.state c.store.new.io.disk.now) c.args.kept.now.body)
-    (ready_works g.D.Disk.tells_reads _ c.args.io.now.space c.args.io.now.failed _ c.store.new.io.space c.store.new.io.failed _ c.args.kept.now.body c.requires.ready c.store.ensures.works)
+    on_err c.from_residual-in_err-dir.result (Ready (g.D.Disk.state c.store.new.io.disk.now) c.args.kept.now.body)
+    (ready_works _ c.args.io.now.space c.args.io.now.failed _ c.store.new.io.space c.store.new.io.failed _ c.args.kept.now.body c.requires.ready c.store.ensures.works)
 
 pub returns-clause-failed : goal.returns-clause-failed
 returns-clause-failed g c =

@@ -7,13 +7,13 @@ use Rattle.zst_pool.proofs.heads.punch.Goals as goal
 use Rattle.zst_pool.proofs.heads.punch.Goals.{After-load_head, After-change_holes}
 
 loads : (g : Over) (c : After-load_head g)
-    → Loads g.D.Disk.tells_reads c.args.kept.now c.args.name.now (g.D.Disk.state c.args.io.now.disk.now) c.args.io.now.space c.args.io.now.failed
+    → Loads c.args.kept.now c.args.name.now (g.D.Disk.state c.args.io.now.disk.now) c.args.io.now.space c.args.io.now.failed
     (g.D.Disk.state c.load_head.new.io.disk.now) c.load_head.new.io.space c.load_head.new.io.failed c.load_head.result
 loads g c = let load = c.load_head.ensures in
     record { free = c.requires.space; ready = c.requires.ready; found = load.found; known = load.known; short = load.short; never_full = load.never_full; works = load.works; same = load.space }
 
 changes : (g : Over) (c : After-change_holes g)
-    → Changes g.D.Disk.tells_reads c.args.kept.now.body.number (λ pool. punched pool c.args.object c.args.first c.args.count) c.in_ok-flat.flat c.change_holes.new.flat
+    → Changes c.args.kept.now.body.number (λ pool. punched pool c.args.object c.args.first c.args.count) c.in_ok-flat.flat c.change_holes.new.flat
     (g.D.Disk.state c.load_head.new.io.disk.now) c.load_head.new.io.space c.load_head.new.io.failed
     (g.D.Disk.state c.load_head.new.io.disk.now) c.load_head.new.io.space c.load_head.new.io.failed c.change_holes.result
 changes g c = let change = c.change_holes.ensures in
@@ -37,4 +37,4 @@ returns g c =
     let commit = c.commit_head.ensures in
     head_committed (loads g at.After-load_head) c.in_ok-flat.was (changes g at.After-change_holes) c.commit_head.result c.in_ok-change_holes.was
     (λ pool done. punched_is_lawful c.steps_keep_pools.ensures.pools c.args.name.now c.args.object c.args.first c.args.count pool done (c.in_ok-flat.ensures.named, c.requires.object, c.requires.some))
-    (commit.commits c.args.io.now.disk.now) commit.fault commit.full commit.ready commit.stays commit.failed commit.cause (commit.same ∙ c.load_head.ensures.same)
+    (commit.commits c.args.io.now.disk.now) commit.fault commit.full commit.ready commit.stays commit.failed commit.cause commit.honest (commit.same ∙ c.load_head.ensures.same)

@@ -7,13 +7,13 @@ use Rattle.zst_pool.proofs.heads.put_object.Goals as goal
 use Rattle.zst_pool.proofs.heads.put_object.Goals.{After-load_head, After-change_object}
 
 loads : (g : Over) (c : After-load_head g)
-    → Loads g.D.Disk.tells_reads c.args.kept.now c.args.name.now (g.D.Disk.state c.args.io.now.disk.now) c.args.io.now.space c.args.io.now.failed
+    → Loads c.args.kept.now c.args.name.now (g.D.Disk.state c.args.io.now.disk.now) c.args.io.now.space c.args.io.now.failed
     (g.D.Disk.state c.load_head.new.io.disk.now) c.load_head.new.io.space c.load_head.new.io.failed c.load_head.result
 loads g c = let load = c.load_head.ensures in
     record { free = c.requires.space; ready = c.requires.ready; found = load.found; known = load.known; short = load.short; never_full = load.never_full; works = load.works; same = load.space }
 
 changes : (g : Over) (c : After-change_object g)
-    → Changes g.D.Disk.tells_reads c.args.kept.now.body.number (λ pool. put_in pool c.args.object c.args.head c.args.bonus c.args.spill) c.in_ok-flat.flat c.change_object.new.flat
+    → Changes c.args.kept.now.body.number (λ pool. put_in pool c.args.object c.args.head c.args.bonus c.args.spill) c.in_ok-flat.flat c.change_object.new.flat
     (g.D.Disk.state c.load_head.new.io.disk.now) c.load_head.new.io.space c.load_head.new.io.failed
     (g.D.Disk.state c.change_object.new.io.disk.now) c.change_object.new.io.space c.change_object.new.io.failed c.change_object.result
 changes g c = let change = c.change_object.ensures in
@@ -36,5 +36,5 @@ returns g c =
     let at = goal.at.returns g c in
     let commit = c.commit_head.ensures in
     head_committed (loads g at.After-load_head) c.in_ok-flat.was (changes g at.After-change_object) c.commit_head.result c.in_ok-change_object.was
-    (λ pool done. put_is_lawful c.steps_keep_pools.ensures.pools c.args.name.now c.args.object c.args.head c.args.bonus c.args.spill pool done (c.in_ok-flat.ensures.named, c.requires.object, c.requires.object_type, c.requires.size, c.requires.bonus, c.requires.spill))
-    (commit.commits c.args.io.now.disk.now) commit.fault commit.full commit.ready commit.stays commit.failed commit.cause (commit.same ∙ c.change_object.ensures.same ∙ c.load_head.ensures.same)
+    (λ pool done. put_is_lawful c.steps_keep_pools.ensures.pools c.args.name.now c.args.object c.args.head c.args.bonus c.args.spill pool done (c.in_ok-flat.ensures.named, c.requires.object, c.requires.head, c.requires.bonus, c.requires.spill))
+    (commit.commits c.args.io.now.disk.now) commit.fault commit.full commit.ready commit.stays commit.failed commit.cause commit.honest (commit.same ∙ c.change_object.ensures.same ∙ c.load_head.ensures.same)

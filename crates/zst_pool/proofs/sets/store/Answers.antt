@@ -12,13 +12,13 @@ pub write_run-requires-clause-some : goal.write_run-requires-clause-some
 write_run-requires-clause-some g c = IsRun-some c.args.flat.now c.deref.result.now (subst (IsRun c.args.flat.now) (sym c.deref.ensures.value) c.in_ok-bytes.ensures.run)
 
 pub returns-clause-stored : goal.returns-clause-stored
-returns-clause-stored g c = λ told snap is.
+returns-clause-stored g c = λ snap is.
     let run = subst (IsRun c.args.flat.now) (sym c.deref.ensures.value) c.in_ok-bytes.ensures.run in
     let kept = KeepsBlocks-fills _ _ c.args.io.now.space c.write_run.new.io.space c.write_run.ensures.works.fills in
     record {
       levels = refl;
       past = refl;
-      root = inr (c.in_ok-root.ensures.kind, (c.deref.result.now, c.args.flat.now, c.in_ok-root.ensures.there told, run, SetIs-grows _ _ kept c.args.flat.now snap is));
+      root = inr (c.in_ok-root.ensures.kind, (c.deref.result.now, c.args.flat.now, c.in_ok-root.ensures.there, run, SetIs-grows _ _ kept c.args.flat.now snap is));
     }
 
 pub returns-clause-took : goal.returns-clause-took

@@ -1,43 +1,50 @@
-use Rattle.std.proofs.Common.{◌≡◌, List, ℕ, sym, ◌∙◌, ap, subst}
-use Rattle.zst_outside.specs.Images.{DiskState, WritesIn, OnlyReads, WritesIn-reads, WritesIn-then}
-use Rattle.zst_outside.specs.Ranges.{bytes_at}
-use Rattle.zst_uber.specs.Body.{body_bytes}
-use Rattle.zst_uber.specs.Slots.{slot_at, latest, latest_slot, other, body_place}
-use Rattle.zst_uber.specs.Commit.{HasOldOrNew, HeadSettled, Closes}
-use Rattle.zst_uber.proofs.LatestLemmas.{IsNew}
+use Rattle.std.proofs.Common.{◌∙◌, ap}
+use Rattle.zst_outside.specs.Images.{WritesIn-reads, WritesIn-then}
+use Rattle.zst_uber.specs.Slots.{slot_at}
 use Rattle.zst_uber.proofs.Stages.{after_close, after_fill, after_open, stands, on_ok, gate_writes, body_writes}
 use Rattle.zst_uber.proofs.committing.write_body.Goals as goal
 
 pub returns-in_err-close-clause-moments : goal.returns-in_err-close-clause-moments
 returns-in_err-close-clause-moments g c = λ told.
     let old = g.D.Disk.state c.args.disk.now in
-    after_close c.in_ok-slot.slot c.args.uber.now old (c.requires.settled told) (ap (slot_at old.seen) (c.in_ok-slot.ensures.idle told))
+    let found = c.close.ensures.writes.honest told in
+    let first = c.find_idle.ensures.reads.honest found in
+    after_close c.in_ok-slot.slot c.args.uber.now old (c.requires.settled first) (ap (slot_at old.seen) (c.in_ok-slot.ensures.idle found))
     _ _ c.find_idle.ensures.reads (c.close.ensures.closes told)
 
 pub returns-in_err-fill-clause-moments : goal.returns-in_err-fill-clause-moments
 returns-in_err-fill-clause-moments g c = λ told.
     let old = g.D.Disk.state c.args.disk.now in
-    after_fill c.in_ok-slot.slot c.args.uber.now old (c.requires.settled told) (ap (slot_at old.seen) (c.in_ok-slot.ensures.idle told))
-    _ _ c.find_idle.ensures.reads (c.close.ensures.closes told)
-    _ c.in_ok-close.ensures.durable (c.in_ok-close.ensures.closed told) c.fill.ensures.writes
+    let closed = c.fill.ensures.writes.honest told in
+    let found = c.close.ensures.writes.honest closed in
+    let first = c.find_idle.ensures.reads.honest found in
+    after_fill c.in_ok-slot.slot c.args.uber.now old (c.requires.settled first) (ap (slot_at old.seen) (c.in_ok-slot.ensures.idle found))
+    _ _ c.find_idle.ensures.reads (c.close.ensures.closes closed)
+    _ c.in_ok-close.ensures.durable (c.in_ok-close.ensures.closed closed) c.fill.ensures.writes
 
 pub returns-clause-moments : goal.returns-clause-moments
 returns-clause-moments g c = λ told.
     let old = g.D.Disk.state c.args.disk.now in
-    after_open c.in_ok-slot.slot c.args.uber.now old (c.requires.settled told) (ap (slot_at old.seen) (c.in_ok-slot.ensures.idle told))
-    _ _ c.find_idle.ensures.reads (c.close.ensures.closes told)
-    _ c.in_ok-close.ensures.durable (c.in_ok-close.ensures.closed told) c.fill.ensures.writes
-    _ (c.requires.next told) c.in_ok-fill.ensures.durable (record { bytes = c.in_ok-fill.ensures.body told ∙ c.encode-body.ensures.bytes; number = c.encode-body.ensures.fits.number }) c.open_gate.ensures.writes
+    let closed = c.fill.ensures.writes.honest (c.open_gate.ensures.writes.honest told) in
+    let found = c.close.ensures.writes.honest closed in
+    let first = c.find_idle.ensures.reads.honest found in
+    after_open c.in_ok-slot.slot c.args.uber.now old (c.requires.settled first) (ap (slot_at old.seen) (c.in_ok-slot.ensures.idle found))
+    _ _ c.find_idle.ensures.reads (c.close.ensures.closes closed)
+    _ c.in_ok-close.ensures.durable (c.in_ok-close.ensures.closed closed) c.fill.ensures.writes
+    _ (c.requires.next first) c.in_ok-fill.ensures.durable (record { bytes = c.in_ok-fill.ensures.body ∙ c.encode-body.ensures.bytes; number = c.encode-body.ensures.fits.number }) c.open_gate.ensures.writes
 
 pub returns-clause-stands : goal.returns-clause-stands
 returns-clause-stands g c = λ told.
     let old = g.D.Disk.state c.args.disk.now in
+    let closed = c.fill.ensures.writes.honest (c.open_gate.ensures.writes.honest told) in
+    let found = c.close.ensures.writes.honest closed in
+    let first = c.find_idle.ensures.reads.honest found in
     on_ok c.open_gate.result _ _
-    (stands c.in_ok-slot.slot c.args.uber.now old (c.requires.settled told) (ap (slot_at old.seen) (c.in_ok-slot.ensures.idle told))
-    _ _ c.find_idle.ensures.reads (c.close.ensures.closes told)
-    _ c.in_ok-close.ensures.durable (c.in_ok-close.ensures.closed told) c.fill.ensures.writes
-    _ (c.requires.next told) c.in_ok-fill.ensures.durable (record { bytes = c.in_ok-fill.ensures.body told ∙ c.encode-body.ensures.bytes; number = c.encode-body.ensures.fits.number }) c.open_gate.ensures.writes)
-    (c.open_gate.ensures.opened told)
+    (stands c.in_ok-slot.slot c.args.uber.now old (c.requires.settled first) (ap (slot_at old.seen) (c.in_ok-slot.ensures.idle found))
+    _ _ c.find_idle.ensures.reads (c.close.ensures.closes closed)
+    _ c.in_ok-close.ensures.durable (c.in_ok-close.ensures.closed closed) c.fill.ensures.writes
+    _ (c.requires.next first) c.in_ok-fill.ensures.durable (record { bytes = c.in_ok-fill.ensures.body ∙ c.encode-body.ensures.bytes; number = c.encode-body.ensures.fits.number }) c.open_gate.ensures.writes)
+    c.open_gate.ensures.opened
 
 pub returns-in_err-fill-clause-writes : goal.returns-in_err-fill-clause-writes
 returns-in_err-fill-clause-writes g c =

@@ -1,7 +1,6 @@
-use Rattle.std.proofs.Common.{rules, ◌≡◌, ℕ, List, length, refl, sym, ◌∙◌, ap, arith, Bool, true, false}
+use Rattle.std.proofs.Common.{rules, ◌≡◌, refl, sym, ◌∙◌, ap, arith, true, false}
 use Rattle.std.proofs.lemmas.List.{length-take-le}
 use Rattle.zst_bytes.specs.Bytes.{bytes_at}
-use Rattle.zst_fletcher.specs.declared.sum.Sum.{Sum}
 use Rattle.zst_fletcher.specs.WeightSum.{parts_of}
 use Rattle.zst_uber.specs.declared.TheConstants.{VERSION}
 use Rattle.zst_uber.proofs.Decoding.{none_is}

@@ -1,5 +1,4 @@
-use Rattle.std.proofs.Common.{◌≡◌, ℕ, List, Option, Some, sym, ◌∙◌, ap}
-use Rattle.zst_outside.specs.Images.{DiskState}
+use Rattle.std.proofs.Common.{◌≡◌, Some, sym, ◌∙◌, ap}
 use Rattle.zst_uber.specs.Slots.{latest}
 use Rattle.zst_uber.proofs.Decoding.{gives_latest, stands_latest, next_latest}
 use Rattle.zst_uber.proofs.opening.latest.Goals as goal

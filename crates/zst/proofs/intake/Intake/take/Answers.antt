@@ -1,6 +1,5 @@
-use Rattle.std.proofs.Common.{arith, [], ◌++◌, ◌≡◌, refl, ap}
+use Rattle.std.proofs.Common.{arith, sym, ◌∙◌, [], ◌++◌, ◌≡◌, refl, ap}
 use Rattle.std.proofs.lemmas.List.{append-nil}
-use Rattle.std.proofs.KnownBytes.{Consumes-nil, Consumes-kept}
 use Rattle.zst.specs.Intake.{waiting_in}
 use Rattle.zst.proofs.IntakeLemmas.{pushed_some, not_pushed, none_waits, some_wait}
 use Rattle.zst.proofs.intake.Intake.take.Goals as goal
@@ -9,7 +8,7 @@ pub returns-then-self : goal.returns-then-self
 returns-then-self g c =
     let i = c.args.self.now in
     let p = c.push.ensures in
-    pushed_some _ _ _ _ _ _ (waiting_in i) [] _ (append-nil (waiting_in i)) (Consumes-nil _) (omega arith) c.requires.room
+    pushed_some _ _ _ _ _ _ (waiting_in i) [] _ (append-nil (waiting_in i)) (sym (append-nil _)) (omega arith) c.requires.room
     (some_wait i.start i.end i.piece.len i.piece.items c.if-self.true i.inside i.piece.ok.0) c.requires.within
     (record { pushed = p.pushed; handed = p.handed; mark = p.mark; rest = p.rest; stands = p.stands })
 
@@ -41,7 +40,7 @@ returns-in-Err g c =
       got = [];
       pushed = [];
       rest = [];
-      consumed = Consumes-kept _ _ _ [] (Consumes-nil _) e.kept;
+      consumed = e.kept ∙ sym (append-nil _);
       parts = ap (λ t. t ++ []) none;
       took = (e.cause.fault, refl, refl);
       stands = not_pushed _;

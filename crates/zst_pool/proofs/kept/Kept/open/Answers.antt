@@ -8,7 +8,7 @@ use Rattle.zst_pool.proofs.kept.Kept.open.Goals as goal
 pub returns-in_err-dir-clause-there : goal.returns-in_err-dir-clause-there
 returns-in_err-dir-clause-there g c = λ uber rows pool told reads.
     let old = g.D.Disk.state c.args.disk.now in
-    let same : c.in_ok-body.body ≡ uber = c.in_ok-body.ensures.there uber told (IsLatest-reads old.size uber rows pool old.seen (g.met.D.Disk.seen_size c.args.disk.now told) reads) in
+    let same : c.in_ok-body.body ≡ uber = c.in_ok-body.ensures.there uber (c.read_dir.ensures.reads.honest told) (IsLatest-reads old.size uber rows pool old.seen (g.met.D.Disk.seen_size c.args.disk.now) reads) in
     let read = c.in_err-dir.ensures.there rows told (ap (λ (u : Uber). u.free_count) same ∙ reads.described.extents) (HasDir-same uber c.in_ok-body.body rows old.seen _ same c.latest.ensures.reads.seen reads.described.directory) in
     let p = err_from_is_err_and c.from_residual-in_err-dir.result c.from_residual-in_err-dir.ensures.1 in
     rw (p.1, p.2) (GivesPool-refused uber rows _ read)
@@ -23,20 +23,20 @@ returns-in_err-dir-clause-answer g c = λ told.
     let old = g.D.Disk.state c.args.disk.now in
     let body = c.in_ok-body.body in
     let p = err_from_is_err_and c.from_residual-in_err-dir.result c.from_residual-in_err-dir.ensures.1 in
-    rw (p.1, p.2) (OpenAnswers-refused old body _ (c.in_ok-body.ensures.stands told) c.in_err-dir.ensures.fault (λ rows none has.
+    rw (p.1, p.2) (OpenAnswers-refused old body _ (c.in_ok-body.ensures.stands (c.read_dir.ensures.reads.honest told)) c.in_err-dir.ensures.fault (λ rows none has.
     c.in_err-dir.ensures.there rows told none (HasDir-same body body rows old.seen _ refl c.latest.ensures.reads.seen has)))
 
 pub returns-clause-there : goal.returns-clause-there
 returns-clause-there g c = λ uber rows pool told reads.
     let old = g.D.Disk.state c.args.disk.now in
-    let same : c.in_ok-body.body ≡ uber = c.in_ok-body.ensures.there uber told (IsLatest-reads old.size uber rows pool old.seen (g.met.D.Disk.seen_size c.args.disk.now told) reads) in
+    let same : c.in_ok-body.body ≡ uber = c.in_ok-body.ensures.there uber (c.read_dir.ensures.reads.honest told) (IsLatest-reads old.size uber rows pool old.seen (g.met.D.Disk.seen_size c.args.disk.now) reads) in
     (same, c.in_ok-dir.ensures.there rows told (ap (λ (u : Uber). u.free_count) same ∙ reads.described.extents) (HasDir-same uber c.in_ok-body.body rows old.seen _ same c.latest.ensures.reads.seen reads.described.directory))
 
 pub returns-clause-answer : goal.returns-clause-answer
 returns-clause-answer g c = λ told.
     let old = g.D.Disk.state c.args.disk.now in
     let body = c.in_ok-body.body in
-    let last = c.in_ok-body.ensures.stands told in
+    let last = c.in_ok-body.ensures.stands (c.read_dir.ensures.reads.honest told) in
     let only = c.in_ok-dir.ensures.only told in (
       body_bytes body,
       last.stands,

@@ -56,7 +56,7 @@ pub returns-then-is_not_built-clause-sound : goal.returns-then-is_not_built-clau
 returns-then-is_not_built-clause-sound g c = λ pool done rests sound made. c.steps_keep_sound.ensures c.args.now c.args.command pool done c.requires.command rests.reads.described.lawful sound made
 
 pub returns-in_err-kept-clause-full : goal.returns-in_err-kept-clause-full
-returns-in_err-kept-clause-full g c = λ pool need largest told rests is.
+returns-in_err-kept-clause-full g c = λ pool need largest rests is.
     let kept = c.args.self.now.kept in
     let fault = c.in_err-kept.field-0.0 in
     let answered = err_is c.from_residual-in_err-kept.result fault c.from_residual-in_err-kept.ensures.1 in
