@@ -1,6 +1,4 @@
 pub mod Ptr
-pub mod PtrLaws
 pub mod Faults
 pub mod Blocks
-pub mod BlocksLaws
 pub mod Reading

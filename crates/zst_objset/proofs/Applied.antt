@@ -1,15 +1,15 @@
 -- What an item makes of a dated state, where there was no fault.
 use Rattle.std.proofs.Common.{◌≡◌, ℕ, ◌*◌, Bool, true, false, not, List, length, Option, Some, None, Result, Ok, Err, refl, sym, nat_lt, ◌==◌, ◌&&◌, if◌then◌else◌}
-use Rattle.zst_model.specs.declared.attr.ObjectHead.{ObjectHead}
-use Rattle.zst_model.specs.declared.item.Change.{Change}
-use Rattle.zst_model.specs.declared.item.Change.TheVariants.{Put, Spill, Free, Write}
-use Rattle.zst_model.specs.declared.item.Item.{Item}
-use Rattle.zst_model.specs.declared.item.Item.TheVariants.{At, FreeObjects}
-use Rattle.zst_model.specs.declared.apply_fault.ApplyFault.{ApplyFault}
-use Rattle.zst_model.specs.declared.apply_fault.ApplyFault.TheVariants.{SizeDiffers, Unaligned, OddBlock}
-use Rattle.zst_model.specs.State.{Block, Hole, Data, Object, State, is_odd_size}
-use Rattle.zst_model.specs.Apply.{◌>>=◌, unless, is_unaligned, within, put_at, attr_with, apply, apply_change}
-use Rattle.zst_model.specs.Dated.{DatedState, makes_anew, touches_number, touches_index, apply_dated}
+use Rattle.zst_model.specs.declared.states.attr.ObjectHead.{ObjectHead}
+use Rattle.zst_model.specs.declared.states.item.Change.{Change}
+use Rattle.zst_model.specs.declared.states.item.Change.TheVariants.{Put, Spill, Free, Write}
+use Rattle.zst_model.specs.declared.states.item.Item.{Item}
+use Rattle.zst_model.specs.declared.states.item.Item.TheVariants.{At, FreeObjects}
+use Rattle.zst_model.specs.declared.refusals.apply_fault.ApplyFault.{ApplyFault}
+use Rattle.zst_model.specs.declared.refusals.apply_fault.ApplyFault.TheVariants.{SizeDiffers, Unaligned, OddBlock}
+use Rattle.zst_model.specs.states.State.{Block, Hole, Data, Object, State, is_odd_size}
+use Rattle.zst_model.specs.states.Apply.{◌>>=◌, unless, is_unaligned, within, put_at, attr_with, apply, apply_change}
+use Rattle.zst_model.specs.states.Dated.{DatedState, makes_anew, touches_number, touches_index, apply_dated}
 
 ok_same : {A : Type 0} (x y : A) → ◌≡◌ {A = Result A ApplyFault} (Ok x) (Ok y) → x ≡ y
 ok_same x y e = cc

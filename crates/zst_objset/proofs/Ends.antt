@@ -8,9 +8,9 @@ use Rattle.std.proofs.lemmas.List.{take_all}
 use Rattle.std.proofs.lemmas.List.Elements.{All-head, All-tail, All-nil, All-more, All-weaker}
 use Rattle.zst_block.specs.declared.ptr.Ptr.{Ptr}
 use Rattle.zst_block.specs.Ptr.{hole_of}
-use Rattle.zst_model.specs.State.{Block, Object, is_hole, past_last, end_of, index_bound}
-use Rattle.zst_model.specs.Apply.{within}
-use Rattle.zst_model.specs.Dated.{DatedState}
+use Rattle.zst_model.specs.states.State.{Block, Object, is_hole, past_last, end_of, index_bound}
+use Rattle.zst_model.specs.states.Apply.{within}
+use Rattle.zst_model.specs.states.Dated.{DatedState}
 use Rattle.zst_objset.specs.declared.rows.IndexRow.{IndexRow}
 use Rattle.zst_objset.specs.Rows.{Lists, is_of_index, ptr_at, IsBeside, IsBoundBelow}
 use Rattle.zst_objset.specs.Meaning.{Blocks, BlockIs, SetIs}

@@ -6,8 +6,8 @@ use Rattle.std.proofs.lemmas.Bool.{true≢false, cond_both, and_parts, and_left,
 use Rattle.std.proofs.lemmas.Bool.Decides.{nat_tests}
 use Rattle.std.proofs.lemmas.List.Elements.{All-head, All-tail, All-cons, All-filter}
 use Rattle.zst_block.specs.Ptr.{hole_of}
-use Rattle.zst_model.specs.State.{index_bound}
-use Rattle.zst_model.specs.Apply.{within}
+use Rattle.zst_model.specs.states.State.{index_bound}
+use Rattle.zst_model.specs.states.Apply.{within}
 use Rattle.zst_objset.specs.declared.rows.ObjectRow.{ObjectRow}
 use Rattle.zst_objset.specs.declared.rows.IndexRow.{IndexRow}
 use Rattle.zst_objset.specs.Rows.{Lists, covers_range, covers_numbers, covers_indices, with_numbers, with_indices, is_of_number, is_of_index, number_row, index_row, stored_at, date_at, ptr_at, IsObjectRow, IsIndexRow, AreRows}

@@ -5,11 +5,11 @@ use Rattle.std.specs.List.{flat_map}
 use Rattle.std.proofs.lemmas.List.Concat.{length-flat_map}
 use Rattle.std.proofs.lemmas.List.Filters.{sum_by-filter_both}
 use Rattle.std.proofs.lemmas.List.Sums.{sum_by-set}
-use Rattle.zst_bytes.specs.BytesLaws.{length-number_bytes}
+use Rattle.zst_bytes.proofs.BytesLaws.{length-number_bytes}
 use Rattle.zst_bytes.specs.Fields.{zeros}
-use Rattle.zst_bytes.specs.FieldsLaws.{length-zeros}
+use Rattle.zst_bytes.proofs.FieldsLaws.{length-zeros}
 use Rattle.zst_bytes.specs.Words.{word, padding, text_bytes}
-use Rattle.zst_block.specs.PtrLaws.{length-ptr_bytes}
+use Rattle.zst_block.proofs.PtrLaws.{length-ptr_bytes}
 use Rattle.zst_block.specs.declared.ptr.Ptr.{Ptr}
 use Rattle.zst_objset.specs.Rows.{Lists, covers_numbers, covers_indices, with_numbers, with_indices, with_spill, spilled}
 use Rattle.zst_objset.specs.Spelling.{stored_bytes, object_bytes, index_bytes, lists_bytes, IsRun}

@@ -9,3 +9,4 @@ pub mod MadeSpills
 pub mod Ranges
 mod Runs
 mod Spelled
+pub mod SpellingLaws

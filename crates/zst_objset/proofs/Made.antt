@@ -3,11 +3,11 @@ use Rattle.std.proofs.Common.{◌≡◌, inl, inr, ℕ, ◌+◌, ◌*◌, ◌<�
 use Rattle.std.proofs.lemmas.Bool.{true≢false, ne_eqb}
 use Rattle.zst_block.specs.declared.ptr.Ptr.{Ptr}
 use Rattle.zst_block.specs.Ptr.{hole_of}
-use Rattle.zst_model.specs.declared.item.Item.TheVariants.{At}
-use Rattle.zst_model.specs.declared.item.Change.TheVariants.{Free, Write}
-use Rattle.zst_model.specs.State.{Block, Hole, Data, Object, IsState, attr_at, index_bound}
-use Rattle.zst_model.specs.Apply.{within}
-use Rattle.zst_model.specs.Dated.{DatedState, size_at, apply_dated}
+use Rattle.zst_model.specs.declared.states.item.Item.TheVariants.{At}
+use Rattle.zst_model.specs.declared.states.item.Change.TheVariants.{Free, Write}
+use Rattle.zst_model.specs.states.State.{Block, Hole, Data, Object, IsState, attr_at, index_bound}
+use Rattle.zst_model.specs.states.Apply.{within}
+use Rattle.zst_model.specs.states.Dated.{DatedState, size_at, apply_dated}
 use Rattle.zst_laws.specs.Dating.{AppliedIsState}
 use Rattle.zst_objset.specs.Rows.{Lists, stored_at, ptr_at, with_indices}
 use Rattle.zst_objset.specs.Meaning.{Blocks, BlockIs, AttrIs, SetIs}

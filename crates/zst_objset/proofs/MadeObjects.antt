@@ -3,13 +3,13 @@ use Rattle.std.proofs.Common.{◌≡◌, inl, ℕ, ◌+◌, ◌<◌, ◌≤◌, 
 use Rattle.std.proofs.lemmas.Bool.{true≢false, and_from, lt-ltb, ltb-false}
 use Rattle.zst_block.specs.declared.ptr.Ptr.{Ptr}
 use Rattle.zst_block.specs.Ptr.{hole_of}
-use Rattle.zst_model.specs.declared.attr.Attr.{Attr}
-use Rattle.zst_model.specs.declared.attr.ObjectHead.{ObjectHead}
-use Rattle.zst_model.specs.declared.item.Item.TheVariants.{At, FreeObjects}
-use Rattle.zst_model.specs.declared.item.Change.TheVariants.{Put}
-use Rattle.zst_model.specs.State.{Hole, Object, IsState, attr_at, index_bound, number_bound, is_number, IsHead, IsBonus}
-use Rattle.zst_model.specs.Apply.{within, attr_with}
-use Rattle.zst_model.specs.Dated.{DatedState, makes_anew, apply_dated}
+use Rattle.zst_model.specs.declared.states.attr.Attr.{Attr}
+use Rattle.zst_model.specs.declared.states.attr.ObjectHead.{ObjectHead}
+use Rattle.zst_model.specs.declared.states.item.Item.TheVariants.{At, FreeObjects}
+use Rattle.zst_model.specs.declared.states.item.Change.TheVariants.{Put}
+use Rattle.zst_model.specs.states.State.{Hole, Object, IsState, attr_at, index_bound, number_bound, is_number, IsHead, IsBonus}
+use Rattle.zst_model.specs.states.Apply.{within, attr_with}
+use Rattle.zst_model.specs.states.Dated.{DatedState, makes_anew, apply_dated}
 use Rattle.zst_laws.specs.Dating.{AppliedIsState}
 use Rattle.zst_objset.specs.declared.rows.StoredObject.{StoredObject}
 use Rattle.zst_objset.specs.declared.rows.ObjectRow.{ObjectRow}

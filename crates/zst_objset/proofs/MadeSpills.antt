@@ -11,12 +11,12 @@ use Rattle.std.proofs.lemmas.List.Folds.{find_at, find-set, find_past}
 use Rattle.std.proofs.lemmas.Option.{cond_some, slice_get-get_or, slice_get_past}
 use Rattle.zst_block.specs.declared.ptr.Ptr.{Ptr}
 use Rattle.zst_block.specs.Ptr.{PtrFits}
-use Rattle.zst_model.specs.declared.attr.Attr.{Attr}
-use Rattle.zst_model.specs.declared.item.Item.TheVariants.{At}
-use Rattle.zst_model.specs.declared.item.Change.TheVariants.{Spill}
-use Rattle.zst_model.specs.State.{Object, IsSpill, is_spill_size, attr_at, index_bound}
-use Rattle.zst_model.specs.Apply.{within}
-use Rattle.zst_model.specs.Dated.{DatedState, apply_dated}
+use Rattle.zst_model.specs.declared.states.attr.Attr.{Attr}
+use Rattle.zst_model.specs.declared.states.item.Item.TheVariants.{At}
+use Rattle.zst_model.specs.declared.states.item.Change.TheVariants.{Spill}
+use Rattle.zst_model.specs.states.State.{Object, IsSpill, is_spill_size, attr_at, index_bound}
+use Rattle.zst_model.specs.states.Apply.{within}
+use Rattle.zst_model.specs.states.Dated.{DatedState, apply_dated}
 use Rattle.zst_laws.specs.Dating.{AppliedIsState}
 use Rattle.zst_objset.specs.declared.rows.StoredObject.{StoredObject}
 use Rattle.zst_objset.specs.declared.rows.ObjectRow.{ObjectRow}

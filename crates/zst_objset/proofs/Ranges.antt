@@ -6,9 +6,9 @@ use Rattle.zst_space.specs.FreeSectors.{FreeSectors}
 use Rattle.zst_outside.specs.Ranges.{length-bytes_at}
 use Rattle.zst_block.specs.declared.ptr.Ptr.{Ptr}
 use Rattle.zst_block.specs.Blocks.{Has}
-use Rattle.zst_model.specs.State.{Object, State, IsState, IsObject, IsObjectOrNone, is_number, number_bound}
+use Rattle.zst_model.specs.states.State.{Object, State, IsState, IsObject, IsObjectOrNone, is_number, number_bound}
 use Rattle.zst_model.proofs.Sizes.{size_of_lawful}
-use Rattle.zst_model.specs.Apply.{within}
+use Rattle.zst_model.specs.states.Apply.{within}
 
 -- a greater number of blocks takes more bytes
 times_below : (a b size : ℕ) → 0 < size → a < b → a * size < b * size

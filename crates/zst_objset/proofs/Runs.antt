@@ -4,8 +4,8 @@ use Rattle.std.specs.List.{flat_map}
 use Rattle.std.proofs.Math.Nat.{mul-mod_left}
 use Rattle.zst_bytes.specs.Fields.{zeros}
 use Rattle.zst_block.specs.Ptr.{ptr_bytes}
-use Rattle.zst_bytes.specs.BytesLaws.{length-number_bytes}
-use Rattle.zst_bytes.specs.FieldsLaws.{length-zeros}
+use Rattle.zst_bytes.proofs.BytesLaws.{length-number_bytes}
+use Rattle.zst_bytes.proofs.FieldsLaws.{length-zeros}
 use Rattle.zst_bytes.specs.Words.{word, filling}
 use Rattle.zst_objset.specs.Rows.{Lists, AreRows}
 use Rattle.zst_objset.specs.Spelling.{stored_bytes, object_bytes, index_bytes, lists_bytes, IsRun}

@@ -5,8 +5,8 @@ use Rattle.std.proofs.lemmas.Bool.{and_parts, leb-true}
 use Rattle.zst_block.specs.Ptr.{ptr_bytes}
 use Rattle.zst_bytes.specs.Words.{word, text_bytes}
 use Rattle.zst_block.specs.declared.ptr.Ptr.{Ptr}
-use Rattle.zst_model.specs.State.{is_block_size, largest_block, number_bound, index_bound}
-use Rattle.zst_model.specs.declared.attr.ObjectHead.{ObjectHead}
+use Rattle.zst_model.specs.states.State.{is_block_size, largest_block, number_bound, index_bound}
+use Rattle.zst_model.specs.declared.states.attr.ObjectHead.{ObjectHead}
 use Rattle.zst_objset.specs.Rows.{IsStored, IsObjectRow, IsIndexRow}
 use Rattle.zst_objset.specs.Spelling.{stored_bytes, object_bytes, index_bytes}
 use Rattle.zst_objset.specs.declared.rows.ObjectRow.{ObjectRow}

@@ -1,4 +1,3 @@
 pub mod Meaning
 pub mod Rows
 pub mod Spelling
-pub mod SpellingLaws

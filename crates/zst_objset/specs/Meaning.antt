@@ -3,10 +3,10 @@ use Rattle.std.specs.Prelude.{◌≡◌, ◌⊎◌, ℕ, List, Option, Some, Non
 use Rattle.zst_space.specs.FreeSectors.{FreeSectors}
 use Rattle.zst_block.specs.Blocks.{Has}
 use Rattle.zst_block.specs.declared.ptr.Ptr.{Ptr}
-use Rattle.zst_model.specs.declared.attr.Attr.{Attr}
-use Rattle.zst_model.specs.State.{Block, Hole, Redacted, Data, Object, IsState, attr_at}
-use Rattle.zst_model.specs.declared.item.Item.{Item}
-use Rattle.zst_model.specs.Dated.{DatedState, apply_dated}
+use Rattle.zst_model.specs.declared.states.attr.Attr.{Attr}
+use Rattle.zst_model.specs.states.State.{Block, Hole, Redacted, Data, Object, IsState, attr_at}
+use Rattle.zst_model.specs.declared.states.item.Item.{Item}
+use Rattle.zst_model.specs.states.Dated.{DatedState, apply_dated}
 use Rattle.zst_objset.specs.Rows.{Lists, stored_at, ptr_at, date_at}
 use Rattle.zst_objset.specs.declared.rows.StoredObject.{StoredObject}
 

@@ -3,8 +3,8 @@ use Rattle.std.specs.Prelude.{◌≡◌, ◌⊎◌, ◌<◌, ◌≤◌, ◌^◌,
 use Rattle.std.specs.Option.{option_map_or}
 use Rattle.zst_block.specs.declared.ptr.Ptr.{Ptr}
 use Rattle.zst_block.specs.Ptr.{PtrFits, hole_of}
-use Rattle.zst_model.specs.State.{number_bound, index_bound, is_spill_size, IsHead, IsBonus}
-use Rattle.zst_model.specs.Apply.{within}
+use Rattle.zst_model.specs.states.State.{number_bound, index_bound, is_spill_size, IsHead, IsBonus}
+use Rattle.zst_model.specs.states.Apply.{within}
 use Rattle.zst_objset.specs.declared.rows.StoredObject.{StoredObject}
 use Rattle.zst_objset.specs.declared.rows.ObjectRow.{ObjectRow}
 use Rattle.zst_objset.specs.declared.rows.IndexRow.{IndexRow}

@@ -2,10 +2,10 @@ ghost use Rattle.std.specs.Prelude.{◌≡◌, ◌⊎◌, ◌^◌, ◌+◌, ◌*
 ghost use Rattle.zst_space.specs.FreeSectors.{FreeSectors};
 ghost use Rattle.zst_block.specs.Blocks.{Has};
 ghost use Rattle.zst_block.specs.Ptr.{PtrFits};
-ghost use Rattle.zst_model.specs.State.{number_bound, index_bound, is_spill_size, IsHead, IsBonus};
-ghost use Rattle.zst_model.specs.Dated.{DatedState, size_at, apply_dated};
-ghost use Rattle.zst_model.specs.declared.item.Change.TheVariants.{Put, Spill, Free, Write};
-ghost use Rattle.zst_model.specs.declared.item.Item.TheVariants.{At, FreeObjects};
+ghost use Rattle.zst_model.specs.states.State.{number_bound, index_bound, is_spill_size, IsHead, IsBonus};
+ghost use Rattle.zst_model.specs.states.Dated.{DatedState, size_at, apply_dated};
+ghost use Rattle.zst_model.specs.declared.states.item.Change.TheVariants.{Put, Spill, Free, Write};
+ghost use Rattle.zst_model.specs.declared.states.item.Item.TheVariants.{At, FreeObjects};
 ghost use Rattle.zst_objset.specs.Rows.{AreRows, IsObjectRow, IsIndexRow, with_numbers, with_indices, spilled, kept_spill, has_size, stored_at, is_of_number};
 ghost use Rattle.zst_objset.specs.Meaning.{SetIs, Makes};
 ghost use Rattle.zst_objset.specs.Spelling.{lists_bytes};

@@ -1,6 +1,6 @@
 ghost use Rattle.std.specs.Prelude.{◌≡◌, ◌^◌, ◌<◌, ◌++◌, ℕ, List, length, flat_map, Option, Some, All, IfOk, IfSome, IsSomeAnd};
 ghost use Rattle.zst_bytes.specs.Words.{word};
-ghost use Rattle.zst_model.specs.declared.attr.ObjectHead.{ObjectHead};
+ghost use Rattle.zst_model.specs.declared.states.attr.ObjectHead.{ObjectHead};
 ghost use Rattle.zst_objset.specs.Rows.{Lists, IsStored, IsObjectRow, IsIndexRow, AreRows};
 ghost use Rattle.zst_objset.specs.Spelling.{stored_bytes, object_bytes, index_bytes, lists_bytes, IsRun};
 ghost use Rattle.zst_objset.specs.declared.rows.StoredObject.{StoredObject};

@@ -1,9 +1,9 @@
 ghost use Rattle.std.specs.Prelude.{◌≡◌, ◌<◌, ◌≤◌, ◌+◌, true, ℕ, List, Some, IfSome, option_copied};
 ghost use Rattle.zst_space.specs.FreeSectors.{FreeSectors};
 ghost use Rattle.zst_block.specs.Blocks.{Has};
-ghost use Rattle.zst_model.specs.State.{Object, attr_at, end_of, index_bound};
-ghost use Rattle.zst_model.specs.Apply.{within};
-ghost use Rattle.zst_model.specs.Dated.{DatedState};
+ghost use Rattle.zst_model.specs.states.State.{Object, attr_at, end_of, index_bound};
+ghost use Rattle.zst_model.specs.states.Apply.{within};
+ghost use Rattle.zst_model.specs.states.Dated.{DatedState};
 ghost use Rattle.zst_objset.specs.Rows.{no_lists, number_row, index_row, stored_at, date_at, ptr_at, IsBeside, IsBoundBelow, IsStored, IsObjectRow};
 ghost use Rattle.zst_objset.specs.Meaning.{AttrIs, SetIs};
 

@@ -1,7 +1,7 @@
 //! Whether rows are in their ranges.
 ghost use Rattle.std.specs.Prelude.{◌≡◌, ◌⊎◌, ◌+◌, ◌^◌, ◌<◌, ◌≤◌, ◌↔◌, true, length, All, IsTrue};
 ghost use Rattle.zst_block.specs.Ptr.{PtrFits};
-ghost use Rattle.zst_model.specs.State.{index_bound, is_block_size, is_spill_size, number_bound, IsHead, IsBonus};
+ghost use Rattle.zst_model.specs.states.State.{index_bound, is_block_size, is_spill_size, number_bound, IsHead, IsBonus};
 
 use crate::rows::{INDEX_BOUND, IndexRow, ObjectRow, StoredObject};
 use zst_block::Ptr;
@@ -11,7 +11,7 @@ use zst_model::ObjectHead;
 const NUMBER_BOUND: u64 = 1 << 48;
 
 // Whether a block may have so many bytes: a multiple of 512 from 512 to 131,072.
-#[tactic(auto, unfolding(zst_model::specs::State::is_block_size, zst_model::specs::State::largest_block))]
+#[tactic(auto, unfolding(zst_model::specs::states::State::is_block_size, zst_model::specs::states::State::largest_block))]
 fn is_size(bytes: u32) -> bool
     ensures { result ≡ is_block_size bytes }
 {
@@ -19,7 +19,7 @@ fn is_size(bytes: u32) -> bool
 }
 
 // Whether a spill block may have so many bytes: a multiple of 512 from 512 to 131,072.
-#[tactic(auto, unfolding(zst_model::specs::State::is_spill_size))]
+#[tactic(auto, unfolding(zst_model::specs::states::State::is_spill_size))]
 fn is_spill_size(bytes: u32) -> bool
     ensures { result ≡ is_spill_size bytes }
 {
@@ -27,7 +27,7 @@ fn is_spill_size(bytes: u32) -> bool
 }
 
 // Whether `count` indices from a first one on are at least one, and stand below the bound.
-#[tactic(auto, unfolding(zst_model::specs::State::index_bound))]
+#[tactic(auto, unfolding(zst_model::specs::states::State::index_bound))]
 fn are_indices(first: u64, count: u64) -> bool
     ensures { IsTrue result ↔ ((0 < count) × (first + count ≤ index_bound)) }
 {
@@ -35,7 +35,7 @@ fn are_indices(first: u64, count: u64) -> bool
 }
 
 // Whether `count` object numbers from a first one on are at least one, and stand below the bound.
-#[tactic(auto, unfolding(zst_model::specs::State::number_bound))]
+#[tactic(auto, unfolding(zst_model::specs::states::State::number_bound))]
 fn are_numbers(first: u64, count: u64) -> bool
     ensures { IsTrue result ↔ ((0 < first) × (0 < count) × (first + count ≤ number_bound)) }
 {

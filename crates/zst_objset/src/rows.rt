@@ -1,5 +1,5 @@
 ghost use Rattle.std.specs.Prelude.{◌≡◌};
-ghost use Rattle.zst_model.specs.Apply.{within};
+ghost use Rattle.zst_model.specs.states.Apply.{within};
 ghost use Rattle.zst_objset.specs.Rows.{covers_range};
 
 use zst_block::Ptr;
@@ -69,7 +69,7 @@ pub struct IndexRow {
 
 impl IndexRow {
     ghost use Rattle.std.specs.Prelude.{◌≡◌, ◌<◌, ◌≤◌, ◌+◌};
-    ghost use Rattle.zst_model.specs.State.{number_bound};
+    ghost use Rattle.zst_model.specs.states.State.{number_bound};
     ghost use Rattle.zst_objset.specs.Rows.{is_of_index, covers_indices, all_holes, IsIndexRow};
 
     /// Holes at all indices of some objects, with their date.

@@ -1,5 +1,5 @@
 ghost use Rattle.std.specs.Prelude.{◌≡◌, ◌<◌, true};
-ghost use Rattle.zst_model.specs.State.{index_bound, is_block_size, is_spill_size};
+ghost use Rattle.zst_model.specs.states.State.{index_bound, is_block_size, is_spill_size};
 
 use crate::Flat;
 use std::alloc::{AllocError, Global};
@@ -9,7 +9,7 @@ use zst_fletcher::Sum;
 use zst_model::{Bytes, ObjectHead};
 
 // A pointer to data of a commit.
-#[tactic(auto, unfolding(zst_model::specs::State::is_spill_size))]
+#[tactic(auto, unfolding(zst_model::specs::states::State::is_spill_size))]
 fn data(number: u64) -> Ptr
     ensures kind { result.kind ≡ 1 }
     ensures size { is_spill_size result.length ≡ true }
@@ -30,7 +30,7 @@ fn data(number: u64) -> Ptr
 }
 
 // Puts object 1, the contents of a file, without a bonus.
-#[tactic(auto, unfolding(zst_model::specs::State::number_bound))]
+#[tactic(auto, unfolding(zst_model::specs::states::State::number_bound))]
 fn put_file(
     flat: &mut Flat,
     alloc: Global,
@@ -49,7 +49,7 @@ fn put_file(
 }
 
 // Writes the blocks of object 1 below an index.
-#[tactic(auto, unfolding(zst_model::specs::State::number_bound))]
+#[tactic(auto, unfolding(zst_model::specs::states::State::number_bound))]
 fn write_blocks(flat: &mut Flat, count: u64, number: u64) -> Result<(), AllocError>
     requires { count < index_bound }
 {
@@ -69,7 +69,7 @@ fn check(rt: &impl Abort, flat: &Flat, expected: &[(u8, u64)], end: u64) {
 }
 
 #[test]
-#[tactic(auto, unfolding(zst_model::specs::State::number_bound, zst_model::specs::State::index_bound, zst_model::specs::State::is_block_size, zst_model::specs::State::largest_block))]
+#[tactic(auto, unfolding(zst_model::specs::states::State::number_bound, zst_model::specs::states::State::index_bound, zst_model::specs::states::State::is_block_size, zst_model::specs::states::State::largest_block))]
 fn an_object_that_is_made_again_has_new_holes(rt: HostRuntime) -> Result<(), AllocError> {
     let mut flat = Flat::new(rt.alloc());
     check(&rt, &flat, &[(0, 0), (0, 0)], 0);
@@ -89,7 +89,7 @@ fn an_object_that_is_made_again_has_new_holes(rt: HostRuntime) -> Result<(), All
 }
 
 #[test]
-#[tactic(auto, unfolding(zst_model::specs::State::index_bound, zst_model::specs::State::is_block_size, zst_model::specs::State::largest_block))]
+#[tactic(auto, unfolding(zst_model::specs::states::State::index_bound, zst_model::specs::states::State::is_block_size, zst_model::specs::states::State::largest_block))]
 fn an_equal_block_size_keeps_the_blocks(rt: HostRuntime) -> Result<(), AllocError> {
     let mut flat = Flat::new(rt.alloc());
     put_file(&mut flat, rt.alloc(), 512, false, 1)?;
@@ -104,7 +104,7 @@ fn an_equal_block_size_keeps_the_blocks(rt: HostRuntime) -> Result<(), AllocErro
 }
 
 #[test]
-#[tactic(auto, unfolding(zst_model::specs::State::number_bound, zst_model::specs::State::index_bound, zst_model::specs::State::is_block_size, zst_model::specs::State::largest_block))]
+#[tactic(auto, unfolding(zst_model::specs::states::State::number_bound, zst_model::specs::states::State::index_bound, zst_model::specs::states::State::is_block_size, zst_model::specs::states::State::largest_block))]
 fn a_punch_is_of_its_indices_alone(rt: HostRuntime) -> Result<(), AllocError> {
     let mut flat = Flat::new(rt.alloc());
     put_file(&mut flat, rt.alloc(), 512, false, 1)?;
@@ -127,7 +127,7 @@ fn a_punch_is_of_its_indices_alone(rt: HostRuntime) -> Result<(), AllocError> {
 }
 
 #[test]
-#[tactic(auto, unfolding(zst_model::specs::State::number_bound, zst_model::specs::State::index_bound, zst_model::specs::State::is_block_size, zst_model::specs::State::largest_block))]
+#[tactic(auto, unfolding(zst_model::specs::states::State::number_bound, zst_model::specs::states::State::index_bound, zst_model::specs::states::State::is_block_size, zst_model::specs::states::State::largest_block))]
 fn a_range_of_numbers_is_dated(rt: HostRuntime) -> Result<(), AllocError> {
     let mut flat = Flat::new(rt.alloc());
     put_file(&mut flat, rt.alloc(), 512, false, 1)?;
@@ -146,7 +146,7 @@ fn a_range_of_numbers_is_dated(rt: HostRuntime) -> Result<(), AllocError> {
 }
 
 #[test]
-#[tactic(auto, unfolding(zst_model::specs::State::number_bound, zst_model::specs::State::index_bound, zst_model::specs::State::is_block_size, zst_model::specs::State::largest_block))]
+#[tactic(auto, unfolding(zst_model::specs::states::State::number_bound, zst_model::specs::states::State::index_bound, zst_model::specs::states::State::is_block_size, zst_model::specs::states::State::largest_block))]
 fn a_block_that_is_written_again_has_one_row(rt: HostRuntime) -> Result<(), AllocError> {
     let mut flat = Flat::new(rt.alloc());
     put_file(&mut flat, rt.alloc(), 512, false, 1)?;
@@ -170,7 +170,7 @@ fn spill_kind(flat: &Flat) -> u8 {
 }
 
 #[test]
-#[tactic(auto, unfolding(zst_model::specs::State::is_block_size, zst_model::specs::State::largest_block))]
+#[tactic(auto, unfolding(zst_model::specs::states::State::is_block_size, zst_model::specs::states::State::largest_block))]
 fn a_spill_goes_unless_it_is_kept(rt: HostRuntime) -> Result<(), AllocError> {
     let mut flat = Flat::new(rt.alloc());
     flat.put_spill(1, data(1), 1);

@@ -4,11 +4,11 @@ use Rattle.std.proofs.Common.{inl, inr, ℕ, List, [], ◌∷◌, filter}
 use Rattle.zst_uber.specs.Reading.{Grows}
 use Rattle.zst_uber.specs.declared.uber.Uber.{Uber}
 use Rattle.zst_block.specs.declared.ptr.Ptr.{Ptr}
-use Rattle.zst_model.specs.declared.attr.Attr.{Attr}
-use Rattle.zst_model.specs.State.{Block}
-use Rattle.zst_model.specs.Dated.{DatedState}
-use Rattle.zst_model.specs.Pool.{Pool}
-use Rattle.zst_model.specs.Pool as plain
+use Rattle.zst_model.specs.declared.states.attr.Attr.{Attr}
+use Rattle.zst_model.specs.states.State.{Block}
+use Rattle.zst_model.specs.states.Dated.{DatedState}
+use Rattle.zst_model.specs.pools.Pool.{Pool}
+use Rattle.zst_model.specs.pools.Pool as plain
 use Rattle.zst_tree.specs.declared.tree.ObjSet.{ObjSet}
 use Rattle.zst_dir.specs.Rows.{Rows}
 use Rattle.zst_objset.specs.Rows.{Lists, no_lists}

@@ -2,10 +2,10 @@
 ghost use Rattle.std.specs.Prelude.{◌≡◌, ◌||◌, ◌+◌, ◌<◌, ◌≤◌, ◌^◌, false, true, [], length, IfErr, IfOk, IfSome, OnOk, OnErr};
 ghost use Rattle.zst_block.specs.Blocks.{FitsDisk, FillsFree, Has};
 ghost use Rattle.zst_names.specs.Names.{IsDataset};
-ghost use Rattle.zst_model.specs.State.{IsHead, IsBonus, IsSpill};
-ghost use Rattle.zst_model.specs.Dated.{DatedState};
-ghost use Rattle.zst_model.specs.Pool.{Pool, IsPool};
-ghost use Rattle.zst_model.specs.Step.{on_head, punched, written};
+ghost use Rattle.zst_model.specs.states.State.{IsHead, IsBonus, IsSpill};
+ghost use Rattle.zst_model.specs.states.Dated.{DatedState};
+ghost use Rattle.zst_model.specs.pools.Pool.{Pool, IsPool};
+ghost use Rattle.zst_model.specs.pools.Step.{on_head, punched, written};
 ghost use Rattle.zst_pool.specs.Checks.{FindsHead, freed, next_of, put_in, with_head_of};
 ghost use Rattle.zst_pool.specs.Faults.{HasDiskCause, IsStepFault, WriteFault, is_disk_fault};
 ghost use Rattle.zst_pool.specs.Reads.{Rests, RowsAre, dir_sectors, free_by};

@@ -4,10 +4,10 @@ use Rattle.zst_outside.specs.Images.{DiskState}
 use Rattle.zst_outside.specs.Ranges.{Torn}
 use Rattle.zst_space.specs.FreeSectors.{FreeSectors}
 use Rattle.zst_block.specs.Blocks.{Has, IsTaken, SparesTaken}
-use Rattle.zst_block.specs.BlocksLaws.{Has-spared, Has-head}
+use Rattle.zst_block.proofs.BlocksLaws.{Has-spared, Has-head}
 use Rattle.zst_block.specs.declared.ptr.Ptr.{Ptr}
 use Rattle.zst_uber.specs.Slots.{latest, Stands}
-use Rattle.zst_uber.specs.SlotsLaws.{latest-head}
+use Rattle.zst_uber.proofs.SlotsLaws.{latest-head}
 use Rattle.zst_uber.specs.Commit.{HasOldOrNew}
 use Rattle.zst_uber.specs.declared.uber.Uber.{Uber}
 

@@ -1,7 +1,7 @@
 use Rattle.std.proofs.Common.{◌≡◌, ◌-◌, inl, inr, arith, sym, ap, ◌∙◌, lit≤}
 use Rattle.std.proofs.lemmas.Bool.{cases_lt}
 use Rattle.zst_block.specs.Blocks.{Has}
-use Rattle.zst_model.specs.State.{index_bound}
+use Rattle.zst_model.specs.states.State.{index_bound}
 use Rattle.zst_objset.specs.Rows.{ptr_at}
 use Rattle.zst_objset.proofs.Ends.{holes_below, end_is}
 use Rattle.zst_objset.proofs.flat.Flat.end.Goals as goal

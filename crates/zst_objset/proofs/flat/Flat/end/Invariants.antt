@@ -1,5 +1,5 @@
 use Rattle.std.proofs.Common.{◌≡◌, ℕ, ◌<◌, ◌≤◌}
-use Rattle.zst_model.specs.State.{index_bound}
+use Rattle.zst_model.specs.states.State.{index_bound}
 use Rattle.zst_objset.specs.Rows.{ptr_at}
 use Rattle.zst_objset.proofs.flat.Flat.end.Given as goal
 

@@ -2,7 +2,7 @@ use Rattle.std.proofs.Common.{◌≡◌, true, length, Some, ap, subst, sym, ◌
 use Rattle.std.specs.Prelude.{position}
 use Rattle.std.proofs.lemmas.List.Elements.{All-set, All-get_or}
 use Rattle.zst_block.specs.Blocks.{Has}
-use Rattle.zst_model.specs.State.{is_spill_size}
+use Rattle.zst_model.specs.states.State.{is_spill_size}
 use Rattle.zst_objset.specs.Meaning.{SetIs}
 use Rattle.zst_objset.specs.Rows.{Lists, IsObjectRow, is_of_number}
 use Rattle.zst_objset.specs.Spelling.{lists_bytes}

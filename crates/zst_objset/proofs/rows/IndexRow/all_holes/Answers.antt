@@ -1,5 +1,5 @@
 use Rattle.std.proofs.Common.{◌≡◌, rules, arith, ap, lit≤}
-use Rattle.zst_model.specs.State.{index_bound}
+use Rattle.zst_model.specs.states.State.{index_bound}
 use Rattle.zst_objset.proofs.rows.IndexRow.all_holes.Goals as goal
 
 pub returns-clause-row : goal.returns-clause-row
