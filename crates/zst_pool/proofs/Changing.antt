@@ -25,8 +25,8 @@ use Rattle.zst_model.specs.pools.Pool.{Pool}
 use Rattle.zst_model.specs.refusals.Refusal.{refusal_of}
 use Rattle.zst_model.specs.pools.Step.{applied, cannot_apply, committed, in_indices, in_numbers, of_applying, filled, punched, written}
 use Rattle.zst_pool.specs.Checks.{ChangesHead, PlansHead, freed, next_of, put_in, with_head_of}
-use Rattle.zst_objset.specs.Meaning.{Blocks, AttrIs, SetIs}
-use Rattle.zst_objset.specs.Rows.{Lists}
+use Rattle.zst_flat.specs.Meaning.{Blocks, AttrIs, SetIs}
+use Rattle.zst_flat.specs.Rows.{Lists}
 use Rattle.zst_pool.specs.Faults.{WriteFault}
 use Rattle.zst_pool.specs.declared.fault.PoolFault.{PoolFault}
 use Rattle.zst_pool.specs.declared.fault.PoolFault.TheVariants.{Plan}
@@ -34,7 +34,7 @@ use Rattle.zst_pool.proofs.Doing.{write_fault}
 use Rattle.zst_pool.proofs.Judging.{err_is}
 use Rattle.zst_model.specs.declared.states.attr.ObjectHead.{ObjectHead}
 use Rattle.zst_model.specs.sends.Items.{spill_change}
-use Rattle.zst_objset.specs.declared.rows.StoredObject.{StoredObject}
+use Rattle.zst_flat.specs.declared.rows.StoredObject.{StoredObject}
 
 -- a range that ends at or below its bound passes, and one that doesn't is refused
 pub numbers_pass : {A : Type 0} (past : ℕ) (rest : Result A Refusal) → nat_lt (2 ^ 48) past ≡ false → in_numbers past rest ≡ rest

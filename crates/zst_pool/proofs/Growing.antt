@@ -11,13 +11,13 @@ use Rattle.zst_model.specs.pools.Pool.{Pool}
 use Rattle.zst_model.specs.pools.Pool as plain
 use Rattle.zst_tree.specs.declared.tree.ObjSet.{ObjSet}
 use Rattle.zst_dir.specs.Rows.{Rows}
-use Rattle.zst_objset.specs.Rows.{Lists, no_lists}
-use Rattle.zst_objset.specs.Meaning.{Blocks, BlockIs, SpillIs, AttrIs, SetIs}
+use Rattle.zst_flat.specs.Rows.{Lists, no_lists}
+use Rattle.zst_flat.specs.Meaning.{Blocks, BlockIs, SpillIs, AttrIs, SetIs}
 use Rattle.zst_pool.specs.Reads.{Match, RootIs, HeadIs, DatasetIs, SnapshotIs, PartialIs, RowsAre, HasDir, Describes}
 use Rattle.zst_dir.specs.declared.rows.Dataset.{Dataset}
 use Rattle.zst_dir.specs.declared.rows.Snapshot.{Snapshot}
 use Rattle.zst_dir.specs.declared.rows.Partial.{Partial}
-use Rattle.zst_objset.specs.declared.rows.StoredObject.{StoredObject}
+use Rattle.zst_flat.specs.declared.rows.StoredObject.{StoredObject}
 
 -- each block of the first is one of the second
 abbrev pub AreMore : Blocks → Blocks → Type 0

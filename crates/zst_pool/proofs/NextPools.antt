@@ -23,8 +23,8 @@ use Rattle.zst_pool.specs.Checks.{freed, next_of, put_in, with_head_of, with_new
 use Rattle.zst_dir.specs.Rows.{Rows, HasDataset, HasSnapshot, IsPartialRow}
 use Rattle.zst_dir.specs.Rows as dir_rows
 use Rattle.zst_pool.specs.Reads.{Describes, DatasetIs, SnapshotIs, HeadIs}
-use Rattle.zst_objset.specs.Meaning.{Blocks, SetIs}
-use Rattle.zst_objset.specs.Rows.{no_lists}
+use Rattle.zst_flat.specs.Meaning.{Blocks, SetIs}
+use Rattle.zst_flat.specs.Rows.{no_lists}
 use Rattle.zst_pool.specs.Work.{NextIs}
 use Rattle.zst_dir.specs.declared.rows.Dataset.{Dataset}
 use Rattle.zst_dir.specs.declared.rows.Partial.{Partial}

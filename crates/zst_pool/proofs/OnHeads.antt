@@ -11,9 +11,9 @@ use Rattle.zst_model.specs.states.Apply.{◌>>=◌}
 use Rattle.zst_model.specs.states.Dated.{DatedState}
 use Rattle.zst_model.specs.pools.Pool.{Pool, IsPool}
 use Rattle.zst_model.specs.pools.Step.{Stepped, committed, on_head}
-use Rattle.zst_objset.specs.Meaning.{SetIs}
-use Rattle.zst_objset.specs.Rows.{Lists}
-use Rattle.zst_objset.specs.Spelling.{lists_bytes}
+use Rattle.zst_flat.specs.Meaning.{SetIs}
+use Rattle.zst_flat.specs.Rows.{Lists}
+use Rattle.zst_flat.specs.Spelling.{lists_bytes}
 use Rattle.zst_pool.specs.Checks.{ChangesHead, FindsHead, next_of, with_head_of}
 use Rattle.zst_pool.specs.Faults.{HasDiskCause, IsStepFault, StepFault, WriteFault, is_disk_fault}
 use Rattle.zst_pool.specs.Reads.{Rests, RowsAre, dir_sectors, free_by}

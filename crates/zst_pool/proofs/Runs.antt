@@ -7,9 +7,9 @@ use Rattle.zst_bytes.proofs.BytesLaws.{length-number_bytes}
 use Rattle.zst_block.specs.declared.ptr.Ptr.{Ptr}
 use Rattle.zst_model.specs.states.Dated.{DatedState}
 use Rattle.zst_model.specs.states.State.{is_block_size, largest_block}
-use Rattle.zst_objset.specs.Rows.{Lists}
-use Rattle.zst_objset.specs.Meaning.{Blocks, SetIs}
-use Rattle.zst_objset.specs.Spelling.{IsRun, lists_bytes, object_bytes, index_bytes}
+use Rattle.zst_flat.specs.Rows.{Lists}
+use Rattle.zst_flat.specs.Meaning.{Blocks, SetIs}
+use Rattle.zst_flat.specs.Spelling.{IsRun, lists_bytes, object_bytes, index_bytes}
 use Rattle.zst_pool.specs.Reads.{RootIs}
 use Rattle.zst_pool.specs.Work.{ReadAnswer}
 use Rattle.zst_pool.specs.declared.fault.PoolFault.{PoolFault}

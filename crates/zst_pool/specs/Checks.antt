@@ -18,8 +18,8 @@ use Rattle.zst_model.specs.refusals.Refusal.{refusal_of}
 use Rattle.zst_model.specs.pools.Step.{Stepped, exists_already, limited, last_guid, most_snapshots, on_dataset, on_head, committed, with_head, new_dataset, snapshot_of, with_snapshot, applied, in_numbers}
 use Rattle.zst_pool.specs.Faults.{StepFault}
 use Rattle.zst_pool.specs.Reads.{DatasetIs}
-use Rattle.zst_objset.specs.Meaning.{Blocks, SetIs}
-use Rattle.zst_objset.specs.Rows.{Lists}
+use Rattle.zst_flat.specs.Meaning.{Blocks, SetIs}
+use Rattle.zst_flat.specs.Rows.{Lists}
 use Rattle.zst_dir.specs.declared.rows.Dataset.{Dataset}
 use Rattle.zst_pool.specs.declared.fault.PoolFault.{PoolFault}
 

@@ -20,9 +20,9 @@ use Rattle.zst_dir.specs.declared.rows.Dataset.{Dataset}
 use Rattle.zst_dir.specs.declared.rows.Snapshot.{Snapshot}
 use Rattle.zst_dir.specs.declared.rows.Bookmark.{Bookmark}
 use Rattle.zst_dir.specs.declared.rows.Partial.{Partial}
-use Rattle.zst_objset.specs.Rows.{Lists, no_lists}
-use Rattle.zst_objset.specs.Meaning.{Blocks, SetIs}
-use Rattle.zst_objset.specs.Spelling.{IsRun}
+use Rattle.zst_flat.specs.Rows.{Lists, no_lists}
+use Rattle.zst_flat.specs.Meaning.{Blocks, SetIs}
+use Rattle.zst_flat.specs.Spelling.{IsRun}
 
 -- each element of a list matches the one at its place in the other, and there are as many
 abbrev pub Match : {A B : Type 0} → (A → B → Type 0) → List A → List B → Type 0

@@ -11,7 +11,7 @@ use Rattle.zst_model.specs.declared.refusals.refusal.Refusal.{Refusal}
 use Rattle.zst_model.specs.pools.Pool.{Pool, IsPool}
 use Rattle.zst_model.specs.pools.Step.{Stepped}
 use Rattle.zst_dir.specs.Rows.{Rows}
-use Rattle.zst_objset.specs.Meaning.{Blocks}
+use Rattle.zst_flat.specs.Meaning.{Blocks}
 use Rattle.zst_pool.specs.Faults.{HasDiskCause, is_disk_fault, ReadFault, WriteFault, StepFault}
 use Rattle.zst_pool.specs.Reads.{Reads, RowsAre, Rests, BeforeOrAfter}
 use Rattle.zst_pool.specs.declared.fault.PoolFault.{PoolFault}

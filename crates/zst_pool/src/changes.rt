@@ -13,8 +13,8 @@ ghost use Rattle.zst_model.specs.pools.Pool.{Pool};
 ghost use Rattle.zst_model.specs.pools.Step.{filled, punched, written};
 ghost use Rattle.zst_pool.specs.Checks.{ChangesHead, PlansHead, freed, put_in};
 ghost use Rattle.zst_pool.specs.Faults.{IsStepFault, WriteFault, is_disk_fault};
-ghost use Rattle.zst_objset.specs.Meaning.{SetIs};
-ghost use Rattle.zst_objset.specs.Spelling.{lists_bytes};
+ghost use Rattle.zst_flat.specs.Meaning.{SetIs};
+ghost use Rattle.zst_flat.specs.Spelling.{lists_bytes};
 ghost use Rattle.zst_pool.specs.Room.{FullBelow, NotFull};
 ghost use Rattle.zst_pool.specs.Work.{Works};
 
@@ -24,7 +24,7 @@ use crate::sets::put_block;
 use std::alloc::{AllocError, Global};
 use zst_block::Io;
 use zst_model::{ApplyFault, Bytes, ObjectHead, PlanFault, Quantity};
-use zst_objset::Flat;
+use zst_flat::Flat;
 use zst_outside::Disk;
 
 /// Object numbers stand below this.

@@ -10,7 +10,7 @@ ghost use Rattle.zst_pool.specs.Checks.{FindsHead, freed, next_of, put_in, with_
 ghost use Rattle.zst_pool.specs.Faults.{HasDiskCause, IsStepFault, WriteFault, is_disk_fault};
 ghost use Rattle.zst_pool.specs.Reads.{Rests, RowsAre, dir_sectors, free_by};
 ghost use Rattle.zst_pool.specs.Room.{AreHeadRows, FindsNoRoom, FullBelow, NotFull, set_sectors};
-ghost use Rattle.zst_objset.specs.Meaning.{SetIs};
+ghost use Rattle.zst_flat.specs.Meaning.{SetIs};
 ghost use Rattle.zst_pool.specs.Work.{Commits, Did, Ready, Works};
 
 use crate::changes::{change_block, change_holes, change_numbers, change_object};
@@ -24,7 +24,7 @@ use zst_block::Io;
 use zst_laws::steps_keep_pools;
 use zst_model::{Bytes, ObjectHead};
 use zst_names::DatasetName;
-use zst_objset::Flat;
+use zst_flat::Flat;
 use zst_outside::Disk;
 
 /// Reads the rows of the head of a dataset that has no partial state.

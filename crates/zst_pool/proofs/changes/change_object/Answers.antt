@@ -8,7 +8,7 @@ use Rattle.zst_model.specs.states.Apply.{◌>>=◌}
 use Rattle.zst_model.specs.states.Dated.{DatedState, apply_all_dated, apply_dated}
 use Rattle.zst_model.specs.sends.Items.{spill_change}
 use Rattle.zst_pool.specs.Checks.{ChangesHead, put_in}
-use Rattle.zst_objset.specs.Meaning.{SetIs}
+use Rattle.zst_flat.specs.Meaning.{SetIs}
 use Rattle.zst_pool.proofs.Changing.{changed_by_spill, none_left, put_first, spill_is}
 use Rattle.zst_pool.proofs.Judging.{err_is}
 use Rattle.zst_pool.proofs.Known.{if_known_write}

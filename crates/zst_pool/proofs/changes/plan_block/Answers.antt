@@ -14,7 +14,7 @@ use Rattle.zst_model.specs.pools.Pool.{Pool}
 use Rattle.zst_model.specs.pools.Step.{committed, filled, in_indices, written}
 use Rattle.zst_pool.specs.Checks.{with_head_of}
 use Rattle.zst_pool.specs.Faults.{StepFault}
-use Rattle.zst_objset.specs.Meaning.{SetIs}
+use Rattle.zst_flat.specs.Meaning.{SetIs}
 use Rattle.zst_pool.proofs.Changing.{IsThere, none_at, planned_last, refused, stored_at, indices_end, indices_pass, not_odd_first, not_odd_size, odd_later, size_over_none, written_absent, written_long, written_odd, written_there}
 use Rattle.zst_pool.proofs.changes.plan_block.Goals as goal
 use Rattle.zst_pool.proofs.changes.plan_block.Goals.{In-Some, Joined-else-index-gt0, Else-index-ge-INDEX_BOUND, else-index-gt0-via-then-index-gt0+else-size-ne1, else-index-gt0-via-else-index-gt0}

@@ -11,7 +11,7 @@ use Rattle.zst_model.specs.pools.Pool.{Pool}
 use Rattle.zst_model.specs.pools.Step.{committed, in_indices, punched}
 use Rattle.zst_pool.specs.Checks.{with_head_of}
 use Rattle.zst_pool.specs.Faults.{StepFault}
-use Rattle.zst_objset.specs.Meaning.{SetIs}
+use Rattle.zst_flat.specs.Meaning.{SetIs}
 use Rattle.zst_pool.proofs.Changing.{none_at, planned_last, refused, stored_at, none_copied, some_copied, indices_pass, indices_end, punched_absent, punched_there}
 use Rattle.zst_pool.proofs.changes.plan_holes.Goals as goal
 use Rattle.zst_pool.proofs.changes.plan_holes.Goals.{Else-is_none}

@@ -5,8 +5,8 @@ use Rattle.zst_model.specs.declared.refusals.refusal.Refusal.{Refusal}
 use Rattle.zst_model.specs.states.Apply.{◌>>=◌}
 use Rattle.zst_model.specs.pools.Pool.{Dataset, Pool}
 use Rattle.zst_model.specs.pools.Step.{Stepped, committed, on_dataset, on_head}
-use Rattle.zst_objset.specs.Meaning.{Blocks, SetIs}
-use Rattle.zst_objset.specs.Rows.{Lists}
+use Rattle.zst_flat.specs.Meaning.{Blocks, SetIs}
+use Rattle.zst_flat.specs.Rows.{Lists}
 use Rattle.zst_pool.specs.Checks.{FindsHead, with_head_of}
 use Rattle.zst_pool.specs.Work.{ReadAnswer}
 use Rattle.zst_pool.specs.declared.fault.PoolFault.{PoolFault}
