@@ -18,6 +18,7 @@ pub use refusals::faults::{Flaw, Lack, Quantity};
 pub use refusals::named::{Holder, Missing, Name, Present, ResumePlace};
 pub use refusals::plan_fault::PlanFault;
 pub use refusals::refusal::Refusal;
+pub use refusals::stream_fault::StreamFault;
 pub use refusals::text::{Text, guid_text};
 pub use sends::header::{Header, Point};
 pub use states::attr::{Attr, ObjectHead};
