@@ -21,6 +21,7 @@ pub use refusals::refusal::Refusal;
 pub use refusals::stream_fault::StreamFault;
 pub use refusals::text::{Text, guid_text};
 pub use sends::header::{Header, Point};
+pub use sends::points::point_after;
 pub use states::attr::{Attr, ObjectHead};
 pub use states::cell::{Cell, Run};
 pub use states::item::{Change, Item};
