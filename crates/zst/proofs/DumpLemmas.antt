@@ -9,10 +9,9 @@ use Rattle.zst_outside.specs.declared.Fault.{Fault}
 use Rattle.zst_model.specs.declared.refusals.faults.Quantity.TheVariants.{Stream}
 use Rattle.zst_model.specs.declared.refusals.refusal.Refusal.{Refusal}
 use Rattle.zst_model.specs.declared.refusals.refusal.Refusal.TheVariants as refusals
-use Rattle.zst_record.specs.Faults.{refusal_of}
 use Rattle.zst_record.specs.Heads.{Covered}
-use Rattle.zst_record.specs.declared.fault.StreamFault.{StreamFault}
-use Rattle.zst_record.specs.declared.fault.StreamFault.TheVariants as faults
+use Rattle.zst_model.specs.declared.refusals.stream_fault.StreamFault.{StreamFault}
+use Rattle.zst_model.specs.declared.refusals.stream_fault.StreamFault.TheVariants as faults
 use Rattle.zst_stream.specs.Reading.{Reading, Outcome, waiting, faulty, complete, reading}
 use Rattle.zst_stream.specs.Growth.{front}
 use Rattle.zst_stream.specs.Findings.{Finds-reading, FindsAtEnd}
@@ -172,29 +171,23 @@ uncompleted start input begun mid out old new i n e d h p =
 
 -- why a faulty stream ends the dump
 ends_by : (text : List ℕ) (input input' : SourceState) (out out' : SinkState) (f : StreamFault) → (reading text).outcome ≡ faulty f → WroteAll text out out'
-    → FindsAtEnd (reading text).outcome → Ends text input input' out out' (Err (refusal_of f))
+    → FindsAtEnd (reading text).outcome → Ends text input input' out out' (Err (refusals.Stream f))
 ends_by text input input' out out' (faults.Grammar at flaw) is all found = (is, all)
 ends_by text input input' out out' (faults.Checksum at stated computed) is all found = (is, all)
 ends_by text input input' out out' (faults.Unsupported at lack) is all found = (is, all)
 ends_by text input input' out out' (faults.Truncated at) is all found = absurd (rw is at found)
 
-within_by : (text : List ℕ) (f : StreamFault) → length text ≤ stream_limit → IsWithin text (Err (refusal_of f))
-within_by text (faults.Grammar at flaw) h = h
-within_by text (faults.Checksum at stated computed) h = h
-within_by text (faults.Unsupported at lack) h = h
-within_by text (faults.Truncated at) h = h
-
 -- the stream is faulty
 pub refused : (start input : SourceState) (begun mid out : SinkState) (old new : Reader) (i : Intake) (n : Counts) (f : StreamFault) (result : Result (Unit {0}) Refusal)
-    → (d : Dumping start input begun mid old i n) → HandsOut new d.text d.handed (faulty f) → HandsOn mid out (Err (refusal_of f)) result
+    → (d : Dumping start input begun mid old i n) → HandsOut new d.text d.handed (faulty f) → HandsOn mid out (Err (refusals.Stream f)) result
     → Dumps start input begun out result
 refused start input begun mid out old new i n f result d h hands =
     let text = d.text ++ waiting_in i in
     let is = settled d.text (waiting_in i) d.handed (faulty f) (λ e. cc) h.whole in
     let all = all_written begun mid text d.handed (faulty f) is refl d.wrote in
     let bounded = all_read i d.text d.within in
-    ended text start input begun mid out (Err (refusal_of f)) result d.consumed all hands
-    (λ wrote. ends_by text start input begun out f (ap (λ (r : Reading). r.outcome) is) wrote (Finds-reading text)) (within_by text f bounded) bounded d.later
+    ended text start input begun mid out (Err (refusals.Stream f)) result d.consumed all hands
+    (λ wrote. ends_by text start input begun out f (ap (λ (r : Reading). r.outcome) is) wrote (Finds-reading text)) bounded bounded d.later
 
 -- ---- more of the input
 
@@ -229,7 +222,7 @@ nothing_more text pushed rest p r = rw (p, r, append-nil text, append-nil text) 
 
 pub taken_nothing : (start mid input : SourceState) (begun out : SinkState) (old lent new : Reader) (i i' : Intake) (n : Counts) (at : ℕ)
     → (d : Dumping start mid begun out old i n) → HandsOut lent d.text d.handed waiting → Takes mid input lent new i i' takens.Nothing → at ≡ length d.text → HandedOn out
-    → Dumps start input begun out (Err (refusals.Truncated at))
+    → Dumps start input begun out (Err (refusals.Stream (faults.Truncated at)))
 taken_nothing start mid input begun out old lent new i i' n at d h t is_at handed_on =
     let same = nothing_more d.text t.pushed t.rest t.took.1 t.took.2 in
     let all = all_written begun out d.text d.handed waiting h.whole refl d.wrote in

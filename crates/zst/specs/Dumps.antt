@@ -7,7 +7,7 @@ use Rattle.zst_model.specs.declared.refusals.faults.Quantity.TheVariants.{Stream
 use Rattle.zst_model.specs.declared.refusals.refusal.Refusal.{Refusal}
 use Rattle.zst_model.specs.declared.refusals.refusal.Refusal.TheVariants as refusals
 use Rattle.zst_record.specs.Heads.{Covered}
-use Rattle.zst_record.specs.declared.fault.StreamFault.TheVariants as faults
+use Rattle.zst_model.specs.declared.refusals.stream_fault.StreamFault.TheVariants as faults
 use Rattle.zst_stream.specs.Reading.{Reading, Outcome, waiting, faulty, complete, reading}
 use Rattle.zst_dump.specs.Lines.{lines_of}
 use Rattle.zst_dump.specs.Summary.{counts_of, summary_text}
@@ -30,11 +30,9 @@ WroteAll text out out' = Wrote out out' (dump_text (reading text)) [] × HandedO
 -- Why the dump of a text ended, and that it was written up to there.
 abbrev pub Ends : List ℕ → SourceState → SourceState → SinkState → SinkState → Result (Unit {0}) Refusal → Type 0
 Ends text input input' out out' (Ok done) = ((reading text).outcome ≡ complete) × WroteAll text out out'
-Ends text input input' out out' (Err (refusals.Grammar at flaw)) = ((reading text).outcome ≡ faulty (faults.Grammar at flaw)) × WroteAll text out out'
-Ends text input input' out out' (Err (refusals.Checksum at stated found)) = ((reading text).outcome ≡ faulty (faults.Checksum at stated found)) × WroteAll text out out'
-Ends text input input' out out' (Err (refusals.Unsupported at lack)) = ((reading text).outcome ≡ faulty (faults.Unsupported at lack)) × WroteAll text out out'
-Ends text input input' out out' (Err (refusals.Truncated at)) =
+Ends text input input' out out' (Err (refusals.Stream (faults.Truncated at))) =
     ((reading text).outcome ≡ waiting) × (at ≡ length text) × IsTrue input'.ended × WroteAll text out out'
+Ends text input input' out out' (Err (refusals.Stream fault)) = ((reading text).outcome ≡ faulty fault) × WroteAll text out out'
 Ends text input input' out out' (Err (refusals.Limit which number)) = (which ≡ Stream) × (number ≡ stream_limit) × (stream_limit < length text)
 Ends text input input' out out' (Err refusals.SourceFault) = ((reading text).outcome ≡ waiting) × Rose input.faults input'.faults × WroteAll text out out'
 Ends text input input' out out' (Err refusals.SinkFault) = Rose out.faults out'.faults

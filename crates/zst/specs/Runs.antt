@@ -26,10 +26,7 @@ abbrev pub status_of : Refusal → ℕ
 status_of (refusals.Usage place) = 2
 status_of (refusals.Plan fault) = plan_status fault
 status_of (refusals.BadToken place) = 2
-status_of (refusals.Grammar at flaw) = 4
-status_of (refusals.Checksum at stated found) = 4
-status_of (refusals.Unsupported at lack) = 4
-status_of (refusals.Truncated at) = 4
+status_of (refusals.Stream fault) = 4
 status_of (refusals.CannotApply place fault) = if place == 0 then 3 else 4
 status_of (refusals.Redacted object block) = 3
 status_of (refusals.Limit which number) = 9

@@ -5,7 +5,7 @@ ghost use Rattle.zst.specs.Dumping.{Dumping, HandsOn, Turned};
 use crate::intake::{Intake, STREAM_LIMIT, Taken};
 use std::alloc::Global;
 use zst_dump::{Counts, line_of, summary};
-use zst_model::{Quantity, Refusal};
+use zst_model::{Quantity, Refusal, StreamFault};
 use zst_outside::{Sink, Source};
 use zst_reader::{Reader, Step};
 
@@ -43,9 +43,9 @@ fn turn<S: Source, K: Sink>(
         Ok(Step::NeedMore) => match out.flush() {
             Ok(()) => match intake.take(reader, input) {
                 Taken::Some => None,
-                Taken::Nothing => Some(Err(Refusal::Truncated {
+                Taken::Nothing => Some(Err(Refusal::Stream(StreamFault::Truncated {
                     at: reader.pushed(),
-                })),
+                }))),
                 Taken::TooMuch => Some(Err(Refusal::Limit {
                     which: Quantity::Stream,
                     number: STREAM_LIMIT,

@@ -29,8 +29,7 @@ pub(crate) fn status_of(refusal: &Refusal) -> u8
         // BEGIN is record 0 of a stream and is never applied, so that this number is a command's.
         Refusal::CannotApply { record: 0, .. } => 3,
         Refusal::CannotApply { .. } => 4,
-        Refusal::Grammar { .. } | Refusal::Checksum { .. } => 4,
-        Refusal::Unsupported { .. } | Refusal::Truncated { .. } => 4,
+        Refusal::Stream(_) => 4,
         Refusal::SourceFault => 5,
         Refusal::SinkFault => 6,
         Refusal::DiskFault | Refusal::Failed => 7,
@@ -74,10 +73,14 @@ pub(crate) fn note_refusal<N: Sink>(refusal: &Refusal, note: &mut N)
 mod tests {
     use super::*;
     use std::process::Abort;
-    use zst_model::{ApplyFault, Flaw, Holder, Lack, Present, Quantity};
+    use zst_model::{ApplyFault, Flaw, Holder, Lack, Present, Quantity, StreamFault};
 
     fn check(rt: &impl Abort, refusal: Refusal, status: u8) {
         assert_eq!(rt; status_of(&refusal), status, "{refusal}");
+    }
+
+    fn check_stream(rt: &impl Abort, fault: StreamFault) {
+        check(rt, Refusal::from(fault), 4);
     }
 
     #[test]
@@ -107,18 +110,15 @@ mod tests {
         let flaw = Flaw::Magic;
         let lack = Lack::Kind;
         let fault = ApplyFault::NoObject;
-        check(&rt, Refusal::Grammar { at: 8, flaw }, 4);
-        check(
-            &rt,
-            Refusal::Checksum {
-                at: 8,
-                stated,
-                found,
-            },
-            4,
-        );
-        check(&rt, Refusal::Unsupported { at: 8, lack }, 4);
-        check(&rt, Refusal::Truncated { at: 8 }, 4);
+        check_stream(&rt, StreamFault::Grammar { at: 8, flaw });
+        let wrong_sum = StreamFault::Checksum {
+            at: 8,
+            stated,
+            found,
+        };
+        check_stream(&rt, wrong_sum);
+        check_stream(&rt, StreamFault::Unsupported { at: 8, lack });
+        check_stream(&rt, StreamFault::Truncated { at: 8 });
         check(&rt, Refusal::CannotApply { record: 1, fault }, 4);
     }
 

@@ -8,7 +8,6 @@ pub mod History
 pub mod Joining
 pub mod LineExample
 pub mod Meanings
-pub mod Places
 pub mod Ranges
 pub mod RedactExample
 pub mod Remembering

@@ -15,7 +15,6 @@ mod commits;
 mod dates;
 mod line_examples;
 mod meanings;
-mod points;
 mod redact_example;
 mod remembering;
 mod send_examples;
@@ -39,7 +38,6 @@ pub use meanings::{
     snapshots_keep_guids, sources_are_included, spills_are_kept, spills_fail,
     user_data_has_two_types, volumes_are_made, writes_fail,
 };
-pub use points::point_after;
 pub use redact_example::two_clones_list_one_block;
 pub use remembering::{
     history_is_base, own_is_remembered, remembered_is_base, sources_are_bases, steps_remember,

@@ -3,4 +3,5 @@ pub mod Faults
 pub mod Named
 pub mod PlanFault
 pub mod Refusal
+pub mod StreamFault
 pub mod Texts

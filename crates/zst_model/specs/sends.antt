@@ -1,5 +1,6 @@
 pub mod Included
 pub mod Items
+pub mod Places
 pub mod Points
 pub mod StandsFor
 pub mod Target

@@ -3,4 +3,5 @@ pub mod faults;
 pub mod named;
 pub mod plan_fault;
 pub mod refusal;
+pub mod stream_fault;
 pub mod text;

@@ -6,7 +6,7 @@ use Rattle.std.proofs.Math.Seq.{take-add}
 use Rattle.zst_fletcher.specs.WeightSum.{IsWhole}
 use Rattle.zst_record.specs.Heads.{size_of}
 use Rattle.zst_record.specs.declared.head.Head.{Head}
-use Rattle.zst_record.specs.declared.fault.StreamFault.{StreamFault}
+use Rattle.zst_model.specs.declared.refusals.stream_fault.StreamFault.{StreamFault}
 use Rattle.zst_stream.specs.Reading.{refuse, more, sum_fault, sealed_next, cover, opened}
 
 -- the bytes of a record, and then the next record's before its checksum

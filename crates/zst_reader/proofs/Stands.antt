@@ -4,7 +4,7 @@ use Rattle.std.proofs.lemmas.List.{append-nil, take-append-drop}
 use Rattle.std.proofs.lemmas.List.Sums.{sum_by-append}
 use Rattle.zst_record.specs.Heads.{Covered, payload_len, size_of}
 use Rattle.zst_record.specs.declared.head.Head.{Head}
-use Rattle.zst_record.specs.declared.fault.StreamFault.{StreamFault}
+use Rattle.zst_model.specs.declared.refusals.stream_fault.StreamFault.{StreamFault}
 use Rattle.zst_stream.specs.Reading.{Reading, Outcome, waiting, faulty, complete, wait, refuse, last, more, covered_at, covered_last, ends, prepend, ruling, reading_from, reading}
 use Rattle.zst_reader.specs.Window.{items}
 use Rattle.zst_reader.specs.Place.{IsPlaceAfter, IsWithin}

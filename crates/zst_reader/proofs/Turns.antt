@@ -3,7 +3,7 @@ use Rattle.std.proofs.Common.{◌≡◌, ℕ, ◌+◌, ◌≤◌, append_assoc, 
 use Rattle.std.proofs.lemmas.List.{take-append-le, drop-append-le}
 use Rattle.zst_record.specs.Heads.{Covered, payload_len, size_of}
 use Rattle.zst_record.specs.declared.head.Head.{Head}
-use Rattle.zst_record.specs.declared.fault.StreamFault.{StreamFault}
+use Rattle.zst_model.specs.declared.refusals.stream_fault.StreamFault.{StreamFault}
 use Rattle.zst_stream.specs.Reading.{Reading, wait, refuse, last, more, waiting, faulty, complete, ruling, covered_at, covered_last, after, reading_from, prepend, ends}
 use Rattle.zst_stream.specs.Growth.{ruling-grown, more-fits, part-grown}
 

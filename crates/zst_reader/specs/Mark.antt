@@ -1,8 +1,8 @@
 -- How far a reader is.
 use Rattle.std.specs.Prelude.{ℕ, Option, Some, None, Result, Ok, Err}
 use Rattle.zst_record.specs.declared.head.Head.{Head}
-use Rattle.zst_record.specs.declared.fault.StreamFault.{StreamFault}
-use Rattle.zst_record.specs.declared.fault.StreamFault.TheVariants.{Truncated}
+use Rattle.zst_model.specs.declared.refusals.stream_fault.StreamFault.{StreamFault}
+use Rattle.zst_model.specs.declared.refusals.stream_fault.StreamFault.TheVariants.{Truncated}
 use Rattle.zst_stream.specs.Reading.{Closing, closing}
 use Rattle.zst_reader.specs.declared.mark.Mark.{Mark}
 use Rattle.zst_reader.specs.declared.mark.Mark.TheVariants.{Open, Failed, Ended}

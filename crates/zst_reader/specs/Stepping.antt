@@ -3,7 +3,7 @@ use Rattle.std.specs.Prelude.{ℕ, ◌+◌, ◌<◌, ◌≡◌, List, [], ◌∷
 use Rattle.std.specs.Borrow.{MutBor, Fml}
 use Rattle.std.specs.Io.BufRead.{Rests}
 use Rattle.zst_record.specs.Heads.{Covered, payload_len, size_of, covered_of}
-use Rattle.zst_record.specs.declared.fault.StreamFault.{StreamFault}
+use Rattle.zst_model.specs.declared.refusals.stream_fault.StreamFault.{StreamFault}
 use Rattle.zst_stream.specs.Reading.{waiting, faulty, complete}
 use Rattle.zst_reader.specs.Window.{items}
 use Rattle.zst_reader.specs.Mark.{mark_after}

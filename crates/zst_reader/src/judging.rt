@@ -8,8 +8,8 @@ ghost use Rattle.zst_reader.specs.Verdict.{ruled, SumsUp, FitsIn};
 
 use crate::place::Place;
 use zst_fletcher::Sum;
-use zst_model::Lack;
-use zst_record::{Head, StreamFault, decode, get_sums, payload_is_bounded};
+use zst_model::{Lack, StreamFault};
+use zst_record::{Head, decode, get_sums, payload_is_bounded};
 use zst_stream::is_form_built;
 
 /// What is found at the front of the held bytes.

@@ -1,4 +1,4 @@
-use zst_record::StreamFault;
+use zst_model::StreamFault;
 
 /// How far a reader is: it may find more, it met a fault, or it has handed out END.
 #[derive(Clone, Copy)]

@@ -8,7 +8,8 @@ use crate::place::Place;
 use crate::window::Window;
 use std::alloc::{AllocError, Global};
 use zst_fletcher::Sum;
-use zst_record::{Head, Record, StreamFault};
+use zst_model::StreamFault;
+use zst_record::{Head, Record};
 
 /// What `next` found.
 #[derive(Clone, Copy)]

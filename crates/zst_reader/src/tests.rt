@@ -1,7 +1,8 @@
 use super::*;
 use std::alloc::Global;
 use std::process::Abort;
-use zst_record::{Head, StreamFault};
+use zst_model::StreamFault;
+use zst_record::Head;
 
 const GUID: u64 = 0x1_0000_0001;
 

@@ -7,7 +7,7 @@ use Rattle.zst_model.specs.declared.sends.header.Header.{Header}
 use Rattle.zst_model.specs.states.State.{is_block_size, largest_block}
 use Rattle.zst_record.specs.declared.head.Head.{Head}
 use Rattle.zst_record.specs.declared.head.Head.TheVariants as heads
-use Rattle.zst_record.specs.declared.fault.StreamFault.{StreamFault}
+use Rattle.zst_model.specs.declared.refusals.stream_fault.StreamFault.{StreamFault}
 use Rattle.zst_record.specs.declared.TheConstants.{MAGIC, LARGE_BLOCKS, REDACTED}
 use Rattle.zst_record.specs.Decode.{Decoded, check, is_object, is_range, is_payload_len, needs_payload, others_of, decoded, begin_of, begin_with, snapshot_with, named, name_in, typed, object_with, write_with, free_with, spill_with, redact_with}
 use Rattle.zst_record.specs.Laws.{IsBounded}

@@ -12,8 +12,8 @@ use Rattle.zst_model.specs.states.State.{is_block_size}
 use Rattle.zst_record.specs.declared.TheConstants.{MAGIC, OTHER_FEATURES, LARGE_BLOCKS, RESUMING, REDACTED}
 use Rattle.zst_record.specs.declared.head.Head.{Head}
 use Rattle.zst_record.specs.declared.head.Head.TheVariants as heads
-use Rattle.zst_record.specs.declared.fault.StreamFault.{StreamFault}
-use Rattle.zst_record.specs.declared.fault.StreamFault.TheVariants.{Grammar, Unsupported}
+use Rattle.zst_model.specs.declared.refusals.stream_fault.StreamFault.{StreamFault}
+use Rattle.zst_model.specs.declared.refusals.stream_fault.StreamFault.TheVariants.{Grammar, Unsupported}
 
 abbrev pub Decoded : Type 0
 Decoded = Result Head StreamFault

@@ -1,5 +1,4 @@
 pub mod Heads
-pub mod Faults
 pub mod Table
 pub mod Decode
 pub mod Fits

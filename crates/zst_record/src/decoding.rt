@@ -1,15 +1,14 @@
 ghost use Rattle.std.specs.Prelude.{◌≡◌, ◌+◌, ◌/◌, ◌%◌, ◌≤◌, ◌<◌, ◌^◌, ◌==◌, length, ℕ, List, Ok, Err, Some, None, if◌then◌else◌, bit_and, position};
 ghost use Rattle.std.specs.Int.{w32, trailing_zeros};
 ghost use Rattle.zst_bytes.specs.Bytes.{number_at, bytes_at};
-ghost use Rattle.zst_record.specs.declared.fault.StreamFault.TheVariants.{Grammar, Unsupported};
+ghost use Rattle.zst_model.specs.declared.refusals.stream_fault.StreamFault.TheVariants.{Grammar, Unsupported};
 ghost use Rattle.zst_model.specs.states.State.{is_block_size};
 ghost use Rattle.zst_record.specs.Decode.{decoded, typed, begin_of, snapshot_of, header_with, object_of, write_of, free_of, spill_of, redact_of, is_object, is_range, is_payload_len, needs_payload, name_in, sums_at, lack_of_feature};
 
-use crate::fault::StreamFault;
 use crate::head::Head;
 use crate::{LARGE_BLOCKS, MAGIC, OTHER_FEATURES, REDACTED, RESUMING};
 use zst_bytes::{le8, le32, le64};
-use zst_model::{Flaw, GuidSet, Header, Lack, NameText};
+use zst_model::{Flaw, GuidSet, Header, Lack, NameText, StreamFault};
 
 /// The magic number of BEGIN in a stream whose numbers have their highest byte first.
 const SWAPPED_MAGIC: u64 = 0xaccb_baf5_0200_0000;

@@ -3,13 +3,11 @@
 
 mod decoding;
 mod encoding;
-mod fault;
 mod head;
 mod laws;
 
 pub use decoding::{decode, get_sums};
 pub use encoding::{encode, put_sums};
-pub use fault::StreamFault;
 pub use head::{Head, Record};
 pub use laws::{begin_is_decoded, payload_is_bounded, record_is_decoded};
 

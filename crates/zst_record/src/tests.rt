@@ -1,6 +1,6 @@
 use super::*;
 use std::process::Abort;
-use zst_model::{Flaw, GuidSet, Header, Lack, NameText, Refusal};
+use zst_model::{Flaw, GuidSet, Header, Lack, NameText, StreamFault};
 
 const AT: u64 = 624;
 
@@ -254,10 +254,4 @@ fn writes_and_reads_an_object(rt: HostRuntime) {
         _ => false,
     });
     assert!(rt; read);
-}
-
-#[test]
-fn a_fault_is_refused_at_its_byte(rt: HostRuntime) {
-    let fault = StreamFault::Truncated { at: 623 };
-    assert_eq!(rt; Refusal::from(fault).text().as_str(), "truncated at 623");
 }

@@ -7,8 +7,8 @@ use Rattle.zst_record.specs.Heads.{Covered, payload_len, size_of}
 use Rattle.zst_record.specs.Decode.{Decoded, sums_at, decoded, features_in}
 use Rattle.zst_record.specs.declared.head.Head.{Head}
 use Rattle.zst_record.specs.declared.head.Head.TheVariants as heads
-use Rattle.zst_record.specs.declared.fault.StreamFault.{StreamFault}
-use Rattle.zst_record.specs.declared.fault.StreamFault.TheVariants.{Checksum, Unsupported}
+use Rattle.zst_model.specs.declared.refusals.stream_fault.StreamFault.{StreamFault}
+use Rattle.zst_model.specs.declared.refusals.stream_fault.StreamFault.TheVariants.{Checksum, Unsupported}
 
 -- ---- outcomes
 

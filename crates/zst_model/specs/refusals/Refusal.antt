@@ -2,8 +2,9 @@
 use Rattle.std.specs.Prelude.{ℕ, List, [], ◌∷◌, codes, decimal}
 use Rattle.std.specs.List.{concat}
 use Rattle.zst_model.specs.refusals.ApplyWords.{apply_word}
-use Rattle.zst_model.specs.refusals.Faults.{flaw_text, lack_text, quantity_text}
+use Rattle.zst_model.specs.refusals.Faults.{quantity_text}
 use Rattle.zst_model.specs.refusals.PlanFault.{plan_number, plan_text}
+use Rattle.zst_model.specs.refusals.StreamFault.{stream_number, stream_text}
 use Rattle.zst_model.specs.refusals.Texts.{sums_text}
 use Rattle.zst_model.specs.declared.refusals.plan_fault.PlanFault.{PlanFault}
 use Rattle.zst_model.specs.declared.refusals.plan_fault.PlanFault.TheVariants as plans
@@ -15,10 +16,7 @@ abbrev pub number_of : Refusal → ℕ
 number_of (refusals.Usage place) = 1
 number_of (refusals.Plan fault) = plan_number fault
 number_of (refusals.BadToken place) = 16
-number_of (refusals.Grammar at flaw) = 17
-number_of (refusals.Checksum at stated found) = 18
-number_of (refusals.Unsupported at lack) = 19
-number_of (refusals.Truncated at) = 20
+number_of (refusals.Stream fault) = stream_number fault
 number_of (refusals.CannotApply record' fault) = 21
 number_of (refusals.Redacted object block) = 22
 number_of (refusals.Limit which number) = 23
@@ -37,11 +35,7 @@ unfoldable pub text_of : Refusal → List ℕ
 text_of (refusals.Usage place) = concat (codes "usage: " ∷ decimal place ∷ [])
 text_of (refusals.Plan fault) = plan_text fault
 text_of (refusals.BadToken place) = concat (codes "bad token at " ∷ decimal place ∷ [])
-text_of (refusals.Grammar at flaw) = concat (codes "grammar at " ∷ decimal at ∷ codes ": " ∷ flaw_text flaw ∷ [])
-text_of (refusals.Checksum at stated found) =
-    concat (codes "checksum at " ∷ decimal at ∷ codes ": stated " ∷ sums_text stated ∷ codes ", found " ∷ sums_text found ∷ [])
-text_of (refusals.Unsupported at lack) = concat (codes "unsupported at " ∷ decimal at ∷ codes ": " ∷ lack_text lack ∷ [])
-text_of (refusals.Truncated at) = concat (codes "truncated at " ∷ decimal at ∷ [])
+text_of (refusals.Stream fault) = stream_text fault
 text_of (refusals.CannotApply record' fault) = concat (codes "cannot apply record " ∷ decimal record' ∷ codes ": " ∷ apply_word fault ∷ [])
 text_of (refusals.Redacted object block) = concat (codes "redacted: object " ∷ decimal object ∷ codes " block " ∷ decimal block ∷ [])
 text_of (refusals.Limit which number) = concat (codes "limit: " ∷ quantity_text which ∷ codes " " ∷ decimal number ∷ [])

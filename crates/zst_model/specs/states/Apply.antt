@@ -37,6 +37,15 @@ attr_with head bonus spill = record { type_ = head.type_; bonus_type = head.bonu
 abbrev pub with_blocks : Object → (ℕ → Block) → Result (Option Object) ApplyFault
 with_blocks object blocks = Ok (Some (record { attr = object.attr; blocks = blocks }))
 
+-- which byte places a change covers: it writes, punches or redacts the indices that stand at them
+abbrev pub covers : Change → ℕ → Bool
+covers (Put head bonus keep_spill max_block) place = false
+covers (Spill bytes) place = false
+covers (FreeFrom offset) place = nat_le offset place
+covers (Free offset length) place = within offset length place
+covers (Redact offset length) place = within offset length place
+covers (Write offset type bytes) place = place == offset
+
 -- what a change makes of what stands at its number, one clause for each record and case; an index stands at the byte `i * block size`
 unfoldable pub apply_change : Change → Option Object → Result (Option Object) ApplyFault
 apply_change (Put head bonus keep_spill max_block) None = Ok (Some (record { attr = attr_with head bonus None; blocks = λ i. Hole }))
@@ -51,26 +60,26 @@ apply_change (FreeFrom offset) None = Err NoObject
 apply_change (FreeFrom offset) (Some object) =
     let size = object.attr.block_size in
     unless (is_unaligned size offset) Unaligned
-    (with_blocks object (λ i. if nat_le offset (i * size) then Hole else object.blocks i))
+    (with_blocks object (λ i. if covers (FreeFrom offset) (i * size) then Hole else object.blocks i))
 apply_change (Free offset length) None = Err NoObject
 apply_change (Free offset length) (Some object) =
     let size = object.attr.block_size in
     unless (is_unaligned size offset || is_unaligned size length) Unaligned
-    (with_blocks object (λ i. if within offset length (i * size) then Hole else object.blocks i))
+    (with_blocks object (λ i. if covers (Free offset length) (i * size) then Hole else object.blocks i))
 apply_change (Redact offset length) None = Err NoObject
 apply_change (Redact offset length) (Some object) =
     let size = object.attr.block_size in
     unless (not (is_user_data object.attr)) NotUserData
     (unless (is_unaligned size offset || is_unaligned size length) Unaligned
     (unless (is_odd_size size && (nat_lt 0 length && nat_lt size (offset + length))) OddBlock
-    (with_blocks object (λ i. if within offset length (i * size) then Redacted else object.blocks i))))
+    (with_blocks object (λ i. if covers (Redact offset length) (i * size) then Redacted else object.blocks i))))
 apply_change (Write offset type bytes) None = Err NoObject
 apply_change (Write offset type bytes) (Some object) =
     let size = object.attr.block_size in
     unless (not (length bytes == size)) SizeDiffers
     (unless (is_unaligned size offset) Unaligned
     (unless (is_odd_size size && nat_lt 0 offset) OddBlock
-    (with_blocks object (λ i. if i * size == offset then Data bytes else object.blocks i))))
+    (with_blocks object (λ i. if covers (Write offset type bytes) (i * size) then Data bytes else object.blocks i))))
 
 -- one change after another, up to the first fault
 abbrev pub apply_changes : List Change → Option Object → Result (Option Object) ApplyFault

@@ -1,5 +1,5 @@
 -- Dates: the number of the commit that last touched a number or an index.
-use Rattle.std.specs.Prelude.{ℕ, ◌*◌, Bool, true, false, not, List, [], ◌∷◌, Option, Some, None, Result, Ok, if◌then◌else◌, nat_le, nat_lt, ◌==◌, ◌&&◌}
+use Rattle.std.specs.Prelude.{ℕ, ◌*◌, Bool, true, false, not, List, [], ◌∷◌, Option, Some, None, Result, Ok, if◌then◌else◌, nat_lt, ◌==◌, ◌&&◌}
 use Rattle.zst_model.specs.declared.states.attr.ObjectHead.{ObjectHead}
 use Rattle.zst_model.specs.declared.states.item.Change.{Change}
 use Rattle.zst_model.specs.declared.states.item.Change.TheVariants.{Put, Spill, FreeFrom, Free, Redact, Write}
@@ -7,7 +7,7 @@ use Rattle.zst_model.specs.declared.states.item.Item.{Item}
 use Rattle.zst_model.specs.declared.states.item.Item.TheVariants.{FreeObjects, At}
 use Rattle.zst_model.specs.declared.refusals.apply_fault.ApplyFault.{ApplyFault}
 use Rattle.zst_model.specs.states.State.{State, Object, is_number, index_bound}
-use Rattle.zst_model.specs.states.Apply.{apply, within, ◌>>=◌}
+use Rattle.zst_model.specs.states.Apply.{apply, covers, within, ◌>>=◌}
 
 -- a state with the date of each number and of each index, 0 where nothing touched it
 pub record DatedState : Type 0 where
@@ -34,14 +34,10 @@ abbrev pub size_at : Option Object → ℕ
 size_at None = 0
 size_at (Some object) = object.attr.block_size
 
--- a change dates the indices that it writes, punches, redacts or makes anew, also where the content is equal
+-- a change dates the indices that it covers or makes anew, also where the content is equal
 abbrev pub dates_index : Change → Option Object → ℕ → Bool
 dates_index (Put head bonus keep_spill max_block) object i = makes_anew head object
-dates_index (Spill bytes) object i = false
-dates_index (FreeFrom offset) object i = nat_le offset (i * size_at object)
-dates_index (Free offset length) object i = within offset length (i * size_at object)
-dates_index (Redact offset length) object i = within offset length (i * size_at object)
-dates_index (Write offset type bytes) object i = i * size_at object == offset
+dates_index change object i = covers change (i * size_at object)
 
 -- whether an item dates a number: FREEOBJECTS dates absent ones too, skips 0 and is cut at 2^48
 abbrev pub touches_number : Item → ℕ → Bool

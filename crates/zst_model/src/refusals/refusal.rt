@@ -2,8 +2,9 @@ ghost use Rattle.std.specs.Prelude.{◌≡◌, ◌≤◌, Some};
 ghost use Rattle.zst_model.specs.refusals.Refusal.{number_of, text_of};
 
 use crate::refusals::apply_fault::ApplyFault;
-use crate::refusals::faults::{Flaw, Lack, Quantity};
+use crate::refusals::faults::Quantity;
 use crate::refusals::plan_fault::PlanFault;
+use crate::refusals::stream_fault::StreamFault;
 use crate::refusals::text::{Text, limited, numbered, paired, plain, reasoned, summed};
 use std::fmt;
 
@@ -20,26 +21,8 @@ pub enum Refusal {
     BadToken {
         place: u64,
     },
-    /// E17: the byte at which a stream breaks its grammar, and how.
-    Grammar {
-        at: u64,
-        flaw: Flaw,
-    },
-    /// E18: the byte at which a checksum stands that is wrong, what it states, and what was found.
-    Checksum {
-        at: u64,
-        stated: [u64; 4],
-        found: [u64; 4],
-    },
-    /// E19: the byte at which a stream has what isn't supported, and what that is.
-    Unsupported {
-        at: u64,
-        lack: Lack,
-    },
-    /// E20: the byte at which the input ended before the stream's end.
-    Truncated {
-        at: u64,
-    },
+    /// E17 to E20 of a stream.
+    Stream(StreamFault),
     /// E21: the record that can't be applied, counted from 0 at BEGIN, and why. A command's is 0.
     CannotApply {
         record: u64,
@@ -93,10 +76,7 @@ impl Refusal {
             Refusal::Usage { .. } => 1,
             Refusal::Plan(fault) => fault.number(),
             Refusal::BadToken { .. } => 16,
-            Refusal::Grammar { .. } => 17,
-            Refusal::Checksum { .. } => 18,
-            Refusal::Unsupported { .. } => 19,
-            Refusal::Truncated { .. } => 20,
+            Refusal::Stream(fault) => fault.number(),
             Refusal::CannotApply { .. } => 21,
             Refusal::Redacted { .. } => 22,
             Refusal::Limit { .. } => 23,
@@ -121,12 +101,7 @@ impl Refusal {
             Refusal::Usage { place } => numbered("usage: ", *place),
             Refusal::Plan(fault) => fault.text(),
             Refusal::BadToken { place } => numbered("bad token at ", *place),
-            Refusal::Grammar { at, flaw } => reasoned("grammar at ", *at, flaw.word()),
-            Refusal::Checksum { at, stated, found } => summed("checksum at ", *at, stated, found),
-            Refusal::Unsupported { at, lack } => {
-                reasoned("unsupported at ", *at, lack.text().as_str())
-            }
-            Refusal::Truncated { at } => numbered("truncated at ", *at),
+            Refusal::Stream(fault) => fault.text(),
             Refusal::CannotApply { record, fault } => {
                 reasoned("cannot apply record ", *record, fault.word())
             }
@@ -170,6 +145,17 @@ impl From<PlanFault> for Refusal {
             PlanFault::Limit { which, number } => Refusal::Limit { which, number },
             other => Refusal::Plan(other),
         }
+    }
+}
+
+impl From<StreamFault> for Refusal {
+    ghost use Rattle.std.specs.Prelude.{◌≡◌};
+    ghost use Rattle.zst_model.specs.declared.refusals.refusal.Refusal.TheVariants as refusals;
+
+    ghost from_gives = { λ fault refusal. refusal ≡ refusals.Stream fault };
+
+    fn from(fault: StreamFault) -> Refusal {
+        Refusal::Stream(fault)
     }
 }
 

@@ -1,4 +1,5 @@
 use super::*;
+use crate::refusals::faults::{Flaw, Lack};
 use crate::refusals::named::{Holder, Missing, Name, Present, ResumePlace};
 use crate::sends::header::Point;
 use std::process::Abort;
@@ -19,6 +20,13 @@ fn check(rt: &impl Abort, refusal: Refusal, number: u8, text: &str) {
 
 /// A fault of a plan has its number and text as a refusal too.
 fn check_plan(rt: &impl Abort, fault: PlanFault, number: u8, text: &str) {
+    assert_eq!(rt; fault.number(), number, "the number of {text}");
+    assert_eq!(rt; fault.text().as_str(), text);
+    check(rt, Refusal::from(fault), number, text);
+}
+
+/// A fault of a stream has its number and text as a refusal too.
+fn check_stream(rt: &impl Abort, fault: StreamFault, number: u8, text: &str) {
     assert_eq!(rt; fault.number(), number, "the number of {text}");
     assert_eq!(rt; fault.text().as_str(), text);
     check(rt, Refusal::from(fault), number, text);
@@ -182,34 +190,34 @@ fn partial_states(rt: HostRuntime) -> Result<(), NameFault> {
 #[test]
 fn faults_of_a_stream(rt: HostRuntime) {
     let flaw = Flaw::BlockSize;
-    check(
+    check_stream(
         &rt,
-        Refusal::Grammar { at: 336, flaw },
+        StreamFault::Grammar { at: 336, flaw },
         17,
         "grammar at 336: block size",
     );
     let (stated, found) = ([1, 2, 3, 4], [5, 6, 7, 8]);
-    let wrong_sum = Refusal::Checksum {
+    let wrong_sum = StreamFault::Checksum {
         at: 592,
         stated,
         found,
     };
-    check(
+    check_stream(
         &rt,
         wrong_sum,
         18,
         "checksum at 592: stated 1 2 3 4, found 5 6 7 8",
     );
     let lack = Lack::Feature { bit: 29 };
-    check(
+    check_stream(
         &rt,
-        Refusal::Unsupported { at: 16, lack },
+        StreamFault::Unsupported { at: 16, lack },
         19,
         "unsupported at 16: feature 29",
     );
-    check(
+    check_stream(
         &rt,
-        Refusal::Truncated { at: u64::MAX },
+        StreamFault::Truncated { at: u64::MAX },
         20,
         "truncated at 18446744073709551615",
     );
@@ -314,7 +322,7 @@ fn each_flaw_has_its_word(rt: HostRuntime) {
     for (flaw, word) in table {
         check_word(
             &rt,
-            &Refusal::Grammar { at: 8, flaw },
+            &Refusal::from(StreamFault::Grammar { at: 8, flaw }),
             "grammar at 8: ",
             word,
         );
@@ -347,7 +355,7 @@ fn each_lack_has_its_words(rt: HostRuntime) {
     for (lack, word) in table {
         check_word(
             &rt,
-            &Refusal::Unsupported { at: 8, lack },
+            &Refusal::from(StreamFault::Unsupported { at: 8, lack }),
             "unsupported at 8: ",
             word,
         );
@@ -405,7 +413,10 @@ fn each_quantity_has_its_word(rt: HostRuntime) {
 
 #[test]
 fn prints_as_its_text(rt: HostRuntime) -> Result<(), Fail> {
-    let refusal = Refusal::Truncated { at: 7 };
+    let fault = StreamFault::Truncated { at: 7 };
+    let printed = format!(in rt.alloc(); "[{fault}]")?;
+    assert_eq!(rt; printed.as_str(), "[truncated at 7]");
+    let refusal = Refusal::from(fault);
     let printed = format!(in rt.alloc(); "[{refusal}]")?;
     assert_eq!(rt; printed.as_str(), "[truncated at 7]");
     let refusal = Refusal::Plan(PlanFault::NotDescendant(SnapName::parse("tank@s")?));

@@ -1,15 +1,16 @@
 ghost use Rattle.std.specs.Prelude.{◌≡◌};
-ghost use Rattle.zst_laws.specs.Places.{HasPlace, ChangeHasPlace};
+ghost use Rattle.zst_model.specs.sends.Places.{HasPlace, ChangeHasPlace};
 ghost use Rattle.zst_model.specs.declared.states.item.Item.TheVariants.{At};
 ghost use Rattle.zst_model.specs.sends.Points.{point_after};
 
-use zst_model::{Change, Item, Point};
+use crate::sends::header::Point;
+use crate::states::item::{Change, Item};
 
 /// Object numbers stand below this.
 const NUMBER_BOUND: u64 = 1 << 48;
 
 /// Where a receiver stands after an item: past its range, whose end is a number of 64 bits.
-#[tactic(auto, unfolding(zst_model::specs::states::State::number_bound))]
+#[tactic(auto, unfolding(crate::specs::states::State::number_bound))]
 pub fn point_after(point: Point, item: &Item) -> Point
     requires { HasPlace item.now }
     ensures { result ≡ point_after point item.now }
@@ -64,9 +65,10 @@ fn point_after_change(point: Point, object: u64, change: &Change) -> Point
 #[cfg(test)]
 mod tests {
     use super::*;
+    use crate::fields::bytes::Bytes;
+    use crate::states::attr::ObjectHead;
     use std::process::Abort;
     use std::test::Fail;
-    use zst_model::{Bytes, ObjectHead};
 
     fn check(rt: &impl Abort, start: (u64, u64), item: &Item, object: u64, offset: u64)
         requires { HasPlace item.now }
