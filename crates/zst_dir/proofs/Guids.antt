@@ -1,7 +1,8 @@
 -- The words of a guid set, and its fronts.
-use Rattle.std.proofs.Common.{◌≡◌, ℕ, true, nat_lt, List, [], ◌∷◌, ◌++◌, length, refl, subst, arith, append_assoc, length-append}
+use Rattle.std.proofs.Common.{◌≡◌, ℕ, ◌<◌, ◌^◌, true, nat_lt, List, [], ◌∷◌, ◌++◌, length, refl, subst, arith, append_assoc, length-append}
 use Rattle.std.proofs.lemmas.Bool.{and_parts, and_from}
-use Rattle.std.specs.List.{flat_map}
+use Rattle.std.proofs.lemmas.List.Elements.{All-nil, All-cons, All-head, All-tail}
+use Rattle.std.specs.List.{All, flat_map}
 use Rattle.zst_bytes.specs.Words.{word, words_bytes}
 use Rattle.zst_model.specs.fields.Guids.{is_rising, IsGuidSet}
 
@@ -18,8 +19,13 @@ is_rising-front (x ∷ y ∷ front) back rise =
     let both = and_parts (nat_lt x y) (is_rising (y ∷ front ++ back)) rise in
     and_from (nat_lt x y) (is_rising (y ∷ front)) both.0 (is_rising-front (y ∷ front) back both.1)
 
+-- what holds of each element holds of a front's
+All-front : {A : Type 0} (P : A → Type 0) (front back : List A) → All P (front ++ back) → All P front
+All-front P [] back each = All-nil P
+All-front P (x ∷ front) back each = All-cons P x front (All-head P x (front ++ back) each) (All-front P front back (All-tail P x (front ++ back) each))
+
 -- a front of a guid set is one
 pub IsGuidSet-front : (guids front back : List ℕ) → IsGuidSet guids → guids ≡ front ++ back → IsGuidSet front
 IsGuidSet-front guids front back set is =
     let whole : IsGuidSet (front ++ back) = subst IsGuidSet is set in
-    (omega (arith, whole.0, length-append front back), is_rising-front front back whole.1)
+    record { few = omega (arith, whole.few, length-append front back); rising = is_rising-front front back whole.rising; fit = All-front (λ guid. guid < 2 ^ 64) front back whole.fit }

@@ -59,7 +59,7 @@ head_changed name head rows lawful fits =
       };
       datasets =
           under_head IsDatasetRow name head rows.datasets
-          (λ d h. record { name = h.name; kind = h.kind; origin = h.origin; head = fits; redact = h.redact; redact_fits = h.redact_fits }) lawful.datasets;
+          (λ d h. record { name = h.name; kind = h.kind; origin = h.origin; head = fits; redact = h.redact }) lawful.datasets;
       snapshots = lawful.snapshots;
       bookmarks = lawful.bookmarks;
       partials = lawful.partials;

@@ -36,7 +36,7 @@ unfolding words_bytes
 guids_short guids is =
     let each : sum_by (λ (guid : ℕ). length (word guid)) guids ≤ length guids * 8 =
     sum_by-le (λ (guid : ℕ). length (word guid)) 8 guids (λ k d inside. omega (arith, length-number_bytes 8 (get_or guids k d))) in
-    omega (arith, length-append (word (length guids)) (flat_map word guids), length-number_bytes 8 (length guids), length-flat_map word guids, each, is.0)
+    omega (arith, length-append (word (length guids)) (flat_map word guids), length-number_bytes 8 (length guids), length-flat_map word guids, each, is.few)
 
 -- an object set has 80 bytes, whatever it is
 set_long : (set : ObjSet) → length (set_bytes set) ≡ 80

@@ -9,8 +9,7 @@ use Rattle.zst_dir.specs.declared.rows.Dataset.{Dataset}
 use Rattle.zst_dir.specs.declared.rows.Snapshot.{Snapshot}
 use Rattle.zst_dir.specs.declared.rows.Bookmark.{Bookmark}
 use Rattle.zst_dir.specs.declared.rows.Partial.{Partial}
-use Rattle.zst_dir.specs.Reading.{HeaderFits, dataset_front}
-use Rattle.zst_dir.specs.Rows.{IsPartialRow}
+use Rattle.zst_dir.specs.Reading.{dataset_front}
 use Rattle.zst_dir.specs.Spelling.{name_bytes, flag, snapshot_bytes, snapshots_of, rows_bytes, dataset_bytes, bookmark_bytes, header_bytes, partial_bytes}
 
 pub snapshot_parts : (snapshot : Snapshot) (rest : List ℕ) → snapshot_bytes snapshot ++ rest ≡
@@ -46,19 +45,3 @@ pub partial_parts : (partial : Partial) (rest : List ℕ) → partial_bytes part
     ++ (name_bytes partial.base ++ (set_bytes partial.objects ++ (word partial.point.object ++ (word partial.point.offset ++ rest)))))))
 unfolding partial_bytes
 partial_parts partial rest = simp append_assoc
-
--- the header of a partial state's row is in its ranges
-pub fits_of_partial : (partial : Partial) → IsPartialRow partial → HeaderFits partial.header
-fits_of_partial partial row = record {
-  resume = row.resume;
-  kind = row.kind;
-  flags = row.flags;
-  features = row.features;
-  time = row.time;
-  to = row.to;
-  from = row.from;
-  name = row.name;
-  name_bytes = row.name_bytes;
-  redact = record { set = row.redact; fit = row.redact_fits };
-  from_redact = record { set = row.from_redact; fit = row.from_fits };
-}

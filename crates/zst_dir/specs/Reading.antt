@@ -1,9 +1,6 @@
 -- What a reader of the bytes in front gives.
-use Rattle.std.specs.Prelude.{◌≡◌, ◌<◌, ◌≤◌, ◌^◌, ℕ, List, [], ◌∷◌, ◌++◌, length, Bool, true, Option, Some, None, Result, IfOk, flat_map, All, Contains}
+use Rattle.std.specs.Prelude.{◌≡◌, ◌<◌, ◌^◌, ℕ, List, [], ◌∷◌, ◌++◌, length, Bool, true, Option, Some, None, Result, IfOk, flat_map, All, Contains}
 use Rattle.std.specs.Str.{IsAscii}
-use Rattle.zst_model.specs.fields.Guids.{IsGuidSet}
-use Rattle.zst_model.specs.pools.Pool.{IsKind}
-use Rattle.zst_model.specs.declared.sends.header.Header.{Header}
 use Rattle.zst_bytes.specs.Words.{word, text_bytes, words_bytes}
 use Rattle.zst_names.specs.Names.{dataset_of}
 use Rattle.zst_tree.specs.Sets.{set_bytes}
@@ -57,25 +54,6 @@ snapshots_under all datasets = flat_map (λ dataset. snapshots_of dataset.name a
 pub record IsPlain (text : List ℕ) : Type 0 where
   pub ascii : IsAscii text
   pub short : length text < 2 ^ 63
-
--- a set of guids of 64 bits
-pub record AreGuids (guids : List ℕ) : Type 0 where
-  pub set : IsGuidSet guids
-  pub fit : All (λ guid. guid < 2 ^ 64) guids
-
--- a header's values are in their ranges, and it has no resume point
-pub record HeaderFits (header : Header) : Type 0 where
-  pub resume : header.resume ≡ None
-  pub kind : IsKind header.kind
-  pub flags : header.flags < 2 ^ 32
-  pub features : header.features < 2 ^ 32
-  pub time : header.time < 2 ^ 64
-  pub to : header.to < 2 ^ 64
-  pub from : header.from < 2 ^ 64
-  pub name : length header.name ≤ 255
-  pub name_bytes : All (λ byte. byte < 2 ^ 8) header.name
-  pub redact : AreGuids header.redact
-  pub from_redact : AreGuids header.from_redact
 
 -- a dataset without its snapshots
 unfoldable pub dataset_front : Dataset → List ℕ

@@ -3,7 +3,7 @@ use Rattle.std.specs.Prelude.{◌≡◌, ◌≢◌, ◌<◌, ◌≤◌, ◌^◌,
 use Rattle.zst_names.specs.Names.{IsDataset, IsSnapshot, IsBookmark, IsComponent, dataset_of}
 use Rattle.zst_block.specs.Ptr.{PtrFits}
 use Rattle.zst_model.specs.fields.Guids.{IsGuidSet}
-use Rattle.zst_model.specs.pools.Pool.{is_before, IsKind}
+use Rattle.zst_model.specs.pools.Pool.{is_before, IsKind, IsGuid, IsStated}
 use Rattle.zst_tree.specs.Sets.{SetFits}
 use Rattle.zst_tree.specs.declared.tree.ObjSet.{ObjSet}
 use Rattle.zst_dir.specs.declared.rows.Dataset.{Dataset}
@@ -65,51 +65,36 @@ pub record IsDatasetRow (dataset : Dataset) : Type 0 where
   pub origin : IfSome dataset.origin IsSnapshot
   pub head : SetFits dataset.head
   pub redact : IsGuidSet dataset.redact
-  pub redact_fits : All (λ guid. guid < 2 ^ 64) dataset.redact
 
--- a snapshot's row is
+-- a snapshot's row is: its guid is one that a snapshot may have
 pub record IsSnapshotRow (snapshot : Snapshot) : Type 0 where
   pub name : IsSnapshot snapshot.name
-  pub guid : snapshot.guid < 2 ^ 64
+  pub guid : IsGuid snapshot.guid
   pub time : snapshot.time < 2 ^ 64
   pub number : snapshot.number < 2 ^ 64
   pub objects : SetFits snapshot.objects
   pub redact : IsGuidSet snapshot.redact
-  pub redact_fits : All (λ guid. guid < 2 ^ 64) snapshot.redact
 
--- a bookmark's row is
+-- a bookmark's row is: its guid is that of a snapshot
 pub record IsBookmarkRow (bookmark : Bookmark) : Type 0 where
   pub name : IsBookmark bookmark.name
-  pub guid : bookmark.guid < 2 ^ 64
+  pub guid : IsGuid bookmark.guid
   pub time : bookmark.time < 2 ^ 64
   pub number : bookmark.number < 2 ^ 64
   pub redact : IsGuidSet bookmark.redact
-  pub redact_fits : All (λ guid. guid < 2 ^ 64) bookmark.redact
   pub runs : bookmark.runs < 2 ^ 64
   pub levels : bookmark.levels ≤ 7
   pub root : PtrFits bookmark.root
 
--- a partial state's row is: its header has no resume point
+-- a partial state's row is: its header is one that a stream can state
 pub record IsPartialRow (partial : Partial) : Type 0 where
   pub target : IsDataset partial.target
   pub snapshot : IsComponent partial.snapshot
+  pub header : IsStated partial.header
   pub base : IfSome partial.base IsSnapshot
   pub objects : SetFits partial.objects
   pub object : partial.point.object < 2 ^ 64
   pub offset : partial.point.offset < 2 ^ 64
-  pub resume : partial.header.resume ≡ None
-  pub kind : IsKind partial.header.kind
-  pub flags : partial.header.flags < 2 ^ 32
-  pub features : partial.header.features < 2 ^ 32
-  pub time : partial.header.time < 2 ^ 64
-  pub to : partial.header.to < 2 ^ 64
-  pub from : partial.header.from < 2 ^ 64
-  pub name : length partial.header.name ≤ 255
-  pub name_bytes : All (λ byte. byte < 2 ^ 8) partial.header.name
-  pub redact : IsGuidSet partial.header.redact
-  pub redact_fits : All (λ guid. guid < 2 ^ 64) partial.header.redact
-  pub from_redact : IsGuidSet partial.header.from_redact
-  pub from_fits : All (λ guid. guid < 2 ^ 64) partial.header.from_redact
 
 -- a lawful directory
 pub record IsLawful (rows : Rows) : Type 0 where

@@ -1,11 +1,11 @@
 //! The fields of the rows of a directory, read from the bytes in front.
-ghost use Rattle.std.specs.Prelude.{◌≡◌, ◌<◌, ◌≤◌, ◌^◌, ◌++◌, ℕ, Bool, List, Some, IfSome, All, length};
+ghost use Rattle.std.specs.Prelude.{◌≡◌, ◌<◌, ◌≤◌, ◌^◌, ◌++◌, ◌↔◌, ℕ, Bool, List, Some, IfSome, Contains, IsTrue, length};
 ghost use Rattle.std.specs.Option.{option_copied};
 ghost use Rattle.zst_bytes.specs.Words.{word, text_bytes, words_bytes};
 ghost use Rattle.zst_model.specs.fields.Guids.{IsGuidSet};
-ghost use Rattle.zst_model.specs.pools.Pool.{IsKind};
+ghost use Rattle.zst_model.specs.pools.Pool.{IsGuid, IsKind, IsStatedName};
 ghost use Rattle.zst_names.specs.Names.{IsDataset, IsSnapshot, IsBookmark, IsComponent, dataset_of, component_of};
-ghost use Rattle.zst_dir.specs.Reading.{ReadsBack, IsPlain, AreGuids};
+ghost use Rattle.zst_dir.specs.Reading.{ReadsBack, IsPlain};
 ghost use Rattle.zst_dir.specs.Spelling.{flag, name_bytes};
 
 use std::str;
@@ -19,6 +19,29 @@ pub(crate) fn read_u32(cursor: &mut Cursor<'_>) -> Option<u32>
     ensures exact { ReadsBack word (λ n. n < 2 ^ 32) cursor.old cursor.new result }
 {
     u32::try_from(cursor.word()?).ok()
+}
+
+/// The features of a stream, at most 30 bits.
+pub(crate) fn read_features(cursor: &mut Cursor<'_>) -> Option<u32>
+    ensures fits { IfSome result (λ features. features < 2 ^ 30) }
+    ensures exact { ReadsBack word (λ features. features < 2 ^ 30) cursor.old cursor.new result }
+{
+    let features = read_u32(cursor)?;
+    if features >= 1 << 30 {
+        return None;
+    }
+    Some(features)
+}
+
+/// A guid, which isn't 0.
+pub(crate) fn read_guid(cursor: &mut Cursor<'_>) -> Option<u64>
+    ensures guid { IfSome result IsGuid }
+    ensures exact { ReadsBack word IsGuid cursor.old cursor.new result }
+{
+    match cursor.word()? {
+        0 => None,
+        guid => Some(guid),
+    }
 }
 
 /// The kind of a dataset.
@@ -94,14 +117,19 @@ pub(crate) fn read_component(cursor: &mut Cursor<'_>, dataset: &DatasetName) -> 
     Some(SnapName::of(dataset, component))
 }
 
-/// A name of at most 255 bytes of any value.
+fn has_zero(bytes: &[u8]) -> bool
+    ensures { IsTrue result ↔ Contains bytes.now 0 }
+{
+    bytes.contains(&0)
+}
+
+/// A name of at most 255 bytes, none of them 0.
 pub(crate) fn read_name_text(cursor: &mut Cursor<'_>) -> Option<NameText>
-    ensures short { IfSome result (λ name. length name ≤ 255) }
-    ensures bytes { IfSome result (All (λ byte. byte < 2 ^ 8)) }
-    ensures exact { ReadsBack text_bytes (λ name. length name ≤ 255) cursor.old cursor.new result }
+    ensures name { IfSome result IsStatedName }
+    ensures exact { ReadsBack text_bytes IsStatedName cursor.old cursor.new result }
 {
     let bytes = cursor.text()?;
-    if bytes.len() > 255 {
+    if bytes.len() > 255 || has_zero(bytes) {
         return None;
     }
     Some(NameText::new(bytes))
@@ -119,8 +147,8 @@ pub(crate) fn read_name_component(cursor: &mut Cursor<'_>) -> Option<NameText>
 
 /// A set of guids.
 pub(crate) fn read_guids(cursor: &mut Cursor<'_>) -> Option<GuidSet>
-    ensures guids { IfSome result AreGuids }
-    ensures exact { ReadsBack words_bytes AreGuids cursor.old cursor.new result }
+    ensures guids { IfSome result IsGuidSet }
+    ensures exact { ReadsBack words_bytes IsGuidSet cursor.old cursor.new result }
 {
     let count = cursor.word()?;
     let mut guids = GuidSet::empty();
@@ -143,15 +171,4 @@ pub(crate) fn read_levels(cursor: &mut Cursor<'_>) -> Option<u8>
         return None;
     }
     Some(levels as u8)
-}
-
-/// Three numbers.
-pub(crate) fn read_three(cursor: &mut Cursor<'_>) -> Option<(u64, u64, u64)>
-    ensures fit { IfSome result (λ n. (n.0 < 2 ^ 64) × (n.1 < 2 ^ 64) × (n.2 < 2 ^ 64)) }
-    ensures exact { (a b c : ℕ) (rest : List ℕ) → a < 2 ^ 64 → b < 2 ^ 64 → c < 2 ^ 64 → cursor.old ≡ word a ++ (word b ++ (word c ++ rest)) → (result ≡ Some (a, b, c)) × (cursor.new ≡ rest) }
-{
-    let first = cursor.word()?;
-    let second = cursor.word()?;
-    let third = cursor.word()?;
-    Some((first, second, third))
 }

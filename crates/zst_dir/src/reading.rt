@@ -1,13 +1,15 @@
 //! The rows of a directory, read from the bytes in front. Whether they make a lawful directory is
 //! not looked at here.
 ghost use Rattle.std.specs.Prelude.{IfSome};
-ghost use Rattle.zst_dir.specs.Reading.{ReadsBack, HeaderFits, IsSnapshotOf, dataset_front};
+ghost use Rattle.zst_model.specs.pools.Pool.{IsStated};
+ghost use Rattle.zst_dir.specs.Reading.{ReadsBack, IsSnapshotOf, dataset_front};
 ghost use Rattle.zst_dir.specs.Rows.{IsDatasetRow, IsBookmarkRow, IsPartialRow};
 ghost use Rattle.zst_dir.specs.Spelling.{snapshot_bytes, bookmark_bytes, header_bytes, partial_bytes};
 
 use crate::fields::{
-    read_book_name, read_component, read_dataset_name, read_flag, read_guids, read_kind,
-    read_levels, read_name_component, read_name_text, read_snap_name, read_three, read_u32,
+    read_book_name, read_component, read_dataset_name, read_features, read_flag, read_guid,
+    read_guids, read_kind, read_levels, read_name_component, read_name_text, read_snap_name,
+    read_u32,
 };
 use crate::rows::{Bookmark, Dataset, Partial, Snapshot};
 use zst_bytes::Cursor;
@@ -42,7 +44,9 @@ pub(crate) fn read_snapshot(cursor: &mut Cursor<'_>, dataset: &DatasetName) -> O
     ensures exact { ReadsBack snapshot_bytes (IsSnapshotOf dataset.now) cursor.old cursor.new result }
 {
     let name = read_component(cursor, dataset)?;
-    let (guid, time, number) = read_three(cursor)?;
+    let guid = read_guid(cursor)?;
+    let time = cursor.word()?;
+    let number = cursor.word()?;
     let objects = read_set(cursor)?;
     let redact = read_guids(cursor)?;
     Some(Snapshot {
@@ -62,7 +66,9 @@ pub(crate) fn read_bookmark(cursor: &mut Cursor<'_>) -> Option<Bookmark>
     ensures exact { ReadsBack bookmark_bytes IsBookmarkRow cursor.old cursor.new result }
 {
     let name = read_book_name(cursor)?;
-    let (guid, time, number) = read_three(cursor)?;
+    let guid = read_guid(cursor)?;
+    let time = cursor.word()?;
+    let number = cursor.word()?;
     let redact = read_guids(cursor)?;
     let runs = cursor.word()?;
     let levels = read_levels(cursor)?;
@@ -79,16 +85,18 @@ pub(crate) fn read_bookmark(cursor: &mut Cursor<'_>) -> Option<Bookmark>
     })
 }
 
-/// A stream's header, without a resume point.
+/// A header that a stream can state, without a resume point.
 #[tactic(auto, using(crate::proofs::Parts::header_parts))]
 fn read_header(cursor: &mut Cursor<'_>) -> Option<Header>
-    ensures fits { IfSome result HeaderFits }
-    ensures exact { ReadsBack header_bytes HeaderFits cursor.old cursor.new result }
+    ensures stated { IfSome result IsStated }
+    ensures exact { ReadsBack header_bytes IsStated cursor.old cursor.new result }
 {
     let kind = read_kind(cursor)?;
     let flags = read_u32(cursor)?;
-    let features = read_u32(cursor)?;
-    let (time, to, from) = read_three(cursor)?;
+    let features = read_features(cursor)?;
+    let time = cursor.word()?;
+    let to = read_guid(cursor)?;
+    let from = cursor.word()?;
     let name = read_name_text(cursor)?;
     let redact = read_guids(cursor)?;
     let from_redact = read_guids(cursor)?;
@@ -107,7 +115,7 @@ fn read_header(cursor: &mut Cursor<'_>) -> Option<Header>
 }
 
 /// The next partial state.
-#[tactic(auto, using(crate::proofs::Parts::partial_parts, crate::proofs::Parts::fits_of_partial))]
+#[tactic(auto, using(crate::proofs::Parts::partial_parts))]
 pub(crate) fn read_partial(cursor: &mut Cursor<'_>) -> Option<Partial>
     ensures row { IfSome result IsPartialRow }
     ensures exact { ReadsBack partial_bytes IsPartialRow cursor.old cursor.new result }

@@ -1,4 +1,4 @@
-ghost use Rattle.std.specs.Prelude.{◌≡◌, None};
+ghost use Rattle.std.specs.Prelude.{◌≡◌, ◌<◌, None};
 ghost use Rattle.zst_dir.specs.Rows.{IsDatasetRow, IsSnapshotRow};
 
 use crate::dir::Dir;
@@ -28,6 +28,7 @@ fn file_system(name: DatasetName) -> Dataset
 
 /// A snapshot that has nothing.
 fn snapshot(name: SnapName, guid: u64, number: u64) -> Snapshot
+    requires guid { 0 < guid }
     ensures row { IsSnapshotRow result }
     ensures name { result.name ≡ name }
 {
@@ -61,6 +62,9 @@ fn add_snapshot(dir: &mut Dir, text: &str, guid: u64, number: u64) -> Result<(),
     }
     if !dir.partials().is_empty() {
         return Err(Fail::new("a partial state is there"));
+    }
+    if guid == 0 {
+        return Err(Fail::new("no snapshot has this guid"));
     }
     dir.add_snapshot(snapshot(name, guid, number))?;
     Ok(())

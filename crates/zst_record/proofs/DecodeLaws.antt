@@ -4,7 +4,7 @@ use Rattle.std.proofs.lemmas.Bool.{ne_eqb, leb-true, ltb-true, and_parts, le-leb
 use Rattle.zst_bytes.specs.Bytes.{bytes_at, number_bytes}
 use Rattle.zst_bytes.specs.Fields.{zeros}
 use Rattle.zst_bytes.proofs.FieldsLaws.{number-back}
-use Rattle.zst_model.specs.states.State.{is_block_size, largest_block}
+use Rattle.zst_model.specs.states.State.{is_block_size, is_spill_size, largest_block}
 use Rattle.zst_record.specs.declared.head.Head.{Head}
 use Rattle.zst_record.specs.declared.head.Head.TheVariants as heads
 use Rattle.zst_record.specs.Table.{sum_fields, fields_of, head_bytes, sealed_bytes}
@@ -22,6 +22,12 @@ object-small object is =
 size-small : (size : ℕ) → is_block_size size ≡ true → size < 256 ^ 4
 unfolding is_block_size largest_block
 size-small size is =
+    let both = (and_parts (leb 512 size && leb size 131072) ((size % 512) == 0) is).0 in
+    let below = leb-true _ _ (and_parts (leb 512 size) (leb size 131072) both).1 in omega arith
+
+spill-size-small : (size : ℕ) → is_spill_size size ≡ true → size < 256 ^ 4
+unfolding is_spill_size
+spill-size-small size is =
     let both = (and_parts (leb 512 size && leb size 131072) ((size % 512) == 0) is).0 in
     let below = leb-true _ _ (and_parts (leb 512 size) (leb size 131072) both).1 in omega arith
 
@@ -134,7 +140,7 @@ spill-back : (at features object size to : ℕ) (sums : List ℕ) → 0 < at →
 unfolding decoded typed spill_with sealed_bytes head_bytes
 spill-back at features object size to sums later f =
     let fields = fields_of (heads.Spill object size to) ++ sum_fields 280 sums in
-    let wide = size-small size f.size_fits in
+    let wide = spill-size-small size f.size_fits in
     rw (
       ne_eqb at 0 (λ e. omega arith),
       number-back 312 fields 0 4 7 refl tt refl refl (omega arith),

@@ -4,7 +4,7 @@ use Rattle.std.proofs.lemmas.Bool.{leb-true, eqb-true, and_parts}
 use Rattle.std.specs.Prelude.{bit_and}
 use Rattle.zst_bytes.specs.Bytes.{number_at}
 use Rattle.zst_model.specs.declared.sends.header.Header.{Header}
-use Rattle.zst_model.specs.states.State.{is_block_size, largest_block}
+use Rattle.zst_model.specs.states.State.{is_block_size, is_spill_size, largest_block}
 use Rattle.zst_record.specs.declared.head.Head.{Head}
 use Rattle.zst_record.specs.declared.head.Head.TheVariants as heads
 use Rattle.zst_model.specs.declared.refusals.stream_fault.StreamFault.{StreamFault}
@@ -48,6 +48,13 @@ block-bounded size is =
     let rest = eqb-true (size % 512) 0 all.1 in
     (omega arith, leb-true _ _ (and_parts (leb 512 size) (leb size 131072) all.0).1)
 
+spill-size-bounded : (size : ℕ) → is_spill_size size ≡ true → (size % 4 ≡ 0) × (size ≤ 131072)
+unfolding is_spill_size
+spill-size-bounded size is =
+    let all = and_parts (leb 512 size && leb size 131072) ((size % 512) == 0) is in
+    let rest = eqb-true (size % 512) 0 all.1 in
+    (omega arith, leb-true _ _ (and_parts (leb 512 size) (leb size 131072) all.0).1)
+
 len-bounded : (len : ℕ) → is_payload_len len ≡ true → (len % 4 ≡ 0) × (len ≤ 131072)
 unfolding is_payload_len
 len-bounded len is = by_test (len == 0) refl
@@ -87,8 +94,8 @@ free-bounded at object offset size to =
 spill-bounded : (at object size compression to : ℕ) → Gives IsBounded (spill_with at object size compression to)
 unfolding spill_with
 spill-bounded at object size compression to =
-    gives-check IsBounded (is_object object) _ _ (λ a. gives-check IsBounded (is_block_size size) _ _ (λ is. gives-check IsBounded (compression == 0) _ _ (λ c.
-    gives-ok IsBounded (heads.Spill object size to) (block-bounded size is))))
+    gives-check IsBounded (is_object object) _ _ (λ a. gives-check IsBounded (is_spill_size size) _ _ (λ is. gives-check IsBounded (compression == 0) _ _ (λ c.
+    gives-ok IsBounded (heads.Spill object size to) (spill-size-bounded size is))))
 
 redact-bounded : (at features object offset size to : ℕ) → Gives IsBounded (redact_with at features object offset size to)
 unfolding redact_with

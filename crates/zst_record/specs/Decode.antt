@@ -8,7 +8,7 @@ use Rattle.zst_model.specs.declared.sends.header.Header.{Header}
 use Rattle.zst_model.specs.declared.refusals.faults.Flaw.TheVariants as flaws
 use Rattle.zst_model.specs.declared.refusals.faults.Lack.{Lack}
 use Rattle.zst_model.specs.declared.refusals.faults.Lack.TheVariants as lacks
-use Rattle.zst_model.specs.states.State.{is_block_size}
+use Rattle.zst_model.specs.states.State.{is_block_size, is_spill_size}
 use Rattle.zst_record.specs.declared.TheConstants.{MAGIC, OTHER_FEATURES, LARGE_BLOCKS, RESUMING, REDACTED}
 use Rattle.zst_record.specs.declared.head.Head.{Head}
 use Rattle.zst_record.specs.declared.head.Head.TheVariants as heads
@@ -62,7 +62,7 @@ free_with at object offset size to =
 unfoldable pub spill_with : (at object size compression to : ℕ) → Decoded
 spill_with at object size compression to =
     check (is_object object) (Grammar (at + 8) flaws.Object)
-    (check (is_block_size size) (Grammar (at + 16) flaws.Size)
+    (check (is_spill_size size) (Grammar (at + 16) flaws.Size)
     (check (compression == 0) (Unsupported (at + 33) lacks.Compressed)
     (Ok (heads.Spill object size to))))
 

@@ -2,7 +2,7 @@
 use Rattle.std.specs.Prelude.{ℕ, ◌-◌, ◌^◌, ◌<◌, ◌≤◌, ◌≡◌, ◌==◌, ◌||◌, true, false, List, [], ◌∷◌, None, length, slice_index, bit_and, not}
 use Rattle.std.specs.List.{position_or_len}
 use Rattle.zst_model.specs.declared.sends.header.Header.{Header}
-use Rattle.zst_model.specs.states.State.{is_block_size}
+use Rattle.zst_model.specs.states.State.{is_block_size, is_spill_size}
 use Rattle.zst_record.specs.declared.TheConstants.{LARGE_BLOCKS, REDACTED}
 use Rattle.zst_record.specs.declared.head.Head.{Head}
 use Rattle.zst_record.specs.declared.head.Head.TheVariants as heads
@@ -61,7 +61,7 @@ pub record FreeFits (object offset size to : ℕ) : Type 0 where
 
 pub record SpillFits (object size to : ℕ) : Type 0 where
   pub object_fits : is_object object ≡ true
-  pub size_fits : is_block_size size ≡ true
+  pub size_fits : is_spill_size size ≡ true
   pub to_fits : to < 2 ^ 64
 
 pub record RedactFits (features object offset size to : ℕ) : Type 0 where

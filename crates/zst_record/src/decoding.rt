@@ -2,7 +2,7 @@ ghost use Rattle.std.specs.Prelude.{◌≡◌, ◌+◌, ◌/◌, ◌%◌, ◌≤
 ghost use Rattle.std.specs.Int.{w32, trailing_zeros};
 ghost use Rattle.zst_bytes.specs.Bytes.{number_at, bytes_at};
 ghost use Rattle.zst_model.specs.declared.refusals.stream_fault.StreamFault.TheVariants.{Grammar, Unsupported};
-ghost use Rattle.zst_model.specs.states.State.{is_block_size};
+ghost use Rattle.zst_model.specs.states.State.{is_block_size, is_spill_size};
 ghost use Rattle.zst_record.specs.Decode.{decoded, typed, begin_of, snapshot_of, header_with, object_of, write_of, free_of, spill_of, redact_of, is_object, is_range, is_payload_len, needs_payload, name_in, sums_at, lack_of_feature};
 
 use crate::head::Head;
@@ -36,6 +36,13 @@ fn names_object(object: u64) -> bool
 #[tactic(auto, unfolding(zst_model::specs::states::State::is_block_size, zst_model::specs::states::State::largest_block))]
 fn sizes_block(size: u64) -> bool
     ensures { result ≡ is_block_size size }
+{
+    512 <= size && size <= 131_072 && size % 512 == 0
+}
+
+#[tactic(auto, unfolding(zst_model::specs::states::State::is_spill_size))]
+fn sizes_spill(size: u64) -> bool
+    ensures { result ≡ is_spill_size size }
 {
     512 <= size && size <= 131_072 && size % 512 == 0
 }
@@ -154,7 +161,7 @@ fn decode_spill(bytes: &[u8; 312], at: u64) -> Result<Head, StreamFault>
     if !names_object(object) {
         return grammar(at + 8, Flaw::Object);
     }
-    if !sizes_block(length) {
+    if !sizes_spill(length) {
         return grammar(at + 16, Flaw::Size);
     }
     if le8(bytes, 33) != 0 {

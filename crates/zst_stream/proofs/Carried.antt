@@ -16,7 +16,6 @@ use Rattle.zst_model.specs.states.Dated.{DatedState}
 use Rattle.zst_model.specs.sends.Included.{Choice, includes_pair, includes_number}
 use Rattle.zst_model.specs.sends.View.{ObjectView, Shown, Left, Gone, There, object_view, shown_object, view_of}
 use Rattle.zst_model.specs.sends.Items.{rising, block_change, change_at, block_changes, spill_change, opening, number_items, items_at, single_items, join_changes, join, before_item, before, joined, items}
-use Rattle.zst_model.proofs.Sizes.{spill_is_block}
 use Rattle.zst_record.specs.Decode.{is_object, is_range}
 use Rattle.zst_record.specs.Fits.{Fits}
 use Rattle.zst_stream.specs.Records.{item_head, Allows, ItemsFit}
@@ -49,7 +48,7 @@ carried_fits features to (At k (Put head bonus keep_spill max_block)) small (num
   max_block_fits = below;
   to_fits = small;
 }
-carried_fits features to (At k (Spill bytes)) small (number, is) allows = record { object_fits = number; size_fits = spill_is_block (length bytes) is; to_fits = small }
+carried_fits features to (At k (Spill bytes)) small (number, is) allows = record { object_fits = number; size_fits = is; to_fits = small }
 carried_fits features to (At k (FreeFrom offset)) small (number, below) allows =
     record { object_fits = number; offset_fits = below; size_fits = omega arith; range = or_right (nat_lt (offset + (2 ^ 64 - 1)) (2 ^ 64)) _ refl; to_fits = small }
 carried_fits features to (At k (Free offset count)) small (number, past) allows =

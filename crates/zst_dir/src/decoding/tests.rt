@@ -158,6 +158,45 @@ fn another_byte_makes_another_directory_or_none(rt: HostRuntime) -> Result<(), F
     Ok(())
 }
 
+// The sample's bytes with another number in the word at a place, counted in words.
+fn sample_with(alloc: Global, place: usize, number: u64) -> Result<Vec<u8>, AllocError> {
+    let word = number.to_le_bytes();
+    sample(alloc)?
+        .iter()
+        .enumerate()
+        .map(|(at, byte)| if at / 8 == place { word[at % 8] } else { *byte })
+        .collect(alloc)
+}
+
+#[test]
+fn a_guid_of_0_or_a_header_that_no_stream_states_is_none(rt: HostRuntime) -> Result<(), Fail> {
+    for (place, number, lawful) in [
+        // The guids of a snapshot, of the bookmark and of the partial state.
+        (20, 1, true),
+        (20, 0, false),
+        (93, u64::MAX, true),
+        (93, 0, false),
+        (119, 1, true),
+        (119, 0, false),
+        // The source's guid of a full stream is 0.
+        (120, 0, true),
+        // The kind, the flags and the features of the partial state.
+        (115, 2, true),
+        (115, 4, false),
+        (116, (1 << 32) - 1, true),
+        (116, 1 << 32, false),
+        (117, (1 << 30) - 1, true),
+        (117, 1 << 30, false),
+        // Its name, whole and with a zero byte in it.
+        (122, 0x0000_00fe_4062_2f61, true),
+        (122, 0x0000_00fe_0062_2f61, false),
+    ] {
+        let bytes = sample_with(rt.alloc(), place, number)?;
+        assert_eq!(rt; is_dir(rt.alloc(), &bytes)?, lawful, "{number} at {place}");
+    }
+    Ok(())
+}
+
 #[test]
 fn rows_out_of_order_are_none(rt: HostRuntime) -> Result<(), Fail> {
     let alloc = rt.alloc();

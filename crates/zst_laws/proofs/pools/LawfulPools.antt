@@ -1,7 +1,7 @@
 -- What commands make of a lawful pool is lawful.
 use Rattle.std.proofs.Common.{inl, inr, subst, ◌≡◌, ◌≢◌, ℕ, ◌+◌, ◌^◌, ◌<◌, ◌≤◌, true, false, List, ◌∷◌, ◌++◌, Option, Some, None, IfSome, is_some, Result, Ok, refl, sym, ap, ◌∙◌, arith}
 use Rattle.std.specs.List.{All, Contains}
-use Rattle.std.proofs.lemmas.List.Elements.{All-weaker, All-contains}
+use Rattle.std.proofs.lemmas.List.Elements.{All-nil, All-weaker, All-contains}
 use Rattle.zst_names.specs.Names.{IsDataset, IsSnapshot, IsComponent, dataset_of}
 use Rattle.zst_names.proofs.Marked.{at_is_mark, join_is_name}
 use Rattle.zst_model.specs.declared.pools.command.Command.TheVariants as commands
@@ -86,7 +86,7 @@ dataset_added kind name pool p is_name is_kind absent =
       };
       datasets =
           All-inserted (λ d. IsKind d.kind × IsGuidSet d.redact × IsState d.head.state) by_name row pool.datasets
-          (is_kind, (omega arith, refl), no_objects_are_lawful) p.datasets;
+          (is_kind, record { few = omega arith; rising = refl; fit = All-nil _ }, no_objects_are_lawful) p.datasets;
       snapshots = p.snapshots;
       bookmarks = p.bookmarks;
       partials = p.partials;

@@ -1,5 +1,5 @@
 -- What a pool is, with no place on a disk in it.
-use Rattle.std.specs.Prelude.{ℕ, ◌^◌, ◌<◌, ◌≤◌, ◌≡◌, ◌≢◌, ◌⊎◌, Bool, true, false, ◌&&◌, ◌||◌, nat_lt, List, [], ◌∷◌, ◌++◌, Option, None, IfSome, find, All, AllPairs, Contains, bytes_eq, if◌then◌else◌}
+use Rattle.std.specs.Prelude.{ℕ, ◌^◌, ◌<◌, ◌≤◌, ◌≡◌, ◌≢◌, ◌⊎◌, Bool, true, false, ◌&&◌, ◌||◌, nat_lt, List, [], ◌∷◌, ◌++◌, length, Option, None, IfSome, find, All, AllPairs, Contains, bytes_eq, if◌then◌else◌}
 use Rattle.std.specs.Ordering.{nat_cmp, is_lt}
 use Rattle.std.specs.Cmp.Lexicographic.{slice_cmp}
 use Rattle.zst_names.specs.Names.{IsDataset, IsSnapshot, IsBookmark, IsComponent, dataset_of}
@@ -131,6 +131,12 @@ IsKind kind = (kind ≡ 2) ⊎ (kind ≡ 3)
 abbrev pub IsGuid : ℕ → Type 0
 IsGuid guid = (0 < guid) × (guid < 2 ^ 64)
 
+-- a name that a stream can state: at most 255 bytes, none of them 0
+pub record IsStatedName (name : List ℕ) : Type 0 where
+  pub short : length name ≤ 255
+  pub bytes : All (λ byte. byte < 2 ^ 8) name
+  pub no_zero : ¬ (Contains name 0)
+
 -- a header that a stream which isn't resumed can state
 pub record IsStated (header : Header) : Type 0 where
   pub kind : IsKind header.kind
@@ -139,9 +145,9 @@ pub record IsStated (header : Header) : Type 0 where
   pub time : header.time < 2 ^ 64
   pub to : IsGuid header.to
   pub from : header.from < 2 ^ 64
+  pub name : IsStatedName header.name
   pub redact : IsGuidSet header.redact
   pub from_redact : IsGuidSet header.from_redact
-  pub guids : All (λ guid. guid < 2 ^ 64) (header.redact ++ header.from_redact)
   pub resume : header.resume ≡ None
 
 -- a lawful pool: its numbers are in their ranges, its names are in order and there, its kinds are kinds, its guids are guids and their sets sets, its lists are lists, its headers can be stated, and its states are lawful

@@ -1,5 +1,4 @@
 use Rattle.std.proofs.Common.{◌≡◌, Some, ◌++◌, ◌∷◌, [], length, ◌<◌, ◌^◌, arith, ap, refl, ◌∙◌, length-append}
-use Rattle.std.proofs.lemmas.List.Elements.{All-push}
 use Rattle.std.specs.List.{flat_map}
 use Rattle.zst_bytes.specs.Words.{word}
 use Rattle.zst_model.specs.fields.Guids.{IsGuidSet}
@@ -9,14 +8,14 @@ use Rattle.zst_dir.proofs.fields.read_guids.Goals as goal
 
 pub returns-in_err-count-clause-exact : goal.returns-in_err-count-clause-exact
 returns-in_err-count-clause-exact c = λ value rest guids is.
-    absurd (cc (c.in_err-count.ensures.exact (length value) (flat_map word value ++ rest) (omega (arith, guids.set.0)) (is ∙ words_parts value rest)).0)
+    absurd (cc (c.in_err-count.ensures.exact (length value) (flat_map word value ++ rest) (omega (arith, guids.few)) (is ∙ words_parts value rest)).0)
 
 pub loop-init : goal.loop-init
 loop-init c = rw c.empty-guids.ensures (record {
   at = refl;
-  guids = record { set = (omega arith, refl); fit = λ k d below. absurd (omega (arith, below)) };
+  guids = record { few = omega arith; rising = refl; fit = λ k d below. absurd (omega (arith, below)) };
   stands = λ value rest guids is.
-      let count = c.in_ok-count.ensures.exact (length value) (flat_map word value ++ rest) (omega (arith, guids.set.0)) (is ∙ words_parts value rest) in
+      let count = c.in_ok-count.ensures.exact (length value) (flat_map word value ++ rest) (omega (arith, guids.few)) (is ∙ words_parts value rest) in
       (cc count.0, stands_first word value rest c.word.new.self count.1);
 })
 
@@ -34,7 +33,7 @@ returns-then-not-insert_last-clause-exact c = λ value rest guids is.
     let fits : next.row < 2 ^ 64 = fits_next (λ guid. guid < 2 ^ 64) word value rest c.loop.guids c.loop.cursor guids.fit next in
     let read = c.in_ok-guid.ensures.exact next.row (flat_map word next.left ++ rest) fits next.spelled in
     let same : c.in_ok-guid.guid ≡ next.row = cc read.0 in
-    let set : IsGuidSet (c.loop.guids ++ c.in_ok-guid.guid ∷ []) = rw same (IsGuidSet-front value (c.loop.guids ++ next.row ∷ []) next.left guids.set next.split) in
+    let set : IsGuidSet (c.loop.guids ++ c.in_ok-guid.guid ∷ []) = rw same (IsGuidSet-front value (c.loop.guids ++ next.row ∷ []) next.left guids next.split) in
     absurd (cc (c.insert_last.ensures.exact.1 set, c.if-not-insert_last.true))
 
 pub loop-preserved : goal.loop-preserved
@@ -42,10 +41,7 @@ loop-preserved c =
     let added = c.insert_last.ensures.added c.if-not-insert_last.false in
     record {
       at = rw added (omega (arith, c.loop.invariant.at, length-append c.loop.guids (c.in_ok-guid.guid ∷ [])));
-      guids = record {
-        set = c.insert_last.ensures.set;
-        fit = rw added (All-push (λ guid. guid < 2 ^ 64) c.loop.guids c.in_ok-guid.guid c.loop.invariant.guids.fit c.in_ok-guid.ensures.small);
-      };
+      guids = c.insert_last.ensures.set;
       stands = λ value rest guids is.
           let stood = c.loop.invariant.stands value rest guids is in
           let next = stands_next word value rest c.loop.guids c.loop.cursor stood.1 (omega (arith, stood.0)) in
