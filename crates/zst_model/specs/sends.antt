@@ -1,6 +1,9 @@
+pub mod Headers
 pub mod Included
 pub mod Items
+pub mod PartWay
 pub mod Points
+pub mod Received
 pub mod StandsFor
 pub mod Target
 pub mod View

@@ -12,9 +12,8 @@ use Rattle.zst_model.specs.declared.states.item.Item.TheVariants.{FreeObjects, A
 use Rattle.zst_model.specs.declared.refusals.refusal.Refusal.{Refusal}
 use Rattle.zst_model.specs.states.State.{IsState, IsHead, IsBonus, IsSpill, number_bound, index_bound}
 use Rattle.zst_model.specs.states.Apply.{◌>>=◌}
-use Rattle.zst_model.specs.fields.Guids.{IsGuidSet}
 use Rattle.zst_model.specs.states.Dated.{DatedState, size_at, apply_all_dated}
-use Rattle.zst_model.specs.pools.Pool.{Pool, Dataset, IsKind, IsPool}
+use Rattle.zst_model.specs.pools.Pool.{Pool, Dataset, IsKind, AreGuids, IsPool}
 use Rattle.zst_model.specs.pools.Sound.{Sound}
 use Rattle.zst_model.specs.pools.Step.{Stepped, stepped, IsCommand, committed, with_head, in_numbers, in_indices, applied, filled, written, punched, on_head, with_dataset, with_snapshot, snapshot_of}
 use Rattle.zst_laws.specs.Stepping.{StepsKeepSound}
@@ -76,7 +75,7 @@ changed_follows : (name : List ℕ) (pool : Pool) (change : DatedState → Resul
 changed_follows name pool change after is sound keeps h =
     let (dataset, head, named, free, changed, made) = on_head_ok name pool change after h in
     let found = named_found (λ d. d.name) name pool.datasets dataset named in
-    let lawful = All-contains (λ d. IsKind d.kind × IsGuidSet d.redact × IsState d.head.state) pool.datasets dataset is.datasets found.0 in
+    let lawful = All-contains (λ d. IsKind d.kind × AreGuids d.redact × IsState d.head.state) pool.datasets dataset is.datasets found.0 in
     other_datasets pool (with_head name head pool.datasets) after is sound
     (head_keeps pool name head dataset found.0 found.1 (keeps dataset.head head lawful.2 changed)) made
 

@@ -131,6 +131,10 @@ IsKind kind = (kind ≡ 2) ⊎ (kind ≡ 3)
 abbrev pub IsGuid : ℕ → Type 0
 IsGuid guid = (0 < guid) × (guid < 2 ^ 64)
 
+-- a set of guids each of which fits 64 bits
+abbrev pub AreGuids : List ℕ → Type 0
+AreGuids guids = IsGuidSet guids × All (λ guid. guid < 2 ^ 64) guids
+
 -- a header that a stream which isn't resumed can state
 pub record IsStated (header : Header) : Type 0 where
   pub kind : IsKind header.kind
@@ -144,14 +148,14 @@ pub record IsStated (header : Header) : Type 0 where
   pub guids : All (λ guid. guid < 2 ^ 64) (header.redact ++ header.from_redact)
   pub resume : header.resume ≡ None
 
--- a lawful pool: its numbers are in their ranges, its names are in order and there, its kinds are kinds, its guids are guids and their sets sets, its lists are lists, its headers can be stated, and its states are lawful
+-- a lawful pool: its numbers are in their ranges, its names are in order and there, its kinds are kinds, its guids are guids and their sets sets of 64 bits, its times fit 64 bits, its lists are lists, its headers can be stated, and its states are lawful
 pub record IsPool (pool : Pool) : Type 0 where
   pub id : (0 < pool.id) × (pool.id < 2 ^ 31)
   pub number : pool.number ≤ 2 ^ 63
   pub guids : pool.guids < 2 ^ 32
   pub named : IsNamed pool
   pub linked : IsLinked pool
-  pub datasets : All (λ dataset. IsKind dataset.kind × IsGuidSet dataset.redact × IsState dataset.head.state) pool.datasets
-  pub snapshots : All (λ snapshot. IsGuid snapshot.guid × IsGuidSet snapshot.redact × IsState snapshot.objects.state) pool.snapshots
-  pub bookmarks : All (λ bookmark. IsGuid bookmark.guid × IsGuidSet bookmark.redact × IsRunList bookmark.runs) pool.bookmarks
+  pub datasets : All (λ dataset. IsKind dataset.kind × AreGuids dataset.redact × IsState dataset.head.state) pool.datasets
+  pub snapshots : All (λ snapshot. IsGuid snapshot.guid × AreGuids snapshot.redact × IsState snapshot.objects.state × (snapshot.time < 2 ^ 64)) pool.snapshots
+  pub bookmarks : All (λ bookmark. IsGuid bookmark.guid × AreGuids bookmark.redact × IsRunList bookmark.runs × (bookmark.time < 2 ^ 64)) pool.bookmarks
   pub partials : All (λ partial. IsStated partial.header × IsState partial.objects.state) pool.partials
