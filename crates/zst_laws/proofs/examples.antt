@@ -8,3 +8,4 @@ pub mod LinesTold
 pub mod SentObjects
 pub mod SoundClones
 pub mod Commanded
+pub mod Headed

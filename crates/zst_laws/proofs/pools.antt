@@ -12,3 +12,4 @@ pub mod SoundSteps
 pub mod LawfulHeads
 pub mod LawfulPools
 pub mod Refused
+pub mod KeptPools

@@ -13,3 +13,4 @@ pub mod Walk
 pub mod More
 pub mod Ranges
 pub mod Receives
+pub mod Taken

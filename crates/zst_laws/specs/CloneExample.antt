@@ -3,7 +3,7 @@ use Rattle.std.specs.Prelude.{ℕ, true, List, [], ◌∷◌, Option, Some, None
 use Rattle.zst_model.specs.declared.sends.header.Header.{Header}
 use Rattle.zst_model.specs.pools.Pool.{Pool, Dataset, Snapshot, Bookmark, Partial, untouched}
 use Rattle.zst_model.specs.pools.Rows.{snapshot_row}
-use Rattle.zst_model.specs.pools.Before.{Source, OfSnapshot, OfBookmark, Place, InDataset, InPartial, IsBefore}
+use Rattle.zst_model.specs.pools.Before.{IsMadeOf, Source, OfSnapshot, OfBookmark, Place, InDataset, InPartial, IsBefore}
 
 -- two snapshots of `tank/a`, which the commits 3 and 5 made, and one of `tank/b`, which commit 8 made
 abbrev pub first : Snapshot
@@ -92,3 +92,12 @@ ClonesStand =
     FirstStands (OfSnapshot first) × FirstStands (OfBookmark of_first)
     × SecondStands (OfSnapshot second) × SecondStands (OfBookmark of_second)
     × InnerStands (OfSnapshot inner)
+
+-- a bookmark is made of the snapshot whose dataset, guid and number it has, and of none that differs in one of them
+abbrev pub MadeOfOne : Type 0
+MadeOfOne =
+    IsMadeOf of_first first
+    × (IsMadeOf of_first second → ⊥)
+    × (IsMadeOf (record of_first { guid = second.guid }) first → ⊥)
+    × (IsMadeOf (record of_first { number = second.number }) first → ⊥)
+    × (IsMadeOf (record of_first { name = codes "tank/b#s" }) first → ⊥)

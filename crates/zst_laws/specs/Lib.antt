@@ -4,11 +4,14 @@ pub mod Commits
 pub mod Counting
 pub mod Dating
 pub mod Example
+pub mod HeaderExample
 pub mod History
 pub mod Joining
+pub mod KeptExample
 pub mod LineExample
 pub mod Meanings
 pub mod Ranges
+pub mod Receiving
 pub mod RedactExample
 pub mod Remembering
 pub mod Resuming

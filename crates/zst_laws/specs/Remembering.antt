@@ -1,5 +1,5 @@
 -- What a source remembers in a pool, and that it does so while commands run.
-use Rattle.std.specs.Prelude.{◌≡◌, ℕ, List, Some, Ok, Contains}
+use Rattle.std.specs.Prelude.{◌≡◌, ℕ, ◌^◌, ◌<◌, List, Some, Ok, Contains}
 use Rattle.zst_model.specs.declared.pools.command.Command.{Command}
 use Rattle.zst_model.specs.declared.pools.command.Command.TheVariants as commands
 use Rattle.zst_model.specs.states.State.{State, IsState}
@@ -64,7 +64,7 @@ TakenRemembers =
 pub data Leads (source : Source) : Pool → Pool → Type 0 where
   Stays : (pool : Pool) → Leads source pool pool
   Steps : (now : ℕ) (command : Command) (pool : Pool) (after : Stepped) (last : Pool)
-      → IsCommand command → stepped now command pool ≡ Ok after → IsIn after.pool source → Leads source after.pool last → Leads source pool last
+      → IsCommand command → now < 2 ^ 64 → stepped now command pool ≡ Ok after → IsIn after.pool source → Leads source after.pool last → Leads source pool last
 
 -- so what a source remembers is fit as a base after any number of commands, of each row that the source then stands before
 abbrev pub HistoryIsBase : Type 0

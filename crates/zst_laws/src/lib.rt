@@ -13,8 +13,11 @@ mod clone_example;
 mod command_examples;
 mod commits;
 mod dates;
+mod headers;
+mod kept;
 mod line_examples;
 mod meanings;
+mod receiving;
 mod redact_example;
 mod remembering;
 mod send_examples;
@@ -23,13 +26,17 @@ mod step_examples;
 mod step_refusals;
 mod stepping;
 
-pub use clone_example::clones_stand;
+pub use clone_example::{bookmarks_are_of_one, clones_stand};
 pub use command_examples::{object_is_replaced, range_is_punched};
 pub use commits::{history_remembers, increment_is_exact};
 pub use dates::{
     applied_is_state, changes_are_dated, dates_are_exact, remembers_itself, remembers_on,
     remembers_through,
 };
+pub use headers::{
+    choices_are_exact, headers_are_exact, headers_keep_the_rest, sends_are_stated, sends_have_items,
+};
+pub use kept::{keeping_is_done, kept_are_kept, kept_are_lawful};
 pub use line_examples::{blocks_are_read, objects_are_listed, pool_is_listed};
 pub use meanings::{
     attributes_date_numbers, block_sizes_are_multiples, blocks_date_no_number, contents_are_told,
@@ -37,6 +44,10 @@ pub use meanings::{
     lists_can_be_redacted, other_heads_stay, ranges_date_blocks, redacts_fail, rows_stand_in_order,
     snapshots_keep_guids, sources_are_included, spills_are_kept, spills_fail,
     user_data_has_two_types, volumes_are_made, writes_fail,
+};
+pub use receiving::{
+    cut_is_part_way, far_records_are_refused, moved_has_taken, part_way_is_completed,
+    received_is_state, record_faults_come_first,
 };
 pub use redact_example::two_clones_list_one_block;
 pub use remembering::{

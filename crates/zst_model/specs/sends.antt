@@ -1,7 +1,10 @@
+pub mod Headers
 pub mod Included
 pub mod Items
 pub mod Places
+pub mod PartWay
 pub mod Points
+pub mod Received
 pub mod StandsFor
 pub mod Target
 pub mod View

@@ -22,14 +22,6 @@ use Rattle.zst_flat.specs.declared.rows.StoredObject.{StoredObject}
 abbrev pub Grows : ((Ptr → List ℕ → Type 0) → Type 0) → Type 1
 Grows describes = (has more : Ptr → List ℕ → Type 0) → ((ptr : Ptr) (bytes : List ℕ) → has ptr bytes → more ptr bytes) → describes has → describes more
 
--- what some blocks describe, those and more describe too
-abbrev pub Grows : ((Ptr → List ℕ → Type 0) → Type 0) → Type 1
-Grows describes = (has more : Ptr → List ℕ → Type 0) → ((ptr : Ptr) (bytes : List ℕ) → has ptr bytes → more ptr bytes) → describes has → describes more
-
--- what some blocks describe, those and more describe too
-abbrev pub Grows : ((Ptr → List ℕ → Type 0) → Type 0) → Type 1
-Grows describes = (has more : Ptr → List ℕ → Type 0) → ((ptr : Ptr) (bytes : List ℕ) → has ptr bytes → more ptr bytes) → describes has → describes more
-
 -- each block of the first is one of the second
 abbrev pub AreMore : Blocks → Blocks → Type 0
 AreMore has more = (ptr : Ptr) (bytes : List ℕ) → has ptr bytes → more ptr bytes

@@ -5,7 +5,7 @@ use Rattle.std.proofs.lemmas.Option.{same_Some}
 use Rattle.zst_model.specs.pools.Pool.{Dataset, Snapshot, HasDataset, dataset_of_snapshot}
 use Rattle.zst_model.specs.pools.Before.{IsOrigin, IsBase, Source, OfSnapshot, OfBookmark, dataset_of_source, number_of_source, Marks, IsBelow, StandsBefore, Earlier, AtOrigin, BeforeOrigin, BaseCounts, Place, IsBefore}
 use Rattle.zst_model.proofs.InsertedLaws.{contains_cases, contains_nothing}
-use Rattle.zst_laws.specs.CloneExample.{first, second, inner, dataset, of_first, of_second, receiving, clones, at_first, at_second, at_inner, at_head, at_received, of_clone, Stands, FirstStands, SecondStands, InnerStands, ClonesStand}
+use Rattle.zst_laws.specs.CloneExample.{first, second, inner, dataset, of_first, of_second, receiving, clones, at_first, at_second, at_inner, at_head, at_received, of_clone, Stands, FirstStands, SecondStands, InnerStands, ClonesStand, MadeOfOne}
 use Rattle.zst_laws.proofs.pools.Rows.{bytes_differ}
 use Rattle.zst_laws.proofs.pools.Standing.{marks_number}
 
@@ -247,4 +247,13 @@ clones_standing = (
   second_stands (OfSnapshot second) refl refl,
   second_stands (OfBookmark of_second) refl refl,
   inner_stands,
+)
+
+pub made_of_one : MadeOfOne
+made_of_one = (
+  record { dataset = refl; guid = refl; number = refl },
+  λ is. let e = is.number in absurd (omega arith),
+  λ is. let e = is.guid in absurd (omega arith),
+  λ is. let e = is.number in absurd (omega arith),
+  λ is. bytes_differ tank_b tank_a refl is.dataset,
 )

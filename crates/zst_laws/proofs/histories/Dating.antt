@@ -39,7 +39,7 @@ redact_gives offset length object p h =
     let whole = unless_ok (is_odd_size size && (nat_lt 0 length && nat_lt size (offset + length))) OddBlock _ p aligned.1 in
     (whole.0, ok_inj _ _ whole.1)
 
-write_gives : (offset : ℕ) (type : ℕ) (bytes : List ℕ) (object : Object) (p : Option Object) → apply_change (Write offset type bytes) (Some object) ≡ Ok p
+pub write_gives : (offset : ℕ) (type : ℕ) (bytes : List ℕ) (object : Object) (p : Option Object) → apply_change (Write offset type bytes) (Some object) ≡ Ok p
     → ((not (length bytes == object.attr.block_size)) ≡ false)
     × ((is_odd_size object.attr.block_size && nat_lt 0 offset) ≡ false)
     × (◌≡◌ {A = Option Object} (Some (record { attr = object.attr; blocks = λ i. if i * object.attr.block_size == offset then Data bytes else object.blocks i })) p)

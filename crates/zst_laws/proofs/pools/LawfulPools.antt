@@ -4,11 +4,11 @@ use Rattle.std.specs.List.{All, Contains}
 use Rattle.std.proofs.lemmas.List.Elements.{All-nil, All-weaker, All-contains}
 use Rattle.zst_names.specs.Names.{IsDataset, IsSnapshot, IsComponent, dataset_of}
 use Rattle.zst_names.proofs.Marked.{at_is_mark, join_is_name}
+use Rattle.zst_model.specs.fields.Guids.{IsGuidSet}
 use Rattle.zst_model.specs.declared.pools.command.Command.TheVariants as commands
 use Rattle.zst_model.specs.declared.refusals.refusal.Refusal.{Refusal}
 use Rattle.zst_model.specs.states.State.{IsState, no_objects}
 use Rattle.zst_model.specs.states.Dated.{DatedState}
-use Rattle.zst_model.specs.fields.Guids.{IsGuidSet}
 use Rattle.zst_model.specs.pools.Pool.{Pool, Dataset, Snapshot, IsPool, IsKind, IsGuid, HasDataset, HasSnapshot, dataset_named, snapshot_named, partial_of, dataset_of_snapshot, is_before, snapshot_is_before, inserted}
 use Rattle.zst_model.specs.pools.Step.{Stepped, committed, last_number, last_guid, next_guid, new_dataset, with_head_at, with_head, snapshot_of, with_dataset, on_head, with_snapshot, stepped}
 use Rattle.zst_model.proofs.InsertedLaws.{All-from_contains, contains-map, contains-inserted, inserted_has_rest, All-inserted, AllPairs-map}
@@ -151,12 +151,12 @@ IfSome_weaker None P Q f h = tt
 IfSome_weaker (Some x) P Q f h = f x h
 
 -- a lawful pool with a new snapshot of a dataset
-snapshot_added : (now : ℕ) (name : List ℕ) (pool : Pool) (dataset : Dataset) → IsPool pool → IsSnapshot name
+snapshot_added : (now : ℕ) (name : List ℕ) (pool : Pool) (dataset : Dataset) → now < 2 ^ 64 → IsPool pool → IsSnapshot name
     → dataset_named (dataset_of 64 name) pool ≡ Some dataset → is_some (partial_of (dataset_of 64 name) pool) ≡ false
     → is_some (snapshot_named name pool) ≡ false → pool.guids + 1 ≤ last_guid
     → IsPool (record pool { guids = pool.guids + 1; snapshots = inserted snapshot_is_before (snapshot_of now name pool dataset) pool.snapshots })
 unfolding last_guid
-snapshot_added now name pool dataset p is_name there free absent guids =
+snapshot_added now name pool dataset fits p is_name there free absent guids =
     let row = snapshot_of now name pool dataset in
     let rows = pool.snapshots in
     let found = named_found (λ d. d.name) (dataset_of 64 name) pool.datasets dataset there in
@@ -199,8 +199,8 @@ snapshot_added now name pool dataset p is_name there free absent guids =
       };
       datasets = p.datasets;
       snapshots =
-          All-inserted (λ s. IsGuid s.guid × IsGuidSet s.redact × IsState s.objects.state) snapshot_is_before row rows
-          (next_is_guid pool p.id.1 (omega (arith, guids)), of_dataset.1, of_dataset.2) p.snapshots;
+          All-inserted (λ s. IsGuid s.guid × IsGuidSet s.redact × IsState s.objects.state × (s.time < 2 ^ 64)) snapshot_is_before row rows
+          (next_is_guid pool p.id.1 (omega (arith, guids)), of_dataset.1, of_dataset.2, fits) p.snapshots;
       bookmarks = p.bookmarks;
       partials = p.partials;
     }
@@ -220,25 +220,25 @@ head_steps name pool change after p lawful h =
     let old = All-contains (λ d. IsKind d.kind × IsGuidSet d.redact × IsState d.head.state) pool.datasets made.0 p.datasets there in
     committed_pool _ after (head_changed name made.1 pool p (lawful made.0.head made.1 old.2 made.4)) made.5
 
-snapshot_steps : (now : ℕ) (name : List ℕ) (pool : Pool) (after : Stepped) → IsPool pool → IsSnapshot name
+snapshot_steps : (now : ℕ) (name : List ℕ) (pool : Pool) (after : Stepped) → now < 2 ^ 64 → IsPool pool → IsSnapshot name
     → with_snapshot now name pool ≡ Ok after → IsPool after.pool
-snapshot_steps now name pool after p is_name h =
+snapshot_steps now name pool after fits p is_name h =
     let new = with_snapshot_ok now name pool after h in
-    committed_pool _ after (snapshot_added now name pool new.dataset p is_name new.there new.free new.absent new.guids) new.made
+    committed_pool _ after (snapshot_added now name pool new.dataset fits p is_name new.there new.free new.absent new.guids) new.made
 
 pub steps_keep_lawful : StepsKeepPools
 unfolding stepped
-steps_keep_lawful now (commands.Fs name) pool after c p h = dataset_steps 2 name pool after p c (inl refl) h
-steps_keep_lawful now (commands.Volume name) pool after c p h = dataset_steps 3 name pool after p c (inr refl) h
-steps_keep_lawful now (commands.Object name k head bonus spill) pool after c p h =
+steps_keep_lawful now (commands.Fs name) pool after c fits p h = dataset_steps 2 name pool after p c (inl refl) h
+steps_keep_lawful now (commands.Volume name) pool after c fits p h = dataset_steps 3 name pool after p c (inr refl) h
+steps_keep_lawful now (commands.Object name k head bonus spill) pool after c fits p h =
     head_steps name pool _ after p (λ old new s made. object_is_lawful pool k head bonus spill old new s c.1 c.2 c.3 c.4 made) h
-steps_keep_lawful now (commands.Write name k i bytes) pool after c p h =
+steps_keep_lawful now (commands.Write name k i bytes) pool after c fits p h =
     head_steps name pool _ after p (λ old new s made. write_is_lawful pool k i bytes old new s c.1 made) h
-steps_keep_lawful now (commands.Punch name k first count) pool after c p h =
+steps_keep_lawful now (commands.Punch name k first count) pool after c fits p h =
     head_steps name pool _ after p (λ old new s made. punch_is_lawful pool k first count old new s c.1 made) h
-steps_keep_lawful now (commands.Free name first count) pool after c p h =
+steps_keep_lawful now (commands.Free name first count) pool after c fits p h =
     head_steps name pool _ after p (λ old new s made. free_is_lawful pool first count old new s made) h
-steps_keep_lawful now (commands.Snapshot name) pool after c p h = snapshot_steps now name pool after p c h
-steps_keep_lawful now (commands.Read name k i) pool after c p h = subst IsPool (sym (read_keeps now name k i pool after h)) p
-steps_keep_lawful now commands.List pool after c p h = subst IsPool (sym (list_keeps now pool after h)) p
-steps_keep_lawful now (commands.ListObjects name) pool after c p h = subst IsPool (sym (list_objects_keeps now name pool after h)) p
+steps_keep_lawful now (commands.Snapshot name) pool after c fits p h = snapshot_steps now name pool after fits p c h
+steps_keep_lawful now (commands.Read name k i) pool after c fits p h = subst IsPool (sym (read_keeps now name k i pool after h)) p
+steps_keep_lawful now commands.List pool after c fits p h = subst IsPool (sym (list_keeps now pool after h)) p
+steps_keep_lawful now (commands.ListObjects name) pool after c fits p h = subst IsPool (sym (list_objects_keeps now name pool after h)) p

@@ -2,6 +2,7 @@
 use Rattle.std.proofs.Common.{◌≡◌, ◌⊎◌, inl, inr, ℕ, ◌+◌, ◌*◌, ◌<◌, List, [], ◌∷◌, Option, IfSome, Result, Ok, refl, subst, sym, arith}
 use Rattle.std.proofs.lemmas.List.Elements.{All-contains}
 use Rattle.zst_names.specs.Names.{dataset_of}
+use Rattle.zst_model.specs.fields.Guids.{IsGuidSet}
 use Rattle.zst_model.specs.declared.states.attr.ObjectHead.{ObjectHead}
 use Rattle.zst_model.specs.declared.pools.command.Command.{Command}
 use Rattle.zst_model.specs.declared.pools.command.Command.TheVariants as commands
@@ -12,7 +13,6 @@ use Rattle.zst_model.specs.declared.states.item.Item.TheVariants.{FreeObjects, A
 use Rattle.zst_model.specs.declared.refusals.refusal.Refusal.{Refusal}
 use Rattle.zst_model.specs.states.State.{IsState, IsHead, IsBonus, IsSpill, number_bound, index_bound}
 use Rattle.zst_model.specs.states.Apply.{◌>>=◌}
-use Rattle.zst_model.specs.fields.Guids.{IsGuidSet}
 use Rattle.zst_model.specs.states.Dated.{DatedState, size_at, apply_all_dated}
 use Rattle.zst_model.specs.pools.Pool.{Pool, Dataset, IsKind, IsPool}
 use Rattle.zst_model.specs.pools.Sound.{Sound}

@@ -1,10 +1,10 @@
 -- What a source of a sound pool remembers, and that it is fit as a base.
-use Rattle.std.proofs.Common.{◌≡◌, inl, inr, ◌⊎◌, ℕ, ◌<◌, List, [], ◌∷◌, Option, Some, None, AllPairs, Contains, refl, subst, sym, ◌∙◌, ap, arith}
+use Rattle.std.proofs.Common.{◌≡◌, inl, inr, ◌⊎◌, ℕ, ◌^◌, ◌<◌, List, [], ◌∷◌, Option, Some, None, AllPairs, Contains, refl, subst, sym, ◌∙◌, ap, arith}
 use Rattle.std.proofs.lemmas.List.Elements.{All-contains}
+use Rattle.zst_model.specs.fields.Guids.{IsGuidSet}
 use Rattle.zst_model.specs.declared.pools.command.Command.TheVariants as commands
 use Rattle.zst_model.specs.states.State.{State, IsState}
 use Rattle.zst_model.specs.states.Dated.{DatedState}
-use Rattle.zst_model.specs.fields.Guids.{IsGuidSet}
 use Rattle.zst_model.specs.pools.Pool.{Pool, Snapshot, Partial, IsPool, IsKind, dataset_of_snapshot, snapshot_is_before, IsGuid, IsStated}
 use Rattle.zst_model.specs.pools.Before.{Source, OfSnapshot, dataset_of_source, number_of_source, IsIn, Marks, IsBelow, StandsBefore, Earlier, AtOrigin, BeforeOrigin, IsBeforeClone, IsBeforePartial, InDataset, InPartial, Place, IsBefore}
 use Rattle.zst_model.specs.pools.Rows.{Row}
@@ -91,7 +91,7 @@ own_remembered pool source own sound there is = record {
 
 -- the rows of a lawful pool have lawful states
 row_is_state : (pool : Pool) → IsPool pool → (row : Row) → IsRow pool row → IsState row.objects.state
-row_is_state pool is row (SnapshotRow snapshot there) = (All-contains (λ s. IsGuid s.guid × IsGuidSet s.redact × IsState s.objects.state) pool.snapshots snapshot is.snapshots there).2
+row_is_state pool is row (SnapshotRow snapshot there) = (All-contains (λ s. IsGuid s.guid × IsGuidSet s.redact × IsState s.objects.state × (s.time < 2 ^ 64)) pool.snapshots snapshot is.snapshots there).2
 row_is_state pool is row (HeadRow dataset there) = (All-contains (λ d. IsKind d.kind × IsGuidSet d.redact × IsState d.head.state) pool.datasets dataset is.datasets there).2
 row_is_state pool is row (PartialRow partial there) = (All-contains (λ p. IsStated p.header × IsState p.objects.state) pool.partials partial is.partials there).1
 
@@ -101,7 +101,7 @@ remembered_base pool source state row listed redact is lawful h there before =
 
 pub sources_bases : SourcesAreBases
 sources_bases pool source own row listed redact is sound here of there before =
-    let lawful = All-contains (λ s. IsGuid s.guid × IsGuidSet s.redact × IsState s.objects.state) pool.snapshots own is.snapshots here in
+    let lawful = All-contains (λ s. IsGuid s.guid × IsGuidSet s.redact × IsState s.objects.state × (s.time < 2 ^ 64)) pool.snapshots own is.snapshots here in
     remembered_base pool source own.objects.state row listed redact is lawful.2 (own_remembered pool source own sound here of) there before
 
 pub taken_remembers : TakenRemembers
@@ -122,8 +122,8 @@ record IsKept (source : Source) (state : State) (pool : Pool) : Type 0 where
 
 kept_on : (source : Source) (state : State) (pool last : Pool) → Leads source pool last → IsKept source state pool → IsKept source state last
 kept_on source state pool last (Stays _) kept = kept
-kept_on source state pool last (Steps now command _ after _ words made here rest) kept = kept_on source state after.pool last rest (record {
-  lawful = steps_keep_lawful now command pool after words kept.lawful made;
+kept_on source state pool last (Steps now command _ after _ words fits made here rest) kept = kept_on source state after.pool last rest (record {
+  lawful = steps_keep_lawful now command pool after words fits kept.lawful made;
   sound = steps_sound now command pool after words kept.lawful kept.sound made;
   here = here;
   remembers = steps_remember now command pool after source state words kept.lawful kept.sound made kept.here kept.remembers;

@@ -150,7 +150,7 @@ pub record IsStated (header : Header) : Type 0 where
   pub from_redact : IsGuidSet header.from_redact
   pub resume : header.resume ≡ None
 
--- a lawful pool: its numbers are in their ranges, its names are in order and there, its kinds are kinds, its guids are guids and their sets sets, its lists are lists, its headers can be stated, and its states are lawful
+-- a lawful pool: its numbers are in their ranges, its names are in order and there, its kinds are kinds, its guids are guids and their sets sets of 64 bits, its times fit 64 bits, its lists are lists, its headers can be stated, and its states are lawful
 pub record IsPool (pool : Pool) : Type 0 where
   pub id : (0 < pool.id) × (pool.id < 2 ^ 31)
   pub number : pool.number ≤ 2 ^ 63
@@ -158,6 +158,6 @@ pub record IsPool (pool : Pool) : Type 0 where
   pub named : IsNamed pool
   pub linked : IsLinked pool
   pub datasets : All (λ dataset. IsKind dataset.kind × IsGuidSet dataset.redact × IsState dataset.head.state) pool.datasets
-  pub snapshots : All (λ snapshot. IsGuid snapshot.guid × IsGuidSet snapshot.redact × IsState snapshot.objects.state) pool.snapshots
-  pub bookmarks : All (λ bookmark. IsGuid bookmark.guid × IsGuidSet bookmark.redact × IsRunList bookmark.runs) pool.bookmarks
+  pub snapshots : All (λ snapshot. IsGuid snapshot.guid × IsGuidSet snapshot.redact × IsState snapshot.objects.state × (snapshot.time < 2 ^ 64)) pool.snapshots
+  pub bookmarks : All (λ bookmark. IsGuid bookmark.guid × IsGuidSet bookmark.redact × IsRunList bookmark.runs × (bookmark.time < 2 ^ 64)) pool.bookmarks
   pub partials : All (λ partial. IsStated partial.header × IsState partial.objects.state) pool.partials

@@ -1,0 +1,134 @@
+-- What BEGIN says of sends.
+use Rattle.std.proofs.Common.{◌≡◌, ◌+◌, ◌^◌, ◌<◌, Bool, true, false, [], Option, Some, None, IfSome, bit_and, if◌then◌else◌, refl, ap, subst, sym, arith}
+use Rattle.std.specs.List.{Contains}
+use Rattle.std.proofs.lemmas.List.Elements.{All-nil, All-contains, All-append}
+use Rattle.zst_model.specs.fields.Guids.{IsGuidSet}
+use Rattle.zst_model.specs.fields.Lists.{IsRunList}
+use Rattle.zst_model.specs.states.State.{IsState}
+use Rattle.zst_model.specs.pools.Before.{Source, OfSnapshot, OfBookmark, IsIn}
+use Rattle.zst_model.specs.pools.Pool.{Pool, Snapshot, Bookmark, IsPool, IsKind, IsGuid}
+use Rattle.zst_model.specs.sends.Headers.{Sent, IsOf, clone_flag, free_records, spill_block, sa_spill, redacts, is_elsewhere, clone_part, redacted_part, flags_of, features_of, from_guid, redaction_guids, source_guids, header_of, choice_of}
+use Rattle.zst_model.specs.sends.View.{resuming, header_from}
+use Rattle.zst_laws.specs.HeaderExample.{FullHeader, VolumeHeader, IncrementHeaders, SourceHeader, CloneHeaders, RedactedHeader, Choices, SentItems, SentIsStated, SentHasView, PointHeaders, of_files, second_snapshot}
+use Rattle.zst_laws.specs.StepExample.{small_snapshot}
+use Rattle.zst_laws.proofs.examples.Examples.{small_items, rewritten_items}
+use Rattle.zst_laws.proofs.sends.Exact.{view_is_view}
+
+pub full_header : FullHeader
+unfolding flags_of features_of free_records spill_block sa_spill
+full_header now = refl
+
+pub volume_header : VolumeHeader
+unfolding flags_of features_of free_records spill_block sa_spill
+volume_header now = refl
+
+pub increment_headers : IncrementHeaders
+unfolding flags_of features_of free_records spill_block sa_spill
+increment_headers now = (refl, refl)
+
+pub source_header : SourceHeader
+unfolding flags_of features_of free_records spill_block sa_spill
+source_header now = refl
+
+pub clone_headers : CloneHeaders
+unfolding flags_of features_of clone_flag free_records spill_block sa_spill
+clone_headers now = (refl, refl)
+
+pub redacted_header : RedactedHeader
+unfolding flags_of features_of free_records spill_block sa_spill redacts
+redacted_header now = refl
+
+pub choices : Choices
+choices now = (refl, refl, refl, (refl, refl, refl, refl), (refl, refl, refl, refl))
+
+pub sent_items : SentItems
+sent_items now = ((small_items (header_of (of_files (small_snapshot now) None None))).0, rewritten_items (header_of (of_files (second_snapshot now) (Some (OfSnapshot (small_snapshot 3))) None)))
+
+-- the numbers of a header, in each case
+flags_fit : (sent : Sent) → flags_of sent < 2 ^ 32
+unfolding flags_of clone_flag free_records spill_block
+flags_fit sent = go sent.source
+  where
+    go : (source : Option Source) → clone_part sent.snapshot source + (free_records + spill_block) < 2 ^ 32
+    go None = omega arith
+    go (Some source) = one (is_elsewhere sent.snapshot source)
+      where
+        one : (t : Bool) → (if t then clone_flag else 0) + (free_records + spill_block) < 2 ^ 32
+        one true = omega arith
+        one false = omega arith
+
+features_fit : (sent : Sent) → features_of sent < 2 ^ 30
+unfolding features_of sa_spill redacts
+features_fit sent = go sent.redaction
+  where
+    go : (redaction : Option Bookmark) → redacted_part redaction + sa_spill < 2 ^ 30
+    go None = omega arith
+    go (Some bookmark) = omega arith
+
+not_resumed : (sent : Sent) → bit_and (features_of sent) resuming ≡ 0
+unfolding features_of sa_spill redacts resuming
+not_resumed sent = go sent.redaction
+  where
+    go : (redaction : Option Bookmark) → bit_and (redacted_part redaction + sa_spill) resuming ≡ 0
+    go None = refl
+    go (Some bookmark) = refl
+
+module _ (pool : Pool) (is : IsPool pool) where
+  no_guids : IsGuidSet []
+  no_guids = record { few = omega arith; rising = refl; fit = All-nil (λ guid. guid < 2 ^ 64) }
+
+  snapshot_is : (s : Snapshot) → Contains pool.snapshots s → IsGuid s.guid × IsGuidSet s.redact × IsState s.objects.state × (s.time < 2 ^ 64)
+  snapshot_is s there = All-contains (λ s. IsGuid s.guid × IsGuidSet s.redact × IsState s.objects.state × (s.time < 2 ^ 64)) pool.snapshots s is.snapshots there
+
+  bookmark_is : (b : Bookmark) → Contains pool.bookmarks b → IsGuid b.guid × IsGuidSet b.redact × IsRunList b.runs × (b.time < 2 ^ 64)
+  bookmark_is b there = All-contains (λ b. IsGuid b.guid × IsGuidSet b.redact × IsRunList b.runs × (b.time < 2 ^ 64)) pool.bookmarks b is.bookmarks there
+
+  -- what a source gives the header
+  from_fits : (source : Option Source) → IfSome source (IsIn pool) → from_guid source < 2 ^ 64
+  from_fits None here = omega arith
+  from_fits (Some (OfSnapshot s)) here = (snapshot_is s here).0.1
+  from_fits (Some (OfBookmark b)) here = (bookmark_is b here).0.1
+
+  source_are : (source : Option Source) → IfSome source (IsIn pool) → IsGuidSet (source_guids source)
+  source_are None here = no_guids
+  source_are (Some (OfSnapshot s)) here = no_guids
+  source_are (Some (OfBookmark b)) here = (bookmark_is b here).1
+
+  redaction_are : (redaction : Option Bookmark) → IfSome redaction (Contains pool.bookmarks) → IsGuidSet (redaction_guids redaction)
+  redaction_are None here = no_guids
+  redaction_are (Some b) here = (bookmark_is b here).1
+
+  kind_is : (sent : Sent) → IsOf pool sent → IsKind sent.kind
+  kind_is sent of =
+      subst IsKind (sym of.kind) (All-contains (λ d. IsKind d.kind × IsGuidSet d.redact × IsState d.head.state) pool.datasets of.dataset is.datasets of.there).0
+
+pub sent_is_stated : SentIsStated
+sent_is_stated pool sent is of =
+    let snapshot = snapshot_is pool is sent.snapshot of.snapshot in
+    let redact = redaction_are pool is sent.redaction of.redaction in
+    let from_redact = source_are pool is sent.source of.source in (
+      record {
+        kind = kind_is pool is sent of;
+        flags = flags_fit sent;
+        features = features_fit sent;
+        time = snapshot.3;
+        to = snapshot.0;
+        from = from_fits pool is sent.source of.source;
+        redact = redact;
+        from_redact = from_redact;
+        name = ?;
+        resume = refl;
+      },
+      (refl, not_resumed sent),
+    )
+
+pub sent_has_view : SentHasView
+sent_has_view pool sent is of can =
+    view_is_view (header_of sent) sent.snapshot.objects (choice_of sent) (snapshot_is pool is sent.snapshot of.snapshot).2 can
+
+pub point_headers : PointHeaders
+unfolding features_of sa_spill redacts resuming
+point_headers sent point = (
+  λ none. ap (λ redaction. header_from (record (header_of sent) { features = redacted_part redaction + sa_spill }) (Some point)) none,
+  λ bookmark given. ap (λ redaction. header_from (record (header_of sent) { features = redacted_part redaction + sa_spill }) (Some point)) given,
+)

@@ -1,0 +1,5 @@
+use Rattle.zst_laws.proofs.examples.Headed.{choices}
+use Rattle.zst_laws.proofs.headers.choices_are_exact.Goals as goal
+
+pub returns : goal.returns
+returns c = choices

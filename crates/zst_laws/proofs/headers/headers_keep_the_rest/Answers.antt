@@ -1,0 +1,5 @@
+use Rattle.zst_laws.proofs.examples.Headed.{point_headers}
+use Rattle.zst_laws.proofs.headers.headers_keep_the_rest.Goals as goal
+
+pub returns : goal.returns
+returns c = point_headers

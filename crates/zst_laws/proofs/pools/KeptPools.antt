@@ -1,0 +1,141 @@
+-- What an image keeps of a pool that runs.
+use Rattle.std.proofs.Common.{◌≡◌, inl, inr, ◌⊎◌, Bool, true, false, List, [], ◌∷◌, ◌++◌, IfSome, Contains, if◌then◌else◌, filter, refl, ap, subst}
+use Rattle.std.proofs.lemmas.List.Elements.{All-contains, All-filter, filter_passes}
+use Rattle.std.proofs.lemmas.List.Kept.{AllPairs-filter}
+use Rattle.zst_names.specs.Names.{IsDataset, IsComponent}
+use Rattle.zst_model.specs.states.State.{IsState}
+use Rattle.zst_model.specs.pools.Pool.{Pool, Bookmark, Partial, HasSnapshot, IsStated, dataset_of_snapshot, dataset_of_bookmark, is_before}
+use Rattle.zst_model.specs.pools.Before.{Source, OfSnapshot, Place, InDataset, InPartial, IsBefore}
+use Rattle.zst_model.specs.pools.Kept.{KeepsAll, kept_of}
+use Rattle.zst_model.specs.pools.Rows.{Row, rows}
+use Rattle.zst_model.specs.pools.Sound.{DatedUpTo, IsBookmarkOf, Sound}
+use Rattle.zst_model.proofs.InsertedLaws.{All-from_contains, contains_cases, contains_first, contains_later}
+use Rattle.zst_laws.specs.KeptExample.{TwoAreKept, KeptAreKept, KeepingIsDone, KeptIsLawful, KeptIsSound}
+use Rattle.zst_laws.proofs.pools.Descent.{IsRow, SnapshotRow, HeadRow, PartialRow, snapshot_has_row, head_has_row, partial_has_row, row_cases}
+use Rattle.zst_laws.proofs.pools.Standing.{HasOrigins, stands_on, before_partial_on}
+
+-- what a filter leaves was there, and what was there and passes is left
+filter_contains : {A : Type 0} (p : A → Bool) (xs : List A) (x : A) → Contains (filter p xs) x → Contains xs x
+filter_contains p [] x h = h
+filter_contains {A = A} p (y ∷ ys) x h = go (p y) (filter_contains p ys x) h
+  where
+    go : (t : Bool) → (Contains (filter p ys) x → Contains ys x) → Contains (if t then y ∷ filter p ys else filter p ys) x → Contains (y ∷ ys) x
+    go true rest k = elim (contains_cases y (filter p ys) x k) [
+      | inl e ↦ subst (Contains (y ∷ ys)) e (contains_first y ys)
+      | inr later ↦ contains_later y ys x (rest later)
+    ]
+    go false rest k = contains_later y ys x (rest k)
+
+contains-filter : {A : Type 0} (p : A → Bool) (xs : List A) (x : A) → Contains xs x → p x ≡ true → Contains (filter p xs) x
+contains-filter p [] x h passes = h
+contains-filter {A = A} p (y ∷ ys) x h passes = go (p y) refl (contains-filter p ys x) (contains_cases y ys x h)
+  where
+    go : (t : Bool) → p y ≡ t → (Contains ys x → p x ≡ true → Contains (filter p ys) x) → (y ≡ x) ⊎ Contains ys x
+        → Contains (if t then y ∷ filter p ys else filter p ys) x
+    go true e rest (inl same) = subst (Contains (y ∷ filter p ys)) same (contains_first y (filter p ys))
+    go true e rest (inr later) = contains_later y (filter p ys) x (rest later passes)
+    go false e rest (inl same) = let f = ap p same in absurd (cc)
+    go false e rest (inr later) = rest later passes
+
+-- a filter whose test all pass leaves all
+filter_all : {A : Type 0} (p : A → Bool) (xs : List A) → ((x : A) → Contains xs x → p x ≡ true) → filter p xs ≡ xs
+filter_all p [] h = refl
+filter_all p (y ∷ ys) h = rw (h y (contains_first y ys)) (ap (λ rest. y ∷ rest) (filter_all p ys (λ x k. h x (contains_later y ys x k))))
+
+-- whether a partial state is kept
+abbrev is_kept : Partial → Bool
+is_kept partial = partial.keep
+
+pub two_kept : TwoAreKept
+two_kept = (refl, refl, refl)
+
+pub kept_are_kept : KeptAreKept
+kept_are_kept pool = (
+  filter_passes is_kept pool.partials,
+  λ partial there. filter_contains is_kept pool.partials partial there,
+  λ partial there keep. contains-filter is_kept pool.partials partial there keep,
+  refl,
+)
+
+all_stay : (pool : Pool) → KeepsAll pool → kept_of pool ≡ pool
+all_stay pool all =
+    ap (λ partials. record pool { partials = partials })
+    (filter_all is_kept pool.partials (λ partial there. All-contains (λ p. p.keep ≡ true) pool.partials partial all there))
+
+pub keeping_done : KeepingIsDone
+keeping_done = (all_stay, λ pool. all_stay (kept_of pool) (filter_passes is_kept pool.partials))
+
+pub kept_lawful : KeptIsLawful
+kept_lawful pool is = record {
+  id = is.id;
+  number = is.number;
+  guids = is.guids;
+  named = record {
+    dataset_names = is.named.dataset_names;
+    datasets = is.named.datasets;
+    snapshot_names = is.named.snapshot_names;
+    snapshots = is.named.snapshots;
+    snapshots_differ = is.named.snapshots_differ;
+    bookmark_names = is.named.bookmark_names;
+    bookmarks = is.named.bookmarks;
+    targets = All-filter is_kept (λ p. IsDataset p.target × IsComponent p.component) pool.partials is.named.targets;
+    partials = AllPairs-filter (λ a b. is_before a.target b.target ≡ true) is_kept pool.partials is.named.partials;
+  };
+  linked = record {
+    snapshots = is.linked.snapshots;
+    origins = is.linked.origins;
+    bases = All-filter is_kept (λ p. IfSome p.base (HasSnapshot pool)) pool.partials is.linked.bases;
+    components = All-filter is_kept (λ p. HasSnapshot pool (p.target ++ 64 ∷ p.component) → ⊥) pool.partials is.linked.components;
+  };
+  datasets = is.datasets;
+  snapshots = is.snapshots;
+  bookmarks = is.bookmarks;
+  partials = All-filter is_kept (λ p. IsStated p.header × IsState p.objects.state) pool.partials is.partials;
+}
+
+module _ (pool : Pool) where
+  -- origins are those of the pool that runs
+  kept_origins : HasOrigins pool (kept_of pool)
+  kept_origins origin name is = record { dataset = is.dataset; there = is.there; named = is.named; snapshot_there = is.snapshot_there; is_origin = is.is_origin }
+
+  -- a row that the image has is one of the pool that runs
+  kept_row : (row : Row) → IsRow (kept_of pool) row → Contains (rows pool) row
+  kept_row row (SnapshotRow snapshot there) = snapshot_has_row pool snapshot there
+  kept_row row (HeadRow dataset there) = head_has_row pool dataset there
+  kept_row row (PartialRow partial there) = partial_has_row pool partial (filter_contains is_kept pool.partials partial there)
+
+  -- what stands before it stood before it there
+  kept_before : (source : Source) (place : Place) → IsBefore (kept_of pool) source place → IsBefore pool source place
+  kept_before source (InDataset name bound) before = stands_on (kept_of pool) pool source kept_origins name bound before
+  kept_before source (InPartial partial) before = before_partial_on (kept_of pool) pool source partial (record {
+    origins = kept_origins;
+    bases = λ base is. record { there = is.there; is_base = is.is_base };
+    target = λ there. there;
+    target_back = λ there. there;
+  }) before
+
+  kept_bookmark : (bookmark : Bookmark) → IsBookmarkOf pool bookmark → IsBookmarkOf (kept_of pool) bookmark
+  kept_bookmark bookmark is = record {
+    dataset = is.dataset;
+    above = λ origin of. is.above origin (kept_origins origin (dataset_of_bookmark bookmark) of);
+    number = is.number;
+    guid = is.guid;
+  }
+
+  pub kept_is_sound : Sound pool → Sound (kept_of pool)
+  kept_is_sound sound = record {
+    agree = λ earlier row here there before.
+        sound.agree earlier row here (kept_row row (row_cases (kept_of pool) row there)) (kept_before (OfSnapshot earlier) row.place before);
+    dated = record {
+      states = All-from_contains (λ r. DatedUpTo r.number r.objects) (rows (kept_of pool))
+          (λ row there. All-contains (λ r. DatedUpTo r.number r.objects) (rows pool) row sound.dated.states (kept_row row (row_cases (kept_of pool) row there)));
+      numbers = sound.dated.numbers;
+      rise = sound.dated.rise;
+      above = λ origin later there is. sound.dated.above origin later there (kept_origins origin (dataset_of_snapshot later) is);
+    };
+    bookmarks = All-from_contains (IsBookmarkOf (kept_of pool)) pool.bookmarks
+        (λ b there. kept_bookmark b (All-contains (IsBookmarkOf pool) pool.bookmarks b sound.bookmarks there));
+  }
+
+pub kept_sound : KeptIsSound
+kept_sound pool sound = kept_is_sound pool sound
