@@ -3,3 +3,4 @@ pub mod Steps
 pub mod Front
 pub mod Marked
 pub mod Places
+pub mod Fitting

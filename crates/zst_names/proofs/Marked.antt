@@ -35,11 +35,11 @@ hash_is_mark = record { other = refl; slash = refl }
 abbrev pub IsPlain : List ℕ → Type 0
 IsPlain part = list_all is_component_byte part ≡ true
 
-plain_parts : (ps : List (List ℕ)) → AllByRecursion IsComponent ps → AllByRecursion IsPlain ps
+pub plain_parts : (ps : List (List ℕ)) → AllByRecursion IsComponent ps → AllByRecursion IsPlain ps
 plain_parts [] h = tt
 plain_parts (p ∷ ps) h = (h.0.bytes, plain_parts ps h.1)
 
-plain_onto : (byte : ℕ) (ps : List (List ℕ)) → AllByRecursion IsPlain (onto_first byte ps) → (is_component_byte byte ≡ true) × AllByRecursion IsPlain ps
+pub plain_onto : (byte : ℕ) (ps : List (List ℕ)) → AllByRecursion IsPlain (onto_first byte ps) → (is_component_byte byte ≡ true) × AllByRecursion IsPlain ps
 plain_onto byte [] h = ((both_true (is_component_byte byte) true h.0).0, tt)
 plain_onto byte (p ∷ ps) h = let both = both_true (is_component_byte byte) (list_all is_component_byte p) h.0 in (both.0, (both.1, h.1))
 

@@ -1,12 +1,14 @@
 -- What BEGIN says of sends.
-use Rattle.std.proofs.Common.{◌≡◌, ◌+◌, ◌^◌, ◌<◌, Bool, true, false, [], Option, Some, None, IfSome, bit_and, if◌then◌else◌, refl, ap, subst, sym, arith}
+use Rattle.std.proofs.Common.{◌≡◌, ◌+◌, ◌^◌, ◌<◌, Bool, true, false, List, [], Option, Some, None, IfSome, bit_and, if◌then◌else◌, refl, ap, subst, sym, arith}
 use Rattle.std.specs.List.{Contains}
-use Rattle.std.proofs.lemmas.List.Elements.{All-nil, All-contains, All-append}
+use Rattle.std.proofs.lemmas.List.Elements.{All-nil, All-contains, All-weaker}
+use Rattle.zst_names.specs.Names.{IsSnapshot}
+use Rattle.zst_names.proofs.Fitting.{IsTextByte, snapshot_bytes, snapshot_length}
 use Rattle.zst_model.specs.fields.Guids.{IsGuidSet}
 use Rattle.zst_model.specs.fields.Lists.{IsRunList}
 use Rattle.zst_model.specs.states.State.{IsState}
 use Rattle.zst_model.specs.pools.Before.{Source, OfSnapshot, OfBookmark, IsIn}
-use Rattle.zst_model.specs.pools.Pool.{Pool, Snapshot, Bookmark, IsPool, IsKind, IsGuid}
+use Rattle.zst_model.specs.pools.Pool.{Pool, Snapshot, Bookmark, IsPool, IsKind, IsGuid, IsStatedName}
 use Rattle.zst_model.specs.sends.Headers.{Sent, IsOf, clone_flag, free_records, spill_block, sa_spill, redacts, is_elsewhere, clone_part, redacted_part, flags_of, features_of, from_guid, redaction_guids, source_guids, header_of, choice_of}
 use Rattle.zst_model.specs.sends.View.{resuming, header_from}
 use Rattle.zst_laws.specs.HeaderExample.{FullHeader, VolumeHeader, IncrementHeaders, SourceHeader, CloneHeaders, RedactedHeader, Choices, SentItems, SentIsStated, SentHasView, PointHeaders, of_files, second_snapshot}
@@ -83,6 +85,9 @@ module _ (pool : Pool) (is : IsPool pool) where
   bookmark_is : (b : Bookmark) → Contains pool.bookmarks b → IsGuid b.guid × IsGuidSet b.redact × IsRunList b.runs × (b.time < 2 ^ 64)
   bookmark_is b there = All-contains (λ b. IsGuid b.guid × IsGuidSet b.redact × IsRunList b.runs × (b.time < 2 ^ 64)) pool.bookmarks b is.bookmarks there
 
+  snapshot_named : (s : Snapshot) → Contains pool.snapshots s → IsSnapshot s.name
+  snapshot_named s there = All-contains (λ s. IsSnapshot s.name) pool.snapshots s is.named.snapshot_names there
+
   -- what a source gives the header
   from_fits : (source : Option Source) → IfSome source (IsIn pool) → from_guid source < 2 ^ 64
   from_fits None here = omega arith
@@ -102,6 +107,14 @@ module _ (pool : Pool) (is : IsPool pool) where
   kind_is sent of =
       subst IsKind (sym of.kind) (All-contains (λ d. IsKind d.kind × IsGuidSet d.redact × IsState d.head.state) pool.datasets of.dataset is.datasets of.there).0
 
+-- a snapshot's name can be stated
+stated_name : (name : List ℕ) → IsSnapshot name → IsStatedName name
+stated_name name is = record {
+  short = snapshot_length name is;
+  bytes = All-weaker IsTextByte (λ byte. byte < 2 ^ 8) (λ byte h. h.1) name (snapshot_bytes name is);
+  no_zero = λ there. let positive = (All-contains IsTextByte name 0 (snapshot_bytes name is) there).0 in absurd (omega (arith, positive));
+}
+
 pub sent_is_stated : SentIsStated
 sent_is_stated pool sent is of =
     let snapshot = snapshot_is pool is sent.snapshot of.snapshot in
@@ -116,7 +129,7 @@ sent_is_stated pool sent is of =
         from = from_fits pool is sent.source of.source;
         redact = redact;
         from_redact = from_redact;
-        name = ?;
+        name = stated_name sent.snapshot.name (snapshot_named pool is sent.snapshot of.snapshot);
         resume = refl;
       },
       (refl, not_resumed sent),
