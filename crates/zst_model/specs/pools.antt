@@ -1,4 +1,5 @@
 pub mod Before
+pub mod Limits
 pub mod Lines
 pub mod Pool
 pub mod RedSet
