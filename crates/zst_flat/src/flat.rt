@@ -7,10 +7,11 @@ ghost use Rattle.zst_model.specs.states.Dated.{DatedState};
 ghost use Rattle.zst_flat.specs.Rows.{no_lists, number_row, index_row, stored_at, date_at, ptr_at, IsBeside, IsBoundBelow, IsStored, IsObjectRow};
 ghost use Rattle.zst_flat.specs.Meaning.{AttrIs, SetIs};
 
-use crate::rows::{INDEX_BOUND, IndexRow, ObjectRow, StoredObject, is_within};
+use crate::rows::{IndexRow, ObjectRow, StoredObject, is_within};
 use std::alloc::Global;
 use std::marker::Model;
 use zst_block::Ptr;
+use zst_model::limits::INDEX_BOUND;
 
 /// The rows of an object set, in memory. Of several rows of a number or an index the first counts.
 /// A look-up and a change take time linear in the rows.

@@ -1,30 +1,12 @@
 //! Whether rows are in their ranges.
 ghost use Rattle.std.specs.Prelude.{◌≡◌, ◌⊎◌, ◌+◌, ◌^◌, ◌<◌, ◌≤◌, ◌↔◌, true, length, All, IsTrue};
 ghost use Rattle.zst_block.specs.Ptr.{PtrFits};
-ghost use Rattle.zst_model.specs.states.State.{index_bound, is_block_size, is_spill_size, number_bound, IsHead, IsBonus};
+ghost use Rattle.zst_model.specs.states.State.{index_bound, is_spill_size, number_bound, IsHead, IsBonus};
 
-use crate::rows::{INDEX_BOUND, IndexRow, ObjectRow, StoredObject};
+use crate::rows::{IndexRow, ObjectRow, StoredObject};
 use zst_block::Ptr;
 use zst_model::ObjectHead;
-
-// Object numbers stand below this (DN_MAX_OBJECT of dnode.h).
-const NUMBER_BOUND: u64 = 1 << 48;
-
-// Whether a block may have so many bytes: a multiple of 512 from 512 to 131,072.
-#[tactic(auto, unfolding(zst_model::specs::states::State::is_block_size, zst_model::specs::states::State::largest_block))]
-fn is_size(bytes: u32) -> bool
-    ensures { result ≡ is_block_size bytes }
-{
-    bytes >= 512 && bytes <= 131_072 && bytes % 512 == 0
-}
-
-// Whether a spill block may have so many bytes: a multiple of 512 from 512 to 131,072.
-#[tactic(auto, unfolding(zst_model::specs::states::State::is_spill_size))]
-fn is_spill_size(bytes: u32) -> bool
-    ensures { result ≡ is_spill_size bytes }
-{
-    bytes >= 512 && bytes <= 131_072 && bytes % 512 == 0
-}
+use zst_model::limits::{INDEX_BOUND, LARGEST_BONUS, NUMBER_BOUND, is_block_size, is_spill_size};
 
 // Whether `count` indices from a first one on are at least one, and stand below the bound.
 #[tactic(auto, unfolding(zst_model::specs::states::State::index_bound))]
@@ -46,21 +28,21 @@ fn are_numbers(first: u64, count: u64) -> bool
 fn is_head(head: ObjectHead) -> bool
     ensures { IsTrue result ↔ IsHead head }
 {
-    0 < head.type_ && is_size(head.block_size)
+    0 < head.type_ && is_block_size(u64::from(head.block_size))
 }
 
 // Whether an object may have these bytes as its bonus.
 fn is_bonus(bytes: &[u8]) -> bool
     ensures { IsTrue result ↔ (IsBonus bytes.now × All (λ byte. byte < 2 ^ 8) bytes.now) }
 {
-    bytes.len() <= 320
+    bytes.len() <= LARGEST_BONUS as usize
 }
 
 // Whether an object may have this pointer to its spill block.
 fn is_spill(ptr: Ptr) -> bool
     ensures { IsTrue result ↔ (PtrFits ptr × ((ptr.kind ≡ 0) ⊎ (ptr.kind ≡ 1)) × (ptr.kind ≡ 1 → is_spill_size ptr.length ≡ true)) }
 {
-    ptr.kind == 0 || (ptr.kind == 1 && is_spill_size(ptr.length))
+    ptr.kind == 0 || (ptr.kind == 1 && is_spill_size(u64::from(ptr.length)))
 }
 
 impl StoredObject {

@@ -3,11 +3,8 @@ ghost use Rattle.zst_model.specs.states.Apply.{within};
 ghost use Rattle.zst_flat.specs.Rows.{covers_range};
 
 use zst_block::Ptr;
+use zst_model::limits::INDEX_BOUND;
 use zst_model::{Bytes, ObjectHead};
-
-/// Indices stand below this, a limit of this project: an object of blocks of 131,072 bytes has at
-/// most 2^60 bytes.
-pub(crate) const INDEX_BOUND: u64 = 1 << 43;
 
 /// An object as it is kept: its attributes, and the pointer to its spill block.
 #[derive(Drop)]

@@ -3,7 +3,8 @@ use Rattle.std.specs.Prelude.{◌≡◌, ◌≢◌, ◌⊎◌, ℕ, ◌+◌, ◌
 use Rattle.std.specs.List.{AllPass, AllZip, Contains}
 use Rattle.hex.specs.Hex.{is_hex_digit}
 use Rattle.zst_names.specs.Names.{IsDataset, IsSnapshot, StopsAt}
-use Rattle.zst_model.specs.states.State.{is_block_size, is_spill_size}
+use Rattle.zst_model.specs.states.State.{is_block_size, is_spill_size, largest_bonus}
+use Rattle.zst_model.specs.pools.Limits.{largest_write}
 use Rattle.zst_line.specs.declared.kind.Kind.{Kind}
 use Rattle.zst_line.specs.declared.kind.Kind.TheVariants.{Dump, Create, Fs, Volume, Object, Write, Punch, Free, Snapshot}
 use Rattle.zst_line.specs.declared.slot.Slot.{Slot}
@@ -48,7 +49,7 @@ Fits DatasetName word = ¬ (IsOption word) × ¬ (Contains word 64) × ¬ (Conta
 Fits SnapshotName word = ¬ (IsOption word) × Contains word 64
 Fits (Number low high) word = IsNumber low high word
 Fits BlockSize word = IsSize word
-Fits Bonus word = (word ≡ codes "none") ⊎ IsHex 1 320 word
+Fits Bonus word = (word ≡ codes "none") ⊎ IsHex 1 largest_bonus word
 Fits Spill word = (word ≡ codes "none") ⊎ IsSpill word
 Fits (HexBytes most) word = IsHex 1 most word
 
@@ -87,7 +88,7 @@ slots_of Create = Image ∷ Number 128 (2 ^ 31) ∷ Number 1 (2 ^ 31 - 1) ∷ []
 slots_of Fs = Image ∷ DatasetName ∷ []
 slots_of Volume = Image ∷ DatasetName ∷ []
 slots_of Object = Image ∷ DatasetName ∷ count ∷ Number 1 (2 ^ 32 - 1) ∷ BlockSize ∷ Number 0 (2 ^ 32 - 1) ∷ Bonus ∷ Spill ∷ []
-slots_of Write = Image ∷ DatasetName ∷ count ∷ index ∷ HexBytes (2 ^ 20) ∷ []
+slots_of Write = Image ∷ DatasetName ∷ count ∷ index ∷ HexBytes largest_write ∷ []
 slots_of Punch = Image ∷ DatasetName ∷ count ∷ index ∷ count ∷ []
 slots_of Free = Image ∷ DatasetName ∷ count ∷ count ∷ []
 slots_of Snapshot = Image ∷ SnapshotName ∷ []

@@ -3,6 +3,7 @@ ghost use Rattle.zst_line.specs.Grammar.{word_of, slots_of};
 ghost use Rattle.zst_line.specs.declared.kind.Kind.{Kind};
 
 use crate::slot::Slot;
+use zst_model::limits::LARGEST_WRITE;
 
 /// The lines, by their first word.
 #[derive(Clone, Copy)]
@@ -66,7 +67,9 @@ const WRITE: [Slot; 5] = [
     Slot::DatasetName,
     COUNT,
     INDEX,
-    Slot::HexBytes { most: 1 << 20 },
+    Slot::HexBytes {
+        most: LARGEST_WRITE,
+    },
 ];
 
 const PUNCH: [Slot; 5] = [Slot::Image, Slot::DatasetName, COUNT, INDEX, COUNT];

@@ -2,20 +2,9 @@ ghost use Rattle.std.specs.Prelude.{◌≡◌, ◌↔◌, IsTrue, codes};
 ghost use Rattle.std.specs.List.{AllPass, Contains};
 ghost use Rattle.hex.specs.Hex.{is_hex_digit};
 ghost use Rattle.zst_line.specs.Grammar.{IsOption, IsHex, IsNumber, IsSize, IsSpill, Fits};
-ghost use Rattle.zst_model.specs.states.State.{is_block_size, is_spill_size};
 
 use zst_bytes::decimal;
-
-/// The least and the most bytes of a block (SPA_MINBLOCKSIZE and SPA_OLD_MAXBLOCKSIZE of spa.h).
-const SMALLEST_BLOCK: u64 = 512;
-
-const LARGEST_BLOCK: u64 = 131_072;
-
-/// The most bytes of a spill block (SPA_OLD_MAXBLOCKSIZE of spa.h), which larger blocks don't raise.
-const LARGEST_SPILL: u64 = 131_072;
-
-/// The most bytes of a bonus.
-const BONUS_BYTES: u64 = 320;
+use zst_model::limits::{LARGEST_BONUS, is_block_size, is_spill_size};
 
 /// The word for no bonus, and for no spill block.
 const NONE: &str = "none";
@@ -37,20 +26,6 @@ pub enum Slot {
     Spill,
     /// At least one byte and at most so many, in hexadecimal.
     HexBytes { most: u64 },
-}
-
-#[tactic(auto, unfolding(zst_model::specs::states::State::is_block_size, zst_model::specs::states::State::largest_block))]
-fn is_block_size(size: u64) -> bool
-    ensures { result ≡ is_block_size size }
-{
-    SMALLEST_BLOCK <= size && size <= LARGEST_BLOCK && size % SMALLEST_BLOCK == 0
-}
-
-#[tactic(auto, unfolding(zst_model::specs::states::State::is_spill_size))]
-fn is_spill_size(size: u64) -> bool
-    ensures { result ≡ is_spill_size size }
-{
-    SMALLEST_BLOCK <= size && size <= LARGEST_SPILL && size % SMALLEST_BLOCK == 0
 }
 
 /// Whether a word begins as an option does.
@@ -137,7 +112,7 @@ pub fn fits(slot: Slot, word: &str) -> bool
         Slot::SnapshotName => !is_option(word) && has_byte(word, b'@'),
         Slot::Number { low, high } => is_number(word, low, high),
         Slot::BlockSize => is_size(word),
-        Slot::Bonus => is_none(word) || is_hex(word, 1, BONUS_BYTES),
+        Slot::Bonus => is_none(word) || is_hex(word, 1, u64::from(LARGEST_BONUS)),
         Slot::Spill => is_none(word) || is_spill(word),
         Slot::HexBytes { most } => is_hex(word, 1, most),
     }

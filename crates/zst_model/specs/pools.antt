@@ -1,5 +1,6 @@
 pub mod Before
 pub mod Kept
+pub mod Limits
 pub mod Lines
 pub mod Pool
 pub mod RedSet

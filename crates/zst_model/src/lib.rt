@@ -2,6 +2,7 @@
 #![tactic(auto)]
 
 mod fields;
+pub mod limits;
 mod pools;
 mod refusals;
 mod sends;

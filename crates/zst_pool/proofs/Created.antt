@@ -7,6 +7,7 @@ use Rattle.zst_outside.specs.Images.{DiskState, Leaves, OnlyReads, Leaves-weaker
 use Rattle.zst_space.specs.FreeSectors.{FreeSectors, largest_of}
 use Rattle.zst_uber.specs.Slots.{latest}
 use Rattle.zst_uber.specs.declared.uber.Uber.{Uber}
+use Rattle.zst_model.specs.pools.Limits.{last_number, last_guid}
 use Rattle.zst_model.specs.pools.Pool.{Pool, IsPool}
 use Rattle.zst_dir.specs.Rows.{Rows, no_rows}
 use Rattle.zst_flat.specs.Meaning.{Blocks}
@@ -20,6 +21,7 @@ use Rattle.zst_pool.specs.declared.kept.Kept.{Kept}
 use Rattle.zst_pool.proofs.DirRuns.{dir_sectors-none}
 
 IsPool-new : (id : ℕ) → (0 < id) × (id < 2 ^ 31) → IsPool (new_pool id)
+unfolding last_number last_guid
 IsPool-new id is = record {
   id = is;
   number = omega arith;

@@ -23,15 +23,10 @@ use crate::fault::PoolFault;
 use crate::sets::put_block;
 use std::alloc::{AllocError, Global};
 use zst_block::Io;
+use zst_model::limits::{INDEX_BOUND, NUMBER_BOUND};
 use zst_model::{ApplyFault, Bytes, ObjectHead, PlanFault, Quantity};
 use zst_flat::Flat;
 use zst_outside::Disk;
-
-/// Object numbers stand below this.
-const NUMBER_BOUND: u64 = 1 << 48;
-
-/// Indices stand below this.
-const INDEX_BOUND: u64 = 1 << 43;
 
 /// Whether a range of so many numbers ends past a bound.
 fn is_past(first: u64, count: u64, bound: u64) -> bool

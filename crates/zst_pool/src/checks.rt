@@ -13,20 +13,9 @@ ghost use Rattle.zst_pool.specs.Reads.{RowsAre};
 
 use crate::kept::Kept;
 use zst_dir::{Dataset, Dir};
+use zst_model::limits::{LAST_GUID, LAST_NUMBER, MOST_DATASETS, MOST_SNAPSHOTS};
 use zst_model::{Holder, Missing, Name, PlanFault, Present, Quantity};
 use zst_names::{DatasetName, SnapName};
-
-/// A pool has at most so many datasets; partial states of absent ones count too.
-const MOST_DATASETS: usize = 256;
-
-/// A pool has at most so many snapshots; each partial state counts as one.
-const MOST_SNAPSHOTS: usize = 1024;
-
-/// A pool's guid counter goes up to this.
-const LAST_GUID: u64 = (1 << 32) - 1;
-
-/// The number of a pool's last commit.
-const LAST_NUMBER: u64 = 1 << 63;
 
 /// How many partial states are kept.
 fn count_kept(dir: &Dir) -> usize

@@ -4,7 +4,7 @@ use Rattle.std.proofs.lemmas.Bool.{ne_eqb, leb-true, ltb-true, and_parts, le-leb
 use Rattle.zst_bytes.specs.Bytes.{bytes_at, number_bytes}
 use Rattle.zst_bytes.specs.Fields.{zeros}
 use Rattle.zst_bytes.proofs.FieldsLaws.{number-back}
-use Rattle.zst_model.specs.states.State.{is_block_size, is_spill_size, largest_block}
+use Rattle.zst_model.specs.states.State.{number_bound, is_block_size, is_spill_size, largest_block}
 use Rattle.zst_record.specs.declared.head.Head.{Head}
 use Rattle.zst_record.specs.declared.head.Head.TheVariants as heads
 use Rattle.zst_record.specs.Table.{sum_fields, fields_of, head_bytes, sealed_bytes}
@@ -15,7 +15,7 @@ abbrev answer : Head → Decoded
 answer head = Ok head
 
 object-small : (object : ℕ) → is_object object ≡ true → object < 256 ^ 8
-unfolding is_object
+unfolding is_object number_bound
 object-small object is =
     let below = ltb-true _ _ (and_parts (ltb 0 object) (ltb object (2 ^ 48)) is).1 in omega arith
 

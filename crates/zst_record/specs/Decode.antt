@@ -8,7 +8,7 @@ use Rattle.zst_model.specs.declared.sends.header.Header.{Header}
 use Rattle.zst_model.specs.declared.refusals.faults.Flaw.TheVariants as flaws
 use Rattle.zst_model.specs.declared.refusals.faults.Lack.{Lack}
 use Rattle.zst_model.specs.declared.refusals.faults.Lack.TheVariants as lacks
-use Rattle.zst_model.specs.states.State.{is_block_size, is_spill_size}
+use Rattle.zst_model.specs.states.State.{is_number, is_block_size, is_spill_size, largest_bonus}
 use Rattle.zst_record.specs.declared.TheConstants.{MAGIC, OTHER_FEATURES, LARGE_BLOCKS, RESUMING, REDACTED}
 use Rattle.zst_record.specs.declared.head.Head.{Head}
 use Rattle.zst_record.specs.declared.head.Head.TheVariants as heads
@@ -28,9 +28,9 @@ abbrev pub sums_at : List ℕ → ℕ → List ℕ
 sums_at bytes place =
     number_at bytes place 8 ∷ number_at bytes (place + 8) 8 ∷ number_at bytes (place + 16) 8 ∷ number_at bytes (place + 24) 8 ∷ []
 
--- an object's number is 1 to 2^48 - 1
+-- an object's number is one that an object may have
 unfoldable pub is_object : ℕ → Bool
-is_object object = nat_lt 0 object && nat_lt object (2 ^ 48)
+is_object object = is_number object
 
 -- a range of bytes ends below 2^64
 unfoldable pub is_range : ℕ → ℕ → Bool
@@ -41,7 +41,7 @@ object_with at object kind bonus_kind block_size bonus_len slots raw max_block t
     check (is_object object) (Grammar (at + 8) flaws.Object)
     (check (not (kind == 0)) (Grammar (at + 16) flaws.ObjectType)
     (check (is_block_size block_size) (Grammar (at + 24) flaws.BlockSize)
-    (check (nat_le bonus_len 320) (Grammar (at + 28) flaws.Bonus)
+    (check (nat_le bonus_len largest_bonus) (Grammar (at + 28) flaws.Bonus)
     (check (nat_le slots 1) (Unsupported (at + 34) lacks.LargeDnode)
     (check (raw == 0) (Unsupported (at + 36) lacks.Raw)
     (Ok (heads.Object object kind bonus_kind block_size bonus_len max_block to)))))))

@@ -2,7 +2,7 @@
 use Rattle.std.specs.Prelude.{ℕ, ◌-◌, ◌^◌, ◌<◌, ◌≤◌, ◌≡◌, ◌==◌, ◌||◌, true, false, List, [], ◌∷◌, None, length, slice_index, bit_and, not}
 use Rattle.std.specs.List.{position_or_len}
 use Rattle.zst_model.specs.declared.sends.header.Header.{Header}
-use Rattle.zst_model.specs.states.State.{is_block_size, is_spill_size}
+use Rattle.zst_model.specs.states.State.{is_block_size, is_spill_size, largest_bonus}
 use Rattle.zst_record.specs.declared.TheConstants.{LARGE_BLOCKS, REDACTED}
 use Rattle.zst_record.specs.declared.head.Head.{Head}
 use Rattle.zst_record.specs.declared.head.Head.TheVariants as heads
@@ -41,7 +41,7 @@ pub record ObjectFits (object kind bonus_kind block_size bonus_len max_block to 
   pub kind_there : (kind == 0) ≡ false
   pub bonus_kind_fits : bonus_kind < 2 ^ 32
   pub size : is_block_size block_size ≡ true
-  pub bonus_len_fits : bonus_len ≤ 320
+  pub bonus_len_fits : bonus_len ≤ largest_bonus
   pub max_block_fits : max_block < 2 ^ 64
   pub to_fits : to < 2 ^ 64
 

@@ -2,12 +2,12 @@ ghost use Rattle.std.specs.Prelude.{◌≡◌, ◌+◌, ◌/◌, ◌%◌, ◌≤
 ghost use Rattle.std.specs.Int.{w32, trailing_zeros};
 ghost use Rattle.zst_bytes.specs.Bytes.{number_at, bytes_at};
 ghost use Rattle.zst_model.specs.declared.refusals.stream_fault.StreamFault.TheVariants.{Grammar, Unsupported};
-ghost use Rattle.zst_model.specs.states.State.{is_block_size, is_spill_size};
 ghost use Rattle.zst_record.specs.Decode.{decoded, typed, begin_of, snapshot_of, header_with, object_of, write_of, free_of, spill_of, redact_of, is_object, is_range, is_payload_len, needs_payload, name_in, sums_at, lack_of_feature};
 
 use crate::head::Head;
 use crate::{LARGE_BLOCKS, MAGIC, OTHER_FEATURES, REDACTED, RESUMING};
 use zst_bytes::{le8, le32, le64};
+use zst_model::limits::{LARGEST_BONUS, NUMBER_BOUND, is_block_size, is_spill_size};
 use zst_model::{Flaw, GuidSet, Header, Lack, NameText, StreamFault};
 
 /// The magic number of BEGIN in a stream whose numbers have their highest byte first.
@@ -26,25 +26,11 @@ pub fn get_sums(bytes: &[u8], at: usize) -> [u64; 4]
     ]
 }
 
-#[tactic(auto, unfolding(crate::specs::Decode::is_object))]
+#[tactic(auto, unfolding(crate::specs::Decode::is_object, zst_model::specs::states::State::number_bound))]
 fn names_object(object: u64) -> bool
     ensures { result ≡ is_object object }
 {
-    0 < object && object < 0x1_0000_0000_0000
-}
-
-#[tactic(auto, unfolding(zst_model::specs::states::State::is_block_size, zst_model::specs::states::State::largest_block))]
-fn sizes_block(size: u64) -> bool
-    ensures { result ≡ is_block_size size }
-{
-    512 <= size && size <= 131_072 && size % 512 == 0
-}
-
-#[tactic(auto, unfolding(zst_model::specs::states::State::is_spill_size))]
-fn sizes_spill(size: u64) -> bool
-    ensures { result ≡ is_spill_size size }
-{
-    512 <= size && size <= 131_072 && size % 512 == 0
+    0 < object && object < NUMBER_BOUND
 }
 
 #[tactic(auto, unfolding(crate::specs::Decode::is_range))]
@@ -81,10 +67,10 @@ fn decode_object(bytes: &[u8; 312], at: u64) -> Result<Head, StreamFault>
     if type_ == 0 {
         return grammar(at + 16, Flaw::ObjectType);
     }
-    if !sizes_block(u64::from(block_size)) {
+    if !is_block_size(u64::from(block_size)) {
         return grammar(at + 24, Flaw::BlockSize);
     }
-    if bonus_len > 320 {
+    if bonus_len > LARGEST_BONUS {
         return grammar(at + 28, Flaw::Bonus);
     }
     if le8(bytes, 34) > 1 {
@@ -114,7 +100,7 @@ fn decode_write(bytes: &[u8; 312], at: u64) -> Result<Head, StreamFault>
     if !names_object(object) {
         return grammar(at + 8, Flaw::Object);
     }
-    if !sizes_block(length) {
+    if !is_block_size(length) {
         return grammar(at + 32, Flaw::Size);
     }
     if le8(bytes, 50) != 0 {
@@ -161,7 +147,7 @@ fn decode_spill(bytes: &[u8; 312], at: u64) -> Result<Head, StreamFault>
     if !names_object(object) {
         return grammar(at + 8, Flaw::Object);
     }
-    if !sizes_spill(length) {
+    if !is_spill_size(length) {
         return grammar(at + 16, Flaw::Size);
     }
     if le8(bytes, 33) != 0 {

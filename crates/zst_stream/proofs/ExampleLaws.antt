@@ -1,6 +1,6 @@
 -- The small stream can be stated.
 use Rattle.std.proofs.Common.{◌^◌, ◌-◌, refl, lit<, lit≤}
-use Rattle.zst_model.specs.states.State.{is_block_size, largest_block}
+use Rattle.zst_model.specs.states.State.{number_bound, is_block_size, largest_block}
 use Rattle.zst_record.specs.Decode.{is_object, is_range, is_payload_len, needs_payload}
 use Rattle.zst_record.specs.Fits.{BeginFits, ObjectFits, WriteFits, FreeFits}
 use Rattle.zst_stream.specs.Reading.{opened}
@@ -29,7 +29,7 @@ begins = record {
 }
 
 object-fits : ObjectFits 1 19 0 512 0 0 4294967297
-unfolding is_object is_block_size largest_block
+unfolding is_object number_bound is_block_size largest_block
 object-fits = record {
   object_fits = refl;
   kind_fits = lit< tt;
@@ -42,11 +42,11 @@ object-fits = record {
 }
 
 write-fits : WriteFits 1 19 0 512 4294967297
-unfolding is_object is_block_size largest_block
+unfolding is_object number_bound is_block_size largest_block
 write-fits = record { object_fits = refl; kind_fits = lit< tt; offset_fits = lit< tt; size_fits = refl; to_fits = lit< tt }
 
 free-fits : FreeFits 1 512 (2 ^ 64 - 1) 4294967297
-unfolding is_object is_range
+unfolding is_object number_bound is_range
 free-fits = record { object_fits = refl; offset_fits = lit< tt; size_fits = lit< tt; range = refl; to_fits = lit< tt }
 
 pieces-fit : PiecesFit 4 example_pieces

@@ -1,5 +1,5 @@
 -- What BEGIN says of sends.
-use Rattle.std.proofs.Common.{◌≡◌, ◌+◌, ◌^◌, ◌<◌, Bool, true, false, List, [], Option, Some, None, IfSome, bit_and, if◌then◌else◌, refl, ap, subst, sym, arith}
+use Rattle.std.proofs.Common.{◌≡◌, ℕ, ◌+◌, ◌^◌, ◌<◌, Bool, true, false, List, [], Option, Some, None, IfSome, bit_and, if◌then◌else◌, refl, ap, subst, sym, arith}
 use Rattle.std.specs.List.{Contains}
 use Rattle.std.proofs.lemmas.List.Elements.{All-nil, All-contains, All-weaker}
 use Rattle.zst_names.specs.Names.{IsSnapshot}

@@ -19,7 +19,7 @@ use Rattle.zst_laws.proofs.pools.Accepted.{with_dataset_ok, with_snapshot_ok, re
 use Rattle.zst_laws.proofs.pools.LawfulHeads.{object_is_lawful, write_is_lawful, punch_is_lawful, free_is_lawful}
 
 -- a lawful pool with another number
-numbered_pool : (pool : Pool) (number : ℕ) → IsPool pool → number ≤ 2 ^ 63 → IsPool (record pool { number = number })
+numbered_pool : (pool : Pool) (number : ℕ) → IsPool pool → number ≤ last_number → IsPool (record pool { number = number })
 numbered_pool pool number p below = record {
   id = p.id;
   number = below;
@@ -43,7 +43,6 @@ numbered_pool pool number p below = record {
 }
 
 committed_pool : (pool : Pool) (after : Stepped) → IsPool pool → committed pool ≡ Ok after → IsPool after.pool
-unfolding last_number
 committed_pool pool after p h =
     let made = committed_ok pool after h in
     subst (λ s. IsPool s.pool) made.1 (numbered_pool pool (pool.number + 1) p made.0)
@@ -168,7 +167,7 @@ snapshot_added now name pool dataset fits p is_name there free absent guids =
     record {
       id = p.id;
       number = p.number;
-      guids = omega (arith, guids);
+      guids = guids;
       named = record {
         dataset_names = p.named.dataset_names;
         datasets = p.named.datasets;

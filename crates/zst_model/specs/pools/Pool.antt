@@ -10,6 +10,7 @@ use Rattle.zst_model.specs.states.Dated.{DatedState}
 use Rattle.zst_model.specs.states.State.{IsState, no_objects}
 use Rattle.zst_model.specs.fields.Guids.{IsGuidSet}
 use Rattle.zst_model.specs.fields.Lists.{IsRunList}
+use Rattle.zst_model.specs.pools.Limits.{last_number, last_guid}
 
 -- a dataset: its name, its kind (2 a file system, 3 a volume), the name of the snapshot that it is a clone of, its head, and the head's redaction guids
 pub record Dataset : Type 0 where
@@ -153,8 +154,8 @@ pub record IsStated (header : Header) : Type 0 where
 -- a lawful pool: its numbers are in their ranges, its names are in order and there, its kinds are kinds, its guids are guids and their sets sets of 64 bits, its times fit 64 bits, its lists are lists, its headers can be stated, and its states are lawful
 pub record IsPool (pool : Pool) : Type 0 where
   pub id : (0 < pool.id) × (pool.id < 2 ^ 31)
-  pub number : pool.number ≤ 2 ^ 63
-  pub guids : pool.guids < 2 ^ 32
+  pub number : pool.number ≤ last_number
+  pub guids : pool.guids ≤ last_guid
   pub named : IsNamed pool
   pub linked : IsLinked pool
   pub datasets : All (λ dataset. IsKind dataset.kind × IsGuidSet dataset.redact × IsState dataset.head.state) pool.datasets

@@ -23,6 +23,8 @@ use Rattle.zst_model.specs.states.Apply.{unless, ◌>>=◌}
 use Rattle.zst_model.specs.sends.Items.{spill_change}
 use Rattle.zst_model.specs.states.Dated.{DatedState, size_at, apply_all_dated}
 use Rattle.zst_model.specs.pools.Pool.{Pool, Dataset, Snapshot, dataset_named, snapshot_named, partial_of, is_before, snapshot_is_before, inserted, untouched}
+unfoldable pub use Rattle.zst_model.specs.pools.Limits.{last_number, last_guid, most_datasets, most_snapshots}
+use Rattle.zst_model.specs.pools.Limits.{largest_write}
 use Rattle.zst_model.specs.pools.Lines.{ok_line, pool_lines, object_lines, data_line}
 
 -- a name of a dataset or a snapshot, which have objects
@@ -37,7 +39,7 @@ IsCommand (commands.Fs dataset) = IsDataset dataset
 IsCommand (commands.Volume dataset) = IsDataset dataset
 IsCommand (commands.Object dataset k head bonus spill) =
     IsDataset dataset × (0 < k) × IsHead head × IsBonus bonus × IfSome spill IsSpill
-IsCommand (commands.Write dataset k i bytes) = IsDataset dataset × (0 < k) × (0 < length bytes) × (length bytes ≤ 2 ^ 20)
+IsCommand (commands.Write dataset k i bytes) = IsDataset dataset × (0 < k) × (0 < length bytes) × (length bytes ≤ largest_write)
 IsCommand (commands.Punch dataset k first count) = IsDataset dataset × (0 < k) × (0 < count)
 IsCommand (commands.Free dataset first count) = IsDataset dataset × (0 < first) × (0 < count)
 IsCommand (commands.Snapshot name) = IsSnapshot name
@@ -75,19 +77,6 @@ or_else refusal (Some found) next = next found
 abbrev pub of_applying : {A : Type 0} → Result A ApplyFault → Result A Refusal
 of_applying (Ok made) = Ok made
 of_applying (Err fault) = Err (cannot_apply fault)
-
--- a pool's number is at most this, and so are its guid counter and its datasets, snapshots and bookmarks
-unfoldable pub last_number : ℕ
-last_number = 2 ^ 63
-
-unfoldable pub last_guid : ℕ
-last_guid = 2 ^ 32 - 1
-
-unfoldable pub most_datasets : ℕ
-most_datasets = 256
-
-unfoldable pub most_snapshots : ℕ
-most_snapshots = 1024
 
 -- E23 where a quantity would pass its limit
 abbrev pub limited : {A : Type 0} → Quantity → ℕ → ℕ → Result A Refusal → Result A Refusal

@@ -84,17 +84,29 @@ is_user_data attr = attr.type_ == 19 || attr.type_ == 23
 abbrev pub is_odd_size : ℕ → Bool
 is_odd_size size = not (count_ones size == 1)
 
+-- the bytes of the smallest block (SPA_MINBLOCKSIZE of spa.h), of which each block has a multiple
+abbrev pub smallest_block : ℕ
+smallest_block = 512
+
 -- the bytes of the largest block (SPA_OLD_MAXBLOCKSIZE of spa.h)
 unfoldable pub largest_block : ℕ
 largest_block = 131072
 
--- a block size: a multiple of 512 from 512 (SPA_MINBLOCKSIZE of spa.h) to that of the largest block
-unfoldable pub is_block_size : ℕ → Bool
-is_block_size size = nat_le 512 size && nat_le size largest_block && (size % 512 == 0)
+-- the bytes of the largest spill block (SPA_OLD_MAXBLOCKSIZE of spa.h), which larger blocks don't raise
+abbrev pub largest_spill : ℕ
+largest_spill = 131072
 
--- a spill size: a multiple of 512 from 512 to 131,072 (SPA_OLD_MAXBLOCKSIZE of spa.h), which larger blocks don't raise
+-- the bytes of the largest bonus (DN_OLD_MAX_BONUSLEN of dnode.h)
+abbrev pub largest_bonus : ℕ
+largest_bonus = 320
+
+-- a block size: a multiple of that of the smallest block, to that of the largest
+unfoldable pub is_block_size : ℕ → Bool
+is_block_size size = nat_le smallest_block size && nat_le size largest_block && (size % smallest_block == 0)
+
+-- a spill size: a multiple of the smallest block's, to that of the largest spill block
 unfoldable pub is_spill_size : ℕ → Bool
-is_spill_size size = nat_le 512 size && nat_le size 131072 && (size % 512 == 0)
+is_spill_size size = nat_le smallest_block size && nat_le size largest_spill && (size % smallest_block == 0)
 
 -- a head that an object may have: its type isn't 0, both types are numbers of 32 bits, and it has a block size
 pub record IsHead (head : ObjectHead) : Type 0 where
@@ -103,9 +115,9 @@ pub record IsHead (head : ObjectHead) : Type 0 where
   pub bonus_type_fits : head.bonus_type < 2 ^ 32
   pub size : is_block_size head.block_size ≡ true
 
--- a bonus that an object may have: at most 320 bytes (DN_OLD_MAX_BONUSLEN of dnode.h)
+-- a bonus that an object may have
 abbrev pub IsBonus : List ℕ → Type 0
-IsBonus bytes = length bytes ≤ 320
+IsBonus bytes = length bytes ≤ largest_bonus
 
 -- a spill block that an object may have
 abbrev pub IsSpill : List ℕ → Type 0

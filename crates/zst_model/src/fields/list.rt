@@ -1,15 +1,10 @@
 ghost use Rattle.std.specs.Prelude.{◌≡◌, ◌↔◌, [], true, not, find, IsSome, IsNone, IfSome};
 ghost use Rattle.zst_model.specs.fields.Lists.{Runs, IsRunList, IsLeastFrom, HasNoneFrom, ends_by, has_pair, is_run, is_run_list, stands_before};
 
+use crate::limits::{INDEX_BOUND, NUMBER_BOUND};
 use crate::states::cell::Run;
 use std::alloc::Global;
 use std::marker::Model;
-
-/// Object numbers stand below this (`DN_MAX_OBJECT` of dnode.h).
-const NUMBER_BOUND: u64 = 1 << 48;
-
-/// A run ends at or below this index, in blocks.
-const INDEX_BOUND: u64 = 1 << 43;
 
 /// The redacted blocks of a redaction bookmark (zfs-redact(8)): pairs of an object's number and an index, in blocks.
 /// Its runs rise, and no two of them touch.

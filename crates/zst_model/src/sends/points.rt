@@ -3,11 +3,9 @@ ghost use Rattle.zst_model.specs.sends.Places.{HasPlace, ChangeHasPlace};
 ghost use Rattle.zst_model.specs.declared.states.item.Item.TheVariants.{At};
 ghost use Rattle.zst_model.specs.sends.Points.{point_after};
 
+use crate::limits::NUMBER_BOUND;
 use crate::sends::header::Point;
 use crate::states::item::{Change, Item};
-
-/// Object numbers stand below this.
-const NUMBER_BOUND: u64 = 1 << 48;
 
 /// Where a receiver stands after an item: past its range, whose end is a number of 64 bits.
 #[tactic(auto, unfolding(crate::specs::states::State::number_bound))]
