@@ -1,3 +1,4 @@
+pub mod DatedPlaces
 pub mod Dating
 pub mod Increments
 pub mod Agreement

@@ -1,10 +1,10 @@
 -- Which dates items give, and what a snapshot remembers under them.
-use Rattle.std.specs.Prelude.{◌≡◌, ℕ, ◌*◌, ◌<◌, ◌≤◌, true, false, List, [], ◌∷◌, Option, Ok, ◌==◌, if◌then◌else◌}
+use Rattle.std.specs.Prelude.{◌≡◌, ◌≢◌, ◌⊎◌, ℕ, ◌+◌, ◌*◌, ◌<◌, ◌≤◌, true, false, List, [], ◌∷◌, Option, Some, None, Ok, ◌==◌}
 use Rattle.zst_model.specs.declared.states.item.Change.{Change}
 use Rattle.zst_model.specs.declared.states.item.Change.TheVariants.{Put, Spill, FreeFrom, Free, Redact, Write}
 use Rattle.zst_model.specs.declared.states.item.Item.{Item}
 use Rattle.zst_model.specs.declared.states.item.Item.TheVariants.{FreeObjects, At}
-use Rattle.zst_model.specs.states.State.{State, Object, IsState, IsHead, IsBonus, IsSpill, attr_at, content_at, is_number, index_bound}
+use Rattle.zst_model.specs.states.State.{State, Object, IsState, IsHead, IsBonus, IsSpill, attr_at, content_at, is_number, number_bound, index_bound}
 use Rattle.zst_model.specs.states.Apply.{apply, within}
 use Rattle.zst_model.specs.states.Dated.{DatedState, touches_number, touches_index, size_at, apply_dated, apply_all_dated}
 use Rattle.zst_model.specs.sends.Target.{Remembers}
@@ -16,12 +16,54 @@ ChangesAreDated =
     → ((k : ℕ) → touches_number item k ≡ false → attr_at (after.state k) ≡ attr_at (snap.state k))
     × ((k i : ℕ) → i < index_bound → touches_index item snap.state k i ≡ false → content_at (after.state k) i ≡ content_at (snap.state k) i)
 
+-- at or past the first of a range, and before its end
+abbrev pub IsInRange : ℕ → ℕ → ℕ → Type 0
+IsInRange first count n = (first ≤ n) × (n < first + count)
+
+-- which numbers an item dates: OBJECT and SPILL their own, FREEOBJECTS those of its range that an object may have, other items none
+abbrev pub DatesNumber : Item → ℕ → Type 0
+DatesNumber (FreeObjects first count) k = IsInRange first count k × ((0 < k) × (k < number_bound))
+DatesNumber (At j (Put head bonus keep_spill max_block)) k = k ≡ j
+DatesNumber (At j (Spill bytes)) k = k ≡ j
+DatesNumber (At j (FreeFrom offset)) k = ⊥
+DatesNumber (At j (Free offset length)) k = ⊥
+DatesNumber (At j (Redact offset length)) k = ⊥
+DatesNumber (At j (Write offset type bytes)) k = ⊥
+
+-- no object stands there, or one with another block size
+abbrev pub IsNewOrResized : ℕ → Option Object → Type 0
+IsNewOrResized size None = Unit {0}
+IsNewOrResized size (Some object) = object.attr.block_size ≢ size
+
+-- an object stands there in which this holds of the index's byte place, the index times the block size
+abbrev pub HasPlace : Option Object → ℕ → (ℕ → Type 0) → Type 0
+HasPlace None i Is = ⊥
+HasPlace (Some object) i Is = Is (i * object.attr.block_size)
+
+-- which indices of its number a change dates: OBJECT all, where the object is new or its block size changes, SPILL none, FREE to the end those at or past its byte place, FREE and REDACT those whose byte place is in their range, WRITE the one at its byte place
+abbrev pub DatesPlace : Change → Option Object → ℕ → Type 0
+DatesPlace (Put head bonus keep_spill max_block) object i = IsNewOrResized head.block_size object
+DatesPlace (Spill bytes) object i = ⊥
+DatesPlace (FreeFrom offset) object i = HasPlace object i (λ place. offset ≤ place)
+DatesPlace (Free offset length) object i = HasPlace object i (IsInRange offset length)
+DatesPlace (Redact offset length) object i = HasPlace object i (IsInRange offset length)
+DatesPlace (Write offset type bytes) object i = HasPlace object i (λ place. place ≡ offset)
+
+-- which indices below the bound an item dates: FREEOBJECTS each one of each number that it dates, any other item those of its own number
+abbrev pub DatesIndex : Item → State → ℕ → ℕ → Type 0
+DatesIndex (FreeObjects first count) state k i = DatesNumber (FreeObjects first count) k × (i < index_bound)
+DatesIndex (At j change) state k i = ((k ≡ j) × DatesPlace change (state j) i) × (i < index_bound)
+
+-- a date is the commit's where this is dated, and else the old one
+abbrev pub DateIs : Type 0 → ℕ → ℕ → ℕ → Type 0
+DateIs Dated number old new = (Dated × (new ≡ number)) ⊎ (¬ Dated × (new ≡ old))
+
 -- what an item dates has the commit's number as its date, and all else keeps its date
 abbrev pub DatesAreExact : Type 0
 DatesAreExact =
     (number : ℕ) (item : Item) (snap after : DatedState) → apply_dated number item snap ≡ Ok after
-    → ((k : ℕ) → after.number_date k ≡ (if touches_number item k then number else snap.number_date k))
-    × ((k i : ℕ) → after.index_date k i ≡ (if touches_index item snap.state k i then number else snap.index_date k i))
+    → ((k : ℕ) → DateIs (DatesNumber item k) number (snap.number_date k) (after.number_date k))
+    × ((k i : ℕ) → DateIs (DatesIndex item snap.state k i) number (snap.index_date k i) (after.index_date k i))
 
 -- a snapshot remembers its own state at each number
 abbrev pub RemembersItself : Type 0

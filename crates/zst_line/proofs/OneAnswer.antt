@@ -1,46 +1,19 @@
 -- No words have two answers.
-use Rattle.std.proofs.Common.{◌≡◌, ◌≢◌, ℕ, ◌+◌, List, [], ◌∷◌, drop, Some, Ok, Err, if◌then◌else◌, bytes_eq, codes, refl, sym, ap, ◌∙◌, inl, inr}
+use Rattle.std.proofs.Common.{◌≡◌, ◌≢◌, ℕ, ◌+◌, List, [], ◌∷◌, drop, Ok, Err, refl, sym, ap, ◌∙◌, inl, inr}
 use Rattle.std.proofs.lemmas.List.{take-append-drop}
 use Rattle.std.specs.List.{AllZip}
 use Rattle.zst_names.specs.Names.{IsDataset, IsSnapshot, StopsAt}
 use Rattle.zst_names.proofs.Places.{same_place}
-use Rattle.zst_line.specs.declared.kind.Kind.{Kind}
-use Rattle.zst_line.specs.declared.kind.Kind.TheVariants.{Dump, Create, Fs, Volume, Object, Write, Punch, Free, Snapshot}
 use Rattle.zst_line.specs.declared.line.LineFault.{LineFault}
 use Rattle.zst_line.specs.declared.line.LineFault.TheVariants as faults
 use Rattle.zst_line.specs.declared.slot.Slot.{Slot}
 use Rattle.zst_line.specs.declared.slot.Slot.TheVariants.{Image, DatasetName, SnapshotName, Number, BlockSize, Bonus, Spill, HexBytes}
-use Rattle.zst_line.specs.Grammar.{Fits, Stops, IsNameFor, NameStopsAt, NameStops, HasUnbuilt, OfLine, UsageAt, BadNameAt, IsUnbuiltLine, IsLine, word_of, slots_of, word_at}
+use Rattle.zst_line.specs.Grammar.{Fits, Stops, IsNameFor, NameStopsAt, NameStops, HasUnbuilt, OfLine, UsageAt, BadNameAt, IsUnbuiltLine, IsLine, word_of, slots_of}
 use Rattle.zst_line.specs.Lines.{LineAnswers, OneAnswer}
+use Rattle.zst_line.proofs.FirstWords.{same_kind}
+use Rattle.zst_line.proofs.SameLine.{same_line}
 
--- the kind that a first word names
-abbrev kind_named : List ℕ → Kind
-kind_named word =
-    if bytes_eq word (codes "dump") then Dump
-    else (if bytes_eq word (codes "create") then Create
-    else (if bytes_eq word (codes "fs") then Fs
-    else (if bytes_eq word (codes "volume") then Volume
-    else (if bytes_eq word (codes "object") then Object
-    else (if bytes_eq word (codes "write") then Write
-    else (if bytes_eq word (codes "punch") then Punch
-    else (if bytes_eq word (codes "free") then Free
-    else Snapshot)))))))
-
-named_back : (kind : Kind) → kind_named (word_of kind) ≡ kind
-named_back Dump = refl
-named_back Create = refl
-named_back Fs = refl
-named_back Volume = refl
-named_back Object = refl
-named_back Write = refl
-named_back Punch = refl
-named_back Free = refl
-named_back Snapshot = refl
-
--- words are of one kind, and what one fact says of the others it says beside another
-same_kind : (a b : Kind) (x y : List (List ℕ)) → word_of a ∷ x ≡ word_of b ∷ y → a ≡ b
-same_kind a b x y e = sym (named_back a) ∙ (ap (λ words. kind_named (word_at words 0)) e ∙ named_back b)
-
+-- what one fact says of words it says beside another
 moved : (P Q : List Slot → List (List ℕ) → Type 0) (words : List (List ℕ)) (p : OfLine P words) → OfLine Q words → Q (slots_of p.kind) p.rest
 moved P Q words p q =
     let e : word_of p.kind ∷ p.rest ≡ word_of q.kind ∷ q.rest = sym p.spelled ∙ q.spelled in
@@ -162,7 +135,7 @@ one_fault words (faults.BadName a) faults.Memory p q m n = absurd (n refl)
 one_fault words faults.NotBuilt faults.Memory p q m n = absurd (n refl)
 
 pub one_answer : OneAnswer
-one_answer words (Ok one) (Ok other) p q m n = refl
+one_answer words (Ok one) (Ok other) p q m n = ap Ok (same_line one other words p.1 q.1)
 one_answer words (Ok one) (Err fault) p q m n = absurd (line_has_no_fault words fault p.0 q (λ e. n (ap Err e)))
 one_answer words (Err fault) (Ok other) p q m n = absurd (line_has_no_fault words fault q.0 p (λ e. m (ap Err e)))
-one_answer words (Err one) (Err two) p q m n = ap Some (one_fault words one two p q (λ e. m (ap Err e)) (λ e. n (ap Err e)))
+one_answer words (Err one) (Err two) p q m n = ap Err (one_fault words one two p q (λ e. m (ap Err e)) (λ e. n (ap Err e)))

@@ -52,7 +52,7 @@ pub fs_said : (words : List (List ℕ)) (name : List ℕ) → AllZip Fits (slots
 fs_said words name fits same is =
     let are : words ≡ words_from words 0 2 = words_are (slots_of kinds.Fs) words fits in (
       is_line kinds.Fs words fits (dataset_names [] words tt fits (rw same at is)) (all_built (slots_of kinds.Fs) words (tt, (tt, tt))),
-      ((word_at words 0, cc), is),
+      ((word_at words 0, cc), is, tt),
     )
 
 pub volume_said : (words : List (List ℕ)) (name : List ℕ) → AllZip Fits (slots_of kinds.Volume) words → name ≡ word_at words 1 → IsDataset name
@@ -60,7 +60,7 @@ pub volume_said : (words : List (List ℕ)) (name : List ℕ) → AllZip Fits (s
 volume_said words name fits same is =
     let are : words ≡ words_from words 0 2 = words_are (slots_of kinds.Volume) words fits in (
       is_line kinds.Volume words fits (dataset_names [] words tt fits (rw same at is)) (all_built (slots_of kinds.Volume) words (tt, (tt, tt))),
-      ((word_at words 0, cc), is),
+      ((word_at words 0, cc), is, tt),
     )
 
 pub snapshot_said : (words : List (List ℕ)) (name : List ℕ) → AllZip Fits (slots_of kinds.Snapshot) words → name ≡ word_at words 1 → IsSnapshot name
@@ -68,7 +68,7 @@ pub snapshot_said : (words : List (List ℕ)) (name : List ℕ) → AllZip Fits 
 snapshot_said words name fits same is =
     let are : words ≡ words_from words 0 2 = words_are (slots_of kinds.Snapshot) words fits in (
       is_line kinds.Snapshot words fits (snapshot_names words fits (rw same at is)) (all_built (slots_of kinds.Snapshot) words (tt, (tt, tt))),
-      ((word_at words 0, cc), is),
+      ((word_at words 0, cc), is, tt),
     )
 
 -- a word in the place of a count isn't 0
@@ -77,15 +77,15 @@ over_none words i n fits e small = let range = in_range (word_at words i) n 1 (2
 
 -- lines on an object's blocks and on objects
 pub punch_said : (words : List (List ℕ)) (name : List ℕ) (k first number : ℕ) → AllZip Fits (slots_of kinds.Punch) words → name ≡ word_at words 1 → IsDataset name
-    → word_at words 2 ≡ decimal k → k < 2 ^ 64 → word_at words 3 ≡ decimal first → word_at words 4 ≡ decimal number → number < 2 ^ 64
+    → word_at words 2 ≡ decimal k → k < 2 ^ 64 → word_at words 3 ≡ decimal first → first < 2 ^ 64 → word_at words 4 ≡ decimal number → number < 2 ^ 64
     → LineAnswers (word_of kinds.Punch ∷ words) (Ok (Step (commands.Punch name k first number)))
-punch_said words name k first number fits same is of_k fit_k of_first of_number fit_number =
+punch_said words name k first number fits same is of_k fit_k of_first fit_first of_number fit_number =
     let slots = slots_of kinds.Punch in
     let are : words ≡ words_from words 0 5 = words_are slots words fits in
     let built : AreBuilt slots = (tt, (tt, (tt, (tt, (tt, tt))))) in
     let nameless : AreNameless (count ∷ index ∷ count ∷ []) = (tt, (tt, (tt, tt))) in (
       is_line kinds.Punch words fits (dataset_names (count ∷ index ∷ count ∷ []) words nameless fits (rw same at is)) (all_built slots words built),
-      ((word_at words 0, cc), (is, over_none words 2 k (fit_at slots words 2 fits (lit< tt)) of_k fit_k, over_none words 4 number (fit_at slots words 4 fits (lit< tt)) of_number fit_number)),
+      ((word_at words 0, cc), (is, over_none words 2 k (fit_at slots words 2 fits (lit< tt)) of_k fit_k, over_none words 4 number (fit_at slots words 4 fits (lit< tt)) of_number fit_number), (fit_k, fit_first, fit_number)),
     )
 
 pub free_said : (words : List (List ℕ)) (name : List ℕ) (first number : ℕ) → AllZip Fits (slots_of kinds.Free) words → name ≡ word_at words 1 → IsDataset name
@@ -97,13 +97,13 @@ free_said words name first number fits same is of_first fit_first of_number fit_
     let built : AreBuilt slots = (tt, (tt, (tt, (tt, tt)))) in
     let nameless : AreNameless (count ∷ count ∷ []) = (tt, (tt, tt)) in (
       is_line kinds.Free words fits (dataset_names (count ∷ count ∷ []) words nameless fits (rw same at is)) (all_built slots words built),
-      ((word_at words 0, cc), (is, over_none words 2 first (fit_at slots words 2 fits (lit< tt)) of_first fit_first, over_none words 3 number (fit_at slots words 3 fits (lit< tt)) of_number fit_number)),
+      ((word_at words 0, cc), (is, over_none words 2 first (fit_at slots words 2 fits (lit< tt)) of_first fit_first, over_none words 3 number (fit_at slots words 3 fits (lit< tt)) of_number fit_number), (fit_first, fit_number)),
     )
 
 pub write_said : (words : List (List ℕ)) (name : List ℕ) (k i : ℕ) (bytes : List ℕ) → AllZip Fits (slots_of kinds.Write) words → name ≡ word_at words 1 → IsDataset name
-    → word_at words 2 ≡ decimal k → k < 2 ^ 64 → word_at words 3 ≡ decimal i → decode_of (word_at words 4) ≡ Ok bytes
+    → word_at words 2 ≡ decimal k → k < 2 ^ 64 → word_at words 3 ≡ decimal i → i < 2 ^ 64 → decode_of (word_at words 4) ≡ Ok bytes
     → LineAnswers (word_of kinds.Write ∷ words) (Ok (Step (commands.Write name k i bytes)))
-write_said words name k i bytes fits same is of_k fit_k of_i of_bytes =
+write_said words name k i bytes fits same is of_k fit_k of_i fit_i of_bytes =
     let slots = slots_of kinds.Write in
     let are : words ≡ words_from words 0 5 = words_are slots words fits in
     let built : AreBuilt slots = (tt, (tt, (tt, (tt, (tt, tt))))) in
@@ -116,6 +116,7 @@ write_said words name k i bytes fits same is of_k fit_k of_i of_bytes =
       (
         (word_at words 0, (word_at words 4, (of_bytes, cc))),
         (is, over_none words 2 k (fit_at slots words 2 fits (lit< tt)) of_k fit_k, omega arith, omega arith),
+        (fit_k, fit_i),
       ),
     )
 
@@ -173,6 +174,7 @@ object_said words name k kind size bonus_kind fits same is of_k fit_k of_kind fi
           lit≤ tt,
           tt,
         ),
+        fit_k,
       ),
     )
 

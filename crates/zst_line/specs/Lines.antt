@@ -1,6 +1,5 @@
 -- What a command line says.
 use Rattle.std.specs.Prelude.{◌≡◌, ◌≢◌, ℕ, ◌^◌, ◌<◌, ◌≤◌, List, [], ◌∷◌, None, Result, Ok, Err, codes, decimal}
-use Rattle.std.specs.Result.{result_err}
 use Rattle.hex.specs.Hex.{decode_of}
 use Rattle.zst_model.specs.declared.pools.command.Command.{Command}
 use Rattle.zst_model.specs.declared.pools.command.Command.TheVariants as commands
@@ -31,6 +30,19 @@ Says (commands.Read name k i) image words = ⊥
 Says commands.List image words = ⊥
 Says (commands.ListObjects name) image words = ⊥
 
+-- the numbers of a command are of 64 bits
+abbrev pub NumbersFit : Command → Type 0
+NumbersFit (commands.Fs dataset) = Unit {0}
+NumbersFit (commands.Volume dataset) = Unit {0}
+NumbersFit (commands.Object dataset k head bonus spill) = k < 2 ^ 64
+NumbersFit (commands.Write dataset k i bytes) = (k < 2 ^ 64) × (i < 2 ^ 64)
+NumbersFit (commands.Punch dataset k first count) = (k < 2 ^ 64) × (first < 2 ^ 64) × (count < 2 ^ 64)
+NumbersFit (commands.Free dataset first count) = (first < 2 ^ 64) × (count < 2 ^ 64)
+NumbersFit (commands.Snapshot name) = Unit {0}
+NumbersFit (commands.Read name k i) = (k < 2 ^ 64) × (i < 2 ^ 64)
+NumbersFit commands.List = Unit {0}
+NumbersFit (commands.ListObjects name) = Unit {0}
+
 -- a pool's sectors and its id
 pub record IsCreate (sectors id : ℕ) : Type 0 where
   pub enough : 128 ≤ sectors
@@ -42,7 +54,7 @@ pub record IsCreate (sectors id : ℕ) : Type 0 where
 abbrev pub LineIs : Line → List (List ℕ) → Type 0
 LineIs Dump words = words ≡ codes "dump" ∷ []
 LineIs (Create sectors id) words = ((image : List ℕ) × (words ≡ codes "create" ∷ image ∷ decimal sectors ∷ decimal id ∷ [])) × IsCreate sectors id
-LineIs (Step command) words = ((image : List ℕ) × Says command image words) × IsCommand command
+LineIs (Step command) words = ((image : List ℕ) × Says command image words) × IsCommand command × NumbersFit command
 
 -- each answer where it comes
 abbrev pub LineAnswers : List (List ℕ) → Result Line LineFault → Type 0
@@ -52,11 +64,11 @@ LineAnswers words (Err (faults.BadName at)) = BadNameAt words at
 LineAnswers words (Err faults.NotBuilt) = IsUnbuiltLine words
 LineAnswers words (Err faults.Memory) = Unit {0}
 
--- answers to the same words, memory aside, are all lines, or the same fault at the same place
+-- answers to the same words, memory aside, are one: the same line, or the same fault at the same place
 abbrev pub OneAnswer : Type 0
 OneAnswer =
     (words : List (List ℕ)) (one other : Result Line LineFault) → LineAnswers words one → LineAnswers words other
-    → one ≢ Err faults.Memory → other ≢ Err faults.Memory → result_err one ≡ result_err other
+    → one ≢ Err faults.Memory → other ≢ Err faults.Memory → one ≡ other
 
 -- the fault as a refusal
 abbrev pub refusal_of : LineFault → Refusal

@@ -14,7 +14,7 @@ use Rattle.zst_model.specs.states.State.{State, Block, BlockFits, IsHead, IsBonu
 use Rattle.zst_model.specs.states.Apply.{apply, apply_change, attr_with, is_unaligned, within, put_at}
 use Rattle.zst_model.specs.states.Dated.{DatedState, dates_number, dates_index, touches_number, touches_index, apply_dated, apply_all_dated}
 use Rattle.zst_model.specs.sends.Target.{Remembers}
-use Rattle.zst_laws.specs.Dating.{ChangesAreDated, DatesAreExact, RemembersItself, RemembersOn, IsLawfulChange, IsLawfulItem, AppliedIsState, RemembersThrough}
+use Rattle.zst_laws.specs.Dating.{ChangesAreDated, RemembersItself, RemembersOn, IsLawfulChange, IsLawfulItem, AppliedIsState, RemembersThrough}
 use Rattle.zst_laws.proofs.sends.Runs.{bind_ok, unless_ok, ok_inj}
 use Rattle.zst_laws.proofs.sends.Exact.{absent_outside}
 
@@ -151,7 +151,10 @@ changes_dated number item snap after s h =
     let applied = (dated_parts number item snap after h).0 in
     (item_attr item snap.state after.state s applied, item_content item snap.state after.state s applied)
 
-pub dates_exact : DatesAreExact
+-- each date is that of its definition
+pub dates_exact : (number : ℕ) (item : Item) (snap after : DatedState) → apply_dated number item snap ≡ Ok after
+    → ((k : ℕ) → after.number_date k ≡ (if touches_number item k then number else snap.number_date k))
+    × ((k i : ℕ) → after.index_date k i ≡ (if touches_index item snap.state k i then number else snap.index_date k i))
 dates_exact number item snap after h =
     let dated = (dated_parts number item snap after h).1 in
     (λ k. ap (λ d. d.number_date k) (sym dated), λ k i. ap (λ d. d.index_date k i) (sym dated))

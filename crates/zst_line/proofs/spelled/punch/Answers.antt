@@ -27,4 +27,4 @@ number-requires-3 c = number_at (slots_of kinds.Punch) (map string_bytes c.args.
 pub returns : goal.returns
 returns c =
     punch_said (map string_bytes c.args.words.now) c.in_ok-dataset.dataset c.number.result c.number-2.result c.number-3.result c.requires c.in_ok-dataset.ensures.same c.in_ok-dataset.ensures.name
-    c.number.ensures c.number.type_inv c.number-2.ensures c.number-3.ensures c.number-3.type_inv
+    c.number.ensures c.number.type_inv c.number-2.ensures c.number-2.type_inv c.number-3.ensures c.number-3.type_inv

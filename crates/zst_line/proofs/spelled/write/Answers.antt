@@ -30,5 +30,5 @@ returns c =
     let words = map string_bytes c.args.words.now in
     let bytes = c.in-Ok.ensures.ok in
     let said = write_said words c.in_ok-dataset.dataset c.number.result c.number-2.result c.in-Ok.bytes.items c.requires c.in_ok-dataset.ensures.same c.in_ok-dataset.ensures.name
-    c.number.ensures c.number.type_inv c.number-2.ensures (rw c.word.ensures at bytes) in
+    c.number.ensures c.number.type_inv c.number-2.ensures c.number-2.type_inv (rw c.word.ensures at bytes) in
     rw c.new.ensures said
