@@ -1,0 +1,6 @@
+//! Object sets over trees of blocks: the objects of a head, of a snapshot or of a partial state.
+#![tactic(auto)]
+
+mod commands;
+
+pub use commands::{changes_are_commands, reads_are_commands};
