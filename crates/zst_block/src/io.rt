@@ -31,18 +31,17 @@ pub struct Io<'d, D: Disk> {
 
 impl<'d, D: Disk> Io<'d, D> {
     /// A disk that hasn't failed, with its free sectors.
-    pub fn new(alloc: Global, disk: &'d mut D, space: Space) -> Result<Io<'d, D>, AllocError>
+    pub fn new(_alloc: Global, disk: &'d mut D, space: Space) -> Result<Io<'d, D>, AllocError>
         ensures same { IfOk result (λ io. io.disk.ghost_name ≡ disk.entry.ghost_name) }
         ensures disk { IfOk result (λ io. io.disk.now ≡ disk.old) }
         ensures space { IfOk result (λ io. io.space ≡ space) }
         ensures failed { IfOk result (λ io. io.failed ≡ false) }
     {
-        let node = Node::new(alloc)?;
         Ok(Io {
             disk,
             space,
             failed: false,
-            node,
+            node: Node::new(),
         })
     }
 

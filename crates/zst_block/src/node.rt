@@ -3,7 +3,6 @@ ghost use Rattle.std.specs.Prelude.{◌≡◌, List, ℕ, length};
 use crate::fault::BlockFault;
 use crate::io::read_block;
 use crate::ptr::Ptr;
-use std::alloc::{AllocError, Global};
 use std::marker::Model;
 use zst_outside::Disk;
 
@@ -11,19 +10,19 @@ use zst_outside::Disk;
 /// the bytes.
 #[derive(Drop)]
 pub struct Node {
-    bytes: Vec<u8>,
+    bytes: [u8; 8192],
 }
 
 impl Model for Node {
     ghost Value = { List ℕ };
 
-    ghost view = { λ node. node.bytes.items };
+    ghost view = { λ node. node.bytes };
 
-    ghost invariant = { λ node. length node.bytes.items ≡ 8192 };
+    ghost invariant = { λ node. length node.bytes ≡ 8192 };
 }
 
 impl Node {
-    ghost use Rattle.std.specs.Prelude.{◌≡◌, ◌+◌, ◌*◌, ◌<◌, ◌≤◌, ℕ, length, IfOk, OnOk};
+    ghost use Rattle.std.specs.Prelude.{◌≡◌, ◌+◌, ◌*◌, ◌<◌, ◌≤◌, ℕ, length, OnOk};
     ghost use Rattle.zst_bytes.specs.Bytes.{written};
     ghost use Rattle.zst_block.specs.Blocks.{IsPlaced};
     ghost use Rattle.zst_block.specs.Faults.{HasDiskCause};
@@ -33,11 +32,10 @@ impl Node {
     ghost use Rattle.zst_outside.specs.Images.{OnlyReads};
 
     /// A block of zeros.
-    pub fn new(alloc: Global) -> Result<Node, AllocError>
-        ensures long { IfOk result (λ node. length node ≡ 8192) }
+    pub fn new() -> Node
+        ensures long { length result ≡ 8192 }
     {
-        let bytes = vec![in alloc; 0; 8192]?;
-        Ok(Node { bytes })
+        Node { bytes: [0; 8192] }
     }
 
     /// The bytes.
