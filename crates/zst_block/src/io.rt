@@ -107,7 +107,7 @@ pub fn load<D: Disk>(io: &mut Io<'_, D>, ptr: Ptr) -> Result<(), BlockFault>
     ensures same { io.new.disk.ghost_name ≡ io.old.disk.ghost_name }
 {
     if ptr.length != 8192 {
-        return Err(damaged(&ptr, ptr.sum));
+        return Err(BlockFault::of_layout(&ptr));
     }
     let outcome = io.node.read(io.disk, &ptr);
     mark(&mut io.failed, &outcome);
