@@ -56,7 +56,8 @@ impl Slot {
         self.is_in_range() && self.encode().as_slice() == bytes
     }
 
-    fn is_in_range(self) -> bool
+    /// Whether each of its values is in its range.
+    pub fn is_in_range(self) -> bool
         ensures { IsTrue result ↔ SlotFits self }
     {
         match self {

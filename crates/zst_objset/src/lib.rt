@@ -2,5 +2,10 @@
 #![tactic(auto)]
 
 mod commands;
+mod fault;
+mod laws;
+mod slots;
 
 pub use commands::{changes_are_commands, reads_are_commands};
+pub use fault::ObjFault;
+pub use laws::sets_hold_states;
