@@ -1,0 +1,2 @@
+pub mod Dnode
+pub mod Slot

@@ -1,0 +1,67 @@
+-- What a dnode says of an object, over the blocks that are there.
+use Rattle.std.specs.Prelude.{◌≡◌, ℕ, ◌<◌, List, take, Option, Some, None}
+use Rattle.zst_block.specs.declared.ptr.Ptr.{Ptr}
+use Rattle.zst_dnode.specs.declared.dnode.Dnode.{Dnode}
+use Rattle.zst_dnode.specs.declared.slot.Slot.{Slot}
+use Rattle.zst_dnode.specs.declared.slot.Slot.TheVariants.{Absent, There}
+use Rattle.zst_model.specs.states.State.{Block, Hole, Redacted, Data, Object, end_of, index_bound}
+use Rattle.zst_model.specs.states.Dated.{DatedState}
+use Rattle.zst_tree.specs.Indices.{Blocks, Map, TreeIs}
+use Rattle.zst_tree.specs.declared.tree.Tree.{Tree}
+
+-- the tree of an object's blocks
+abbrev pub tree_of : Dnode → Tree
+tree_of dnode = record { levels = dnode.levels; past = dnode.past; root = dnode.root }
+
+-- a pointer stands for this block: a hole, a redacted block, or the data that it names
+abbrev pub BlockIs : Blocks → Ptr → Block → Type 0
+BlockIs has ptr Hole = ptr.kind ≡ 0
+BlockIs has ptr Redacted = ptr.kind ≡ 2
+BlockIs has ptr (Data bytes) = (ptr.kind ≡ 1) × has ptr bytes
+
+-- a pointer stands for this spill: none, or the block that it names
+abbrev pub SpillIs : Blocks → Ptr → Option (List ℕ) → Type 0
+SpillIs has ptr None = ptr.kind ≡ 0
+SpillIs has ptr (Some bytes) = (ptr.kind ≡ 1) × has ptr bytes
+
+-- a dnode is of this object with these dates; the map of its indices has the blocks and their dates
+pub record ObjectIs (has : Blocks) (dnode : Dnode) (object : Object) (date : ℕ) (dates : ℕ → ℕ) (map : Map) : Type 0 where
+  pub type_is : dnode.type_ ≡ object.attr.type_
+  pub bonus_type_is : dnode.bonus_type ≡ object.attr.bonus_type
+  pub size_is : dnode.block_size ≡ object.attr.block_size
+  pub bonus_is : object.attr.bonus ≡ take dnode.bonus_len dnode.bonus
+  pub date_is : dnode.date ≡ date
+  pub end_is : dnode.end ≡ end_of object
+  pub spill_is : SpillIs has dnode.spill object.attr.spill
+  pub tree : TreeIs has (tree_of dnode) map
+  pub blocks : (i : ℕ) → i < index_bound → BlockIs has (map i) (object.blocks i)
+  pub index_dates : (i : ℕ) → i < index_bound → (map i).number ≡ dates i
+
+-- what is found at a number is what the state has there
+abbrev pub DnodeAt : Blocks → Option Object → ℕ → (ℕ → ℕ) → Option Dnode → Type 0
+DnodeAt has None date dates None = Unit {0}
+DnodeAt has None date dates (Some dnode) = ⊥
+DnodeAt has (Some object) date dates None = ⊥
+DnodeAt has (Some object) date dates (Some dnode) = (map : Map) × ObjectIs has dnode object date dates map
+
+-- a dnode, or none, is that of what the state has at a number
+abbrev pub DnodeIs : Blocks → DatedState → ℕ → Option Dnode → Type 0
+DnodeIs has snap k found = DnodeAt has (snap.state k) (snap.number_date k) (snap.index_date k) found
+
+-- nothing is at a number, and its indices have its date
+pub record IsAbsent (snap : DatedState) (k date : ℕ) : Type 0 where
+  pub none : snap.state k ≡ None
+  pub date_is : snap.number_date k ≡ date
+  pub dates : (i : ℕ) → i < index_bound → snap.index_date k i ≡ date
+
+-- an object is at a number, and a dnode is that object's
+pub record IsThere (has : Blocks) (snap : DatedState) (k : ℕ) (dnode : Dnode) : Type 0 where
+  pub object : Object
+  pub there : snap.state k ≡ Some object
+  pub map : Map
+  pub is : ObjectIs has dnode object (snap.number_date k) (snap.index_date k) map
+
+-- what a slot says of a number
+abbrev pub SlotIs : Blocks → DatedState → ℕ → Slot → Type 0
+SlotIs has snap k (Absent date) = IsAbsent snap k date
+SlotIs has snap k (There dnode) = IsThere has snap k dnode

@@ -1,0 +1,26 @@
+use zst_block::BlockFault;
+use zst_model::{ApplyFault, Quantity};
+
+/// Why a call on an object set is refused.
+#[derive(Clone, Copy, Debug, PartialEq, Eq)]
+pub enum ObjFault {
+    /// E21.
+    CannotApply(ApplyFault),
+    /// E22.
+    Redacted { object: u64, block: u64 },
+    /// E23.
+    Limit { which: Quantity, number: u64 },
+    /// E24, E25 and E28.
+    Block(BlockFault),
+}
+
+impl From<BlockFault> for ObjFault {
+    ghost use Rattle.std.specs.Prelude.{◌≡◌};
+    ghost use Rattle.zst_objset.specs.declared.fault.ObjFault.TheVariants as faults;
+
+    ghost from_gives = { λ block fault. fault ≡ faults.Block block };
+
+    fn from(block: BlockFault) -> Self {
+        ObjFault::Block(block)
+    }
+}

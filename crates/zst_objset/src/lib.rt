@@ -1,0 +1,11 @@
+//! Object sets over trees of blocks: the objects of a head, of a snapshot or of a partial state.
+#![tactic(auto)]
+
+mod commands;
+mod fault;
+mod laws;
+mod slots;
+
+pub use commands::{changes_are_commands, reads_are_commands};
+pub use fault::ObjFault;
+pub use laws::sets_hold_states;
