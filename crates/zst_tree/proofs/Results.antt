@@ -18,8 +18,8 @@ delivers_fault P Q (Damaged sector stated found) is = is
 delivers_fault P Q DiskFault is = is
 
 -- what was loaded of a block that is there
-pub delivers_block : {P : Type 0} → (bytes loaded : List ℕ) (result : Result (Unit {0}) BlockFault) → GivesBlock bytes loaded result → (loaded ≡ bytes → P) → Delivers (λ done. P) result
-delivers_block bytes loaded (Ok done) is more = more is
-delivers_block bytes loaded (Err (Full need largest)) is more = absurd is
-delivers_block bytes loaded (Err (Damaged sector stated found)) is more = absurd is
-delivers_block bytes loaded (Err DiskFault) is more = is
+pub delivers_block : (P : Type 0) (bytes loaded : List ℕ) (result : Result (Unit {0}) BlockFault) → GivesBlock bytes loaded result → (loaded ≡ bytes → P) → Delivers (λ done. P) result
+delivers_block P bytes loaded (Ok done) is more = more is
+delivers_block P bytes loaded (Err (Full need largest)) is more = absurd is
+delivers_block P bytes loaded (Err (Damaged sector stated found)) is more = absurd is
+delivers_block P bytes loaded (Err DiskFault) is more = is

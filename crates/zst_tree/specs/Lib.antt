@@ -1,3 +1,4 @@
 pub mod Sets
 pub mod Indices
 pub mod IndicesLaws
+pub mod Changes

@@ -2,6 +2,7 @@
 #![tactic(auto)]
 
 mod nodes;
+mod put;
 mod spans;
 mod steps;
 mod tree;
