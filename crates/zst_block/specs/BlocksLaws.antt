@@ -1,11 +1,11 @@
 -- How writes into free sectors follow one another, and what they leave of blocks.
-use Rattle.std.proofs.Common.{◌≡◌, inl, inr, ℕ, ◌+◌, ◌*◌, ◌/◌, ◌<◌, ◌≤◌, List, refl, sym, ◌∙◌, subst, arith}
+use Rattle.std.proofs.Common.{◌≡◌, inl, inr, ℕ, ◌+◌, ◌*◌, ◌/◌, ◌<◌, ◌≤◌, List, length, refl, sym, ◌∙◌, ap, subst, arith}
 use Rattle.std.proofs.lemmas.Bool.{cases_lt}
 use Rattle.zst_outside.specs.Images.{DiskState, TornImage, WritesIn, OnlyReads, Leaves-weaker, Leaves-then, Keeps-then}
-use Rattle.zst_outside.specs.Ranges.{bytes_at, Torn}
+use Rattle.zst_outside.specs.Ranges.{bytes_at, length-bytes_at, Torn}
 use Rattle.zst_space.specs.FreeSectors.{FreeSectors, IsFree}
 use Rattle.zst_space.specs.FreeSectorsLaws.{IsFree-from}
-use Rattle.zst_block.specs.Blocks.{IsTaken, Has, FitsDisk, SparesTaken, Spared, FillsFree, KeepsBlocks, Follows}
+use Rattle.zst_block.specs.Blocks.{IsTaken, IsBlock, Has, FitsDisk, SparesTaken, Spared, FillsFree, KeepsBlocks, Follows}
 use Rattle.zst_block.specs.declared.ptr.Ptr.{Ptr}
 
 -- sectors 0 to 7 are never free
@@ -126,3 +126,7 @@ pub Follows-fills : (old new : DiskState) (space less : FreeSectors) → FillsFr
 Follows-fills old new space less fills = λ c now.
     let was = fills.crash c now in
     (was.0, was.1, λ ptr bytes has. Has-fewer c space less ptr bytes fills.fewer (Has-spared space was.0 c ptr bytes was.2 has))
+
+-- a block has the length that its pointer states
+pub IsBlock-length : (image : List ℕ) (ptr : Ptr) (bytes : List ℕ) → IsBlock image ptr bytes → length bytes ≡ ptr.length
+IsBlock-length image ptr bytes block = ap (λ (xs : List ℕ). length xs) (sym block.bytes_are) ∙ length-bytes_at image (512 * ptr.sector) ptr.length block.placed.inside

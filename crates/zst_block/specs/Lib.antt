@@ -4,3 +4,4 @@ pub mod Faults
 pub mod Blocks
 pub mod BlocksLaws
 pub mod Reading
+pub mod Working

@@ -81,3 +81,11 @@ is_lawful ptr = if is_flat ptr then ((ptr.length == 0) && (ptr.sector == 0)) && 
 -- a hole, with its date
 abbrev pub hole_of : ℕ → Ptr
 hole_of date = record { kind = 0; level = 0; length = 0; sector = 0; number = date; sum = record { a = 0; b = 0; c = 0; d = 0 } }
+
+-- a redacted pointer, with its date
+abbrev pub redacted_of : ℕ → Ptr
+redacted_of date = record { kind = 2; level = 0; length = 0; sector = 0; number = date; sum = record { a = 0; b = 0; c = 0; d = 0 } }
+
+-- anything but holes is below it
+abbrev pub is_present : Ptr → Bool
+is_present ptr = ((ptr.kind == 1) || (ptr.kind == 2)) || (ptr.kind == 3)

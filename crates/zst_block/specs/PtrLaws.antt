@@ -38,3 +38,14 @@ ptr_at-range xs place ptr inside fits is = same ptr xs place
     at : (k q w value : ℕ) → is_clear q w (ptr_fields ptr) ≡ true → found q w (ptr_fields ptr) (bytes_at (zeros 64) q w) ≡ number_bytes w value → k ≡ place + q → q + w ≤ 64 → value < 256 ^ w → number_at xs k w ≡ value
     at k q w value clear found_is here le small =
         ap (λ (n : ℕ). number_at xs n w) here ∙ sym (number_at-bytes_at xs place 64 q w inside le) ∙ ap (λ (l : List ℕ). number_at l q w) is ∙ field ptr q w value clear found_is small
+
+-- equal ranges have equal pointers
+pub ptr_at-same : (xs ys : List ℕ) (place : ℕ) → place + 64 ≤ length xs → place + 64 ≤ length ys → bytes_at xs place 64 ≡ bytes_at ys place 64 → ptr_at xs place ≡ ptr_at ys place
+ptr_at-same xs ys place in_xs in_ys is = same (ptr_at ys place) xs place
+    (at place 0 1 (omega arith) (omega arith)) (at (place + 1) 1 1 (omega arith) (omega arith)) (at (place + 4) 4 4 (omega arith) (omega arith)) (at (place + 8) 8 8 (omega arith) (omega arith))
+    (at (place + 16) 16 8 (omega arith) (omega arith)) (at (place + 24) 24 8 (omega arith) (omega arith)) (at (place + 24 + 8) 32 8 (omega arith) (omega arith))
+    (at (place + 24 + 16) 40 8 (omega arith) (omega arith)) (at (place + 24 + 24) 48 8 (omega arith) (omega arith))
+  where
+    at : (k q w : ℕ) → k ≡ place + q → q + w ≤ 64 → number_at xs k w ≡ number_at ys k w
+    at k q w here le =
+        ap (λ (n : ℕ). number_at xs n w) here ∙ sym (number_at-bytes_at xs place 64 q w in_xs le) ∙ ap (λ (l : List ℕ). number_at l q w) is ∙ number_at-bytes_at ys place 64 q w in_ys le ∙ ap (λ (n : ℕ). number_at ys n w) (sym here)

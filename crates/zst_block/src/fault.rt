@@ -1,3 +1,4 @@
+use crate::ptr::Ptr;
 use zst_outside::Fault;
 use zst_space::Full;
 
@@ -18,6 +19,23 @@ pub enum BlockFault {
     },
     /// The disk failed, and its count of faults rose.
     DiskFault,
+}
+
+impl BlockFault {
+    ghost use Rattle.std.specs.Prelude.{◌≡◌};
+    ghost use Rattle.zst_fletcher.specs.WeightSum.{parts_of};
+
+    /// The block that a pointer names isn't of the layout: both sums are alike.
+    pub fn of_layout(ptr: &Ptr) -> BlockFault
+        ensures { result ≡ BlockFault.Damaged ptr.now.sector (parts_of ptr.now.sum) (parts_of ptr.now.sum) }
+    {
+        let sum = ptr.sum.parts();
+        BlockFault::Damaged {
+            sector: ptr.sector,
+            stated: sum,
+            found: sum,
+        }
+    }
 }
 
 impl From<Fault> for BlockFault {

@@ -4,17 +4,19 @@ ghost use Rattle.zst_outside.specs.Images.{OnlyReads, DiskState};
 ghost use Rattle.zst_space.specs.FreeSectors.{room, largest_of};
 ghost use Rattle.zst_space.specs.Taking.{Takes, place_of, without};
 ghost use Rattle.zst_block.specs.Faults.{HasDiskCause, is_disk_fault};
-ghost use Rattle.zst_block.specs.Blocks.{Has, IsPlaced, FitsDisk, FillsFree, KeepsBlocks, Follows};
+ghost use Rattle.zst_block.specs.Blocks.{Has, IsBlock, IsPlaced, FitsDisk, FillsFree, KeepsBlocks, Follows};
 ghost use Rattle.zst_block.specs.Reading.{ReadAnswers, GivesBlock};
+ghost use Rattle.zst_block.specs.Working.{Looks, Works, TellsDamage, stop_of};
 
 use crate::fault::BlockFault;
+use crate::node::Node;
 use crate::ptr::Ptr;
 use std::alloc::{AllocError, Global};
 use zst_fletcher::{Sum, sum_of};
 use zst_outside::{Disk, Fault};
 use zst_space::Space;
 
-/// The disk of a pool and its free sectors.
+/// The disk of a pool, its free sectors, and one block of a tree in memory.
 #[derive(Drop)]
 pub struct Io<'d, D: Disk> {
     /// The disk.
@@ -23,6 +25,8 @@ pub struct Io<'d, D: Disk> {
     pub space: Space,
     /// Whether the disk has failed.
     pub failed: bool,
+    /// The block of a tree that was loaded, or is to be saved.
+    pub node: Node,
 }
 
 impl<'d, D: Disk> Io<'d, D> {
@@ -37,6 +41,7 @@ impl<'d, D: Disk> Io<'d, D> {
             disk,
             space,
             failed: false,
+            node: Node::new(),
         })
     }
 
@@ -74,16 +79,56 @@ pub fn read<D: Disk>(io: &mut Io<'_, D>, ptr: Ptr, into: &mut [u8]) -> Result<()
     ensures failed { io.new.failed ≡ (io.old.failed || is_disk_fault result) }
     ensures space { io.new.space ≡ io.old.space }
     ensures kept_fit { FitsDisk (D.state io.new.disk.now).size io.new.space }
+    ensures looks { Looks (D.state io.old.disk.now) io.old.space io.old.failed (D.state io.new.disk.now) io.new.space io.new.failed (stop_of result) }
+    ensures node { io.new.node ≡ io.old.node }
     ensures same { io.new.disk.ghost_name ≡ io.old.disk.ghost_name }
 {
     let outcome = read_block(io.disk, &ptr, into);
-    if outcome == Err(BlockFault::DiskFault) {
-        io.failed = true;
-    }
+    mark(&mut io.failed, &outcome);
     outcome
 }
 
-fn read_block<D: Disk>(disk: &mut D, ptr: &Ptr, into: &mut [u8]) -> Result<(), BlockFault>
+/// Reads the block of a tree that a pointer names into the node.
+///
+/// A pointer to a block of another length than a node's is damaged, with both sums alike. A call
+/// of the disk is made at most once.
+pub fn load<D: Disk>(io: &mut Io<'_, D>, ptr: Ptr) -> Result<(), BlockFault>
+    requires fits { FitsDisk (D.state io.old.disk.now).size io.old.space }
+
+    // What is loaded is the block, and a block that is there is loaded.
+    ensures block { (D.state io.new.disk.now).honest → OnOk result (IsBlock (D.state io.old.disk.now).seen ptr io.new.node) }
+    ensures there { (bytes : List ℕ) → (D.state io.new.disk.now).honest → Has (D.state io.old.disk.now).seen io.old.space ptr bytes → length bytes ≡ 8192 → GivesBlock bytes io.new.node result }
+    ensures damaged { (D.state io.new.disk.now).honest → TellsDamage (D.state io.old.disk.now).seen (D.state io.old.disk.now).size ptr result }
+    ensures long { OnOk result (length io.new.node ≡ 8192) }
+
+    ensures looks { Looks (D.state io.old.disk.now) io.old.space io.old.failed (D.state io.new.disk.now) io.new.space io.new.failed (stop_of result) }
+    ensures calls { (D.state io.new.disk.now).calls ≤ (D.state io.old.disk.now).calls + 1 }
+    ensures kept_fit { FitsDisk (D.state io.new.disk.now).size io.new.space }
+    ensures same { io.new.disk.ghost_name ≡ io.old.disk.ghost_name }
+{
+    if ptr.length != 8192 {
+        return Err(BlockFault::of_layout(&ptr));
+    }
+    let outcome = io.node.read(io.disk, &ptr);
+    mark(&mut io.failed, &outcome);
+    outcome
+}
+
+// Marks a disk that fails.
+fn mark(failed: &mut bool, outcome: &Result<(), BlockFault>)
+    ensures { failed.new ≡ (failed.old || is_disk_fault outcome.now) }
+{
+    if *outcome == Err(BlockFault::DiskFault) {
+        *failed = true;
+    }
+}
+
+// Reads the block that a pointer names from a disk.
+pub(crate) fn read_block<D: Disk>(
+    disk: &mut D,
+    ptr: &Ptr,
+    into: &mut [u8],
+) -> Result<(), BlockFault>
     requires { length into.old ≡ ptr.now.length }
     ensures answer { (D.state disk.new).honest → ReadAnswers (D.state disk.old).seen (D.state disk.old).size ptr.now into.new result }
     ensures sum { OnOk result (weight_sum into.new ≡ ptr.now.sum) }
@@ -159,14 +204,84 @@ pub fn write<D: Disk>(
     ensures calls { (D.state io.new.disk.now).calls ≤ (D.state io.old.disk.now).calls + 1 }
     ensures cause { HasDiskCause (D.state io.old.disk.now).faults (D.state io.new.disk.now).faults result }
     ensures failed { io.new.failed ≡ (io.old.failed || is_disk_fault result) }
+    ensures works { Works (length bytes.now / 512) (length bytes.now / 512) (D.state io.old.disk.now) io.old.space io.old.failed (D.state io.new.disk.now) io.new.space io.new.failed (stop_of result) }
+    ensures node { io.new.node ≡ io.old.node }
     ensures same { io.new.disk.ghost_name ≡ io.old.disk.ghost_name }
 {
+    write_block(io.disk, &mut io.space, &mut io.failed, bytes, level, number)
+}
+
+/// Writes the node into free sectors as a block of a tree, and gives the pointer that names it,
+/// with kind 1.
+///
+/// Whatever it answers, every block that was there still is, and each image that a crash may
+/// leave has all blocks of one that it might have left before.
+pub fn save<D: Disk>(io: &mut Io<'_, D>, level: u8, number: u64) -> Result<Ptr, BlockFault>
+    requires fits { FitsDisk (D.state io.old.disk.now).size io.old.space }
+
+    ensures wrote { IfOk result (λ ptr. Has (D.state io.new.disk.now).seen io.new.space ptr io.old.node) }
+    ensures pointer { IfOk result (λ ptr. ptr ≡ record { kind = 1; level = level; length = 8192; sector = place_of io.old.space 16; number = number; sum = weight_sum io.old.node }) }
+    ensures long { length io.old.node ≡ 8192 }
+
+    // Free sectors alone are written, 16 at most, and are then taken.
+    ensures works { Works 16 16 (D.state io.old.disk.now) io.old.space io.old.failed (D.state io.new.disk.now) io.new.space io.new.failed (stop_of result) }
+    ensures never_damaged { (sector : ℕ) (stated found : List ℕ) → ¬ (result ≡ Err (BlockFault.Damaged sector stated found)) }
+    ensures calls { (D.state io.new.disk.now).calls ≤ (D.state io.old.disk.now).calls + 1 }
+    ensures node { io.new.node ≡ io.old.node }
+    ensures same { io.new.disk.ghost_name ≡ io.old.disk.ghost_name }
+{
+    write_block(
+        io.disk,
+        &mut io.space,
+        &mut io.failed,
+        io.node.as_slice(),
+        level,
+        number,
+    )
+}
+
+// Writes a block for a write or a save, and marks a disk that fails.
+fn write_block<D: Disk>(
+    disk: &mut D,
+    space: &mut Space,
+    failed: &mut bool,
+    bytes: &[u8],
+    level: u8,
+    number: u64,
+) -> Result<Ptr, BlockFault>
+    requires some { 0 < length bytes.now }
+    requires whole { length bytes.now % 512 ≡ 0 }
+    requires small { length bytes.now < 2 ^ 32 }
+    requires fits { FitsDisk (D.state disk.old).size space.old }
+
+    ensures wrote { IfOk result (λ ptr. Has (D.state disk.new).seen space.new ptr bytes.now) }
+    ensures pointer { IfOk result (λ ptr. ptr ≡ record { kind = 1; level = level; length = length bytes.now; sector = place_of space.old (length bytes.now / 512); number = number; sum = weight_sum bytes.now }) }
+
+    // Free sectors alone are written, and are then taken.
+    ensures fills { FillsFree (D.state disk.old) space.old (D.state disk.new) space.new }
+    ensures kept { KeepsBlocks (D.state disk.old).seen space.old (D.state disk.new).seen space.new }
+    ensures follows { Follows (D.state disk.old).images space.old (D.state disk.new).images space.new }
+    ensures takes { IfOk result (λ ptr. Takes space.old space.new ptr.sector (length bytes.now / 512)) }
+    ensures after { length bytes.now / 512 ≤ largest_of space.old → space.new ≡ without space.old (length bytes.now / 512) }
+    ensures room { room space.old ≤ room space.new + length bytes.now / 512 }
+    ensures kept_fit { FitsDisk (D.state disk.new).size space.new }
+
+    // It is full where no run is long enough, and then nothing is done.
+    ensures full { (need largest : ℕ) → result ≡ Err (BlockFault.Full need largest) ↔ ((need ≡ length bytes.now / 512) × (largest ≡ largest_of space.old) × (largest < need)) }
+    ensures untouched { largest_of space.old < length bytes.now / 512 → disk.new ≡ disk.old }
+    ensures space_untouched { largest_of space.old < length bytes.now / 512 → space.new ≡ space.old }
+    ensures never_damaged { (sector : ℕ) (stated found : List ℕ) → ¬ (result ≡ Err (BlockFault.Damaged sector stated found)) }
+
+    ensures calls { (D.state disk.new).calls ≤ (D.state disk.old).calls + 1 }
+    ensures cause { HasDiskCause (D.state disk.old).faults (D.state disk.new).faults result }
+    ensures failed { failed.new ≡ (failed.old || is_disk_fault result) }
+{
     let count = bytes.len() as u64 / 512;
-    match io.space.take(count) {
+    match space.take(count) {
         Err(full) => Err(BlockFault::from(full)),
         Ok(sector) => {
-            let place = place_in(io.disk, sector);
-            match io.disk.write_at(place, bytes) {
+            let place = place_in(disk, sector);
+            match disk.write_at(place, bytes) {
                 Ok(()) => Ok(Ptr {
                     kind: 1,
                     level,
@@ -176,7 +291,7 @@ pub fn write<D: Disk>(
                     sum: sum_of(bytes),
                 }),
                 Err(Fault) => {
-                    io.failed = true;
+                    *failed = true;
                     Err(BlockFault::DiskFault)
                 }
             }

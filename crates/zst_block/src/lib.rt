@@ -3,10 +3,12 @@
 
 mod fault;
 mod io;
+mod node;
 mod ptr;
 #[cfg(test)]
 mod tests;
 
 pub use fault::BlockFault;
-pub use io::{Io, read, write};
+pub use io::{Io, load, read, save, write};
+pub use node::Node;
 pub use ptr::{Ptr, get_sum, put_sum};

@@ -27,7 +27,7 @@ impl Ptr {
     ghost use Rattle.std.specs.Prelude.{◌≡◌, ◌+◌, ◌^◌, ◌<◌, ◌≤◌, length, List, ℕ};
     ghost use Rattle.zst_bytes.specs.Bytes.{bytes_at, written};
     ghost use Rattle.zst_bytes.specs.Fields.{lay};
-    ghost use Rattle.zst_block.specs.Ptr.{ptr_bytes, number_fields, ptr_at, PtrFits, is_lawful, hole_of};
+    ghost use Rattle.zst_block.specs.Ptr.{ptr_bytes, number_fields, ptr_at, PtrFits, is_lawful, is_flat, is_present, hole_of, redacted_of};
     ghost use Rattle.zst_block.specs.declared.ptr.Ptr.{Ptr};
 
     /// A hole with its date.
@@ -49,12 +49,36 @@ impl Ptr {
         }
     }
 
+    /// A redacted pointer with its date.
+    pub fn redacted(number: u64) -> Ptr
+        ensures { result ≡ redacted_of number }
+    {
+        Ptr {
+            kind: 2,
+            ..Ptr::hole(number)
+        }
+    }
+
+    /// Whether it is a hole or redacted, and so stands for all that is below it.
+    pub fn is_flat(&self) -> bool
+        ensures { result ≡ is_flat self.now }
+    {
+        self.kind == 0 || self.kind == 2
+    }
+
+    /// Whether anything but holes is below it.
+    pub fn is_present(&self) -> bool
+        ensures { result ≡ is_present self.now }
+    {
+        self.kind == 1 || self.kind == 2 || self.kind == 3
+    }
+
     /// Whether the kind is one of the table's, and a hole or a redacted pointer names no place,
     /// length or sum.
     pub fn is_lawful(&self) -> bool
         ensures { result ≡ is_lawful self.now }
     {
-        if self.kind == 0 || self.kind == 2 {
+        if self.is_flat() {
             self.length == 0 && self.sector == 0 && is_zero(&self.sum)
         } else {
             self.kind <= 4

@@ -1,7 +1,7 @@
 ghost use Rattle.std.specs.Prelude.{◌≡◌, IfOk};
 ghost use Rattle.zst_block.specs.Blocks.{FitsDisk};
 
-use crate::{BlockFault, Io, Ptr, read, write};
+use crate::{BlockFault, Io, Ptr, load, read, save, write};
 use std::alloc::{AllocError, Global};
 use zst_fletcher::Sum;
 use zst_outside::{Disk, MemDisk};
@@ -195,5 +195,47 @@ fn every_stop_keeps_the_blocks_that_were_there(rt: HostRuntime) -> Result<(), Al
     for fill in [0x00, 0x01, 0xa5, 0xff] {
         assert!(rt; stops_keep_blocks(rt.alloc(), fill)?, "at {fill}");
     }
+    Ok(())
+}
+
+// Whether a node with a pointer at its last place is loaded as it was saved.
+fn node_comes_back(alloc: Global, disk: &mut MemDisk, last: Ptr) -> Result<bool, AllocError>
+    requires { (⟦<MemDisk as Disk>⟧.state disk.old).size ≡ 20480 }
+{
+    let mut io = Io::new(alloc, disk, Space::new(8, 40, Vec::new(alloc)))?;
+    io.node.put_child(127, &last);
+    let Ok(ptr) = save(&mut io, 2, 9) else {
+        return Ok(false);
+    };
+    io.node.put_child(127, &Ptr::hole(1));
+    let loaded = load(&mut io, ptr);
+    let back = io.node.child(127) == last && io.node.child(126) == Ptr::hole(0);
+    Ok(loaded == Ok(()) && back && (ptr.level, ptr.number, ptr.length) == (2, 9, 8192))
+}
+
+#[test]
+fn a_node_is_loaded_as_it_was_saved(rt: HostRuntime) -> Result<(), AllocError> {
+    let alloc = rt.alloc();
+    let bytes = vec![in alloc; 0; 20480]?;
+    let mut disk = MemDisk::new(bytes, Vec::new(alloc), None);
+    assert!(rt; node_comes_back(alloc, &mut disk, Ptr::hole(7))?);
+    Ok(())
+}
+
+#[test]
+fn a_block_of_another_length_is_no_node(rt: HostRuntime) -> Result<(), AllocError> {
+    let mut disk = zeros(rt.alloc(), None)?;
+    let mut io = half_free(rt.alloc(), &mut disk)?;
+    let mut told = false;
+    if let Ok(ptr) = write(&mut io, &[7; 512], 0, 3) {
+        let sums = ptr.sum.parts();
+        let damage = BlockFault::Damaged {
+            sector: 8,
+            stated: sums,
+            found: sums,
+        };
+        told = load(&mut io, ptr) == Err(damage);
+    }
+    assert!(rt; told);
     Ok(())
 }

@@ -19,7 +19,7 @@ use crate::fault::PoolFault;
 use crate::kept::Kept;
 use crate::sets::read_run;
 use std::alloc::{AllocError, Global};
-use zst_block::{Io, Ptr};
+use zst_block::{Io, Node, Ptr};
 use zst_dir::Dir;
 use zst_model::{PlanFault, Present, Quantity};
 use zst_outside::Disk;
@@ -62,6 +62,7 @@ impl Kept {
             disk,
             space,
             failed: false,
+            node: Node::new(),
         };
         let made = commit_dir(&mut io, alloc, &unborn(sectors, id), 0, Dir::new(alloc));
         // Only of a disk that was given back is it known what stands on it.
@@ -158,6 +159,7 @@ fn read_root<D: Disk>(alloc: Global, disk: &mut D, body: &Uber) -> Result<Vec<u8
         disk,
         space,
         failed: false,
+        node: Node::new(),
     };
     let run = read_run(&mut io, alloc, body.dir_root);
     io.into_disk();

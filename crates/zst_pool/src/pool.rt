@@ -15,7 +15,7 @@ use crate::fault::PoolFault;
 use crate::heads::{free_objects, punch, put_object, write_block};
 use crate::kept::Kept;
 use std::alloc::{AllocError, Global};
-use zst_block::Io;
+use zst_block::{Io, Node};
 use zst_laws::steps_keep_sound;
 use zst_model::{Bytes, Command, Lack, PlanFault, Reply};
 use zst_outside::Disk;
@@ -43,6 +43,7 @@ impl<'d, D: Disk> Pool<'d, D> {
             disk,
             space,
             failed: false,
+            node: Node::new(),
         };
         Pool { io, kept }
     }
