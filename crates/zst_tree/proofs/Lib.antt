@@ -1,1 +1,4 @@
-mod Spelled
+pub mod Spelled
+pub mod Span
+pub mod Below
+pub mod Results

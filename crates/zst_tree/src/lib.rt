@@ -1,8 +1,13 @@
-//! The plain types of a tree of pointers and of an object set, and their bytes.
+//! A copy-on-write tree of pointers over indices, and the bytes of an object set.
 #![tactic(auto)]
 
+mod nodes;
+mod spans;
+mod steps;
 mod tree;
 mod words;
 
+pub use spans::INDEX_BOUND;
+pub use steps::Steps;
 pub use tree::{ObjSet, Tree};
 pub use words::{push_ptr, push_set, read_ptr, read_set};

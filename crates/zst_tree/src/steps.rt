@@ -1,0 +1,27 @@
+ghost use Rattle.std.specs.Prelude.{◌≡◌, ◌+◌, ◌<◌, ℕ};
+
+use std::marker::Model;
+use std::sync::ledger::{Book, Ledger, Share};
+
+/// How many nodes were read, counted for proofs alone. It takes no bytes, and only a read of a
+/// node adds to it.
+#[derive(Drop)]
+pub struct Steps<L: Ledger> {
+    book: Book<L>,
+    share: Share<L>,
+}
+
+impl<L: Ledger> Model for Steps<L> {
+    ghost Value = { ℕ };
+
+    ghost view = { λ steps. steps.book.total };
+
+    ghost invariant = { λ steps. 0 < steps.share.parts };
+}
+
+// One node more was read.
+pub(crate) fn tick<L: Ledger>(steps: &mut Steps<L>)
+    ensures { steps.new ≡ steps.old + 1 }
+{
+    steps.book.add(&mut steps.share, 1);
+}
