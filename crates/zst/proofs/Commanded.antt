@@ -1,6 +1,6 @@
 -- What stands after a command on the pool of an image, from what opening and stepping say.
 use Rattle.std.specs.Prelude.{IsTrue, Bool, Result, Ok, Err}
-use Rattle.std.proofs.Common.{◌≡◌, ◌≢◌, inl, ⊎_elim, ℕ, ◌≤◌, List, refl, sym, ap, ◌∙◌, subst, arith}
+use Rattle.std.proofs.Common.{◌≡◌, ◌≢◌, inl, ⊎_elim, ℕ, ◌≤◌, List, [], refl, sym, ap, ◌∙◌, subst, arith}
 use Rattle.zst_outside.specs.Causes.{Rose-earlier}
 use Rattle.zst_outside.specs.Images.{DiskState, Leaves, Leaves-weaker, Leaves-then, OnlyReads, IsSynced}
 use Rattle.zst_outside.specs.States.{SinkState}
@@ -211,10 +211,10 @@ pub stepping_unopened : (now : ℕ) (command : Command) (here here' : DiskState)
     → (here'.honest → OpenAnswers here (Err fault)) → OnlyReads here here' → HasDiskCause {T = Kept} here.faults here'.faults (Err fault) → fault ≢ faults.Failed
     → Stepping now command here here' (Err (pool_refusal fault))
 stepping_unopened now command here here' fault there answer reads cause alive = record {
-  moments = λ pool told holds. moments_read here here' pool (stepped now command pool) holds reads;
+  moments = λ pool told holds. moments_read here here' pool (stepped [] now command pool) holds reads;
   images = λ pool told holds c image. inl (holds.images c (reads.crash c image));
   answers = λ pool told holds.
-      answers_unopened here here' pool (stepped now command pool) holds.seen.0 holds.seen.1 fault holds reads (there holds.seen.0 holds.seen.1 pool told holds.seen.2);
+      answers_unopened here here' pool (stepped [] now command pool) holds.seen.0 holds.seen.1 fault holds reads (there holds.seen.0 holds.seen.1 pool told holds.seen.2);
   opened = λ told. opened_refused here fault (answer told);
   full = λ uber rows pool need largest told reads is.
       absurd (subst (λ (f : PoolFault). GivesPool uber rows (Err f)) (full_only fault need largest (cc is)) (there uber rows pool told reads));
@@ -226,25 +226,25 @@ stepping_unopened now command here here' fault there answer reads cause alive = 
 module _ (now : ℕ) (command : Command) (here mid here' : DiskState) (kept kept' : Kept)
     (there : (uber : Uber) (rows : Rows) (pool : Pool) → mid.honest → ReadsAs uber rows pool here.seen → GivesPool uber rows (Ok kept))
     (falls : here'.honest → mid.honest) (answer : mid.honest → OpenAnswers here (Ok kept)) (reads : OnlyReads here mid) (synced : IsSynced mid) (later : here.faults ≤ mid.faults)
-    (step : (pool : Pool) → here'.honest → Rests mid kept.body kept.dir pool → Leaves mid here' (BeforeOrAfter pool (stepped now command pool)))
+    (step : (pool : Pool) → here'.honest → Rests mid kept.body kept.dir pool → Leaves mid here' (BeforeOrAfter pool (stepped [] now command pool)))
     (only : (c : List ℕ) → here.left_since here.moment c → here.images c) (now_left : (t : ℕ) (c : List ℕ) → t ≤ here'.moment → here'.images c → here'.left_since t c) where
   rests : (pool : Pool) → mid.honest → Holds here pool → Rests mid kept.body kept.dir pool
   rests pool told holds =
       rests_opened here mid kept holds.seen.0 holds.seen.1 pool holds.seen.2 reads synced (there holds.seen.0 holds.seen.1 pool told holds.seen.2)
 
-  moments : (pool : Pool) → here'.honest → Holds here pool → Leaves here here' (BeforeOrAfter pool (stepped now command pool))
-  moments pool told holds = moments_then here mid here' pool (stepped now command pool) holds reads (step pool told (rests pool (falls told) holds))
+  moments : (pool : Pool) → here'.honest → Holds here pool → Leaves here here' (BeforeOrAfter pool (stepped [] now command pool))
+  moments pool told holds = moments_then here mid here' pool (stepped [] now command pool) holds reads (step pool told (rests pool (falls told) holds))
 
-  images : (pool : Pool) → here'.honest → Holds here pool → (c : List ℕ) → here'.images c → BeforeOrAfter pool (stepped now command pool) c
-  images pool told holds = images_after here here' (BeforeOrAfter pool (stepped now command pool)) (moments pool told holds) (λ c image. inl (holds.images c image)) only now_left
+  images : (pool : Pool) → here'.honest → Holds here pool → (c : List ℕ) → here'.images c → BeforeOrAfter pool (stepped [] now command pool) c
+  images pool told holds = images_after here here' (BeforeOrAfter pool (stepped [] now command pool)) (moments pool told holds) (λ c image. inl (holds.images c image)) only now_left
 
   pub stepping_done : (lines : List (List ℕ)) → mid.faults ≤ here'.faults
-      → ((pool : Pool) → here'.honest → Rests mid kept.body kept.dir pool → StepAnswer here' kept'.body kept'.dir pool (stepped now command pool) (Ok lines))
+      → ((pool : Pool) → here'.honest → Rests mid kept.body kept.dir pool → StepAnswer here' kept'.body kept'.dir pool (stepped [] now command pool) (Ok lines))
       → Stepping now command here here' (Ok lines)
   stepping_done lines after did = record {
     moments = moments;
     images = images;
-    answers = λ pool told holds. answers_done here' kept'.body kept'.dir pool (stepped now command pool) lines (did pool told (rests pool (falls told) holds));
+    answers = λ pool told holds. answers_done here' kept'.body kept'.dir pool (stepped [] now command pool) lines (did pool told (rests pool (falls told) holds));
     opened = λ told. opened_done here kept lines (answer (falls told));
     full = λ uber rows pool need largest told reads is. absurd (cc is);
     refused = tt;
@@ -253,12 +253,12 @@ module _ (now : ℕ) (command : Command) (here mid here' : DiskState) (kept kept
 
   pub stepping_refused : (fault : PoolFault) → HasDiskCause {T = List (List ℕ)} mid.faults here'.faults (Err fault) → IsStepFault fault
       → ((pool : Pool) (need largest : ℕ) → here'.honest → Rests mid kept.body kept.dir pool → fault ≡ faults.Full need largest → HasNoRoom kept.body kept.dir need largest)
-      → ((pool : Pool) → here'.honest → Rests mid kept.body kept.dir pool → StepAnswer here' kept'.body kept'.dir pool (stepped now command pool) (Err fault))
+      → ((pool : Pool) → here'.honest → Rests mid kept.body kept.dir pool → StepAnswer here' kept'.body kept'.dir pool (stepped [] now command pool) (Err fault))
       → Stepping now command here here' (Err (pool_refusal fault))
   stepping_refused fault cause known room did = record {
     moments = moments;
     images = images;
-    answers = λ pool told holds. answers_refused here' kept'.body kept'.dir pool (stepped now command pool) fault (did pool told (rests pool (falls told) holds));
+    answers = λ pool told holds. answers_refused here' kept'.body kept'.dir pool (stepped [] now command pool) fault (did pool told (rests pool (falls told) holds));
     opened = λ told. opened_then here kept fault (answer (falls told)) known;
     full = λ uber rows pool need largest told is_pool is.
         let same = there uber rows pool (falls told) is_pool in

@@ -61,9 +61,9 @@ Opened here answer = (body : List ℕ) × (uber : Uber) × (rows : Rows) × (lat
 -- One command on the pool of an image: at every moment, and in the end, each image reads as the pool before it or as
 -- what the definition makes of it. E24 comes only where fewer sectors are free than the command may take.
 pub record Stepping (now : ℕ) (command : Command) (here here' : DiskState) (answer : Result (List (List ℕ)) Refusal) : Type 0 where
-  pub moments : (pool : Pool) → here'.honest → Holds here pool → Leaves here here' (BeforeOrAfter pool (stepped now command pool))
-  pub images : (pool : Pool) → here'.honest → Holds here pool → (c : List ℕ) → here'.images c → BeforeOrAfter pool (stepped now command pool) c
-  pub answers : (pool : Pool) → here'.honest → Holds here pool → Answers here' pool (stepped now command pool) answer
+  pub moments : (pool : Pool) → here'.honest → Holds here pool → Leaves here here' (BeforeOrAfter pool (stepped [] now command pool))
+  pub images : (pool : Pool) → here'.honest → Holds here pool → (c : List ℕ) → here'.images c → BeforeOrAfter pool (stepped [] now command pool) c
+  pub answers : (pool : Pool) → here'.honest → Holds here pool → Answers here' pool (stepped [] now command pool) answer
   pub opened : here'.honest → Opened here answer
   pub full : (uber : Uber) (rows : Rows) (pool : Pool) (need largest : ℕ) → here'.honest → ReadsAs uber rows pool here.seen
       → answer ≡ Err (refusals.Full need largest) → HasNoRoom uber rows need largest

@@ -13,3 +13,4 @@ pub mod LawfulHeads
 pub mod LawfulPools
 pub mod Refused
 pub mod KeptPools
+pub mod HeldBy

@@ -4,6 +4,7 @@ use Rattle.zst_model.specs.declared.pools.command.Command.{Command}
 use Rattle.zst_model.specs.declared.pools.command.Command.TheVariants as commands
 use Rattle.zst_model.specs.states.State.{Data, Empty, BytesOf, attr_at, content_at}
 use Rattle.zst_model.specs.states.Dated.{DatedState}
+use Rattle.zst_model.specs.pools.Held.{Held}
 use Rattle.zst_model.specs.pools.Pool.{Pool, Dataset, dataset_named, untouched}
 use Rattle.zst_model.specs.pools.Step.{Stepped, stepped}
 use Rattle.zst_laws.specs.LineExample.{pool_of, two_objects}
@@ -12,7 +13,7 @@ use Rattle.zst_laws.specs.Meanings.{object_of}
 -- the command is accepted, and leaves a head of `tank/a` of which this holds
 abbrev pub LeavesHead : Command → Pool → (DatedState → Type 0) → Type 0
 LeavesHead command pool Holds =
-    (now : ℕ) → (made : Stepped) × (stepped now command pool ≡ Ok made)
+    (held : List Held) (now : ℕ) → (made : Stepped) × (stepped held now command pool ≡ Ok made)
     × (dataset : Dataset) × (dataset_named (codes "tank/a") made.pool ≡ Some dataset) × Holds dataset.head
 
 -- `object` with this spill on the object 1, which has a spill

@@ -1,7 +1,8 @@
 -- Which commands commit, and how the pool's number counts the commits.
-use Rattle.std.specs.Prelude.{◌≡◌, ℕ, ◌+◌, Bool, true, false, Ok}
+use Rattle.std.specs.Prelude.{◌≡◌, ℕ, ◌+◌, Bool, true, false, Ok, List}
 use Rattle.zst_model.specs.declared.pools.command.Command.{Command}
 use Rattle.zst_model.specs.declared.pools.command.Command.TheVariants as commands
+use Rattle.zst_model.specs.pools.Held.{Held}
 use Rattle.zst_model.specs.pools.Pool.{Pool}
 use Rattle.zst_model.specs.pools.Step.{Stepped, stepped}
 
@@ -21,11 +22,11 @@ commits (commands.ListObjects name) = false
 -- an accepted command that commits raises the pool's number by one
 abbrev pub CommitsCount : Type 0
 CommitsCount =
-    (now : ℕ) (command : Command) (pool : Pool) (after : Stepped)
-    → stepped now command pool ≡ Ok after → commits command ≡ true → after.pool.number ≡ pool.number + 1
+    (held : List Held) (now : ℕ) (command : Command) (pool : Pool) (after : Stepped)
+    → stepped held now command pool ≡ Ok after → commits command ≡ true → after.pool.number ≡ pool.number + 1
 
 -- an accepted command that commits nothing leaves the pool equal
 abbrev pub AnswersKeep : Type 0
 AnswersKeep =
-    (now : ℕ) (command : Command) (pool : Pool) (after : Stepped)
-    → stepped now command pool ≡ Ok after → commits command ≡ false → after.pool ≡ pool
+    (held : List Held) (now : ℕ) (command : Command) (pool : Pool) (after : Stepped)
+    → stepped held now command pool ≡ Ok after → commits command ≡ false → after.pool ≡ pool

@@ -5,6 +5,7 @@ pub mod Counting
 pub mod Dating
 pub mod Example
 pub mod HeaderExample
+pub mod HeldExample
 pub mod History
 pub mod Joining
 pub mod KeptExample

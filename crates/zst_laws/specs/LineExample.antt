@@ -7,6 +7,7 @@ use Rattle.zst_model.specs.declared.refusals.refusal.Refusal.{Refusal}
 use Rattle.zst_model.specs.declared.refusals.refusal.Refusal.TheVariants as refusals
 use Rattle.zst_model.specs.states.State.{Block, Hole, Redacted, Data, Object}
 use Rattle.zst_model.specs.states.Dated.{DatedState}
+use Rattle.zst_model.specs.pools.Held.{Held}
 use Rattle.zst_model.specs.pools.Pool.{Pool, Dataset, Snapshot, Bookmark, Partial, untouched}
 use Rattle.zst_model.specs.pools.Step.{Stepped, stepped}
 use Rattle.zst_laws.specs.Meanings.{object_of}
@@ -63,8 +64,8 @@ mixed header = record (new_pool 1) {
 -- its lines: by name, and in a name the dataset, its snapshots by number, its bookmarks, and its partial state
 abbrev pub PoolIsListed : Type 0
 PoolIsListed =
-    (now : ℕ) (header : Header)
-    → stepped now commands.List (mixed header)
+    (held : List Held) (now : ℕ) (header : Header)
+    → stepped held now commands.List (mixed header)
     ≡ answers (codes "fs tank/a origin none"
     ∷ codes "snapshot tank/a@s guid 0000000100000001 time 1700000000 number 5 redacted 0"
     ∷ codes "snapshot tank/a@r guid 0000000100000002 time 1700000001 number 6 redacted 0"
@@ -100,8 +101,8 @@ pool_of head = record (new_pool 1) { datasets = record (dataset_of_kind 2 (codes
 -- the lines of its objects, by number
 abbrev pub ObjectsAreListed : Type 0
 ObjectsAreListed =
-    (now : ℕ)
-    → stepped now (commands.ListObjects (names.Dataset (codes "tank/a"))) (pool_of two_objects)
+    (held : List Held) (now : ℕ)
+    → stepped held now (commands.ListObjects (names.Dataset (codes "tank/a"))) (pool_of two_objects)
     ≡ answers (codes "object 1 type 20 size 1024 bonustype 44 bonus 3 spill 512 end 2"
     ∷ codes "object 3 type 19 size 512 bonustype 0 bonus 0 spill none end 5" ∷ []) (pool_of two_objects)
 
@@ -117,7 +118,7 @@ three_kinds = record untouched {
 -- data is read in lower-case hexadecimal, a hole by its word, and a redacted block is refused
 abbrev pub BlocksAreRead : Type 0
 BlocksAreRead =
-    (now : ℕ) → let pool : Pool = pool_of three_kinds in
-    (stepped now (commands.Read (names.Dataset (codes "tank/a")) 1 0) pool ≡ answers ((codes "data abcdef01" ++ replicate 1016 48) ∷ []) pool)
-    × (stepped now (commands.Read (names.Dataset (codes "tank/a")) 1 1) pool ≡ Err (refusals.Redacted 1 1))
-    × (stepped now (commands.Read (names.Dataset (codes "tank/a")) 1 2) pool ≡ answers (codes "hole" ∷ []) pool)
+    (held : List Held) (now : ℕ) → let pool : Pool = pool_of three_kinds in
+    (stepped held now (commands.Read (names.Dataset (codes "tank/a")) 1 0) pool ≡ answers ((codes "data abcdef01" ++ replicate 1016 48) ∷ []) pool)
+    × (stepped held now (commands.Read (names.Dataset (codes "tank/a")) 1 1) pool ≡ Err (refusals.Redacted 1 1))
+    × (stepped held now (commands.Read (names.Dataset (codes "tank/a")) 1 2) pool ≡ answers (codes "hole" ∷ []) pool)

@@ -14,6 +14,7 @@ use Rattle.zst_model.specs.states.State.{Block, Hole, Redacted, Data, Object, Em
 use Rattle.zst_model.specs.states.Apply.{apply_change}
 use Rattle.zst_model.specs.states.Dated.{DatedState, apply_dated}
 use Rattle.zst_model.specs.sends.Included.{Choice, includes_pair, includes_number}
+use Rattle.zst_model.specs.pools.Held.{Held}
 use Rattle.zst_model.specs.pools.Pool.{Dataset, Snapshot, Pool, dataset_named, untouched}
 use Rattle.zst_model.specs.pools.RedSet.{red_set}
 use Rattle.zst_model.specs.sends.Target.{CanRedact}
@@ -192,8 +193,8 @@ redacted_tank = record { name = codes "tank/a"; kind = 2; origin = None; head = 
 -- its snapshot has them too, the guid 7 * 2^32 + 5 in a pool with the id 7 whose counter was 4, and the head as it is
 abbrev pub SnapshotKeepsGuids : Type 0
 SnapshotKeepsGuids =
-    (now : ℕ) → let pool : Pool = record (new_pool 7) { number = 4; guids = 4; datasets = redacted_tank ∷ [] } in
-    stepped now (commands.Snapshot (codes "tank/a@s")) pool
+    (held : List Held) (now : ℕ) → let pool : Pool = record (new_pool 7) { number = 4; guids = 4; datasets = redacted_tank ∷ [] } in
+    stepped held now (commands.Snapshot (codes "tank/a@s")) pool
     ≡ gives (codes "ok 5") (record pool {
       number = 5;
       guids = 5;
@@ -203,8 +204,8 @@ SnapshotKeepsGuids =
 -- a new volume has the kind 3
 abbrev pub VolumeIsMade : Type 0
 VolumeIsMade =
-    (now : ℕ)
-    → stepped now (commands.Volume (codes "tank/v")) (new_pool 1)
+    (held : List Held) (now : ℕ)
+    → stepped held now (commands.Volume (codes "tank/v")) (new_pool 1)
     ≡ gives (codes "ok 2") (record (new_pool 1) { number = 2; datasets = record { name = codes "tank/v"; kind = 3; origin = None; head = untouched; redact = [] } ∷ [] })
 
 -- a pair below the end that is in the list of the source, or in the list to redact, is included, whatever its date
@@ -246,20 +247,20 @@ empty_snapshot name guid number = record { name = name; guid = guid; time = numb
 -- datasets stand by name
 abbrev pub DatasetsStandByName : Type 0
 DatasetsStandByName =
-    (now : ℕ) → let pool : Pool = record (new_pool 1) { datasets = empty_tank (codes "tank/a") ∷ empty_tank (codes "tank/c") ∷ [] } in
-    stepped now (commands.Fs (codes "tank/b")) pool
+    (held : List Held) (now : ℕ) → let pool : Pool = record (new_pool 1) { datasets = empty_tank (codes "tank/a") ∷ empty_tank (codes "tank/c") ∷ [] } in
+    stepped held now (commands.Fs (codes "tank/b")) pool
     ≡ gives (codes "ok 2") (record pool { number = 2; datasets = empty_tank (codes "tank/a") ∷ empty_tank (codes "tank/b") ∷ empty_tank (codes "tank/c") ∷ [] })
 
 -- snapshots stand by dataset, and in a dataset by number
 abbrev pub SnapshotsStandByNumber : Type 0
 SnapshotsStandByNumber =
-    let pool : Pool = record (new_pool 1) {
+    (held : List Held) → let pool : Pool = record (new_pool 1) {
       number = 8;
       guids = 2;
       datasets = empty_tank (codes "tank/a") ∷ empty_tank (codes "tank/b") ∷ [];
       snapshots = empty_snapshot (codes "tank/a@s") 4294967297 5 ∷ empty_snapshot (codes "tank/b@r") 4294967298 6 ∷ [];
     } in
-    stepped 9 (commands.Snapshot (codes "tank/a@b")) pool
+    stepped held 9 (commands.Snapshot (codes "tank/a@b")) pool
     ≡ gives (codes "ok 9") (record pool {
       number = 9;
       guids = 3;
@@ -269,8 +270,8 @@ SnapshotsStandByNumber =
 -- a command on a head leaves the other datasets
 abbrev pub OtherHeadsStay : Type 0
 OtherHeadsStay =
-    (now : ℕ) → let pool : Pool = record (new_pool 1) { datasets = redacted_tank ∷ empty_tank (codes "tank/b") ∷ [] } in
-    (made : Stepped) × (stepped now (commands.Free (codes "tank/b") 1 1) pool ≡ Ok made)
+    (held : List Held) (now : ℕ) → let pool : Pool = record (new_pool 1) { datasets = redacted_tank ∷ empty_tank (codes "tank/b") ∷ [] } in
+    (made : Stepped) × (stepped held now (commands.Free (codes "tank/b") 1 1) pool ≡ Ok made)
     × (dataset_named (codes "tank/a") made.pool ≡ Some redacted_tank)
     × (dataset : Dataset) × (dataset_named (codes "tank/b") made.pool ≡ Some dataset) × (dataset.head.number_date 1 ≡ 2)
 

@@ -4,6 +4,7 @@ use Rattle.zst_model.specs.declared.pools.command.Command.{Command}
 use Rattle.zst_model.specs.declared.pools.command.Command.TheVariants as commands
 use Rattle.zst_model.specs.states.State.{State, IsState}
 use Rattle.zst_model.specs.sends.Included.{Pairs, Choice}
+use Rattle.zst_model.specs.pools.Held.{Held}
 use Rattle.zst_model.specs.pools.Pool.{Pool, Snapshot, IsPool, dataset_of_snapshot}
 use Rattle.zst_model.specs.pools.Before.{Source, OfSnapshot, dataset_of_source, number_of_source, IsIn, IsBefore}
 use Rattle.zst_model.specs.pools.Rows.{Row, rows}
@@ -31,8 +32,8 @@ OwnIsRemembered =
 -- what a source of a sound pool remembers, it remembers after each accepted command
 abbrev pub StepsRemember : Type 0
 StepsRemember =
-    (now : ℕ) (command : Command) (pool : Pool) (after : Stepped) (source : Source) (state : State)
-    → IsCommand command → IsPool pool → Sound pool → stepped now command pool ≡ Ok after
+    (held : List Held) (now : ℕ) (command : Command) (pool : Pool) (after : Stepped) (source : Source) (state : State)
+    → IsCommand command → IsPool pool → Sound pool → stepped held now command pool ≡ Ok after
     → IsIn pool source → SourceRemembers pool source state → SourceRemembers after.pool source state
 
 -- what an increment from a number is asked, with any pairs of a source and any pairs to redact
@@ -56,15 +57,15 @@ SourcesAreBases =
 -- a snapshot that a command makes remembers its own state
 abbrev pub TakenRemembers : Type 0
 TakenRemembers =
-    (now : ℕ) (name : List ℕ) (pool : Pool) (after : Stepped)
-    → IsCommand (commands.Snapshot name) → IsPool pool → Sound pool → stepped now (commands.Snapshot name) pool ≡ Ok after
+    (held : List Held) (now : ℕ) (name : List ℕ) (pool : Pool) (after : Stepped)
+    → IsCommand (commands.Snapshot name) → IsPool pool → Sound pool → stepped held now (commands.Snapshot name) pool ≡ Ok after
     → (snapshot : Snapshot) × Contains after.pool.snapshots snapshot × (snapshot.name ≡ name) × SourceRemembers after.pool (OfSnapshot snapshot) snapshot.objects.state
 
 -- accepted commands lead from a pool to another while a source stands
 pub data Leads (source : Source) : Pool → Pool → Type 0 where
   Stays : (pool : Pool) → Leads source pool pool
-  Steps : (now : ℕ) (command : Command) (pool : Pool) (after : Stepped) (last : Pool)
-      → IsCommand command → now < 2 ^ 64 → stepped now command pool ≡ Ok after → IsIn after.pool source → Leads source after.pool last → Leads source pool last
+  Steps : (held : List Held) (now : ℕ) (command : Command) (pool : Pool) (after : Stepped) (last : Pool)
+      → IsCommand command → now < 2 ^ 64 → stepped held now command pool ≡ Ok after → IsIn after.pool source → Leads source after.pool last → Leads source pool last
 
 -- so what a source remembers is fit as a base after any number of commands, of each row that the source then stands before
 abbrev pub HistoryIsBase : Type 0

@@ -5,6 +5,7 @@ use Rattle.zst_model.specs.declared.refusals.named.Name.TheVariants as names
 use Rattle.zst_model.specs.declared.refusals.refusal.Refusal.{Refusal}
 use Rattle.zst_model.specs.states.State.{Block, Hole, Data, index_bound}
 use Rattle.zst_model.specs.states.Dated.{DatedState}
+use Rattle.zst_model.specs.pools.Held.{Held}
 use Rattle.zst_model.specs.pools.Pool.{Pool, Snapshot, untouched}
 use Rattle.zst_model.specs.pools.Step.{Stepped, stepped}
 use Rattle.zst_laws.specs.Example.{file, one_file, file_dates, first_block, padded, small, rewritten}
@@ -43,18 +44,18 @@ after_snapshot now number head = record (with_tank number head) { guids = 1; sna
 -- each command makes one commit and answers its number; the snapshot is the file with its block
 abbrev pub SmallSteps : Type 0
 SmallSteps =
-    (now : ℕ)
-    → (stepped now (commands.Fs (codes "tank/a")) (new_pool 1) ≡ gives (codes "ok 2") (with_tank 2 untouched))
-    × (stepped now (commands.Object (codes "tank/a") 1 (record { type_ = 19; bonus_type = 0; block_size = 512 }) [] None) (with_tank 2 untouched)
+    (held : List Held) (now : ℕ)
+    → (stepped held now (commands.Fs (codes "tank/a")) (new_pool 1) ≡ gives (codes "ok 2") (with_tank 2 untouched))
+    × (stepped held now (commands.Object (codes "tank/a") 1 (record { type_ = 19; bonus_type = 0; block_size = 512 }) [] None) (with_tank 2 untouched)
     ≡ gives (codes "ok 3") (with_tank 3 allocated))
-    × (stepped now (commands.Write (codes "tank/a") 1 0 (170 ∷ [])) (with_tank 3 allocated) ≡ gives (codes "ok 4") (with_tank 4 small))
-    × (stepped now (commands.Snapshot (codes "tank/a@s")) (with_tank 4 small) ≡ gives (codes "ok 5") (after_snapshot now 5 small))
+    × (stepped held now (commands.Write (codes "tank/a") 1 0 (170 ∷ [])) (with_tank 3 allocated) ≡ gives (codes "ok 4") (with_tank 4 small))
+    × (stepped held now (commands.Snapshot (codes "tank/a@s")) (with_tank 4 small) ≡ gives (codes "ok 5") (after_snapshot now 5 small))
 
 -- equal bytes are written again: the block has the new commit's number as its date
 abbrev pub RewrittenStep : Type 0
 RewrittenStep =
-    (now made : ℕ)
-    → stepped now (commands.Write (codes "tank/a") 1 0 (170 ∷ [])) (after_snapshot made 5 small) ≡ gives (codes "ok 6") (after_snapshot made 6 rewritten)
+    (held : List Held) (now made : ℕ)
+    → stepped held now (commands.Write (codes "tank/a") 1 0 (170 ∷ [])) (after_snapshot made 5 small) ≡ gives (codes "ok 6") (after_snapshot made 6 rewritten)
 
 -- the file after commit 6 gave it its attributes again: its number is dated, its block stays with its date
 abbrev pub put_again : DatedState
@@ -71,9 +72,9 @@ made_anew = record {
 -- `object` on a file that is there, with its block size and with another one
 abbrev pub PutSteps : Type 0
 PutSteps =
-    (now made : ℕ) → let pool = after_snapshot made 5 small in
-    (stepped now (commands.Object (codes "tank/a") 1 (record { type_ = 19; bonus_type = 0; block_size = 512 }) [] None) pool ≡ gives (codes "ok 6") (after_snapshot made 6 put_again))
-    × (stepped now (commands.Object (codes "tank/a") 1 (record { type_ = 19; bonus_type = 0; block_size = 1024 }) [] None) pool ≡ gives (codes "ok 6") (after_snapshot made 6 made_anew))
+    (held : List Held) (now made : ℕ) → let pool = after_snapshot made 5 small in
+    (stepped held now (commands.Object (codes "tank/a") 1 (record { type_ = 19; bonus_type = 0; block_size = 512 }) [] None) pool ≡ gives (codes "ok 6") (after_snapshot made 6 put_again))
+    × (stepped held now (commands.Object (codes "tank/a") 1 (record { type_ = 19; bonus_type = 0; block_size = 1024 }) [] None) pool ≡ gives (codes "ok 6") (after_snapshot made 6 made_anew))
 
 -- a zero block 3 beside block 0
 abbrev pub zeroed_block : ℕ → Block
@@ -106,18 +107,18 @@ freed = record {
 -- a block of zeros is written, a block is punched, and absent numbers are freed
 abbrev pub ChangedSteps : Type 0
 ChangedSteps =
-    (now made : ℕ)
-    → (stepped now (commands.Write (codes "tank/a") 1 3 (0 ∷ [])) (after_snapshot made 5 small) ≡ gives (codes "ok 6") (after_snapshot made 6 zeroed))
-    × (stepped now (commands.Punch (codes "tank/a") 1 0 1) (after_snapshot made 6 zeroed) ≡ gives (codes "ok 7") (after_snapshot made 7 punched_file))
-    × (stepped now (commands.Free (codes "tank/a") 7 2) (after_snapshot made 7 punched_file) ≡ gives (codes "ok 8") (after_snapshot made 8 freed))
+    (held : List Held) (now made : ℕ)
+    → (stepped held now (commands.Write (codes "tank/a") 1 3 (0 ∷ [])) (after_snapshot made 5 small) ≡ gives (codes "ok 6") (after_snapshot made 6 zeroed))
+    × (stepped held now (commands.Punch (codes "tank/a") 1 0 1) (after_snapshot made 6 zeroed) ≡ gives (codes "ok 7") (after_snapshot made 7 punched_file))
+    × (stepped held now (commands.Free (codes "tank/a") 7 2) (after_snapshot made 7 punched_file) ≡ gives (codes "ok 8") (after_snapshot made 8 freed))
 
 -- what is read afterwards: the head's block 0 is a hole, as is its last index, and its end counts the block of zeros; the snapshot is as it was
 abbrev pub ChangedReads : Type 0
 ChangedReads =
-    (now made : ℕ) → let pool = after_snapshot made 8 freed in
-    (stepped now (commands.Read (names.Dataset (codes "tank/a")) 1 0) pool ≡ gives (codes "hole") pool)
-    × (stepped now (commands.Read (names.Dataset (codes "tank/a")) 1 8796093022207) pool ≡ gives (codes "hole") pool)
-    × (stepped now (commands.ListObjects (names.Dataset (codes "tank/a"))) pool
+    (held : List Held) (now made : ℕ) → let pool = after_snapshot made 8 freed in
+    (stepped held now (commands.Read (names.Dataset (codes "tank/a")) 1 0) pool ≡ gives (codes "hole") pool)
+    × (stepped held now (commands.Read (names.Dataset (codes "tank/a")) 1 8796093022207) pool ≡ gives (codes "hole") pool)
+    × (stepped held now (commands.ListObjects (names.Dataset (codes "tank/a"))) pool
     ≡ gives (codes "object 1 type 19 size 512 bonustype 0 bonus 0 spill none end 4") pool)
-    × (stepped now (commands.ListObjects (names.Snapshot (codes "tank/a@s"))) pool
+    × (stepped held now (commands.ListObjects (names.Snapshot (codes "tank/a@s"))) pool
     ≡ gives (codes "object 1 type 19 size 512 bonustype 0 bonus 0 spill none end 1") pool)

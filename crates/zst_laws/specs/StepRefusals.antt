@@ -12,12 +12,13 @@ use Rattle.zst_model.specs.declared.refusals.refusal.Refusal.{Refusal}
 use Rattle.zst_model.specs.declared.refusals.refusal.Refusal.TheVariants as refusals
 use Rattle.zst_model.specs.states.State.{Object, Redacted, IsState, is_odd_size}
 use Rattle.zst_model.specs.states.Dated.{DatedState}
+use Rattle.zst_model.specs.pools.Held.{Held}
 use Rattle.zst_model.specs.pools.Pool.{Pool, Dataset, Snapshot, Partial, dataset_named, snapshot_named, partial_of}
 use Rattle.zst_model.specs.pools.Step.{stepped, no_such, exists_already, busy_partial, cannot_apply, state_named}
 
 -- the pool refuses the command so, whatever the time
 abbrev pub Refuses : Pool → Command → Refusal → Type 0
-Refuses pool command refusal = (now : ℕ) → stepped now command pool ≡ Err refusal
+Refuses pool command refusal = (held : List Held) (now : ℕ) → stepped held now command pool ≡ Err refusal
 
 -- the dataset that a command makes
 abbrev pub made_by : Command → Option (List ℕ)

@@ -14,6 +14,7 @@ mod command_examples;
 mod commits;
 mod dates;
 mod headers;
+mod held;
 mod kept;
 mod line_examples;
 mod meanings;
@@ -36,6 +37,7 @@ pub use dates::{
 pub use headers::{
     choices_are_exact, headers_are_exact, headers_keep_the_rest, sends_are_stated, sends_have_items,
 };
+pub use held::{busy_sessions_are_named, least_session_is_named, steps_ask_no_session};
 pub use kept::{keeping_is_done, kept_are_kept, kept_are_lawful};
 pub use line_examples::{blocks_are_read, objects_are_listed, pool_is_listed};
 pub use meanings::{

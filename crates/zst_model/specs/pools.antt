@@ -1,4 +1,5 @@
 pub mod Before
+pub mod Held
 pub mod Kept
 pub mod Limits
 pub mod Lines

@@ -1,6 +1,6 @@
 -- The rows of the next directory stand for the next pool.
 use Rattle.std.specs.Prelude.{Ok}
-use Rattle.std.proofs.Common.{◌≡◌, ◌⊎◌, inl, inr, ℕ, ◌+◌, List, [], Option, None, refl, sym, ap, ◌∙◌, subst}
+use Rattle.std.proofs.Common.{◌≡◌, ◌⊎◌, inl, inr, ℕ, ◌+◌, ◌<◌, List, [], Option, None, refl, sym, ap, ◌∙◌, subst, arith}
 use Rattle.std.proofs.Common.{◌*◌, ◌^◌, ◌∷◌, ◌++◌, ◌&&◌, ◌||◌, Bool, true, false, not, nat_lt, get_or, if◌then◌else◌}
 use Rattle.std.specs.List.{filter, list_any, All, Contains}
 use Rattle.std.specs.Str.{bytes_eq}
@@ -76,8 +76,8 @@ dataset_is_next has uber rows dir pool kind name is same lawful = record {
 pub dataset_is_lawful : StepsKeepPools → (kind : ℕ) (name : List ℕ) (pool : Pool) (after : Stepped) → (kind ≡ 2) ⊎ (kind ≡ 3) → IsDataset name → IsPool pool
     → with_dataset kind name pool ≡ Ok after → IsPool after.pool
 unfolding stepped
-dataset_is_lawful law kind name pool after (inl two) is lawful made = law 0 (commands.Fs name) pool after is lawful (ap (λ k. with_dataset k name pool) (sym two) ∙ made)
-dataset_is_lawful law kind name pool after (inr three) is lawful made = law 0 (commands.Volume name) pool after is lawful (ap (λ k. with_dataset k name pool) (sym three) ∙ made)
+dataset_is_lawful law kind name pool after (inl two) is lawful made = law [] 0 (commands.Fs name) pool after is (omega arith) lawful (ap (λ k. with_dataset k name pool) (sym two) ∙ made)
+dataset_is_lawful law kind name pool after (inr three) is lawful made = law [] 0 (commands.Volume name) pool after is (omega arith) lawful (ap (λ k. with_dataset k name pool) (sym three) ∙ made)
 
 -- the row of a new snapshot
 abbrev pub taken_row : Uber → ℕ → List ℕ → Dataset → Snapshot
@@ -127,9 +127,9 @@ snapshot_is_next has uber rows dir pool now name row dataset is matches free sam
   lawful = lawful;
 }
 
-pub snapshot_is_lawful : StepsKeepPools → (now : ℕ) (name : List ℕ) (pool : Pool) (after : Stepped) → IsSnapshot name → IsPool pool → with_snapshot now name pool ≡ Ok after → IsPool after.pool
+pub snapshot_is_lawful : StepsKeepPools → (now : ℕ) (name : List ℕ) (pool : Pool) (after : Stepped) → IsSnapshot name → now < 2 ^ 64 → IsPool pool → with_snapshot now name pool ≡ Ok after → IsPool after.pool
 unfolding stepped
-snapshot_is_lawful law now name pool after is lawful made = law now (commands.Snapshot name) pool after is lawful made
+snapshot_is_lawful law now name pool after is fits lawful made = law [] now (commands.Snapshot name) pool after is fits lawful made
 
 -- a dataset's partial state is left out where its names could meet
 pub partials_are_apart : (rows : Rows) (name : List ℕ) → All IsPartialRow rows.partials
@@ -182,19 +182,19 @@ head_is_next has uber rows dir pool name set head is is_head same lawful = recor
 pub written_is_lawful : StepsKeepPools → (name : List ℕ) (k i : ℕ) (bytes : List ℕ) (pool : Pool) (after : Stepped) → IsCommand (commands.Write name k i bytes) → IsPool pool
     → on_head name pool (written pool k i bytes) ≡ Ok after → IsPool after.pool
 unfolding stepped
-written_is_lawful law name k i bytes pool after is lawful made = law 0 (commands.Write name k i bytes) pool after is lawful made
+written_is_lawful law name k i bytes pool after is lawful made = law [] 0 (commands.Write name k i bytes) pool after is (omega arith) lawful made
 
 pub punched_is_lawful : StepsKeepPools → (name : List ℕ) (k first count : ℕ) (pool : Pool) (after : Stepped) → IsCommand (commands.Punch name k first count) → IsPool pool
     → on_head name pool (punched pool k first count) ≡ Ok after → IsPool after.pool
 unfolding stepped
-punched_is_lawful law name k first count pool after is lawful made = law 0 (commands.Punch name k first count) pool after is lawful made
+punched_is_lawful law name k first count pool after is lawful made = law [] 0 (commands.Punch name k first count) pool after is (omega arith) lawful made
 
 pub freed_is_lawful : StepsKeepPools → (name : List ℕ) (first count : ℕ) (pool : Pool) (after : Stepped) → IsCommand (commands.Free name first count) → IsPool pool
     → on_head name pool (freed pool first count) ≡ Ok after → IsPool after.pool
 unfolding stepped
-freed_is_lawful law name first count pool after is lawful made = law 0 (commands.Free name first count) pool after is lawful made
+freed_is_lawful law name first count pool after is lawful made = law [] 0 (commands.Free name first count) pool after is (omega arith) lawful made
 
 pub put_is_lawful : StepsKeepPools → (name : List ℕ) (k : ℕ) (head : ObjectHead) (bonus : List ℕ) (spill : Option (List ℕ)) (pool : Pool) (after : Stepped)
     → IsCommand (commands.Object name k head bonus spill) → IsPool pool → on_head name pool (put_in pool k head bonus spill) ≡ Ok after → IsPool after.pool
 unfolding stepped
-put_is_lawful law name k head bonus spill pool after is lawful made = law 0 (commands.Object name k head bonus spill) pool after is lawful made
+put_is_lawful law name k head bonus spill pool after is lawful made = law [] 0 (commands.Object name k head bonus spill) pool after is (omega arith) lawful made

@@ -75,7 +75,7 @@ of_snapshot now name pool =
     (on_unless pool.number (nat_lt last_guid (pool.guids + 1)) (refusals.Limit quantities.Guids last_guid) (made dataset)
     (on_committed pool.number (with_taken now name dataset pool) refl)))))
 
-of_step : (now : ℕ) (command : Command) (pool : Pool) → is_built command ≡ true → IfOk (stepped now command pool) (IsReply pool.number)
+of_step : (now : ℕ) (command : Command) (pool : Pool) → is_built command ≡ true → IfOk (stepped [] now command pool) (IsReply pool.number)
 unfolding stepped
 of_step now (commands.Fs dataset) pool built = of_dataset 2 dataset pool
 of_step now (commands.Volume dataset) pool built = of_dataset 3 dataset pool
@@ -88,7 +88,7 @@ of_step now (commands.Read name k i) pool built = absurd (cc)
 of_step now commands.List pool built = absurd (cc)
 of_step now (commands.ListObjects name) pool built = absurd (cc)
 
-pub step_reply : (now : ℕ) (command : Command) (pool : Pool) (done : Stepped) → is_built command ≡ true → stepped now command pool ≡ Ok done → IsReply pool.number done
+pub step_reply : (now : ℕ) (command : Command) (pool : Pool) (done : Stepped) → is_built command ≡ true → stepped [] now command pool ≡ Ok done → IsReply pool.number done
 step_reply now command pool done built made = IfOk-at_ok (IsReply pool.number) made (of_step now command pool built)
 
 -- a command that isn't unbuilt is built

@@ -24,8 +24,8 @@ use crate::sets::put_block;
 use std::alloc::{AllocError, Global};
 use zst_block::Io;
 use zst_model::limits::{INDEX_BOUND, NUMBER_BOUND};
-use zst_model::{ApplyFault, Bytes, ObjectHead, PlanFault, Quantity};
 use zst_flat::Flat;
+use zst_model::{ApplyFault, Bytes, ObjectHead, PlanFault, Quantity};
 use zst_outside::Disk;
 
 /// Whether a range of so many numbers ends past a bound.

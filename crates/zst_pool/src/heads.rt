@@ -21,10 +21,10 @@ use crate::kept::Kept;
 use crate::sets::{load, store};
 use std::alloc::Global;
 use zst_block::Io;
+use zst_flat::Flat;
 use zst_laws::steps_keep_pools;
 use zst_model::{Bytes, ObjectHead};
 use zst_names::DatasetName;
-use zst_flat::Flat;
 use zst_outside::Disk;
 
 /// Reads the rows of the head of a dataset that has no partial state.

@@ -67,11 +67,11 @@ impl<'d, D: Disk> Pool<'d, D> {
 
         // At every moment each image reads as the pool before the command, or as what the command makes of it.
         ensures moments { (pool : Plain) → (D.state self.new.io.disk.now).honest → Rests (D.state self.old.io.disk.now) self.old.kept.body self.old.kept.dir pool
-            → Leaves (D.state self.old.io.disk.now) (D.state self.new.io.disk.now) (BeforeOrAfter pool (stepped now command pool)) }
+            → Leaves (D.state self.old.io.disk.now) (D.state self.new.io.disk.now) (BeforeOrAfter pool (stepped [] now command pool)) }
         // After its answer it is as the definition says; after a refusal the pool is as it was.
         ensures answer { (pool : Plain) → (D.state self.new.io.disk.now).honest → is_built command ≡ true → self.old.io.failed ≡ false
             → Rests (D.state self.old.io.disk.now) self.old.kept.body self.old.kept.dir pool
-            → StepAnswer (D.state self.new.io.disk.now) self.new.kept.body self.new.kept.dir pool (stepped now command pool) result }
+            → StepAnswer (D.state self.new.io.disk.now) self.new.kept.body self.new.kept.dir pool (stepped [] now command pool) result }
         // Whatever the image is, the faults of opening never come.
         ensures known { self.old.io.failed ≡ false → IfErr result IsStepFault }
         // E24 comes only where fewer sectors are free than the command may take.
@@ -79,7 +79,7 @@ impl<'d, D: Disk> Pool<'d, D> {
             → result ≡ Err (PoolFault.Full need largest) → HasNoRoom self.old.kept.body self.old.kept.dir need largest }
         // What later states haven't dated since stays as it was in each snapshot.
         ensures sound { (pool : Plain) (done : Stepped) → Rests (D.state self.old.io.disk.now) self.old.kept.body self.old.kept.dir pool → Sound pool
-            → stepped now command pool ≡ Ok done → Sound done.pool }
+            → stepped [] now command pool ≡ Ok done → Sound done.pool }
 
         // A pool that has failed answers nothing else, and a command that isn't built is refused. Both do nothing.
         ensures failed_pool { self.old.io.failed ≡ true → result ≡ Err PoolFault.Failed }
@@ -141,7 +141,7 @@ fn run<D: Disk>(
     requires space { io.old.space ≡ free_by kept.now.body }
     requires ready { Ready (D.state io.old.disk.now) kept.now.body }
     ensures did { (pool : Plain) → (D.state io.new.disk.now).honest → is_built command ≡ true → Rests (D.state io.old.disk.now) kept.now.body kept.now.dir pool
-        → Did (D.state io.old.disk.now) (D.state io.new.disk.now) kept.now.body kept.now.dir pool (stepped now command pool) result }
+        → Did (D.state io.old.disk.now) (D.state io.new.disk.now) kept.now.body kept.now.dir pool (stepped [] now command pool) result }
     ensures known { IfErr result IsStepFault }
     ensures full { IfErr result (FindsNoRoom kept.now) }
     ensures ready { IfOk result (λ kept. Ready (D.state io.new.disk.now) kept.body) }

@@ -8,8 +8,8 @@ use Rattle.zst_laws.specs.CommandExample.{ObjectIsReplaced, RangeIsPunched}
 
 pub object_replaced : ObjectIsReplaced
 unfolding stepped apply apply_change number_bound last_number digits
-object_replaced = (λ now. (_, refl, _, refl, refl), λ now. (_, refl, _, refl, refl))
+object_replaced = (λ held now. (_, refl, _, refl, refl), λ held now. (_, refl, _, refl, refl))
 
 pub range_punched : RangeIsPunched
 unfolding stepped apply apply_change index_bound last_number digits
-range_punched now = (_, refl, _, refl, (refl, refl, refl, refl))
+range_punched held now = (_, refl, _, refl, (refl, refl, refl, refl))

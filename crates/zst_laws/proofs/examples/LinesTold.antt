@@ -17,11 +17,11 @@ use Rattle.zst_laws.proofs.examples.StepExamples.{none_given, rising_first}
 
 pub pool_listed : PoolIsListed
 unfolding stepped pool_lines inserted guid_text encode_with digits
-pool_listed now header = refl
+pool_listed held now header = refl
 
 pub blocks_read : BlocksAreRead
 unfolding stepped encode_with index_bound
-blocks_read now = (refl, refl, refl)
+blocks_read held now = (refl, refl, refl)
 
 index_far : 4 < index_bound
 unfolding index_bound
@@ -74,7 +74,7 @@ two_lines =
 
 pub objects_listed : ObjectsAreListed
 unfolding stepped
-objects_listed now =
+objects_listed held now =
     ap (answered (pool_of two_objects)) (two_lines
     ∙ ap (λ end. whole_line end ∷ fifth_line (past_last redacted_fifth index_bound) ∷ []) whole_end
     ∙ ap (λ end. whole_line 2 ∷ fifth_line end ∷ []) fifth_end

@@ -120,11 +120,11 @@ lists_user_data = (refl, refl, refl, refl, refl, refl, refl, refl, refl)
 -- commands
 pub snapshot_keeps_guids : SnapshotKeepsGuids
 unfolding stepped inserted last_number last_guid most_snapshots digits
-snapshot_keeps_guids now = refl
+snapshot_keeps_guids held now = refl
 
 pub volume_is_made : VolumeIsMade
 unfolding stepped inserted last_number most_datasets digits
-volume_is_made now = refl
+volume_is_made held now = refl
 
 -- what is included
 pub listed_is_included : ListedIsIncluded
@@ -168,15 +168,15 @@ equal_dates_are_left snap choice number k e l none =
 -- rows
 pub datasets_stand : DatasetsStandByName
 unfolding stepped inserted last_number most_datasets digits
-datasets_stand now = refl
+datasets_stand held now = refl
 
 pub snapshots_stand : SnapshotsStandByNumber
 unfolding stepped inserted last_number last_guid most_snapshots digits
-snapshots_stand = refl
+snapshots_stand held = refl
 
 pub heads_stay : OtherHeadsStay
 unfolding stepped apply last_number number_bound digits
-heads_stay now = (_, refl, refl, _, refl, refl)
+heads_stay held now = (_, refl, refl, _, refl, refl)
 
 pub freed_are_dated : FreedAreDated
 unfolding index_bound number_bound

@@ -16,6 +16,7 @@ use Rattle.zst_model.specs.states.State.{State, Object, Block, Hole, Data, is_nu
 use Rattle.zst_model.specs.states.Apply.{apply, apply_change, within, is_unaligned, put_at, ◌>>=◌}
 use Rattle.zst_model.specs.states.Dated.{DatedState, apply_all_dated, dates_number, dates_index, touches_number, touches_index}
 use Rattle.zst_model.specs.sends.Items.{rising}
+use Rattle.zst_model.specs.pools.Held.{Held}
 use Rattle.zst_model.specs.pools.Lines.{object_lines, object_line, line_of, word}
 use Rattle.zst_model.specs.pools.Pool.{Pool, inserted, untouched}
 use Rattle.zst_model.specs.pools.Step.{stepped, last_number, last_guid, most_datasets, most_snapshots, answered, with_head, committed, of_applying, filled, in_indices}
@@ -55,13 +56,13 @@ undated : (one : Bool) (number date : ℕ) → (if one && false then number else
 undated true number date = refl
 undated false number date = refl
 
-made : (now : ℕ) → stepped now (commands.Fs (codes "tank/a")) (new_pool 1) ≡ gives (codes "ok 2") (with_tank 2 untouched)
+made : (held : List Held) (now : ℕ) → stepped held now (commands.Fs (codes "tank/a")) (new_pool 1) ≡ gives (codes "ok 2") (with_tank 2 untouched)
 unfolding stepped inserted last_number most_datasets digits
-made now = refl
+made held now = refl
 
-snapped : (now : ℕ) → stepped now (commands.Snapshot (codes "tank/a@s")) (with_tank 4 small) ≡ gives (codes "ok 5") (after_snapshot now 5 small)
+snapped : (held : List Held) (now : ℕ) → stepped held now (commands.Snapshot (codes "tank/a@s")) (with_tank 4 small) ≡ gives (codes "ok 5") (after_snapshot now 5 small)
 unfolding stepped inserted last_number last_guid most_snapshots digits
-snapped now = refl
+snapped held now = refl
 
 -- OBJECT of the file in the empty head
 put_applied : apply_all_dated 3 (At 1 (Put (record { type_ = 19; bonus_type = 0; block_size = 512 }) [] false 0) ∷ []) untouched ≡ Ok allocated
@@ -79,9 +80,9 @@ put_applied =
     indexed true false = refl
     indexed false below = refl
 
-put : (now : ℕ) → stepped now (commands.Object (codes "tank/a") 1 (record { type_ = 19; bonus_type = 0; block_size = 512 }) [] None) (with_tank 2 untouched) ≡ gives (codes "ok 3") (with_tank 3 allocated)
+put : (held : List Held) (now : ℕ) → stepped held now (commands.Object (codes "tank/a") 1 (record { type_ = 19; bonus_type = 0; block_size = 512 }) [] None) (with_tank 2 untouched) ≡ gives (codes "ok 3") (with_tank 3 allocated)
 unfolding stepped last_number number_bound digits
-put now =
+put held now =
     let pool = with_tank 2 untouched in
     ap (λ r. of_applying r >>= λ head. committed (record pool { datasets = with_head (codes "tank/a") head pool.datasets })) put_applied
 
@@ -121,16 +122,16 @@ write_gives i byte blocks =
     unless_from (is_unaligned 512 (i * 512)) Unaligned _ (aligned_from 512 (i * 512) (mul-mod_left i 512))
     ∙ ap (λ f. Ok (Some (file_of f))) (fun_ext (λ j. ap (λ t. if t then Data (padded byte) else blocks j) (same_place 512 i j (omega arith))))
 
-written : (now : ℕ) → stepped now (commands.Write (codes "tank/a") 1 0 (170 ∷ [])) (with_tank 3 allocated) ≡ gives (codes "ok 4") (with_tank 4 small)
+written : (held : List Held) (now : ℕ) → stepped held now (commands.Write (codes "tank/a") 1 0 (170 ∷ [])) (with_tank 3 allocated) ≡ gives (codes "ok 4") (with_tank 4 small)
 unfolding stepped last_number index_bound digits
-written now =
+written held now =
     let pool = with_tank 3 allocated in
     ap (λ r. (of_applying r >>= λ after. in_indices 1 (Ok after)) >>= λ head. committed (record pool { datasets = with_head (codes "tank/a") head pool.datasets }))
     (change_applied 4 (Write 0 0 (filled 512 (170 ∷ []))) (λ i. Hole) first_block (λ i. i == 0) allocated.number_date (λ i. 3)
     (write_gives 0 170 (λ i. Hole)) refl (λ i. same_place 512 0 i (omega arith)))
 
 pub small_steps : SmallSteps
-small_steps now = (made now, put now, written now, snapped now)
+small_steps held now = (made held now, put held now, written held now, snapped held now)
 
 -- block 0 is written again
 rewritten_dates : (first : Bool) → ◌≡◌ {A = ℕ} (if first then 6 else (if first then 4 else 3)) (if first then 6 else 3)
@@ -146,7 +147,7 @@ rewritten_block i = go (i == 0)
 
 pub rewritten_step : RewrittenStep
 unfolding stepped last_number index_bound digits
-rewritten_step now made =
+rewritten_step held now made =
     let pool = after_snapshot made 5 small in
     ap (λ r. (of_applying r >>= λ after. in_indices 1 (Ok after)) >>= λ head. committed (record pool { datasets = with_head (codes "tank/a") head pool.datasets }))
     (change_applied 6 (Write 0 0 (filled 512 (170 ∷ []))) first_block first_block (λ i. i == 0) small.number_date (λ i. if i == 0 then 4 else 3)
@@ -188,16 +189,16 @@ anew_applied =
 
 pub put_steps : PutSteps
 unfolding stepped last_number number_bound digits
-put_steps now made =
+put_steps held now made =
     let pool = after_snapshot made 5 small in (
       ap (λ r. of_applying r >>= λ head. committed (record pool { datasets = with_head (codes "tank/a") head pool.datasets })) again_applied,
       ap (λ r. of_applying r >>= λ head. committed (record pool { datasets = with_head (codes "tank/a") head pool.datasets })) anew_applied,
     )
 
 -- the block 3 of zeros
-zero_written : (now made : ℕ) → stepped now (commands.Write (codes "tank/a") 1 3 (0 ∷ [])) (after_snapshot made 5 small) ≡ gives (codes "ok 6") (after_snapshot made 6 zeroed)
+zero_written : (held : List Held) (now made : ℕ) → stepped held now (commands.Write (codes "tank/a") 1 3 (0 ∷ [])) (after_snapshot made 5 small) ≡ gives (codes "ok 6") (after_snapshot made 6 zeroed)
 unfolding stepped last_number index_bound digits
-zero_written now made =
+zero_written held now made =
     let pool = after_snapshot made 5 small in
     ap (λ r. (of_applying r >>= λ after. in_indices 4 (Ok after)) >>= λ head. committed (record pool { datasets = with_head (codes "tank/a") head pool.datasets }))
     (change_applied 6 (Write 1536 0 (filled 512 (0 ∷ []))) first_block zeroed_block (λ i. i == 3) small.number_date (λ i. if i == 0 then 4 else 3)
@@ -218,9 +219,9 @@ punched_dates : (first fourth : Bool) → ◌≡◌ {A = ℕ} (if first then 7 e
 punched_dates true fourth = refl
 punched_dates false fourth = refl
 
-punched : (now made : ℕ) → stepped now (commands.Punch (codes "tank/a") 1 0 1) (after_snapshot made 6 zeroed) ≡ gives (codes "ok 7") (after_snapshot made 7 punched_file)
+punched : (held : List Held) (now made : ℕ) → stepped held now (commands.Punch (codes "tank/a") 1 0 1) (after_snapshot made 6 zeroed) ≡ gives (codes "ok 7") (after_snapshot made 7 punched_file)
 unfolding stepped last_number index_bound digits
-punched now made =
+punched held now made =
     let pool = after_snapshot made 6 zeroed in
     ap (λ r. (of_applying r >>= λ after. in_indices 1 (Ok after)) >>= λ head. committed (record pool { datasets = with_head (codes "tank/a") head pool.datasets }))
     (change_applied 7 (Free 0 512) zeroed_block fourth_block (λ i. i == 0) small.number_date (λ i. if i == 3 then 6 else (if i == 0 then 4 else 3))
@@ -257,14 +258,14 @@ free_applied =
     (fun_ext (λ k. ap (λ t. if t then 8 else small.number_date k) (ap (λ t. t && is_number k) (freed_numbers k) ∙ in_numbers k)))
     (fun_ext (λ k. fun_ext (λ i. ap (λ t. if t && nat_lt i index_bound then 8 else punched_file.index_date k i) (ap (λ t. t && is_number k) (freed_numbers k) ∙ in_numbers k)))))
 
-numbers_freed : (now made : ℕ) → stepped now (commands.Free (codes "tank/a") 7 2) (after_snapshot made 7 punched_file) ≡ gives (codes "ok 8") (after_snapshot made 8 freed)
+numbers_freed : (held : List Held) (now made : ℕ) → stepped held now (commands.Free (codes "tank/a") 7 2) (after_snapshot made 7 punched_file) ≡ gives (codes "ok 8") (after_snapshot made 8 freed)
 unfolding stepped last_number number_bound digits
-numbers_freed now made =
+numbers_freed held now made =
     let pool = after_snapshot made 7 punched_file in
     ap (λ r. of_applying r >>= λ head. committed (record pool { datasets = with_head (codes "tank/a") head pool.datasets })) free_applied
 
 pub changed_steps : ChangedSteps
-changed_steps now made = (zero_written now made, punched now made, numbers_freed now made)
+changed_steps held now made = (zero_written held now made, punched held now made, numbers_freed held now made)
 
 index_far : 3 < index_bound
 unfolding index_bound
@@ -322,19 +323,19 @@ line_of_one : file_line 1 ≡ codes "object 1 type 19 size 512 bonustype 0 bonus
 unfolding digits
 line_of_one = refl
 
-hole_read : (now made : ℕ) → let pool = after_snapshot made 8 freed in stepped now (commands.Read (names.Dataset (codes "tank/a")) 1 0) pool ≡ gives (codes "hole") pool
+hole_read : (held : List Held) (now made : ℕ) → let pool = after_snapshot made 8 freed in stepped held now (commands.Read (names.Dataset (codes "tank/a")) 1 0) pool ≡ gives (codes "hole") pool
 unfolding stepped index_bound
-hole_read now made = refl
+hole_read held now made = refl
 
-last_read : (now made : ℕ) → let pool = after_snapshot made 8 freed in stepped now (commands.Read (names.Dataset (codes "tank/a")) 1 8796093022207) pool ≡ gives (codes "hole") pool
+last_read : (held : List Held) (now made : ℕ) → let pool = after_snapshot made 8 freed in stepped held now (commands.Read (names.Dataset (codes "tank/a")) 1 8796093022207) pool ≡ gives (codes "hole") pool
 unfolding stepped index_bound
-last_read now made = refl
+last_read held now made = refl
 
 pub changed_reads : ChangedReads
 unfolding stepped
-changed_reads now made = (
-  hole_read now made,
-  last_read now made,
+changed_reads held now made = (
+  hole_read held now made,
+  last_read held now made,
   ap (answered pool) (lines_are fourth_block 4 freed.number_date freed.index_date fourth_end ∙ ap (λ line. line ∷ []) line_of_four),
   ap (answered pool) (lines_are first_block 1 small.number_date small.index_date first_end ∙ ap (λ line. line ∷ []) line_of_one),
 )

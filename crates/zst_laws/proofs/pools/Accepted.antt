@@ -9,6 +9,7 @@ use Rattle.zst_model.specs.declared.refusals.named.Name.TheVariants as names
 use Rattle.zst_model.specs.declared.refusals.refusal.Refusal.{Refusal}
 use Rattle.zst_model.specs.states.State.{Block, Hole, Redacted, Data, index_bound}
 use Rattle.zst_model.specs.states.Dated.{DatedState}
+use Rattle.zst_model.specs.pools.Held.{Held}
 use Rattle.zst_model.specs.pools.Lines.{object_lines, pool_lines}
 use Rattle.zst_model.specs.pools.Pool.{Pool, Dataset, dataset_named, snapshot_named, partial_of, is_before, snapshot_is_before, inserted}
 use Rattle.zst_model.specs.pools.Step.{Stepped, no_such, exists_already, cannot_apply, committed, count_datasets, most_datasets, most_snapshots, last_guid, new_dataset, with_dataset, on_head, snapshot_of, with_snapshot, state_named, answered, block_read, stepped}
@@ -54,20 +55,20 @@ block_read_keeps pool k i Redacted after h = absurd (cc)
 block_read_keeps pool k i Hole after h = answered_keeps pool _ after (limited_ok quantities.Block index_bound (i + 1) _ after h).1
 block_read_keeps pool k i (Data bytes) after h = answered_keeps pool _ after (limited_ok quantities.Block index_bound (i + 1) _ after h).1
 
-pub read_keeps : (now : ℕ) (name : Name) (k i : ℕ) (pool : Pool) (after : Stepped) → stepped now (commands.Read name k i) pool ≡ Ok after → after.pool ≡ pool
+pub read_keeps : (held : List Held) (now : ℕ) (name : Name) (k i : ℕ) (pool : Pool) (after : Stepped) → stepped held now (commands.Read name k i) pool ≡ Ok after → after.pool ≡ pool
 unfolding stepped
-read_keeps now name k i pool after h =
+read_keeps held now name k i pool after h =
     let found = or_else_ok (no_such name) (state_named name pool) _ after h in
     let there = or_else_ok (cannot_apply NoObject) (found.0.state k) _ after found.2 in
     block_read_keeps pool k i (there.0.blocks i) after there.2
 
-pub list_keeps : (now : ℕ) (pool : Pool) (after : Stepped) → stepped now commands.List pool ≡ Ok after → after.pool ≡ pool
+pub list_keeps : (held : List Held) (now : ℕ) (pool : Pool) (after : Stepped) → stepped held now commands.List pool ≡ Ok after → after.pool ≡ pool
 unfolding stepped
-list_keeps now pool after h = answered_keeps pool (pool_lines pool) after h
+list_keeps held now pool after h = answered_keeps pool (pool_lines pool) after h
 
-pub list_objects_keeps : (now : ℕ) (name : Name) (pool : Pool) (after : Stepped) → stepped now (commands.ListObjects name) pool ≡ Ok after → after.pool ≡ pool
+pub list_objects_keeps : (held : List Held) (now : ℕ) (name : Name) (pool : Pool) (after : Stepped) → stepped held now (commands.ListObjects name) pool ≡ Ok after → after.pool ≡ pool
 unfolding stepped
-list_objects_keeps now name pool after h =
+list_objects_keeps held now name pool after h =
     let found = or_else_ok (no_such name) (state_named name pool) _ after h in answered_keeps pool (object_lines found.0) after found.2
 
 -- a commit counts up

@@ -227,17 +227,17 @@ snapshot_steps now name pool after fits p is_name h =
 
 pub steps_keep_lawful : StepsKeepPools
 unfolding stepped
-steps_keep_lawful now (commands.Fs name) pool after c fits p h = dataset_steps 2 name pool after p c (inl refl) h
-steps_keep_lawful now (commands.Volume name) pool after c fits p h = dataset_steps 3 name pool after p c (inr refl) h
-steps_keep_lawful now (commands.Object name k head bonus spill) pool after c fits p h =
+steps_keep_lawful held now (commands.Fs name) pool after c fits p h = dataset_steps 2 name pool after p c (inl refl) h
+steps_keep_lawful held now (commands.Volume name) pool after c fits p h = dataset_steps 3 name pool after p c (inr refl) h
+steps_keep_lawful held now (commands.Object name k head bonus spill) pool after c fits p h =
     head_steps name pool _ after p (λ old new s made. object_is_lawful pool k head bonus spill old new s c.1 c.2 c.3 c.4 made) h
-steps_keep_lawful now (commands.Write name k i bytes) pool after c fits p h =
+steps_keep_lawful held now (commands.Write name k i bytes) pool after c fits p h =
     head_steps name pool _ after p (λ old new s made. write_is_lawful pool k i bytes old new s c.1 made) h
-steps_keep_lawful now (commands.Punch name k first count) pool after c fits p h =
+steps_keep_lawful held now (commands.Punch name k first count) pool after c fits p h =
     head_steps name pool _ after p (λ old new s made. punch_is_lawful pool k first count old new s c.1 made) h
-steps_keep_lawful now (commands.Free name first count) pool after c fits p h =
+steps_keep_lawful held now (commands.Free name first count) pool after c fits p h =
     head_steps name pool _ after p (λ old new s made. free_is_lawful pool first count old new s made) h
-steps_keep_lawful now (commands.Snapshot name) pool after c fits p h = snapshot_steps now name pool after fits p c h
-steps_keep_lawful now (commands.Read name k i) pool after c fits p h = subst IsPool (sym (read_keeps now name k i pool after h)) p
-steps_keep_lawful now commands.List pool after c fits p h = subst IsPool (sym (list_keeps now pool after h)) p
-steps_keep_lawful now (commands.ListObjects name) pool after c fits p h = subst IsPool (sym (list_objects_keeps now name pool after h)) p
+steps_keep_lawful held now (commands.Snapshot name) pool after c fits p h = snapshot_steps now name pool after fits p c h
+steps_keep_lawful held now (commands.Read name k i) pool after c fits p h = subst IsPool (sym (read_keeps held now name k i pool after h)) p
+steps_keep_lawful held now commands.List pool after c fits p h = subst IsPool (sym (list_keeps held now pool after h)) p
+steps_keep_lawful held now (commands.ListObjects name) pool after c fits p h = subst IsPool (sym (list_objects_keeps held now name pool after h)) p

@@ -21,6 +21,7 @@ use Rattle.zst_model.specs.declared.refusals.refusal.Refusal.TheVariants as refu
 use Rattle.zst_model.specs.states.State.{State, Object, IsObjectOrNone, is_odd_size, number_bound, index_bound, Hole, Data}
 use Rattle.zst_model.specs.states.Apply.{apply, apply_change, unless, is_unaligned, within, with_blocks, put_at, ◌>>=◌}
 use Rattle.zst_model.specs.states.Dated.{DatedState, size_at, apply_all_dated, touches_number, touches_index}
+use Rattle.zst_model.specs.pools.Held.{Held}
 use Rattle.zst_model.specs.pools.Pool.{Pool, Dataset, Partial, dataset_named, snapshot_named, partial_of, is_before, inserted, snapshot_is_before}
 use Rattle.zst_model.specs.pools.Step.{Stepped, stepped, no_such, exists_already, busy_partial, cannot_apply, or_else, of_applying, last_number, last_guid, most_datasets, most_snapshots, limited, in_numbers, in_indices, committed, with_head, count_datasets, new_dataset, with_dataset, on_dataset, on_head, applied, filled, written, punched, snapshot_of, state_named, answered, block_read}
 use Rattle.zst_model.specs.pools.Lines.{object_lines}
@@ -84,32 +85,32 @@ module _ (kind : ℕ) (name : List ℕ) (pool : Pool) where
       ∙ no_number (record pool { datasets = inserted (λ a b. is_before a.name b.name) (new_dataset kind name) pool.datasets }) e
 
 -- the command makes a dataset of this name, of either kind
-made_kind : (pool : Pool) (command : Command) (name : List ℕ) (now : ℕ) (refusal : Refusal) → made_by command ≡ Some name
-    → ((kind : ℕ) → with_dataset kind name pool ≡ Err refusal) → stepped now command pool ≡ Err refusal
+made_kind : (pool : Pool) (command : Command) (name : List ℕ) (held : List Held) (now : ℕ) (refusal : Refusal) → made_by command ≡ Some name
+    → ((kind : ℕ) → with_dataset kind name pool ≡ Err refusal) → stepped held now command pool ≡ Err refusal
 unfolding stepped
-made_kind pool (commands.Fs dataset) name now refusal e h = let same : dataset ≡ name = cc in ap (λ n. with_dataset 2 n pool) same ∙ h 2
-made_kind pool (commands.Volume dataset) name now refusal e h = let same : dataset ≡ name = cc in ap (λ n. with_dataset 3 n pool) same ∙ h 3
-made_kind pool (commands.Object dataset k head bonus spill) name now refusal e h = absurd (cc)
-made_kind pool (commands.Write dataset k i bytes) name now refusal e h = absurd (cc)
-made_kind pool (commands.Punch dataset k first count) name now refusal e h = absurd (cc)
-made_kind pool (commands.Free dataset first count) name now refusal e h = absurd (cc)
-made_kind pool (commands.Snapshot other) name now refusal e h = absurd (cc)
-made_kind pool (commands.Read other k i) name now refusal e h = absurd (cc)
-made_kind pool commands.List name now refusal e h = absurd (cc)
-made_kind pool (commands.ListObjects other) name now refusal e h = absurd (cc)
+made_kind pool (commands.Fs dataset) name held now refusal e h = let same : dataset ≡ name = cc in ap (λ n. with_dataset 2 n pool) same ∙ h 2
+made_kind pool (commands.Volume dataset) name held now refusal e h = let same : dataset ≡ name = cc in ap (λ n. with_dataset 3 n pool) same ∙ h 3
+made_kind pool (commands.Object dataset k head bonus spill) name held now refusal e h = absurd (cc)
+made_kind pool (commands.Write dataset k i bytes) name held now refusal e h = absurd (cc)
+made_kind pool (commands.Punch dataset k first count) name held now refusal e h = absurd (cc)
+made_kind pool (commands.Free dataset first count) name held now refusal e h = absurd (cc)
+made_kind pool (commands.Snapshot other) name held now refusal e h = absurd (cc)
+made_kind pool (commands.Read other k i) name held now refusal e h = absurd (cc)
+made_kind pool commands.List name held now refusal e h = absurd (cc)
+made_kind pool (commands.ListObjects other) name held now refusal e h = absurd (cc)
 
 pub dataset_there : DatasetIsThere
-dataset_there pool command name dataset m h now = made_kind pool command name now _ m (λ kind. there kind name pool dataset h)
+dataset_there pool command name dataset m h held now = made_kind pool command name held now _ m (λ kind. there kind name pool dataset h)
 
 pub target_there : TargetIsThere
-target_there pool command name partial m h now = made_kind pool command name now _ m (λ kind. begun kind name pool partial h)
+target_there pool command name partial m h held now = made_kind pool command name held now _ m (λ kind. begun kind name pool partial h)
 
 pub datasets_full : DatasetsAreFull
-datasets_full pool command name m h l now = made_kind pool command name now _ m (λ kind. full kind name pool h (omega arith))
+datasets_full pool command name m h l held now = made_kind pool command name held now _ m (λ kind. full kind name pool h (omega arith))
 
 pub targets_count : TargetsCount
-targets_count pool command name partial m h l p a now =
-    made_kind pool command name now _ m (λ kind. full kind name pool h (omega (arith, one)))
+targets_count pool command name partial m h l p a held now =
+    made_kind pool command name held now _ m (λ kind. full kind name pool h (omega (arith, one)))
   where
     absent : Partial → Bool
     absent row = not (is_some (dataset_named row.target pool))
@@ -118,8 +119,8 @@ targets_count pool command name partial m h l p a now =
     one = ap (count_by absent) p ∙ ap (λ o. 0 + cond (not (is_some o)) 1 0) a
 
 pub dataset_number : DatasetHasNoNumber
-dataset_number pool command name m h l e now =
-    made_kind pool command name now _ m (λ kind. last kind name pool h (omega (arith, count_by-le-length (λ partial. not (is_some (dataset_named partial.target pool))) pool.partials)) e)
+dataset_number pool command name m h l e held now =
+    made_kind pool command name held now _ m (λ kind. last kind name pool h (omega (arith, count_by-le-length (λ partial. not (is_some (dataset_named partial.target pool))) pool.partials)) e)
 
 -- a dataset that is absent, or busy
 module _ (pool : Pool) (name : List ℕ) where
@@ -155,27 +156,27 @@ abbrev to_snapshot : ℕ → List ℕ → Pool → Dataset → Result Stepped Re
 to_snapshot now name pool dataset = unless (is_some (snapshot_named name pool)) (exists_already (names.Snapshot name)) (to_place now name pool dataset)
 
 -- the command goes on with a dataset of this name
-taken_on : (pool : Pool) (command : Command) (name : List ℕ) (now : ℕ) (refusal : Refusal) → taken_by command ≡ Some name
-    → ((next : Dataset → Result Stepped Refusal) → on_dataset name pool next ≡ Err refusal) → stepped now command pool ≡ Err refusal
+taken_on : (pool : Pool) (command : Command) (name : List ℕ) (held : List Held) (now : ℕ) (refusal : Refusal) → taken_by command ≡ Some name
+    → ((next : Dataset → Result Stepped Refusal) → on_dataset name pool next ≡ Err refusal) → stepped held now command pool ≡ Err refusal
 unfolding stepped
-taken_on pool (commands.Fs dataset) name now refusal e h = absurd (cc)
-taken_on pool (commands.Volume dataset) name now refusal e h = absurd (cc)
-taken_on pool (commands.Object dataset k head bonus spill) name now refusal e h = let same : dataset ≡ name = cc in subst (λ n. stepped now (commands.Object n k head bonus spill) pool ≡ Err refusal) (sym same) (h _)
-taken_on pool (commands.Write dataset k i bytes) name now refusal e h = let same : dataset ≡ name = cc in subst (λ n. stepped now (commands.Write n k i bytes) pool ≡ Err refusal) (sym same) (h _)
-taken_on pool (commands.Punch dataset k first count) name now refusal e h = let same : dataset ≡ name = cc in subst (λ n. stepped now (commands.Punch n k first count) pool ≡ Err refusal) (sym same) (h _)
-taken_on pool (commands.Free dataset first count) name now refusal e h = let same : dataset ≡ name = cc in subst (λ n. stepped now (commands.Free n first count) pool ≡ Err refusal) (sym same) (h _)
-taken_on pool (commands.Snapshot other) name now refusal e h =
+taken_on pool (commands.Fs dataset) name held now refusal e h = absurd (cc)
+taken_on pool (commands.Volume dataset) name held now refusal e h = absurd (cc)
+taken_on pool (commands.Object dataset k head bonus spill) name held now refusal e h = let same : dataset ≡ name = cc in subst (λ n. stepped held now (commands.Object n k head bonus spill) pool ≡ Err refusal) (sym same) (h _)
+taken_on pool (commands.Write dataset k i bytes) name held now refusal e h = let same : dataset ≡ name = cc in subst (λ n. stepped held now (commands.Write n k i bytes) pool ≡ Err refusal) (sym same) (h _)
+taken_on pool (commands.Punch dataset k first count) name held now refusal e h = let same : dataset ≡ name = cc in subst (λ n. stepped held now (commands.Punch n k first count) pool ≡ Err refusal) (sym same) (h _)
+taken_on pool (commands.Free dataset first count) name held now refusal e h = let same : dataset ≡ name = cc in subst (λ n. stepped held now (commands.Free n first count) pool ≡ Err refusal) (sym same) (h _)
+taken_on pool (commands.Snapshot other) name held now refusal e h =
     let same : dataset_before other ≡ name = cc in
     subst (λ n. on_dataset n pool (to_snapshot now other pool) ≡ Err refusal) (sym same) (h (to_snapshot now other pool))
-taken_on pool (commands.Read other k i) name now refusal e h = absurd (cc)
-taken_on pool commands.List name now refusal e h = absurd (cc)
-taken_on pool (commands.ListObjects other) name now refusal e h = absurd (cc)
+taken_on pool (commands.Read other k i) name held now refusal e h = absurd (cc)
+taken_on pool commands.List name held now refusal e h = absurd (cc)
+taken_on pool (commands.ListObjects other) name held now refusal e h = absurd (cc)
 
 pub dataset_absent : DatasetIsAbsent
-dataset_absent pool command name m h now = taken_on pool command name now _ m (λ next. absent_on pool name next h)
+dataset_absent pool command name m h held now = taken_on pool command name held now _ m (λ next. absent_on pool name next h)
 
 pub dataset_busy : DatasetIsBusy
-dataset_busy pool command name dataset partial m h p now = taken_on pool command name now _ m (λ next. busy_on pool name next dataset partial h p)
+dataset_busy pool command name dataset partial m h p held now = taken_on pool command name held now _ m (λ next. busy_on pool name next dataset partial h p)
 
 -- commands on a head
 module _ (pool : Pool) (name : List ℕ) (dataset : Dataset) (free : HasFree pool name dataset) where
@@ -256,17 +257,17 @@ module _ (pool : Pool) (k : ℕ) (head : ObjectHead) (bonus : List ℕ) (d : Dat
 
 pub number_far : NumberIsFar
 unfolding stepped number_bound
-number_far pool name dataset k head bonus spill f l now =
+number_far pool name dataset k head bonus spill f l held now =
     head_refused pool name dataset f _ (refusals.Limit quantities.Object 281474976710656) (over quantities.Object 281474976710656 (k + 1) _ (omega arith))
 
 pub numbers_far : NumbersAreFar
 unfolding stepped number_bound
-numbers_far pool name dataset first count f l now =
+numbers_far pool name dataset first count f l held now =
     head_refused pool name dataset f _ (refusals.Limit quantities.Object 281474976710656) (over quantities.Object 281474976710656 (first + count) _ l)
 
 pub object_number : ObjectHasNoNumber
 unfolding stepped number_bound
-object_number pool name dataset k head bonus spill f l e now =
+object_number pool name dataset k head bonus spill f l e held now =
     let put = all_put pool k head bonus dataset.head spill in
     head_made pool name dataset f (λ d. in_numbers (k + 1) (applied pool (map (At k) (Put head bonus false 0 ∷ spill_change spill)) d)) put.0
     (within_limit quantities.Object 281474976710656 (k + 1) _ (omega arith) ∙ put.1)
@@ -274,7 +275,7 @@ object_number pool name dataset k head bonus spill f l e now =
 
 pub free_number : FreeHasNoNumber
 unfolding stepped apply number_bound
-free_number pool name dataset first count f l e now =
+free_number pool name dataset first count f l e held now =
     head_made pool name dataset f (λ d. in_numbers (first + count) (applied pool (FreeObjects first count ∷ []) d)) _
     (within_limit quantities.Object 281474976710656 (first + count) _ l)
     ∙ no_number _ e
@@ -286,28 +287,28 @@ filled_length size bytes = length-append bytes (replicate (size - length bytes) 
 fits_filled : (size : ℕ) (bytes : List ℕ) → length bytes ≤ size → not (length (filled size bytes) == size) ≡ false
 fits_filled size bytes l = not_from_true _ (eq-eqb _ _ (filled_length size bytes ∙ omega arith))
 
-module _ (pool : Pool) (name : List ℕ) (dataset : Dataset) (k i : ℕ) (bytes : List ℕ) (free : HasFree pool name dataset) (now : ℕ) where
+module _ (pool : Pool) (name : List ℕ) (dataset : Dataset) (k i : ℕ) (bytes : List ℕ) (free : HasFree pool name dataset) (held : List Held) (now : ℕ) where
   abbrev block_write : Option Object → Change
   block_write o = Write (i * size_at o) 0 (filled (size_at o) bytes)
 
   abbrev write_result : Option Object → Result (Option Object) ApplyFault
   write_result o = apply_change (block_write o) o
 
-  write_fails : (o : Option Object) (fault : ApplyFault) → dataset.head.state k ≡ o → write_result o ≡ Err fault → stepped now (commands.Write name k i bytes) pool ≡ Err (cannot_apply fault)
+  write_fails : (o : Option Object) (fault : ApplyFault) → dataset.head.state k ≡ o → write_result o ≡ Err fault → stepped held now (commands.Write name k i bytes) pool ≡ Err (cannot_apply fault)
   unfolding stepped
   write_fails o fault h e =
       head_refused pool name dataset free (written pool k i bytes) (cannot_apply fault)
       (ap (λ r. r >>= λ after. in_indices (i + 1) (Ok after)) (outcome_is pool k (block_write (dataset.head.state k)) dataset.head (Err fault) (ap write_result h ∙ e)))
 
   write_beyond : (o made : Option Object) → dataset.head.state k ≡ o → write_result o ≡ Ok made → 8796093022208 ≤ i
-      → stepped now (commands.Write name k i bytes) pool ≡ Err (refusals.Limit quantities.Block 8796093022208)
+      → stepped held now (commands.Write name k i bytes) pool ≡ Err (refusals.Limit quantities.Block 8796093022208)
   unfolding stepped
   write_beyond o made h e l =
       head_refused pool name dataset free (written pool k i bytes) (refusals.Limit quantities.Block 8796093022208)
       (beyond _ _ (i + 1) (outcome_is pool k (block_write (dataset.head.state k)) dataset.head (Ok made) (ap write_result h ∙ e)) (omega arith))
 
   write_last : (o made : Option Object) → dataset.head.state k ≡ o → write_result o ≡ Ok made → i < 8796093022208 → pool.number ≡ 9223372036854775808
-      → stepped now (commands.Write name k i bytes) pool ≡ Err (refusals.Limit quantities.Number 9223372036854775808)
+      → stepped held now (commands.Write name k i bytes) pool ≡ Err (refusals.Limit quantities.Number 9223372036854775808)
   unfolding stepped
   write_last o made h e l n =
       head_made pool name dataset free (written pool k i bytes) _
@@ -327,58 +328,58 @@ write_made i bytes object l even =
 
 pub write_object : WriteWantsObject
 unfolding apply_change
-write_object pool name dataset k i bytes f h now = write_fails pool name dataset k i bytes f now None NoObject h refl
+write_object pool name dataset k i bytes f h held now = write_fails pool name dataset k i bytes f held now None NoObject h refl
 
 pub write_long : WriteIsLong
 unfolding apply_change
-write_long pool name dataset k i bytes object f h l now =
+write_long pool name dataset k i bytes object f h l held now =
     let size = object.attr.block_size in
-    write_fails pool name dataset k i bytes f now (Some object) SizeDiffers h
+    write_fails pool name dataset k i bytes f held now (Some object) SizeDiffers h
     (refused (not (length (filled size bytes) == size)) SizeDiffers _ (ap not (ne_eqb (length (filled size bytes)) size (λ e. omega (arith, e, filled_length size bytes)))))
 
 pub write_odd : WriteIsOdd
 unfolding apply_change
-write_odd pool name dataset k i bytes object f h pos l odd some now =
+write_odd pool name dataset k i bytes object f h pos l odd some held now =
     let size = object.attr.block_size in
     let more : 1 * size ≤ i * size = mul-le-mul_right size some in
-    write_fails pool name dataset k i bytes f now (Some object) OddBlock h
+    write_fails pool name dataset k i bytes f held now (Some object) OddBlock h
     (passed (not (length (filled size bytes) == size)) SizeDiffers _ (fits_filled size bytes l)
     ∙ passed (is_unaligned size (i * size)) Unaligned _ (aligned_from size (i * size) (mul-mod_left i size))
     ∙ refused (is_odd_size size && nat_lt 0 (i * size)) OddBlock _ (and_from (is_odd_size size) _ odd (lt-ltb _ _ (omega arith))))
 
 pub write_far : WriteIsFar
-write_far pool name dataset k i bytes object f h l even far now = write_beyond pool name dataset k i bytes f now (Some object) _ h (write_made i bytes object l even) far
+write_far pool name dataset k i bytes object f h l even far held now = write_beyond pool name dataset k i bytes f held now (Some object) _ h (write_made i bytes object l even) far
 
 pub write_number : WriteHasNoNumber
-write_number pool name dataset k i bytes object f h l even low e now = write_last pool name dataset k i bytes f now (Some object) _ h (write_made i bytes object l even) low e
+write_number pool name dataset k i bytes object f h l even low e held now = write_last pool name dataset k i bytes f held now (Some object) _ h (write_made i bytes object l even) low e
 
 pub odd_sizes : OddSizes
 unfolding lib.Count.ones
 odd_sizes = (refl, refl, refl)
 
 -- punches
-module _ (pool : Pool) (name : List ℕ) (dataset : Dataset) (k first count : ℕ) (free : HasFree pool name dataset) (now : ℕ) where
+module _ (pool : Pool) (name : List ℕ) (dataset : Dataset) (k first count : ℕ) (free : HasFree pool name dataset) (held : List Held) (now : ℕ) where
   abbrev block_free : Option Object → Change
   block_free o = Free (first * size_at o) (count * size_at o)
 
   abbrev punch_result : Option Object → Result (Option Object) ApplyFault
   punch_result o = apply_change (block_free o) o
 
-  punch_fails : (o : Option Object) (fault : ApplyFault) → dataset.head.state k ≡ o → punch_result o ≡ Err fault → stepped now (commands.Punch name k first count) pool ≡ Err (cannot_apply fault)
+  punch_fails : (o : Option Object) (fault : ApplyFault) → dataset.head.state k ≡ o → punch_result o ≡ Err fault → stepped held now (commands.Punch name k first count) pool ≡ Err (cannot_apply fault)
   unfolding stepped
   punch_fails o fault h e =
       head_refused pool name dataset free (punched pool k first count) (cannot_apply fault)
       (ap (λ r. r >>= λ after. in_indices (first + count) (Ok after)) (outcome_is pool k (block_free (dataset.head.state k)) dataset.head (Err fault) (ap punch_result h ∙ e)))
 
   punch_beyond : (o made : Option Object) → dataset.head.state k ≡ o → punch_result o ≡ Ok made → 8796093022208 < first + count
-      → stepped now (commands.Punch name k first count) pool ≡ Err (refusals.Limit quantities.Block 8796093022208)
+      → stepped held now (commands.Punch name k first count) pool ≡ Err (refusals.Limit quantities.Block 8796093022208)
   unfolding stepped
   punch_beyond o made h e l =
       head_refused pool name dataset free (punched pool k first count) (refusals.Limit quantities.Block 8796093022208)
       (beyond _ _ (first + count) (outcome_is pool k (block_free (dataset.head.state k)) dataset.head (Ok made) (ap punch_result h ∙ e)) l)
 
   punch_last : (o made : Option Object) → dataset.head.state k ≡ o → punch_result o ≡ Ok made → first + count ≤ 8796093022208 → pool.number ≡ 9223372036854775808
-      → stepped now (commands.Punch name k first count) pool ≡ Err (refusals.Limit quantities.Number 9223372036854775808)
+      → stepped held now (commands.Punch name k first count) pool ≡ Err (refusals.Limit quantities.Number 9223372036854775808)
   unfolding stepped
   punch_last o made h e l n =
       head_made pool name dataset free (punched pool k first count) _
@@ -397,45 +398,45 @@ punch_made first count object =
 
 pub punch_object : PunchWantsObject
 unfolding apply_change
-punch_object pool name dataset k first count f h now = punch_fails pool name dataset k first count f now None NoObject h refl
+punch_object pool name dataset k first count f h held now = punch_fails pool name dataset k first count f held now None NoObject h refl
 
 pub punch_far : PunchIsFar
-punch_far pool name dataset k first count object f h far now = punch_beyond pool name dataset k first count f now (Some object) _ h (punch_made first count object) far
+punch_far pool name dataset k first count object f h far held now = punch_beyond pool name dataset k first count f held now (Some object) _ h (punch_made first count object) far
 
 pub punch_number : PunchHasNoNumber
-punch_number pool name dataset k first count object f h low e now = punch_last pool name dataset k first count f now (Some object) _ h (punch_made first count object) low e
+punch_number pool name dataset k first count object f h low e held now = punch_last pool name dataset k first count f held now (Some object) _ h (punch_made first count object) low e
 
 -- snapshots
-there_already : (pool : Pool) (name : List ℕ) (dataset : Dataset) (now : ℕ) → HasFree pool (dataset_before name) dataset → stepped now (commands.Snapshot name) pool ≡ to_snapshot now name pool dataset
+there_already : (pool : Pool) (name : List ℕ) (dataset : Dataset) (held : List Held) (now : ℕ) → HasFree pool (dataset_before name) dataset → stepped held now (commands.Snapshot name) pool ≡ to_snapshot now name pool dataset
 unfolding stepped
-there_already pool name dataset now f = free_on pool (dataset_before name) (to_snapshot now name pool) dataset f
+there_already pool name dataset held now f = free_on pool (dataset_before name) (to_snapshot now name pool) dataset f
 
 pub snapshot_there : SnapshotIsThere
-snapshot_there pool name dataset snapshot f h now =
-    there_already pool name dataset now f ∙ ap (λ o. unless (is_some o) (exists_already (names.Snapshot name)) (to_place now name pool dataset)) h
+snapshot_there pool name dataset snapshot f h held now =
+    there_already pool name dataset held now f ∙ ap (λ o. unless (is_some o) (exists_already (names.Snapshot name)) (to_place now name pool dataset)) h
 
-takeable : (pool : Pool) (name : List ℕ) (dataset : Dataset) (now : ℕ) → IsTakeable pool name dataset → stepped now (commands.Snapshot name) pool ≡ to_place now name pool dataset
-takeable pool name dataset now t =
-    there_already pool name dataset now t.0 ∙ ap (λ o. unless (is_some o) (exists_already (names.Snapshot name)) (to_place now name pool dataset)) t.1
+takeable : (pool : Pool) (name : List ℕ) (dataset : Dataset) (held : List Held) (now : ℕ) → IsTakeable pool name dataset → stepped held now (commands.Snapshot name) pool ≡ to_place now name pool dataset
+takeable pool name dataset held now t =
+    there_already pool name dataset held now t.0 ∙ ap (λ o. unless (is_some o) (exists_already (names.Snapshot name)) (to_place now name pool dataset)) t.1
 
 pub snapshots_full : SnapshotsAreFull
 unfolding most_snapshots
-snapshots_full pool name dataset t l now = takeable pool name dataset now t ∙ over quantities.Snapshots 1024 (length pool.snapshots + length pool.partials + 1) (to_guid now name pool dataset) (omega arith)
+snapshots_full pool name dataset t l held now = takeable pool name dataset held now t ∙ over quantities.Snapshots 1024 (length pool.snapshots + length pool.partials + 1) (to_guid now name pool dataset) (omega arith)
 
-placed : (pool : Pool) (name : List ℕ) (dataset : Dataset) (now : ℕ) → IsTakeable pool name dataset → length pool.snapshots + length pool.partials < 1024
-    → stepped now (commands.Snapshot name) pool ≡ to_guid now name pool dataset
+placed : (pool : Pool) (name : List ℕ) (dataset : Dataset) (held : List Held) (now : ℕ) → IsTakeable pool name dataset → length pool.snapshots + length pool.partials < 1024
+    → stepped held now (commands.Snapshot name) pool ≡ to_guid now name pool dataset
 unfolding most_snapshots
-placed pool name dataset now t l =
-    takeable pool name dataset now t ∙ within_limit quantities.Snapshots 1024 (length pool.snapshots + length pool.partials + 1) (to_guid now name pool dataset) (omega arith)
+placed pool name dataset held now t l =
+    takeable pool name dataset held now t ∙ within_limit quantities.Snapshots 1024 (length pool.snapshots + length pool.partials + 1) (to_guid now name pool dataset) (omega arith)
 
 pub guids_over : GuidsAreOver
 unfolding last_guid
-guids_over pool name dataset t l e now = placed pool name dataset now t l ∙ over quantities.Guids 4294967295 (pool.guids + 1) (to_number now name pool dataset) (omega arith)
+guids_over pool name dataset t l e held now = placed pool name dataset held now t l ∙ over quantities.Guids 4294967295 (pool.guids + 1) (to_number now name pool dataset) (omega arith)
 
 pub snapshot_number : SnapshotHasNoNumber
 unfolding last_guid
-snapshot_number pool name dataset t l g e now =
-    placed pool name dataset now t l ∙ within_limit quantities.Guids 4294967295 (pool.guids + 1) (to_number now name pool dataset) (omega arith)
+snapshot_number pool name dataset t l g e held now =
+    placed pool name dataset held now t l ∙ within_limit quantities.Guids 4294967295 (pool.guids + 1) (to_number now name pool dataset) (omega arith)
     ∙ no_number (record pool { guids = pool.guids + 1; snapshots = inserted snapshot_is_before (snapshot_of now name pool dataset) pool.snapshots }) e
 
 -- reads
@@ -445,24 +446,24 @@ read_of pool k i o = or_else (cannot_apply NoObject) o (λ object. block_read po
 pub name_absent : NameIsAbsent
 unfolding stepped
 name_absent pool name h = (
-  λ k i now. ap (λ o. or_else (no_such name) o (λ snap. read_of pool k i (snap.state k))) h,
-  λ now. ap (λ o. or_else (no_such name) o (λ snap. answered pool (object_lines snap))) h,
+  λ k i held now. ap (λ o. or_else (no_such name) o (λ snap. read_of pool k i (snap.state k))) h,
+  λ held now. ap (λ o. or_else (no_such name) o (λ snap. answered pool (object_lines snap))) h,
 )
 
-read_on : (pool : Pool) (name : Name) (snap : DatedState) (k i : ℕ) (now : ℕ) (o : Option Object) → state_named name pool ≡ Some snap → snap.state k ≡ o
-    → stepped now (commands.Read name k i) pool ≡ read_of pool k i o
+read_on : (pool : Pool) (name : Name) (snap : DatedState) (k i : ℕ) (held : List Held) (now : ℕ) (o : Option Object) → state_named name pool ≡ Some snap → snap.state k ≡ o
+    → stepped held now (commands.Read name k i) pool ≡ read_of pool k i o
 unfolding stepped
-read_on pool name snap k i now o h e = ap (λ o. or_else (no_such name) o (λ snap. read_of pool k i (snap.state k))) h ∙ ap (read_of pool k i) e
+read_on pool name snap k i held now o h e = ap (λ o. or_else (no_such name) o (λ snap. read_of pool k i (snap.state k))) h ∙ ap (read_of pool k i) e
 
 pub read_object : ReadWantsObject
-read_object pool name snap k i h e now = read_on pool name snap k i now None h e
+read_object pool name snap k i h e held now = read_on pool name snap k i held now None h e
 
 pub read_redacted : ReadIsRedacted
-read_redacted pool name snap k i object h e b now = read_on pool name snap k i now (Some object) h e ∙ ap (block_read pool k i) b
+read_redacted pool name snap k i object h e b held now = read_on pool name snap k i held now (Some object) h e ∙ ap (block_read pool k i) b
 
 pub read_far : ReadIsFar
 unfolding index_bound
-read_far pool name snap k i object lawful h e l now =
-    read_on pool name snap k i now (Some object) h e
+read_far pool name snap k i object lawful h e l held now =
+    read_on pool name snap k i held now (Some object) h e
     ∙ ap (block_read pool k i) ((subst IsObjectOrNone e (lawful.objects k)).bounded i l)
     ∙ over quantities.Block 8796093022208 (i + 1) _ (omega arith)

@@ -14,6 +14,7 @@ use Rattle.zst_model.specs.declared.refusals.refusal.Refusal.{Refusal}
 use Rattle.zst_model.specs.states.State.{IsState, IsHead, IsBonus, IsSpill, number_bound, index_bound}
 use Rattle.zst_model.specs.states.Apply.{◌>>=◌}
 use Rattle.zst_model.specs.states.Dated.{DatedState, size_at, apply_all_dated}
+use Rattle.zst_model.specs.pools.Held.{Held}
 use Rattle.zst_model.specs.pools.Pool.{Pool, Dataset, IsKind, IsPool}
 use Rattle.zst_model.specs.pools.Sound.{Sound}
 use Rattle.zst_model.specs.pools.Step.{Stepped, stepped, IsCommand, committed, with_head, in_numbers, in_indices, applied, filled, written, punched, on_head, with_dataset, with_snapshot, snapshot_of}
@@ -118,33 +119,33 @@ punch_keeps pool k first count head after s h =
     let size = size_at (head.state k) in within_keeps pool (At k (Free (first * size) (count * size))) (first + count) head after s h
 
 -- an accepted command leaves the pool as it was, or makes a sound pool of the next commit
-steps_follow : (now : ℕ) (command : Command) (pool : Pool) (after : Stepped)
-    → IsCommand command → IsPool pool → Sound pool → stepped now command pool ≡ Ok after → (after.pool ≡ pool) ⊎ IsSoundNext pool after.pool
+steps_follow : (held : List Held) (now : ℕ) (command : Command) (pool : Pool) (after : Stepped)
+    → IsCommand command → IsPool pool → Sound pool → stepped held now command pool ≡ Ok after → (after.pool ≡ pool) ⊎ IsSoundNext pool after.pool
 unfolding stepped
-steps_follow now (commands.Fs name) pool after command is sound h = inr (new_follows 2 name pool after is sound h)
-steps_follow now (commands.Volume name) pool after command is sound h = inr (new_follows 3 name pool after is sound h)
-steps_follow now (commands.Object name k object bonus spill) pool after command is sound h =
+steps_follow held now (commands.Fs name) pool after command is sound h = inr (new_follows 2 name pool after is sound h)
+steps_follow held now (commands.Volume name) pool after command is sound h = inr (new_follows 3 name pool after is sound h)
+steps_follow held now (commands.Object name k object bonus spill) pool after command is sound h =
     inr (changed_follows name pool (λ d. in_numbers (k + 1) (applied pool (object_items k object bonus spill) d)) after is sound
     (λ head made s g. object_keeps pool k object bonus spill head made s command.1 command.2 command.3 command.4 g) h)
-steps_follow now (commands.Write name k i bytes) pool after command is sound h =
+steps_follow held now (commands.Write name k i bytes) pool after command is sound h =
     inr (changed_follows name pool (written pool k i bytes) after is sound (write_keeps pool k i bytes) h)
-steps_follow now (commands.Punch name k first count) pool after command is sound h =
+steps_follow held now (commands.Punch name k first count) pool after command is sound h =
     inr (changed_follows name pool (punched pool k first count) after is sound (punch_keeps pool k first count) h)
-steps_follow now (commands.Free name first count) pool after command is sound h =
+steps_follow held now (commands.Free name first count) pool after command is sound h =
     inr (changed_follows name pool (λ d. in_numbers (first + count) (applied pool (FreeObjects first count ∷ []) d)) after is sound (free_keeps pool first count) h)
-steps_follow now (commands.Snapshot name) pool after command is sound h = inr (taken_follows now name pool after is sound h)
-steps_follow now (commands.Read name k i) pool after command is sound h = inl (read_keeps now name k i pool after h)
-steps_follow now commands.List pool after command is sound h = inl (list_keeps now pool after h)
-steps_follow now (commands.ListObjects name) pool after command is sound h = inl (list_objects_keeps now name pool after h)
+steps_follow held now (commands.Snapshot name) pool after command is sound h = inr (taken_follows now name pool after is sound h)
+steps_follow held now (commands.Read name k i) pool after command is sound h = inl (read_keeps held now name k i pool after h)
+steps_follow held now commands.List pool after command is sound h = inl (list_keeps held now pool after h)
+steps_follow held now (commands.ListObjects name) pool after command is sound h = inl (list_objects_keeps held now name pool after h)
 
 pub steps_sound : StepsKeepSound
-steps_sound now command pool after words is sound h = elim (steps_follow now command pool after words is sound h) [
+steps_sound held now command pool after words is sound h = elim (steps_follow held now command pool after words is sound h) [
   | inl same ↦ subst Sound (sym same) sound
   | inr follows ↦ follows.sound
 ]
 
 pub steps_remember : StepsRemember
-steps_remember now command pool after source state words is sound h here remembers = elim (steps_follow now command pool after words is sound h) [
+steps_remember held now command pool after source state words is sound h here remembers = elim (steps_follow held now command pool after words is sound h) [
   | inl same ↦ subst (λ p. SourceRemembers p source state) (sym same) remembers
   | inr follows ↦ next_remembers pool after.pool is.linked sound follows.next source state here remembers
 ]

@@ -106,12 +106,12 @@ sources_bases pool source own row listed redact is sound here of there before =
 
 pub taken_remembers : TakenRemembers
 unfolding stepped
-taken_remembers now name pool after words is sound h =
+taken_remembers held now name pool after words is sound h =
     let new = with_snapshot_ok now name pool after h in
     let row = snapshot_of now name pool new.dataset in
     let there : Contains after.pool.snapshots row =
     subst (λ s. Contains s.pool.snapshots row) (committed_ok _ after new.made).1 (inserted_has_row snapshot_is_before row pool.snapshots) in
-    (row, there, refl, own_remembered after.pool (OfSnapshot row) row (steps_sound now (commands.Snapshot name) pool after words is sound h) there (record { dataset = refl; number = refl }))
+    (row, there, refl, own_remembered after.pool (OfSnapshot row) row (steps_sound held now (commands.Snapshot name) pool after words is sound h) there (record { dataset = refl; number = refl }))
 
 -- what commands keep while a source stands: a lawful, sound pool, in which the source is and remembers the state
 record IsKept (source : Source) (state : State) (pool : Pool) : Type 0 where
@@ -122,11 +122,11 @@ record IsKept (source : Source) (state : State) (pool : Pool) : Type 0 where
 
 kept_on : (source : Source) (state : State) (pool last : Pool) → Leads source pool last → IsKept source state pool → IsKept source state last
 kept_on source state pool last (Stays _) kept = kept
-kept_on source state pool last (Steps now command _ after _ words fits made here rest) kept = kept_on source state after.pool last rest (record {
-  lawful = steps_keep_lawful now command pool after words fits kept.lawful made;
-  sound = steps_sound now command pool after words kept.lawful kept.sound made;
+kept_on source state pool last (Steps held now command _ after _ words fits made here rest) kept = kept_on source state after.pool last rest (record {
+  lawful = steps_keep_lawful held now command pool after words fits kept.lawful made;
+  sound = steps_sound held now command pool after words kept.lawful kept.sound made;
   here = here;
-  remembers = steps_remember now command pool after source state words kept.lawful kept.sound made kept.here kept.remembers;
+  remembers = steps_remember held now command pool after source state words kept.lawful kept.sound made kept.here kept.remembers;
 })
 
 pub history_base : HistoryIsBase

@@ -22,6 +22,7 @@ use Rattle.zst_model.specs.states.State.{Block, Hole, Redacted, Data, number_bou
 use Rattle.zst_model.specs.states.Apply.{unless, ◌>>=◌}
 use Rattle.zst_model.specs.sends.Items.{spill_change}
 use Rattle.zst_model.specs.states.Dated.{DatedState, size_at, apply_all_dated}
+use Rattle.zst_model.specs.pools.Held.{Held}
 use Rattle.zst_model.specs.pools.Pool.{Pool, Dataset, Snapshot, dataset_named, snapshot_named, partial_of, is_before, snapshot_is_before, inserted, untouched}
 unfoldable pub use Rattle.zst_model.specs.pools.Limits.{last_number, last_guid, most_datasets, most_snapshots}
 use Rattle.zst_model.specs.pools.Limits.{largest_write}
@@ -186,20 +187,21 @@ block_read pool k i Redacted = Err (refusals.Redacted k i)
 block_read pool k i Hole = in_indices (i + 1) (answered pool (codes "hole" ∷ []))
 block_read pool k i (Data bytes) = in_indices (i + 1) (answered pool (data_line bytes ∷ []))
 
--- what a command makes of a pool at this time
-unfoldable pub stepped : ℕ → Command → Pool → Result Stepped Refusal
-stepped now (commands.Fs dataset) pool = with_dataset 2 dataset pool
-stepped now (commands.Volume dataset) pool = with_dataset 3 dataset pool
-stepped now (commands.Object dataset k head bonus spill) pool =
+-- What a command makes of a pool at this time, while sessions hold and claim this. No command that is built looks at what is held:
+-- E5 of a session is for those that drop or replace a dataset, a snapshot or a partial state.
+unfoldable pub stepped : (held : List Held) → (now : ℕ) → Command → Pool → Result Stepped Refusal
+stepped held now (commands.Fs dataset) pool = with_dataset 2 dataset pool
+stepped held now (commands.Volume dataset) pool = with_dataset 3 dataset pool
+stepped held now (commands.Object dataset k head bonus spill) pool =
     on_head dataset pool (λ d. in_numbers (k + 1) (applied pool (map (At k) (Put head bonus false 0 ∷ spill_change spill)) d))
-stepped now (commands.Write dataset k i bytes) pool = on_head dataset pool (written pool k i bytes)
-stepped now (commands.Punch dataset k first count) pool = on_head dataset pool (punched pool k first count)
-stepped now (commands.Free dataset first count) pool =
+stepped held now (commands.Write dataset k i bytes) pool = on_head dataset pool (written pool k i bytes)
+stepped held now (commands.Punch dataset k first count) pool = on_head dataset pool (punched pool k first count)
+stepped held now (commands.Free dataset first count) pool =
     on_head dataset pool (λ d. in_numbers (first + count) (applied pool (FreeObjects first count ∷ []) d))
-stepped now (commands.Snapshot name) pool = with_snapshot now name pool
-stepped now (commands.Read name k i) pool =
+stepped held now (commands.Snapshot name) pool = with_snapshot now name pool
+stepped held now (commands.Read name k i) pool =
     or_else (no_such name) (state_named name pool) (λ snap.
     or_else (cannot_apply NoObject) (snap.state k) (λ object.
     block_read pool k i (object.blocks i)))
-stepped now commands.List pool = answered pool (pool_lines pool)
-stepped now (commands.ListObjects name) pool = or_else (no_such name) (state_named name pool) (λ snap. answered pool (object_lines snap))
+stepped held now commands.List pool = answered pool (pool_lines pool)
+stepped held now (commands.ListObjects name) pool = or_else (no_such name) (state_named name pool) (λ snap. answered pool (object_lines snap))

@@ -1,4 +1,4 @@
-use Rattle.std.proofs.Common.{sym, ap, ◌∙◌, subst, not}
+use Rattle.std.proofs.Common.{◌<◌, ◌^◌, sym, ap, ◌∙◌, subst, not}
 use Rattle.std.specs.List.{filter}
 use Rattle.std.specs.Str.{bytes_eq}
 use Rattle.zst_block.specs.Blocks.{Has}
@@ -60,7 +60,8 @@ returns-clause-did g c = λ pool told rests.
     let done = next_of (with_taken now name judged.0 pool) in
     let same = c.new_snapshot-snapshot.ensures.same in
     let named = subst IsSnapshot (ap (λ (s : Snapshot). s.name) same) c.new_snapshot-snapshot.ensures.row.name in
-    let lawful = snapshot_is_lawful c.steps_keep_pools.ensures.pools now name pool done named described.lawful judged.2 in
+    let fits = subst (λ (s : Snapshot). s.time < 2 ^ 64) same c.new_snapshot-snapshot.ensures.row.time in
+    let lawful = snapshot_is_lawful c.steps_keep_pools.ensures.pools now name pool done named fits described.lawful judged.2 in
     let dir = c.in_ok-dir.ensures.taken
     ∙ ap (λ (s : Snapshot). record kept.dir { snapshots = inserted snapshot_is_before s kept.dir.snapshots; partials = filter (λ partial. not (bytes_eq partial.target (dataset_of 64 s.name))) kept.dir.partials }) same in
     let next = snapshot_is_next (Has old.seen space) kept.body kept.dir c.in_ok-dir.dir pool now name c.in_ok-dataset.dataset.now judged.0 described judged.1 c.in_ok-dataset.ensures.free dir lawful in

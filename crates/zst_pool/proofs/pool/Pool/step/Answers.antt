@@ -24,7 +24,7 @@ returns-clause-answer g c = λ pool told built standing rests.
     (answer.0, answer.1, c.in_ok-reply.ensures ∙ ap (λ (n : ℕ). ok_line n ∷ []) number ∙ sym is.line, answer.2)
 
 pub returns-clause-sound : goal.returns-clause-sound
-returns-clause-sound g c = λ pool done rests sound made. c.steps_keep_sound.ensures c.args.now c.args.command pool done c.requires.command rests.reads.described.lawful sound made
+returns-clause-sound g c = λ pool done rests sound made. c.steps_keep_sound.ensures [] c.args.now c.args.command pool done c.requires.command rests.reads.described.lawful sound made
 
 pub returns-in_err-kept-clause-moments : goal.returns-in_err-kept-clause-moments
 returns-in_err-kept-clause-moments g c = λ pool told rests.
@@ -35,25 +35,25 @@ returns-in_err-kept-clause-moments g c = λ pool told rests.
 pub returns-in_err-kept-clause-answer : goal.returns-in_err-kept-clause-answer
 returns-in_err-kept-clause-answer g c = λ pool told built standing rests.
     let did = c.in_err-kept.ensures.did pool told built rests in
-    subst (StepAnswer (g.D.Disk.state c.run.new.io.disk.now) c.args.self.now.kept.body c.args.self.now.kept.dir pool (stepped c.args.now c.args.command pool))
+    subst (StepAnswer (g.D.Disk.state c.run.new.io.disk.now) c.args.self.now.kept.body c.args.self.now.kept.dir pool (stepped [] c.args.now c.args.command pool))
     (sym (err_is c.from_residual-in_err-kept.result c.in_err-kept.field-0.0 c.from_residual-in_err-kept.ensures.1)) did.answer
 
 pub returns-in_err-kept-clause-sound : goal.returns-in_err-kept-clause-sound
-returns-in_err-kept-clause-sound g c = λ pool done rests sound made. c.steps_keep_sound.ensures c.args.now c.args.command pool done c.requires.command rests.reads.described.lawful sound made
+returns-in_err-kept-clause-sound g c = λ pool done rests sound made. c.steps_keep_sound.ensures [] c.args.now c.args.command pool done c.requires.command rests.reads.described.lawful sound made
 
 pub returns-in_err-reply-clause-answer : goal.returns-in_err-reply-clause-answer
 returns-in_err-reply-clause-answer g c = λ pool told built standing rests.
-    subst (StepAnswer (g.D.Disk.state c.args.self.now.io.disk.now) c.args.self.now.kept.body c.args.self.now.kept.dir pool (stepped c.args.now c.args.command pool))
+    subst (StepAnswer (g.D.Disk.state c.args.self.now.io.disk.now) c.args.self.now.kept.body c.args.self.now.kept.dir pool (stepped [] c.args.now c.args.command pool))
     (sym (err_is c.from_residual.result OutOfMemory c.from_residual.ensures.1)) rests
 
 pub returns-in_err-reply-clause-sound : goal.returns-in_err-reply-clause-sound
-returns-in_err-reply-clause-sound g c = λ pool done rests sound made. c.steps_keep_sound.ensures c.args.now c.args.command pool done c.requires.command rests.reads.described.lawful sound made
+returns-in_err-reply-clause-sound g c = λ pool done rests sound made. c.steps_keep_sound.ensures [] c.args.now c.args.command pool done c.requires.command rests.reads.described.lawful sound made
 
 pub returns-then-self-clause-sound : goal.returns-then-self-clause-sound
-returns-then-self-clause-sound g c = λ pool done rests sound made. c.steps_keep_sound.ensures c.args.now c.args.command pool done c.requires.command rests.reads.described.lawful sound made
+returns-then-self-clause-sound g c = λ pool done rests sound made. c.steps_keep_sound.ensures [] c.args.now c.args.command pool done c.requires.command rests.reads.described.lawful sound made
 
 pub returns-then-is_not_built-clause-sound : goal.returns-then-is_not_built-clause-sound
-returns-then-is_not_built-clause-sound g c = λ pool done rests sound made. c.steps_keep_sound.ensures c.args.now c.args.command pool done c.requires.command rests.reads.described.lawful sound made
+returns-then-is_not_built-clause-sound g c = λ pool done rests sound made. c.steps_keep_sound.ensures [] c.args.now c.args.command pool done c.requires.command rests.reads.described.lawful sound made
 
 pub returns-in_err-kept-clause-full : goal.returns-in_err-kept-clause-full
 returns-in_err-kept-clause-full g c = λ pool need largest rests is.
