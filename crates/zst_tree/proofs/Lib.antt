@@ -9,3 +9,4 @@ pub mod Made
 pub mod Mended
 pub mod Narrow
 pub mod Sums
+pub mod Whole
