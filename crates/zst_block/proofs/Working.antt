@@ -8,7 +8,7 @@ use Rattle.zst_outside.specs.Causes.{Rose-earlier}
 use Rattle.zst_outside.specs.Images.{DiskState, OnlyReads-none, OnlyReads-then}
 use Rattle.zst_space.specs.FreeSectors.{FreeSectors}
 use Rattle.zst_block.specs.Blocks.{FitsDisk, FillsFree}
-use Rattle.zst_block.specs.BlocksLaws.{FillsFree-then, FillsFree-reads}
+use Rattle.zst_block.proofs.BlocksLaws.{FillsFree-then, FillsFree-reads}
 use Rattle.zst_block.specs.declared.fault.BlockFault.{BlockFault}
 use Rattle.zst_block.specs.declared.fault.BlockFault.TheVariants.{Full, Damaged, DiskFault}
 use Rattle.zst_block.specs.Faults.{is_disk_fault, HasDiskCause}

@@ -1,3 +1,4 @@
+pub mod IndicesLaws
 pub mod Spelled
 pub mod Span
 pub mod Below
