@@ -1,3 +1,4 @@
+pub mod IndicesLaws
 pub mod Spelled
 pub mod Span
 pub mod Below
@@ -9,3 +10,4 @@ pub mod Made
 pub mod Mended
 pub mod Narrow
 pub mod Sums
+pub mod Whole

@@ -6,7 +6,7 @@ use Rattle.zst_block.specs.Ptr.{is_flat, is_lawful}
 use Rattle.zst_block.specs.declared.ptr.Ptr.{Ptr}
 use Rattle.zst_space.specs.FreeSectors.{FreeSectors}
 use Rattle.zst_tree.specs.Indices.{Blocks, Map, span, child, greatest, kind_over, IsNode, Same, Subtree}
-use Rattle.zst_tree.specs.IndicesLaws.{Subtree-grows}
+use Rattle.zst_tree.proofs.IndicesLaws.{Subtree-grows}
 use Rattle.zst_tree.specs.Changes.{FillsChildren, Parts}
 use Rattle.zst_tree.proofs.Span.{span-pos, span-over}
 use Rattle.zst_tree.proofs.Below.{flat_below, lawful_below, NodeBelow}

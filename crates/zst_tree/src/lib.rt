@@ -7,6 +7,7 @@ mod spans;
 mod steps;
 mod tree;
 mod words;
+mod writes;
 
 pub use spans::INDEX_BOUND;
 pub use steps::Steps;

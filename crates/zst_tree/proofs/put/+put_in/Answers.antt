@@ -3,7 +3,7 @@ use Rattle.std.proofs.lemmas.Result.{err_from_is_err_and}
 use Rattle.zst_block.specs.Ptr.{is_flat}
 use Rattle.zst_block.proofs.Working.{Works-after, Works-then, Works-more, Works-looks, Looks-none}
 use Rattle.zst_tree.specs.Indices.{span, Subtree}
-use Rattle.zst_tree.specs.IndicesLaws.{Subtree-grows}
+use Rattle.zst_tree.proofs.IndicesLaws.{Subtree-grows}
 use Rattle.zst_tree.specs.Changes.{most}
 use Rattle.zst_tree.proofs.Below.{kept_looks, kept_works}
 use Rattle.zst_tree.proofs.Made.{child_stands}
