@@ -12,10 +12,10 @@ delivers_if (Err (Damaged sector stated found)) more is = is
 delivers_if (Err DiskFault) more is = is
 
 -- a fault is passed on
-pub delivers_fault : {T U : Type 0} {P : T → Type 0} {Q : U → Type 0} → (fault : BlockFault) → Delivers P (Err fault) → Delivers Q (Err fault)
-delivers_fault (Full need largest) is = is
-delivers_fault (Damaged sector stated found) is = is
-delivers_fault DiskFault is = is
+pub delivers_fault : {T U : Type 0} (P : T → Type 0) (Q : U → Type 0) → (fault : BlockFault) → Delivers P (Err fault) → Delivers Q (Err fault)
+delivers_fault P Q (Full need largest) is = is
+delivers_fault P Q (Damaged sector stated found) is = is
+delivers_fault P Q DiskFault is = is
 
 -- what was loaded of a block that is there
 pub delivers_block : {P : Type 0} → (bytes loaded : List ℕ) (result : Result (Unit {0}) BlockFault) → GivesBlock bytes loaded result → (loaded ≡ bytes → P) → Delivers (λ done. P) result

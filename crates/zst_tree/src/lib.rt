@@ -1,10 +1,15 @@
 //! A copy-on-write tree of pointers over indices, and the bytes of an object set.
 #![tactic(auto)]
 
+mod earlier;
+mod get;
+mod later;
 mod nodes;
+mod reach;
 mod spans;
 mod steps;
 mod tree;
+mod walks;
 mod words;
 
 pub use spans::INDEX_BOUND;
