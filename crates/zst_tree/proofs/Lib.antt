@@ -1,4 +1,13 @@
+pub mod IndicesLaws
 pub mod Spelled
 pub mod Span
 pub mod Below
 pub mod Results
+pub mod Sides
+pub mod Children
+pub mod Most
+pub mod Made
+pub mod Mended
+pub mod Narrow
+pub mod Sums
+pub mod Whole

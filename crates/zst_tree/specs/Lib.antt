@@ -1,3 +1,3 @@
 pub mod Sets
 pub mod Indices
-pub mod IndicesLaws
+pub mod Changes

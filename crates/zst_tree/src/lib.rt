@@ -2,10 +2,12 @@
 #![tactic(auto)]
 
 mod nodes;
+mod put;
 mod spans;
 mod steps;
 mod tree;
 mod words;
+mod writes;
 
 pub use spans::INDEX_BOUND;
 pub use steps::Steps;

@@ -2,4 +2,3 @@ pub mod Body
 pub mod Slots
 pub mod Opening
 pub mod Commit
-pub mod Reading
