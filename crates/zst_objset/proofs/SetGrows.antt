@@ -8,7 +8,7 @@ use Rattle.zst_dnode.specs.declared.slot.Slot.TheVariants.{Absent, There}
 use Rattle.zst_model.specs.states.State.{Block, Hole, Redacted, Data, Object}
 use Rattle.zst_model.specs.states.Dated.{DatedState}
 use Rattle.zst_tree.specs.Indices.{Blocks, Map}
-use Rattle.zst_tree.specs.IndicesLaws.{TreeIs-grows}
+use Rattle.zst_tree.proofs.IndicesLaws.{TreeIs-grows}
 use Rattle.zst_tree.specs.declared.tree.ObjSet.{ObjSet}
 use Rattle.zst_objset.specs.Dnodes.{BlockIs, SpillIs, SlotIs, ObjectIs, tree_of}
 use Rattle.zst_objset.specs.Sets.{AreSlots, LeafIs, SetHolds}

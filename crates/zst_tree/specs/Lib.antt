@@ -1,7 +1,6 @@
 pub mod Sets
 pub mod Indices
 pub mod Changes
-pub mod IndicesLaws
 pub mod Finding
 pub mod Reaching
 pub mod Later
