@@ -1,10 +1,11 @@
 -- Names that have a mark.
-use Rattle.std.proofs.Common.{◌≡◌, ℕ, ◌+◌, ◌<◌, true, false, ◌==◌, List, [], ◌∷◌, ◌++◌, length, get_or, refl, ap, ◌∙◌, inl, inr, arith, length-drop}
-use Rattle.std.proofs.lemmas.Bool.{eqb-true}
+use Rattle.std.proofs.Common.{◌≡◌, ◌≢◌, sym, subst, ℕ, ◌+◌, ◌<◌, true, false, ◌==◌, List, [], ◌∷◌, ◌++◌, length, get_or, refl, ap, ◌∙◌, inl, inr, arith, length-drop}
+use Rattle.std.proofs.lemmas.Bool.{eqb-true, false≢true}
 use Rattle.std.proofs.lemmas.List.Sums.{split_at_first, passes_at_first}
 use Rattle.std.proofs.lemmas.List.Elements.{recursion_from_All}
 use Rattle.std.proofs.lemmas.Bool.Decides.{eqb_tells}
 use Rattle.std.specs.List.{position_or_len, list_all, onto_first, AllByRecursion}
+use Rattle.zst_names.specs.Marks.{IsMark}
 use Rattle.zst_names.specs.Names.{is_component_byte, IsComponent, IsDataset, parts, dataset_of, component_of}
 use Rattle.zst_names.proofs.Parts.{both_true}
 use Rattle.zst_names.proofs.Steps.{before_first-skip, after_first-skip}
@@ -18,18 +19,10 @@ joined mark text h =
     let is_there : get_or text place 0 ≡ mark = eqb-true (get_or text place 0) mark (passes_at_first (λ b. b == mark) text 0 below) in
     split_at_first (λ b. b == mark) text 0 below ∙ ap (λ b. dataset_of mark text ++ (b ∷ component_of mark text)) is_there
 
--- a mark is no byte of a dataset name
-pub record IsMark (mark : ℕ) : Type 0 where
-  pub other : is_component_byte mark ≡ false
-  pub slash : (47 == mark) ≡ false
-
-pub at_is_mark : IsMark 64
+-- a mark isn't the digit 0
+pub mark_is_no_digit : (mark : ℕ) → IsMark mark → mark ≢ 48
 unfolding is_component_byte
-at_is_mark = record { other = refl; slash = refl }
-
-pub hash_is_mark : IsMark 35
-unfolding is_component_byte
-hash_is_mark = record { other = refl; slash = refl }
+mark_is_no_digit mark m same = false≢true (sym (subst (λ byte. is_component_byte byte ≡ false) same m.other))
 
 -- parts of component bytes
 abbrev pub IsPlain : List ℕ → Type 0

@@ -8,7 +8,8 @@ use Rattle.std.proofs.lemmas.Bool.{true≢false}
 use Rattle.std.proofs.lemmas.List.Elements.{All-filter, filter_passes}
 use Rattle.std.proofs.lemmas.Slice.Eq.{bytes_eq-Decides}
 use Rattle.zst_names.specs.Names.{IsDataset, IsSnapshot, dataset_of}
-use Rattle.zst_names.proofs.Marked.{at_is_mark, join_is_name}
+use Rattle.zst_names.specs.Marks.{at_is_mark}
+use Rattle.zst_names.proofs.Marked.{join_is_name}
 use Rattle.zst_uber.specs.declared.uber.Uber.{Uber}
 use Rattle.zst_laws.specs.Stepping.{StepsKeepPools}
 use Rattle.zst_model.specs.declared.pools.command.Command.TheVariants as commands

@@ -3,7 +3,8 @@ use Rattle.std.proofs.Common.{inl, inr, subst, ◌≡◌, ◌≢◌, ℕ, ◌+�
 use Rattle.std.specs.List.{All, Contains}
 use Rattle.std.proofs.lemmas.List.Elements.{All-nil, All-weaker, All-contains}
 use Rattle.zst_names.specs.Names.{IsDataset, IsSnapshot, IsComponent, dataset_of}
-use Rattle.zst_names.proofs.Marked.{at_is_mark, join_is_name}
+use Rattle.zst_names.specs.Marks.{at_is_mark}
+use Rattle.zst_names.proofs.Marked.{join_is_name}
 use Rattle.zst_model.specs.fields.Guids.{IsGuidSet}
 use Rattle.zst_model.specs.declared.pools.command.Command.TheVariants as commands
 use Rattle.zst_model.specs.declared.refusals.refusal.Refusal.{Refusal}
