@@ -5,17 +5,17 @@ use Rattle.zst_outside.specs.Causes.{Rose-earlier}
 use Rattle.zst_outside.specs.Images.{DiskState, Leaves, Leaves-weaker, Leaves-then, OnlyReads, IsSynced}
 use Rattle.zst_outside.specs.States.{SinkState}
 use Rattle.zst_bytes.specs.Bytes.{number_at}
-use Rattle.zst_uber.specs.BodyLaws.{uber_at-body_bytes}
+use Rattle.zst_uber.proofs.BodyLaws.{uber_at-body_bytes}
 use Rattle.zst_uber.specs.declared.uber.Uber.{Uber}
-use Rattle.zst_model.specs.Pool.{Pool}
-use Rattle.zst_model.specs.Refusal.{refusal_of}
-use Rattle.zst_model.specs.Step.{Stepped, stepped}
-use Rattle.zst_model.specs.declared.command.Command.{Command}
-use Rattle.zst_model.specs.declared.faults.Quantity.{Quantity}
-use Rattle.zst_model.specs.declared.plan_fault.PlanFault.{PlanFault}
-use Rattle.zst_model.specs.declared.plan_fault.PlanFault.TheVariants as plans
-use Rattle.zst_model.specs.declared.refusal.Refusal.{Refusal}
-use Rattle.zst_model.specs.declared.refusal.Refusal.TheVariants as refusals
+use Rattle.zst_model.specs.pools.Pool.{Pool}
+use Rattle.zst_model.specs.refusals.Refusal.{refusal_of}
+use Rattle.zst_model.specs.pools.Step.{Stepped, stepped}
+use Rattle.zst_model.specs.declared.pools.command.Command.{Command}
+use Rattle.zst_model.specs.declared.refusals.faults.Quantity.{Quantity}
+use Rattle.zst_model.specs.declared.refusals.plan_fault.PlanFault.{PlanFault}
+use Rattle.zst_model.specs.declared.refusals.plan_fault.PlanFault.TheVariants as plans
+use Rattle.zst_model.specs.declared.refusals.refusal.Refusal.{Refusal}
+use Rattle.zst_model.specs.declared.refusals.refusal.Refusal.TheVariants as refusals
 use Rattle.zst_dir.specs.Rows.{Rows}
 use Rattle.zst_pool.specs.Faults.{HasDiskCause, IsStepFault, StepFault, pool_refusal}
 use Rattle.zst_pool.specs.Making.{GivesPool, OpenAnswers}

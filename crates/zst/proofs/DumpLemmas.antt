@@ -6,9 +6,9 @@ use Rattle.zst_outside.specs.Causes.{Rose, Rose-earlier}
 use Rattle.zst_outside.specs.States.{SourceState, SinkState, Gave, HandedOn}
 use Rattle.zst_outside.specs.Printing.{Wrote, Prints, Wrote-kept, Wrote-then, Wrote-longer, Wrote-start}
 use Rattle.zst_outside.specs.declared.Fault.{Fault}
-use Rattle.zst_model.specs.declared.faults.Quantity.TheVariants.{Stream}
-use Rattle.zst_model.specs.declared.refusal.Refusal.{Refusal}
-use Rattle.zst_model.specs.declared.refusal.Refusal.TheVariants as refusals
+use Rattle.zst_model.specs.declared.refusals.faults.Quantity.TheVariants.{Stream}
+use Rattle.zst_model.specs.declared.refusals.refusal.Refusal.{Refusal}
+use Rattle.zst_model.specs.declared.refusals.refusal.Refusal.TheVariants as refusals
 use Rattle.zst_record.specs.Faults.{refusal_of}
 use Rattle.zst_record.specs.Heads.{Covered}
 use Rattle.zst_record.specs.declared.fault.StreamFault.{StreamFault}

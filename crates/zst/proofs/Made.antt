@@ -4,10 +4,10 @@ use Rattle.std.proofs.Common.{◌≡◌, ◌≢◌, ◌⊎◌, ⊎_elim, ℕ, �
 use Rattle.zst_outside.specs.Images.{DiskState, Leaves}
 use Rattle.zst_outside.specs.States.{SinkState}
 use Rattle.zst_uber.specs.Slots.{latest}
-use Rattle.zst_model.specs.Lines.{ok_line}
-use Rattle.zst_model.specs.declared.plan_fault.PlanFault.{PlanFault}
-use Rattle.zst_model.specs.declared.refusal.Refusal.{Refusal}
-use Rattle.zst_model.specs.Refusal.{refusal_of}
+use Rattle.zst_model.specs.pools.Lines.{ok_line}
+use Rattle.zst_model.specs.declared.refusals.plan_fault.PlanFault.{PlanFault}
+use Rattle.zst_model.specs.declared.refusals.refusal.Refusal.{Refusal}
+use Rattle.zst_model.specs.refusals.Refusal.{refusal_of}
 use Rattle.zst_pool.specs.Faults.{HasDiskCause, pool_refusal}
 use Rattle.zst_pool.specs.Making.{CreateAnswers, CreatePlan, RefusedLeaves}
 use Rattle.zst_pool.specs.Reads.{Reads, Rests, new_pool}

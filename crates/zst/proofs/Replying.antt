@@ -6,8 +6,8 @@ use Rattle.std.proofs.lemmas.Grind.{flat_map-append}
 use Rattle.std.proofs.lemmas.List.{append-nil, take_more}
 use Rattle.zst_outside.specs.Printing.{Prints}
 use Rattle.zst_outside.specs.States.{SinkState, HandedOn}
-use Rattle.zst_model.specs.Lines.{ok_line}
-use Rattle.zst_model.specs.declared.refusal.Refusal.TheVariants as refusals
+use Rattle.zst_model.specs.pools.Lines.{ok_line}
+use Rattle.zst_model.specs.declared.refusals.refusal.Refusal.TheVariants as refusals
 use Rattle.zst.specs.Replies.{Replied, reply_text}
 
 -- a line with its line feed

@@ -7,15 +7,15 @@ use Rattle.zst_bytes.specs.Bytes.{number_at}
 use Rattle.zst_uber.specs.Slots.{latest}
 use Rattle.zst_uber.specs.declared.TheConstants.{VERSION}
 use Rattle.zst_uber.specs.declared.uber.Uber.{Uber}
-use Rattle.zst_model.specs.Lines.{ok_line}
-use Rattle.zst_model.specs.Pool.{Pool}
-use Rattle.zst_model.specs.Step.{Stepped, stepped}
-use Rattle.zst_model.specs.declared.command.Command.{Command}
-use Rattle.zst_model.specs.declared.faults.Quantity.TheVariants as quantities
-use Rattle.zst_model.specs.declared.named.Present.TheVariants as present
-use Rattle.zst_model.specs.declared.plan_fault.PlanFault.TheVariants as plans
-use Rattle.zst_model.specs.declared.refusal.Refusal.{Refusal}
-use Rattle.zst_model.specs.declared.refusal.Refusal.TheVariants as refusals
+use Rattle.zst_model.specs.pools.Lines.{ok_line}
+use Rattle.zst_model.specs.pools.Pool.{Pool}
+use Rattle.zst_model.specs.pools.Step.{Stepped, stepped}
+use Rattle.zst_model.specs.declared.pools.command.Command.{Command}
+use Rattle.zst_model.specs.declared.refusals.faults.Quantity.TheVariants as quantities
+use Rattle.zst_model.specs.declared.refusals.named.Present.TheVariants as present
+use Rattle.zst_model.specs.declared.refusals.plan_fault.PlanFault.TheVariants as plans
+use Rattle.zst_model.specs.declared.refusals.refusal.Refusal.{Refusal}
+use Rattle.zst_model.specs.declared.refusals.refusal.Refusal.TheVariants as refusals
 use Rattle.zst_dir.specs.Rows.{Rows}
 use Rattle.zst_pool.specs.Faults.{pool_refusal}
 use Rattle.zst_pool.specs.Making.{IsOpened}

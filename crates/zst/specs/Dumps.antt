@@ -3,9 +3,9 @@ use Rattle.std.specs.Prelude.{ℕ, ◌≡◌, ◌<◌, ◌≤◌, List, [], ◌+
 use Rattle.zst_outside.specs.Causes.{Rose}
 use Rattle.zst_outside.specs.States.{SourceState, SinkState, Gave, HandedOn}
 use Rattle.zst_outside.specs.Printing.{Wrote}
-use Rattle.zst_model.specs.declared.faults.Quantity.TheVariants.{Stream}
-use Rattle.zst_model.specs.declared.refusal.Refusal.{Refusal}
-use Rattle.zst_model.specs.declared.refusal.Refusal.TheVariants as refusals
+use Rattle.zst_model.specs.declared.refusals.faults.Quantity.TheVariants.{Stream}
+use Rattle.zst_model.specs.declared.refusals.refusal.Refusal.{Refusal}
+use Rattle.zst_model.specs.declared.refusals.refusal.Refusal.TheVariants as refusals
 use Rattle.zst_record.specs.Heads.{Covered}
 use Rattle.zst_record.specs.declared.fault.StreamFault.TheVariants as faults
 use Rattle.zst_stream.specs.Reading.{Reading, Outcome, waiting, faulty, complete, reading}

@@ -1,8 +1,8 @@
 -- What a line does.
 use Rattle.std.specs.Prelude.{ℕ, ◌≡◌, Bool, true, Result, Ok, Err}
 use Rattle.zst_outside.specs.Images.{DiskState}
-use Rattle.zst_model.specs.Step.{IsCommand}
-use Rattle.zst_model.specs.declared.refusal.Refusal.{Refusal}
+use Rattle.zst_model.specs.pools.Step.{IsCommand}
+use Rattle.zst_model.specs.declared.refusals.refusal.Refusal.{Refusal}
 use Rattle.zst_line.specs.Lines.{IsCreate, refusal_of}
 use Rattle.zst_line.specs.declared.line.Line.{Line}
 use Rattle.zst_line.specs.declared.line.Line.TheVariants.{Dump, Create, Step}

@@ -4,11 +4,11 @@ use Rattle.zst_outside.specs.Causes.{Rose}
 use Rattle.zst_outside.specs.Images.{DiskState}
 use Rattle.zst_outside.specs.States.{SinkState, HandedOn}
 use Rattle.zst_outside.specs.Printing.{Wrote}
-use Rattle.zst_model.specs.Refusal.{number_of, text_of}
-use Rattle.zst_model.specs.declared.plan_fault.PlanFault.{PlanFault}
-use Rattle.zst_model.specs.declared.plan_fault.PlanFault.TheVariants as plans
-use Rattle.zst_model.specs.declared.refusal.Refusal.{Refusal}
-use Rattle.zst_model.specs.declared.refusal.Refusal.TheVariants as refusals
+use Rattle.zst_model.specs.refusals.Refusal.{number_of, text_of}
+use Rattle.zst_model.specs.declared.refusals.plan_fault.PlanFault.{PlanFault}
+use Rattle.zst_model.specs.declared.refusals.plan_fault.PlanFault.TheVariants as plans
+use Rattle.zst_model.specs.declared.refusals.refusal.Refusal.{Refusal}
+use Rattle.zst_model.specs.declared.refusals.refusal.Refusal.TheVariants as refusals
 use Rattle.zst_line.specs.Lines.{LineAnswers}
 use Rattle.zst_line.specs.declared.line.Line.{Line}
 use Rattle.zst_line.specs.declared.line.LineFault.{LineFault}

@@ -1,5 +1,5 @@
 ghost use Rattle.std.specs.Prelude.{◌≡◌, decimal};
-ghost use Rattle.zst_model.specs.Refusal.{text_of};
+ghost use Rattle.zst_model.specs.refusals.Refusal.{text_of};
 ghost use Rattle.zst_outside.specs.Printing.{Prints};
 ghost use Rattle.zst.specs.Runs.{Noted, note_of, plan_status, status_of};
 

@@ -1,6 +1,6 @@
 // The lines that work on the pool of an image: it is opened, one command runs, and its reply is written.
 ghost use Rattle.std.specs.Prelude.{◌≡◌, ◌≤◌, ◌<◌, ◌^◌, true};
-ghost use Rattle.zst_model.specs.Step.{IsCommand};
+ghost use Rattle.zst_model.specs.pools.Step.{IsCommand};
 ghost use Rattle.zst_pool.specs.Stepping.{is_built};
 ghost use Rattle.zst.specs.Commands.{Creates, Stepping, Steps};
 

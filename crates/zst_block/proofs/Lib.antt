@@ -1,3 +1,5 @@
 pub mod Written
+pub mod BlocksLaws
+pub mod PtrLaws
 pub mod Taking
 pub mod Working

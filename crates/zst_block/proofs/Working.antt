@@ -5,10 +5,10 @@ use Rattle.zst_outside.specs.Images.{OnlyReads}
 use Rattle.zst_space.specs.FreeSectors.{largest_of, room}
 use Rattle.zst_space.specs.Taking.{without}
 use Rattle.zst_outside.specs.Causes.{Rose-earlier}
-use Rattle.zst_outside.specs.Images.{DiskState, OnlyReads-then}
+use Rattle.zst_outside.specs.Images.{DiskState, OnlyReads-none, OnlyReads-then}
 use Rattle.zst_space.specs.FreeSectors.{FreeSectors}
 use Rattle.zst_block.specs.Blocks.{FitsDisk, FillsFree}
-use Rattle.zst_block.specs.BlocksLaws.{FillsFree-then, FillsFree-reads}
+use Rattle.zst_block.proofs.BlocksLaws.{FillsFree-then, FillsFree-reads}
 use Rattle.zst_block.specs.declared.fault.BlockFault.{BlockFault}
 use Rattle.zst_block.specs.declared.fault.BlockFault.TheVariants.{Full, Damaged, DiskFault}
 use Rattle.zst_block.specs.Faults.{is_disk_fault, HasDiskCause}
@@ -24,38 +24,39 @@ HasCause-then : (before mid now : ℕ) (stop : Option BlockFault) → before ≤
 HasCause-then before mid now stop later cause = record { later = omega (arith, later, cause.later); fault = λ is. Rose-earlier before mid now later (cause.fault is) }
 
 -- after a call that ended well, another one
-module _ (most more block : ℕ) (old : DiskState) (old_space : FreeSectors) (old_failed : Bool) (mid : DiskState) (less : FreeSectors) (mid_failed : Bool) (new : DiskState) (least : FreeSectors) (new_failed : Bool) (stop : Option BlockFault) where
-  pub Works-then : Works most block old old_space old_failed mid less mid_failed None → Works more block mid less mid_failed new least new_failed stop → Works (most + more) block old old_space old_failed new least new_failed stop
-  Works-then first second = record {
-    fills = FillsFree-then old mid new old_space less least first.fills second.fills;
-    fits = second.fits;
-    takes = record {
-      sectors = second.takes.sectors ∙ first.takes.sectors;
-      left = omega (arith, first.takes.left, second.takes.left);
-      longest = omega (arith, first.takes.longest, second.takes.longest);
-    };
-    full = λ need largest is.
-        let full = second.full need largest is in
-        record { shorter = full.shorter; is_longest = full.is_longest; needed = full.needed; before = omega (arith, full.before, first.takes.longest) };
-    failed = second.failed ∙ ap (λ (b : Bool). b || fails stop) (first.failed ∙ or_false old_failed);
-    cause = HasCause-then old.faults mid.faults new.faults stop first.cause.later second.cause;
-  }
+pub Works-then : {most more block : ℕ} {old : DiskState} {old_space : FreeSectors} {old_failed : Bool} {mid : DiskState} {less : FreeSectors} {mid_failed : Bool} {new : DiskState} {least : FreeSectors} {new_failed : Bool} {stop : Option BlockFault}
+    → Works most block old old_space old_failed mid less mid_failed None → Works more block mid less mid_failed new least new_failed stop → Works (most + more) block old old_space old_failed new least new_failed stop
+Works-then {most} {more} {block} {old} {old_space} {old_failed} {mid} {less} {mid_failed} {new} {least} {new_failed} {stop} first second = record {
+  fills = FillsFree-then old mid new old_space less least first.fills second.fills;
+  fits = second.fits;
+  takes = record {
+    sectors = second.takes.sectors ∙ first.takes.sectors;
+    left = omega (arith, first.takes.left, second.takes.left);
+    longest = omega (arith, first.takes.longest, second.takes.longest);
+  };
+  full = λ need largest is.
+      let full = second.full need largest is in
+      record { shorter = full.shorter; is_longest = full.is_longest; needed = full.needed; before = omega (arith, full.before, first.takes.longest) };
+  failed = second.failed ∙ ap (λ (b : Bool). b || fails stop) (first.failed ∙ or_false old_failed);
+  cause = HasCause-then old.faults mid.faults new.faults stop first.cause.later second.cause;
+}
 
-  -- after a call that only read, one that changes
-  pub Works-after : FitsDisk old.size old_space → Looks old old_space old_failed mid less mid_failed None → Works more block mid less mid_failed new least new_failed stop → Works more block old old_space old_failed new least new_failed stop
-  Works-after fits first second =
-      let same : less ≡ old_space = first.space in
-      let fills : FillsFree old old_space mid less = subst (λ (s : FreeSectors). FillsFree old old_space mid s) (sym same) (FillsFree-reads old mid old_space first.reads) in
-      record {
-        fills = FillsFree-then old mid new old_space less least fills second.fills;
-        fits = second.fits;
-        takes = subst (λ (s : FreeSectors). TakesAtMost more s least) same second.takes;
-        full = subst (λ (s : FreeSectors). (need largest : ℕ) → stop ≡ Some (Full need largest) → IsFull more block s least need largest) same second.full;
-        failed = second.failed ∙ ap (λ (b : Bool). b || fails stop) (first.failed ∙ or_false old_failed);
-        cause = HasCause-then old.faults mid.faults new.faults stop first.cause.later second.cause;
-      }
+-- after a call that only read, one that writes
+pub Works-after : {more block : ℕ} {old : DiskState} {old_space : FreeSectors} {old_failed : Bool} {mid : DiskState} {less : FreeSectors} {mid_failed : Bool} {new : DiskState} {least : FreeSectors} {new_failed : Bool} {stop : Option BlockFault}
+    → Looks old old_space old_failed mid less mid_failed None → Works more block mid less mid_failed new least new_failed stop → Works more block old old_space old_failed new least new_failed stop
+Works-after {more} {block} {old} {old_space} {old_failed} {mid} {less} {mid_failed} {new} {least} {new_failed} {stop} first second =
+    let same : less ≡ old_space = first.space in
+    let fills : FillsFree old old_space mid less = subst (λ (s : FreeSectors). FillsFree old old_space mid s) (sym same) (FillsFree-reads old mid old_space first.reads) in
+    record {
+      fills = FillsFree-then old mid new old_space less least fills second.fills;
+      fits = second.fits;
+      takes = subst (λ (s : FreeSectors). TakesAtMost more s least) same second.takes;
+      full = subst (λ (s : FreeSectors). (need largest : ℕ) → stop ≡ Some (Full need largest) → IsFull more block s least need largest) same second.full;
+      failed = second.failed ∙ ap (λ (b : Bool). b || fails stop) (first.failed ∙ or_false old_failed);
+      cause = HasCause-then old.faults mid.faults new.faults stop first.cause.later second.cause;
+    }
 
-module _ (most block : ℕ) (old : DiskState) (space : FreeSectors) (old_failed : Bool) (new : DiskState) (less : FreeSectors) (new_failed : Bool) (stop : Option BlockFault) where
+module _ {most block : ℕ} {old : DiskState} {space : FreeSectors} {old_failed : Bool} {new : DiskState} {less : FreeSectors} {new_failed : Bool} {stop : Option BlockFault} where
   -- a call that only reads takes nothing
   pub Works-looks : FitsDisk old.size space → Looks old space old_failed new less new_failed stop → Works most block old space old_failed new less new_failed stop
   Works-looks fits looks = record {
@@ -68,8 +69,8 @@ module _ (most block : ℕ) (old : DiskState) (space : FreeSectors) (old_failed 
   }
 
   -- who takes fewer sectors takes no more
-  pub Works-more : (fewer : ℕ) → fewer ≤ most → Works fewer block old space old_failed new less new_failed stop → Works most block old space old_failed new less new_failed stop
-  Works-more fewer le works = record {
+  pub Works-more : {fewer : ℕ} → fewer ≤ most → Works fewer block old space old_failed new less new_failed stop → Works most block old space old_failed new less new_failed stop
+  Works-more le works = record {
     fills = works.fills;
     fits = works.fits;
     takes = record { sectors = works.takes.sectors; left = omega (arith, works.takes.left, le); longest = omega (arith, works.takes.longest, le) };
@@ -78,25 +79,35 @@ module _ (most block : ℕ) (old : DiskState) (space : FreeSectors) (old_failed 
     cause = works.cause;
   }
 
-  -- without a block of data of its own, with one
-  pub Works-block : Works most 0 old space old_failed new less new_failed stop → Works most block old space old_failed new less new_failed stop
+  -- without a block of a length of its own, with one
+  pub Works-block : Works most 16 old space old_failed new less new_failed stop → Works most block old space old_failed new less new_failed stop
   Works-block works = record {
     fills = works.fills;
     fits = works.fits;
     takes = works.takes;
-    full = λ need largest is. let full = works.full need largest is in record { shorter = full.shorter; is_longest = full.is_longest; needed = only full.needed full.shorter; before = full.before };
+    full = λ need largest is. let full = works.full need largest is in record { shorter = full.shorter; is_longest = full.is_longest; needed = inl (only full.needed); before = full.before };
     failed = works.failed;
     cause = works.cause;
   }
     where
-      only : {need largest : ℕ} → (need ≡ 16) ⊎ (need ≡ 0) → largest < need → (need ≡ 16) ⊎ (need ≡ block)
-      only (inl is) shorter = inl is
-      only (inr is) shorter = absurd (omega (arith, is, shorter))
+      only : {need : ℕ} → (need ≡ 16) ⊎ (need ≡ 16) → need ≡ 16
+      only (inl is) = is
+      only (inr is) = is
+
+-- a call that does nothing
+pub Looks-none : (disk : DiskState) (space : FreeSectors) (failed : Bool) → Looks disk space failed disk space failed None
+Looks-none disk space failed = record {
+  reads = OnlyReads-none disk;
+  space = refl;
+  never_full = λ need largest is. absurd (cc);
+  failed = sym (or_false failed);
+  cause = record { later = omega arith; fault = λ is. absurd (cc) };
+}
 
 -- two calls that only read
-pub Looks-then : (old : DiskState) (space : FreeSectors) (old_failed : Bool) (mid : DiskState) (less : FreeSectors) (mid_failed : Bool) (new : DiskState) (least : FreeSectors) (new_failed : Bool) (stop : Option BlockFault)
+pub Looks-then : {old : DiskState} {space : FreeSectors} {old_failed : Bool} {mid : DiskState} {less : FreeSectors} {mid_failed : Bool} {new : DiskState} {least : FreeSectors} {new_failed : Bool} {stop : Option BlockFault}
     → Looks old space old_failed mid less mid_failed None → Looks mid less mid_failed new least new_failed stop → Looks old space old_failed new least new_failed stop
-Looks-then old space old_failed mid less mid_failed new least new_failed stop first second = record {
+Looks-then {old} {space} {old_failed} {mid} {less} {mid_failed} {new} {least} {new_failed} {stop} first second = record {
   reads = OnlyReads-then old mid new first.reads second.reads;
   space = second.space ∙ first.space;
   never_full = second.never_full;

@@ -4,10 +4,10 @@ use Rattle.zst_fletcher.specs.WeightSum.{weight_sum}
 use Rattle.zst_outside.specs.Images.{DiskState, WritesIn}
 use Rattle.zst_outside.specs.Ranges.{bytes_at}
 use Rattle.zst_space.specs.FreeSectors.{FreeSectors, IsWithin, IsSpaceFrom}
-use Rattle.zst_space.specs.FreeSectorsLaws.{IsFree-from}
+use Rattle.zst_space.proofs.FreeSectorsLaws.{IsFree-from}
 use Rattle.zst_space.specs.Taking.{Takes}
 use Rattle.zst_block.specs.Blocks.{Has, FillsFree}
-use Rattle.zst_block.specs.BlocksLaws.{FillsFree-writes}
+use Rattle.zst_block.proofs.BlocksLaws.{FillsFree-writes}
 use Rattle.zst_block.specs.declared.ptr.Ptr.{Ptr}
 
 -- a byte of whole sectors stands in one of them

@@ -3,3 +3,5 @@ mod Filling
 mod Reading
 mod Tail
 mod Texts
+pub mod FieldsLaws
+pub mod BytesLaws

@@ -4,7 +4,7 @@ use Rattle.std.proofs.lemmas.List.{take-append-drop, length-take-le, take_at, dr
 use Rattle.std.proofs.lemmas.Nat.{le_bytes_8, from_le_bytes-to_le_bytes_8}
 use Rattle.std.specs.Int.{w64, to_le_bytes, from_le_bytes}
 use Rattle.zst_bytes.specs.Bytes.{number_bytes}
-use Rattle.zst_bytes.specs.BytesLaws.{length-number_bytes}
+use Rattle.zst_bytes.proofs.BytesLaws.{length-number_bytes}
 use Rattle.zst_bytes.specs.Words.{word}
 
 -- a word is how a number of 64 bits is written

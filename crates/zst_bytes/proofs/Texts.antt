@@ -3,7 +3,7 @@ use Rattle.std.proofs.Common.{◌≡◌, ℕ, List, [], ◌∷◌, ◌++◌, len
 use Rattle.std.specs.List.{All}
 use Rattle.std.proofs.lemmas.List.Elements.{All-head, All-tail, All-replicate}
 use Rattle.zst_bytes.specs.Fields.{zeros}
-use Rattle.zst_bytes.specs.FieldsLaws.{length-zeros}
+use Rattle.zst_bytes.proofs.FieldsLaws.{length-zeros}
 use Rattle.zst_bytes.specs.Words.{word, padding, text_bytes}
 
 abbrev IsZero : ℕ → Type 0

@@ -3,7 +3,7 @@ use Rattle.std.proofs.Common.{Bool, filter, IfSome, ◌≡◌, true}
 use Rattle.std.proofs.lemmas.List.Elements.{All-filter}
 use Rattle.std.proofs.lemmas.List.Kept.{AllPairs-filter}
 use Rattle.std.specs.Prelude.{◌++◌, ◌∷◌}
-use Rattle.zst_model.specs.Pool.{is_before}
+use Rattle.zst_model.specs.pools.Pool.{is_before}
 use Rattle.zst_dir.specs.Rows.{Rows, HasSnapshot, IsPartialRow, IsLawful}
 use Rattle.zst_dir.specs.declared.rows.Partial.{Partial}
 

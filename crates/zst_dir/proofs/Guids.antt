@@ -3,7 +3,7 @@ use Rattle.std.proofs.Common.{◌≡◌, ℕ, true, nat_lt, List, [], ◌∷◌,
 use Rattle.std.proofs.lemmas.Bool.{and_parts, and_from}
 use Rattle.std.specs.List.{flat_map}
 use Rattle.zst_bytes.specs.Words.{word, words_bytes}
-use Rattle.zst_model.specs.Guids.{is_rising, IsGuidSet}
+use Rattle.zst_model.specs.fields.Guids.{is_rising, IsGuidSet}
 
 -- words begin with their count
 pub words_parts : (numbers rest : List ℕ) → words_bytes numbers ++ rest ≡ word (length numbers) ++ (flat_map word numbers ++ rest)

@@ -6,8 +6,8 @@ use Rattle.std.proofs.lemmas.List.Elements.{All-weaker, All-map}
 use Rattle.std.proofs.lemmas.List.{take_all, drop_all, append-nil, get_or_default}
 use Rattle.std.proofs.lemmas.List.Edits.{map_over_more}
 use Rattle.zst_names.specs.Names.{dataset_of}
-use Rattle.zst_model.specs.Pool.{is_before}
-use Rattle.zst_model.specs.InsertedLaws.{contains-map, AllPairs-map}
+use Rattle.zst_model.specs.pools.Pool.{is_before}
+use Rattle.zst_model.proofs.InsertedLaws.{contains-map, AllPairs-map}
 use Rattle.zst_tree.specs.declared.tree.ObjSet.{ObjSet}
 use Rattle.zst_tree.specs.Sets.{SetFits}
 use Rattle.zst_dir.specs.Rows.{Rows, with_head, with_head_at, HasDataset, HasSnapshot, IsDatasetRow, IsLawful}

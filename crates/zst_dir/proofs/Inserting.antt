@@ -3,9 +3,9 @@ use Rattle.std.proofs.Common.{inl, inr, ◌≡◌, ◌≢◌, ℕ, Bool, List, �
 use Rattle.std.specs.List.{All, Contains, insert, position_or_len}
 use Rattle.std.proofs.lemmas.List.Elements.{All-weaker, All-contains}
 use Rattle.zst_names.specs.Names.{dataset_of}
-use Rattle.zst_model.specs.Pool.{is_before, inserted}
-use Rattle.zst_model.specs.InsertedLaws.{inserted-place, All-from_contains, contains-inserted, inserted_has_rest, All-inserted}
-use Rattle.zst_model.specs.OrderLaws.{names_differ-inserted, names_rise-inserted, rows_rise-inserted}
+use Rattle.zst_model.specs.pools.Pool.{is_before, inserted}
+use Rattle.zst_model.proofs.InsertedLaws.{inserted-place, All-from_contains, contains-inserted, inserted_has_rest, All-inserted}
+use Rattle.zst_model.proofs.OrderLaws.{names_differ-inserted, names_rise-inserted, rows_rise-inserted}
 use Rattle.zst_dir.specs.Rows.{Rows, snapshot_is_before, HasDataset, HasSnapshot, IsDatasetRow, IsSnapshotRow, IsLawful}
 use Rattle.zst_dir.specs.declared.rows.Dataset.{Dataset}
 use Rattle.zst_dir.specs.declared.rows.Snapshot.{Snapshot}

@@ -5,14 +5,14 @@ use Rattle.std.specs.Str.{bytes_eq}
 use Rattle.std.proofs.lemmas.List.Concat.{length-flat_map, flat_map-append}
 use Rattle.std.proofs.lemmas.List.Filters.{sum_by-filter_both}
 use Rattle.std.proofs.lemmas.List.Sums.{sum_by-insert, sum_by-le}
-use Rattle.zst_bytes.specs.BytesLaws.{length-number_bytes}
+use Rattle.zst_bytes.proofs.BytesLaws.{length-number_bytes}
 use Rattle.zst_bytes.specs.Fields.{zeros}
-use Rattle.zst_bytes.specs.FieldsLaws.{length-zeros}
+use Rattle.zst_bytes.proofs.FieldsLaws.{length-zeros}
 use Rattle.zst_bytes.specs.Words.{word, padding, text_bytes, words_bytes}
-use Rattle.zst_block.specs.PtrLaws.{length-ptr_bytes}
+use Rattle.zst_block.proofs.PtrLaws.{length-ptr_bytes}
 use Rattle.zst_names.specs.Names.{IsSnapshot, dataset_of, component_of}
-use Rattle.zst_model.specs.Guids.{IsGuidSet}
-use Rattle.zst_model.specs.Pool.{is_before, inserted}
+use Rattle.zst_model.specs.fields.Guids.{IsGuidSet}
+use Rattle.zst_model.specs.pools.Pool.{is_before, inserted}
 use Rattle.zst_tree.specs.Sets.{set_bytes}
 use Rattle.zst_tree.specs.declared.tree.ObjSet.{ObjSet}
 use Rattle.zst_dir.specs.Rows.{Rows, with_head, with_head_at, snapshot_is_before, IsDatasetRow, IsSnapshotRow, IsLawful}
@@ -20,7 +20,7 @@ use Rattle.zst_dir.specs.Spelling.{name_bytes, snapshot_bytes, snapshots_of, dat
 use Rattle.zst_dir.specs.declared.rows.Dataset.{Dataset}
 use Rattle.zst_dir.specs.declared.rows.Snapshot.{Snapshot}
 use Rattle.zst_dir.specs.declared.rows.Partial.{Partial}
-use Rattle.zst_model.specs.InsertedLaws.{inserted-place}
+use Rattle.zst_model.proofs.InsertedLaws.{inserted-place}
 use Rattle.zst_dir.proofs.SnapshotRuns.{runs, snapshots_are_runs}
 use Rattle.zst_dir.proofs.Texts.{joined}
 

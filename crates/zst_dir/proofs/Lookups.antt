@@ -5,7 +5,7 @@ use Rattle.std.specs.Str.{bytes_eq}
 use Rattle.std.proofs.lemmas.Bool.{true≢false, ltb-true, ltb-false}
 use Rattle.std.proofs.lemmas.List.Elements.{Contains-get_or}
 use Rattle.std.proofs.lemmas.List.Sums.{fails_before_first, passes_at_first}
-use Rattle.zst_model.specs.OrderLaws.{same_bytes, bytes_same}
+use Rattle.zst_model.proofs.OrderLaws.{same_bytes, bytes_same}
 use Rattle.zst_dir.specs.Rows.{Rows, HasDataset, HasSnapshot}
 use Rattle.zst_dir.specs.declared.rows.Dataset.{Dataset}
 use Rattle.zst_dir.specs.declared.rows.Snapshot.{Snapshot}

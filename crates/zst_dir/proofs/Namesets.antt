@@ -9,7 +9,7 @@ use Rattle.std.specs.BTreeSet.{BTreeSet}
 use Rattle.std.specs.Cmp.Lexicographic.{slice_cmp}
 use Rattle.std.specs.List.{AllPairs, list_any}
 use Rattle.std.specs.Ordering.{nat_cmp, is_eq}
-use Rattle.zst_model.specs.OrderLaws.{same_bytes, bytes_same}
+use Rattle.zst_model.proofs.OrderLaws.{same_bytes, bytes_same}
 use Rattle.zst_dir.specs.declared.rows.Snapshot.{Snapshot}
 use Rattle.zst_dir.specs.Tested.{HasNamed, AreNamesOf, has}
 

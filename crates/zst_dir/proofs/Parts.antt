@@ -2,7 +2,7 @@
 use Rattle.std.proofs.Common.{◌≡◌, ℕ, List, ◌++◌, append_assoc}
 use Rattle.zst_bytes.specs.Words.{word, text_bytes, words_bytes}
 use Rattle.zst_block.specs.Ptr.{ptr_bytes}
-use Rattle.zst_model.specs.declared.header.Header.{Header}
+use Rattle.zst_model.specs.declared.sends.header.Header.{Header}
 use Rattle.zst_names.specs.Names.{component_of}
 use Rattle.zst_tree.specs.Sets.{set_bytes}
 use Rattle.zst_dir.specs.declared.rows.Dataset.{Dataset}

@@ -9,7 +9,7 @@ use Rattle.std.specs.List.Sorted.{IsPartitionPoint, IsPartitionedBy}
 use Rattle.std.proofs.lemmas.Bool.{cases_lt, true≢false}
 use Rattle.std.proofs.lemmas.Cmp.{nat_list_cmp_total}
 use Rattle.std.proofs.lemmas.List.Sums.{prefix_len-le-length, position_or_len_is}
-use Rattle.zst_model.specs.Pool.{is_before}
+use Rattle.zst_model.specs.pools.Pool.{is_before}
 
 pub position_or_len-le : {A : Type 0} (test : A → Bool) (xs : List A) → position_or_len test xs ≤ length xs
 position_or_len-le test xs = prefix_len-le-length _ xs

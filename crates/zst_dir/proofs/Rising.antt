@@ -6,8 +6,8 @@ use Rattle.std.specs.Fn.{Called, ComputesOnPairs}
 use denote.Param.Members.{Mut}
 use denote.Ref.{Bor}
 use Rattle.std.specs.List.{AllPairs, AllAdjacentBelow, IsAllAdjacentAnswer}
-use Rattle.zst_model.specs.Pool.{is_before}
-use Rattle.zst_model.specs.OrderLaws.{before_trans, row_before_later}
+use Rattle.zst_model.specs.pools.Pool.{is_before}
+use Rattle.zst_model.proofs.OrderLaws.{before_trans, row_before_later}
 use Rattle.zst_dir.specs.Rows.{snapshot_is_before}
 use Rattle.zst_dir.specs.declared.rows.Snapshot.{Snapshot}
 use Rattle.zst_dir.proofs.Inserting.{of_snapshot}

@@ -8,9 +8,9 @@ use Rattle.std.proofs.lemmas.List.Elements.{All-head, All-tail, All-append, All-
 use Rattle.std.proofs.lemmas.List.Kept.{AllPairs-filter}
 use Rattle.std.proofs.lemmas.List.Sums.{take_while-cons}
 use Rattle.zst_bytes.specs.Words.{word}
-use Rattle.zst_model.specs.Pool.{is_before}
-use Rattle.zst_model.specs.InsertedLaws.{contains_cases, contains_nothing, All-from_contains, AllPairs-head, AllPairs-tail}
-use Rattle.zst_model.specs.OrderLaws.{same_bytes, bytes_same, before_trans, not_before_itself, before_cases, row_before_from}
+use Rattle.zst_model.specs.pools.Pool.{is_before}
+use Rattle.zst_model.proofs.InsertedLaws.{contains_cases, contains_nothing, All-from_contains, AllPairs-head, AllPairs-tail}
+use Rattle.zst_model.proofs.OrderLaws.{same_bytes, bytes_same, before_trans, not_before_itself, before_cases, row_before_from}
 use Rattle.zst_dir.specs.Rows.{Rows, snapshot_is_before, IsLawful}
 use Rattle.zst_dir.specs.Spelling.{snapshots_of, dataset_bytes}
 use Rattle.zst_dir.specs.declared.rows.Dataset.{Dataset}

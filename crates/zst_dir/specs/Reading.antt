@@ -1,9 +1,9 @@
 -- What a reader of the bytes in front gives.
 use Rattle.std.specs.Prelude.{◌≡◌, ◌<◌, ◌≤◌, ◌^◌, ℕ, List, [], ◌∷◌, ◌++◌, length, Bool, true, Option, Some, None, Result, IfOk, flat_map, All, Contains}
 use Rattle.std.specs.Str.{IsAscii}
-use Rattle.zst_model.specs.Guids.{IsGuidSet}
-use Rattle.zst_model.specs.Pool.{IsKind}
-use Rattle.zst_model.specs.declared.header.Header.{Header}
+use Rattle.zst_model.specs.fields.Guids.{IsGuidSet}
+use Rattle.zst_model.specs.pools.Pool.{IsKind}
+use Rattle.zst_model.specs.declared.sends.header.Header.{Header}
 use Rattle.zst_bytes.specs.Words.{word, text_bytes, words_bytes}
 use Rattle.zst_names.specs.Names.{dataset_of}
 use Rattle.zst_tree.specs.Sets.{set_bytes}

@@ -2,8 +2,8 @@
 use Rattle.std.specs.Prelude.{◌≡◌, ◌≢◌, ◌<◌, ◌≤◌, ◌^◌, ℕ, Bool, true, false, List, [], ◌∷◌, ◌++◌, length, map, if◌then◌else◌, None, IfSome, All, AllPairs, Contains, nat_lt, bytes_eq, ◌&&◌, ◌||◌}
 use Rattle.zst_names.specs.Names.{IsDataset, IsSnapshot, IsBookmark, IsComponent, dataset_of}
 use Rattle.zst_block.specs.Ptr.{PtrFits}
-use Rattle.zst_model.specs.Guids.{IsGuidSet}
-use Rattle.zst_model.specs.Pool.{is_before, IsKind}
+use Rattle.zst_model.specs.fields.Guids.{IsGuidSet}
+use Rattle.zst_model.specs.pools.Pool.{is_before, IsKind}
 use Rattle.zst_tree.specs.Sets.{SetFits}
 use Rattle.zst_tree.specs.declared.tree.ObjSet.{ObjSet}
 use Rattle.zst_dir.specs.declared.rows.Dataset.{Dataset}

@@ -3,7 +3,7 @@ use Rattle.std.specs.Prelude.{◌≡◌, ℕ, Bool, true, false, List, [], ◌++
 use Rattle.zst_bytes.specs.Words.{word, text_bytes, words_bytes}
 use Rattle.zst_block.specs.Ptr.{ptr_bytes}
 use Rattle.zst_names.specs.Names.{dataset_of, component_of}
-use Rattle.zst_model.specs.declared.header.Header.{Header}
+use Rattle.zst_model.specs.declared.sends.header.Header.{Header}
 use Rattle.zst_tree.specs.Sets.{set_bytes}
 use Rattle.zst_dir.specs.Rows.{Rows, IsLawful}
 use Rattle.zst_dir.specs.declared.rows.Dataset.{Dataset}

@@ -3,7 +3,7 @@ use Rattle.std.specs.Prelude.{◌≡◌, ◌↔◌, ℕ, Bool, true, false, List
 use Rattle.std.specs.BTreeSet.{BTreeSet, contains}
 use Rattle.std.specs.Cmp.Lexicographic.{slice_cmp}
 use Rattle.std.specs.Ordering.{nat_cmp}
-use Rattle.zst_model.specs.Pool.{is_before}
+use Rattle.zst_model.specs.pools.Pool.{is_before}
 use Rattle.zst_dir.specs.Reading.{IsSnapshotIn}
 use Rattle.zst_dir.specs.Rows.{Rows, snapshot_is_before, IsDatasetRow, IsBookmarkRow, IsPartialRow}
 use Rattle.zst_dir.specs.declared.rows.Dataset.{Dataset}

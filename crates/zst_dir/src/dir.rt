@@ -1,6 +1,6 @@
 ghost use Rattle.std.specs.Prelude.{◌≡◌, ◌≤◌, ◌+◌, true, false, AllPairs, ◌≢◌, ◌++◌, ◌∷◌, ◌==◌, length, position, bytes_eq, filter, not, All, IfOk, IfSome, OnOk, OnErr};
 ghost use Rattle.std.specs.List.{position_or_len};
-ghost use Rattle.zst_model.specs.Pool.{is_before, inserted};
+ghost use Rattle.zst_model.specs.pools.Pool.{is_before, inserted};
 ghost use Rattle.zst_names.specs.Names.{dataset_of};
 ghost use Rattle.zst_tree.specs.Sets.{SetFits};
 ghost use Rattle.zst_dir.specs.Rows.{Rows, no_rows, snapshot_is_before, HasDataset, HasSnapshot, IsDatasetRow, IsSnapshotRow, IsLawful, with_head};

@@ -2,8 +2,8 @@
 ghost use Rattle.std.specs.Prelude.{◌≡◌, ◌<◌, ◌≤◌, ◌^◌, ◌++◌, ℕ, Bool, List, Some, IfSome, All, length};
 ghost use Rattle.std.specs.Option.{option_copied};
 ghost use Rattle.zst_bytes.specs.Words.{word, text_bytes, words_bytes};
-ghost use Rattle.zst_model.specs.Guids.{IsGuidSet};
-ghost use Rattle.zst_model.specs.Pool.{IsKind};
+ghost use Rattle.zst_model.specs.fields.Guids.{IsGuidSet};
+ghost use Rattle.zst_model.specs.pools.Pool.{IsKind};
 ghost use Rattle.zst_names.specs.Names.{IsDataset, IsSnapshot, IsBookmark, IsComponent, dataset_of, component_of};
 ghost use Rattle.zst_dir.specs.Reading.{ReadsBack, IsPlain, AreGuids};
 ghost use Rattle.zst_dir.specs.Spelling.{flag, name_bytes};

@@ -1,6 +1,6 @@
 //! Whether rows make a lawful directory: their order, and that what they name is there.
 ghost use Rattle.std.specs.Prelude.{◌≡◌, ◌≢◌, ◌↔◌, true, false, All, AllPairs, IfOk, IfSome, IsSome, IsTrue};
-ghost use Rattle.zst_model.specs.Pool.{is_before};
+ghost use Rattle.zst_model.specs.pools.Pool.{is_before};
 ghost use Rattle.zst_names.specs.Names.{IsComponent};
 ghost use Rattle.zst_dir.specs.Rows.{snapshot_is_before, IsPartialRow, IsLawful};
 ghost use Rattle.zst_dir.specs.Tested.{AreNamesOf, AreRead, LinkTo, Rise, has, name_to_be};

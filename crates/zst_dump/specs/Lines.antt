@@ -1,9 +1,9 @@
 -- The line of a covered record.
 use Rattle.std.specs.Prelude.{ℕ, ◌==◌, if◌then◌else◌, List, [], ◌∷◌, ◌++◌, length, flat_map, codes, decimal, slice_index, Option, Some, None}
 use Rattle.std.specs.List.{concat}
-use Rattle.zst_model.specs.Texts.{guid_text}
-use Rattle.zst_model.specs.declared.header.Header.{Header}
-use Rattle.zst_model.specs.declared.header.Point.{Point}
+use Rattle.zst_model.specs.refusals.Texts.{guid_text}
+use Rattle.zst_model.specs.declared.sends.header.Header.{Header}
+use Rattle.zst_model.specs.declared.sends.header.Point.{Point}
 use Rattle.zst_record.specs.Heads.{Covered}
 use Rattle.zst_record.specs.declared.head.Head.{Head}
 use Rattle.zst_record.specs.declared.head.Head.TheVariants as heads

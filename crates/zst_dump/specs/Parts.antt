@@ -1,7 +1,7 @@
 -- The parts of a line: words, numbers, guids, names and lengths.
 use Rattle.std.specs.Prelude.{ℕ, ◌-◌, ◌^◌, Bool, ◌==◌, ◌&&◌, not, nat_le, if◌then◌else◌, List, [], ◌∷◌, ◌++◌, flat_map, codes, decimal}
 use Rattle.hex.specs.Hex.{encode_lower}
-use Rattle.zst_model.specs.Texts.{guid_text}
+use Rattle.zst_model.specs.refusals.Texts.{guid_text}
 use Rattle.zst_dump.specs.declared.part.Part.{Part}
 use Rattle.zst_dump.specs.declared.part.Part.TheVariants as parts
 

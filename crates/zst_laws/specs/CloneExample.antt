@@ -1,9 +1,9 @@
 -- What stands before what in a pool with a clone of a clone.
 use Rattle.std.specs.Prelude.{ℕ, true, List, [], ◌∷◌, Option, Some, None, All, codes}
-use Rattle.zst_model.specs.declared.header.Header.{Header}
-use Rattle.zst_model.specs.Pool.{Pool, Dataset, Snapshot, Bookmark, Partial, untouched}
-use Rattle.zst_model.specs.Rows.{snapshot_row}
-use Rattle.zst_model.specs.Before.{Source, OfSnapshot, OfBookmark, Place, InDataset, InPartial, IsBefore}
+use Rattle.zst_model.specs.declared.sends.header.Header.{Header}
+use Rattle.zst_model.specs.pools.Pool.{Pool, Dataset, Snapshot, Bookmark, Partial, untouched}
+use Rattle.zst_model.specs.pools.Rows.{snapshot_row}
+use Rattle.zst_model.specs.pools.Before.{Source, OfSnapshot, OfBookmark, Place, InDataset, InPartial, IsBefore}
 
 -- two snapshots of `tank/a`, which the commits 3 and 5 made, and one of `tank/b`, which commit 8 made
 abbrev pub first : Snapshot

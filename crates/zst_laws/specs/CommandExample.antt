@@ -1,11 +1,11 @@
 -- What commands make of an object that is there.
 use Rattle.std.specs.Prelude.{◌≡◌, ℕ, List, [], ◌∷◌, replicate, Option, Some, None, Ok, codes, if◌then◌else◌, ◌==◌}
-use Rattle.zst_model.specs.declared.command.Command.{Command}
-use Rattle.zst_model.specs.declared.command.Command.TheVariants as commands
-use Rattle.zst_model.specs.State.{Data, Empty, BytesOf, attr_at, content_at}
-use Rattle.zst_model.specs.Dated.{DatedState}
-use Rattle.zst_model.specs.Pool.{Pool, Dataset, dataset_named, untouched}
-use Rattle.zst_model.specs.Step.{Stepped, stepped}
+use Rattle.zst_model.specs.declared.pools.command.Command.{Command}
+use Rattle.zst_model.specs.declared.pools.command.Command.TheVariants as commands
+use Rattle.zst_model.specs.states.State.{Data, Empty, BytesOf, attr_at, content_at}
+use Rattle.zst_model.specs.states.Dated.{DatedState}
+use Rattle.zst_model.specs.pools.Pool.{Pool, Dataset, dataset_named, untouched}
+use Rattle.zst_model.specs.pools.Step.{Stepped, stepped}
 use Rattle.zst_laws.specs.LineExample.{pool_of, two_objects}
 use Rattle.zst_laws.specs.Meanings.{object_of}
 

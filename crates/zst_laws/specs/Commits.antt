@@ -1,14 +1,14 @@
 -- What commits make of a snapshot, and that the increment from it gives exactly this.
 use Rattle.std.specs.Prelude.{◌≡◌, ℕ, ◌<◌, List, [], ◌∷◌, Some, Result, Ok}
-use Rattle.zst_model.specs.declared.apply_fault.ApplyFault.{ApplyFault}
-use Rattle.zst_model.specs.declared.header.Header.{Header}
-use Rattle.zst_model.specs.declared.item.Item.{Item}
-use Rattle.zst_model.specs.State.{IsState}
-use Rattle.zst_model.specs.Apply.{◌>>=◌}
-use Rattle.zst_model.specs.Dated.{DatedState, apply_all_dated}
-use Rattle.zst_model.specs.Included.{Pairs}
-use Rattle.zst_model.specs.View.{view_of}
-use Rattle.zst_model.specs.Target.{target, redacted, CanRedact, Remembers}
+use Rattle.zst_model.specs.declared.refusals.apply_fault.ApplyFault.{ApplyFault}
+use Rattle.zst_model.specs.declared.sends.header.Header.{Header}
+use Rattle.zst_model.specs.declared.states.item.Item.{Item}
+use Rattle.zst_model.specs.states.State.{IsState}
+use Rattle.zst_model.specs.states.Apply.{◌>>=◌}
+use Rattle.zst_model.specs.states.Dated.{DatedState, apply_all_dated}
+use Rattle.zst_model.specs.sends.Included.{Pairs}
+use Rattle.zst_model.specs.sends.View.{view_of}
+use Rattle.zst_model.specs.sends.Target.{target, redacted, CanRedact, Remembers}
 use Rattle.zst_laws.specs.Dating.{AreLawfulItems}
 
 -- a commit: its number, and the items that it applies

@@ -1,9 +1,9 @@
 -- Which commands commit, and how the pool's number counts the commits.
 use Rattle.std.specs.Prelude.{◌≡◌, ℕ, ◌+◌, Bool, true, false, Ok}
-use Rattle.zst_model.specs.declared.command.Command.{Command}
-use Rattle.zst_model.specs.declared.command.Command.TheVariants as commands
-use Rattle.zst_model.specs.Pool.{Pool}
-use Rattle.zst_model.specs.Step.{Stepped, stepped}
+use Rattle.zst_model.specs.declared.pools.command.Command.{Command}
+use Rattle.zst_model.specs.declared.pools.command.Command.TheVariants as commands
+use Rattle.zst_model.specs.pools.Pool.{Pool}
+use Rattle.zst_model.specs.pools.Step.{Stepped, stepped}
 
 -- a command that commits: each but those that only tell what is there
 abbrev pub commits : Command → Bool

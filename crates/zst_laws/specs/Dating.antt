@@ -1,13 +1,13 @@
 -- Which dates items give, and what a snapshot remembers under them.
 use Rattle.std.specs.Prelude.{◌≡◌, ℕ, ◌*◌, ◌<◌, ◌≤◌, true, false, List, [], ◌∷◌, Option, Ok, ◌==◌, if◌then◌else◌}
-use Rattle.zst_model.specs.declared.item.Change.{Change}
-use Rattle.zst_model.specs.declared.item.Change.TheVariants.{Put, Spill, FreeFrom, Free, Redact, Write}
-use Rattle.zst_model.specs.declared.item.Item.{Item}
-use Rattle.zst_model.specs.declared.item.Item.TheVariants.{FreeObjects, At}
-use Rattle.zst_model.specs.State.{State, Object, IsState, IsHead, IsBonus, IsSpill, attr_at, content_at, is_number, index_bound}
-use Rattle.zst_model.specs.Apply.{apply, within}
-use Rattle.zst_model.specs.Dated.{DatedState, touches_number, touches_index, size_at, apply_dated, apply_all_dated}
-use Rattle.zst_model.specs.Target.{Remembers}
+use Rattle.zst_model.specs.declared.states.item.Change.{Change}
+use Rattle.zst_model.specs.declared.states.item.Change.TheVariants.{Put, Spill, FreeFrom, Free, Redact, Write}
+use Rattle.zst_model.specs.declared.states.item.Item.{Item}
+use Rattle.zst_model.specs.declared.states.item.Item.TheVariants.{FreeObjects, At}
+use Rattle.zst_model.specs.states.State.{State, Object, IsState, IsHead, IsBonus, IsSpill, attr_at, content_at, is_number, index_bound}
+use Rattle.zst_model.specs.states.Apply.{apply, within}
+use Rattle.zst_model.specs.states.Dated.{DatedState, touches_number, touches_index, size_at, apply_dated, apply_all_dated}
+use Rattle.zst_model.specs.sends.Target.{Remembers}
 
 -- an item that is applied in a commit changes no content that it doesn't date
 abbrev pub ChangesAreDated : Type 0

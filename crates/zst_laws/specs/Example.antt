@@ -1,16 +1,16 @@
 -- Snapshots of one object, and the items of their views.
 use Rattle.std.specs.Prelude.{◌≡◌, ℕ, false, List, [], ◌∷◌, Some, None, replicate, if◌then◌else◌, ◌==◌, nat_lt}
-use Rattle.zst_model.specs.declared.attr.Attr.{Attr}
-use Rattle.zst_model.specs.declared.header.Header.{Header}
-use Rattle.zst_model.specs.declared.item.Change.TheVariants.{Put, FreeFrom, Free, Write}
-use Rattle.zst_model.specs.declared.item.Item.{Item}
-use Rattle.zst_model.specs.declared.item.Item.TheVariants.{FreeObjects, At}
-use Rattle.zst_model.specs.State.{Block, Hole, Data, Object, State, index_bound}
-use Rattle.zst_model.specs.Dated.{DatedState}
-use Rattle.zst_model.specs.Included.{Choice, no_pairs}
-use Rattle.zst_model.specs.View.{view_of}
-use Rattle.zst_model.specs.Items.{items, origin}
-use Rattle.zst_model.specs.Points.{point_of}
+use Rattle.zst_model.specs.declared.states.attr.Attr.{Attr}
+use Rattle.zst_model.specs.declared.sends.header.Header.{Header}
+use Rattle.zst_model.specs.declared.states.item.Change.TheVariants.{Put, FreeFrom, Free, Write}
+use Rattle.zst_model.specs.declared.states.item.Item.{Item}
+use Rattle.zst_model.specs.declared.states.item.Item.TheVariants.{FreeObjects, At}
+use Rattle.zst_model.specs.states.State.{Block, Hole, Data, Object, State, index_bound}
+use Rattle.zst_model.specs.states.Dated.{DatedState}
+use Rattle.zst_model.specs.sends.Included.{Choice, no_pairs}
+use Rattle.zst_model.specs.sends.View.{view_of}
+use Rattle.zst_model.specs.sends.Items.{items, origin}
+use Rattle.zst_model.specs.sends.Points.{point_of}
 use Rattle.zst_laws.specs.Sending.{full}
 
 -- a file with blocks of 512 bytes, without a bonus or a spill

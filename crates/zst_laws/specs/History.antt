@@ -1,10 +1,10 @@
 -- Which states are fit as a base.
 use Rattle.std.specs.Prelude.{◌≡◌, ℕ, ◌≤◌, true, ◌⊎◌, Some}
-use Rattle.zst_model.specs.State.{State, IsState, end_at}
-use Rattle.zst_model.specs.Dated.{DatedState}
-use Rattle.zst_model.specs.Included.{Pairs, Choice, includes_pair, includes_number}
+use Rattle.zst_model.specs.states.State.{State, IsState, end_at}
+use Rattle.zst_model.specs.states.Dated.{DatedState}
+use Rattle.zst_model.specs.sends.Included.{Pairs, Choice, includes_pair, includes_number}
 use Rattle.zst_laws.specs.Sending.{full}
-use Rattle.zst_model.specs.Target.{BaseOk, Remembers, redacted}
+use Rattle.zst_model.specs.sends.Target.{BaseOk, Remembers, redacted}
 
 -- each lawful state is fit as the base of a full stream
 abbrev pub AnyIsFullBase : Type 0

@@ -1,9 +1,9 @@
 -- How runs are joined.
 use Rattle.std.specs.Prelude.{◌≡◌, List, [], ◌∷◌, Some, None}
-use Rattle.zst_model.specs.declared.header.Point.{Point}
-use Rattle.zst_model.specs.declared.item.Item.{Item}
-use Rattle.zst_model.specs.View.{View}
-use Rattle.zst_model.specs.Items.{items, join, joined}
+use Rattle.zst_model.specs.declared.sends.header.Point.{Point}
+use Rattle.zst_model.specs.declared.states.item.Item.{Item}
+use Rattle.zst_model.specs.sends.View.{View}
+use Rattle.zst_model.specs.sends.Items.{items, join, joined}
 
 -- no two neighbours join
 abbrev pub NoneJoin : List Item → Type 0

@@ -1,14 +1,14 @@
 -- What `list` and `read` answer, letter by letter.
 use Rattle.std.specs.Prelude.{◌≡◌, ℕ, List, [], ◌∷◌, ◌++◌, replicate, true, Option, Some, None, Result, Ok, Err, codes, if◌then◌else◌, ◌==◌}
-use Rattle.zst_model.specs.declared.command.Command.TheVariants as commands
-use Rattle.zst_model.specs.declared.header.Header.{Header}
-use Rattle.zst_model.specs.declared.named.Name.TheVariants as names
-use Rattle.zst_model.specs.declared.refusal.Refusal.{Refusal}
-use Rattle.zst_model.specs.declared.refusal.Refusal.TheVariants as refusals
-use Rattle.zst_model.specs.State.{Block, Hole, Redacted, Data, Object}
-use Rattle.zst_model.specs.Dated.{DatedState}
-use Rattle.zst_model.specs.Pool.{Pool, Dataset, Snapshot, Bookmark, Partial, untouched}
-use Rattle.zst_model.specs.Step.{Stepped, stepped}
+use Rattle.zst_model.specs.declared.pools.command.Command.TheVariants as commands
+use Rattle.zst_model.specs.declared.sends.header.Header.{Header}
+use Rattle.zst_model.specs.declared.refusals.named.Name.TheVariants as names
+use Rattle.zst_model.specs.declared.refusals.refusal.Refusal.{Refusal}
+use Rattle.zst_model.specs.declared.refusals.refusal.Refusal.TheVariants as refusals
+use Rattle.zst_model.specs.states.State.{Block, Hole, Redacted, Data, Object}
+use Rattle.zst_model.specs.states.Dated.{DatedState}
+use Rattle.zst_model.specs.pools.Pool.{Pool, Dataset, Snapshot, Bookmark, Partial, untouched}
+use Rattle.zst_model.specs.pools.Step.{Stepped, stepped}
 use Rattle.zst_laws.specs.Meanings.{object_of}
 use Rattle.zst_laws.specs.StepExample.{new_pool}
 

@@ -1,24 +1,24 @@
 -- What single records and commands do, and what a send includes, said a second time on values that are written out.
 use Rattle.std.specs.Prelude.{◌≡◌, ◌≢◌, ℕ, ◌<◌, ◌≤◌, Bool, true, false, List, [], ◌∷◌, replicate, Option, Some, None, Ok, Err, codes, if◌then◌else◌, ◌==◌}
-use Rattle.zst_model.specs.declared.attr.Attr.{Attr}
-use Rattle.zst_model.specs.declared.attr.ObjectHead.{ObjectHead}
-use Rattle.zst_model.specs.declared.item.Change.{Change}
-use Rattle.zst_model.specs.declared.item.Change.TheVariants.{Put, Spill, FreeFrom, Free, Redact, Write}
-use Rattle.zst_model.specs.declared.header.Header.{Header}
-use Rattle.zst_model.specs.declared.header.Point.{Point}
-use Rattle.zst_model.specs.declared.item.Item.TheVariants.{FreeObjects, At}
-use Rattle.zst_model.specs.declared.apply_fault.ApplyFault.{ApplyFault}
-use Rattle.zst_model.specs.declared.apply_fault.ApplyFault.TheVariants.{NoObject, SizeDiffers, Unaligned, OddBlock, NotUserData}
-use Rattle.zst_model.specs.declared.command.Command.TheVariants as commands
-use Rattle.zst_model.specs.State.{Block, Hole, Redacted, Data, Object, Empty, BytesOf, RedactedOf, content_at, end_at, is_block_size, is_number, is_user_data}
-use Rattle.zst_model.specs.Apply.{apply_change}
-use Rattle.zst_model.specs.Dated.{DatedState, apply_dated}
-use Rattle.zst_model.specs.Included.{Choice, includes_pair, includes_number}
-use Rattle.zst_model.specs.Pool.{Dataset, Snapshot, Pool, dataset_named, untouched}
-use Rattle.zst_model.specs.RedSet.{red_set}
-use Rattle.zst_model.specs.Target.{CanRedact}
-use Rattle.zst_model.specs.View.{header_from}
-use Rattle.zst_model.specs.Step.{Stepped, stepped}
+use Rattle.zst_model.specs.declared.states.attr.Attr.{Attr}
+use Rattle.zst_model.specs.declared.states.attr.ObjectHead.{ObjectHead}
+use Rattle.zst_model.specs.declared.states.item.Change.{Change}
+use Rattle.zst_model.specs.declared.states.item.Change.TheVariants.{Put, Spill, FreeFrom, Free, Redact, Write}
+use Rattle.zst_model.specs.declared.sends.header.Header.{Header}
+use Rattle.zst_model.specs.declared.sends.header.Point.{Point}
+use Rattle.zst_model.specs.declared.states.item.Item.TheVariants.{FreeObjects, At}
+use Rattle.zst_model.specs.declared.refusals.apply_fault.ApplyFault.{ApplyFault}
+use Rattle.zst_model.specs.declared.refusals.apply_fault.ApplyFault.TheVariants.{NoObject, SizeDiffers, Unaligned, OddBlock, NotUserData}
+use Rattle.zst_model.specs.declared.pools.command.Command.TheVariants as commands
+use Rattle.zst_model.specs.states.State.{Block, Hole, Redacted, Data, Object, Empty, BytesOf, RedactedOf, content_at, end_at, is_block_size, is_number, is_user_data}
+use Rattle.zst_model.specs.states.Apply.{apply_change}
+use Rattle.zst_model.specs.states.Dated.{DatedState, apply_dated}
+use Rattle.zst_model.specs.sends.Included.{Choice, includes_pair, includes_number}
+use Rattle.zst_model.specs.pools.Pool.{Dataset, Snapshot, Pool, dataset_named, untouched}
+use Rattle.zst_model.specs.pools.RedSet.{red_set}
+use Rattle.zst_model.specs.sends.Target.{CanRedact}
+use Rattle.zst_model.specs.sends.View.{header_from}
+use Rattle.zst_model.specs.pools.Step.{Stepped, stepped}
 use Rattle.zst_laws.specs.Example.{small}
 use Rattle.zst_laws.specs.StepExample.{new_pool, gives}
 

@@ -1,14 +1,14 @@
 -- The redaction list of a snapshot with two clones.
 use Rattle.std.specs.Prelude.{◌≡◌, ℕ, [], ◌∷◌, if◌then◌else◌, ◌==◌, ◌&&◌}
-use Rattle.zst_model.specs.declared.header.Header.{Header}
-use Rattle.zst_model.specs.declared.item.Change.TheVariants.{FreeFrom, Redact, Write}
-use Rattle.zst_model.specs.declared.item.Item.TheVariants.{At}
-use Rattle.zst_model.specs.State.{Hole, Data}
-use Rattle.zst_model.specs.Dated.{DatedState}
-use Rattle.zst_model.specs.Included.{Pairs}
-use Rattle.zst_model.specs.View.{view_of}
-use Rattle.zst_model.specs.Items.{items, origin}
-use Rattle.zst_model.specs.RedSet.{red_set}
+use Rattle.zst_model.specs.declared.sends.header.Header.{Header}
+use Rattle.zst_model.specs.declared.states.item.Change.TheVariants.{FreeFrom, Redact, Write}
+use Rattle.zst_model.specs.declared.states.item.Item.TheVariants.{At}
+use Rattle.zst_model.specs.states.State.{Hole, Data}
+use Rattle.zst_model.specs.states.Dated.{DatedState}
+use Rattle.zst_model.specs.sends.Included.{Pairs}
+use Rattle.zst_model.specs.sends.View.{view_of}
+use Rattle.zst_model.specs.sends.Items.{items, origin}
+use Rattle.zst_model.specs.pools.RedSet.{red_set}
 use Rattle.zst_laws.specs.Sending.{full}
 use Rattle.zst_laws.specs.Example.{one_file, file_dates, file_put, rest_gone, padded}
 

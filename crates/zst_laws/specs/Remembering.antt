@@ -1,15 +1,15 @@
 -- What a source remembers in a pool, and that it does so while commands run.
 use Rattle.std.specs.Prelude.{◌≡◌, ℕ, List, Some, Ok, Contains}
-use Rattle.zst_model.specs.declared.command.Command.{Command}
-use Rattle.zst_model.specs.declared.command.Command.TheVariants as commands
-use Rattle.zst_model.specs.State.{State, IsState}
-use Rattle.zst_model.specs.Included.{Pairs, Choice}
-use Rattle.zst_model.specs.Pool.{Pool, Snapshot, IsPool, dataset_of_snapshot}
-use Rattle.zst_model.specs.Before.{Source, OfSnapshot, dataset_of_source, number_of_source, IsIn, IsBefore}
-use Rattle.zst_model.specs.Rows.{Row, rows}
-use Rattle.zst_model.specs.Sound.{Sound}
-use Rattle.zst_model.specs.Step.{Stepped, stepped, IsCommand}
-use Rattle.zst_model.specs.Target.{Remembers, BaseOk}
+use Rattle.zst_model.specs.declared.pools.command.Command.{Command}
+use Rattle.zst_model.specs.declared.pools.command.Command.TheVariants as commands
+use Rattle.zst_model.specs.states.State.{State, IsState}
+use Rattle.zst_model.specs.sends.Included.{Pairs, Choice}
+use Rattle.zst_model.specs.pools.Pool.{Pool, Snapshot, IsPool, dataset_of_snapshot}
+use Rattle.zst_model.specs.pools.Before.{Source, OfSnapshot, dataset_of_source, number_of_source, IsIn, IsBefore}
+use Rattle.zst_model.specs.pools.Rows.{Row, rows}
+use Rattle.zst_model.specs.pools.Sound.{Sound}
+use Rattle.zst_model.specs.pools.Step.{Stepped, stepped, IsCommand}
+use Rattle.zst_model.specs.sends.Target.{Remembers, BaseOk}
 
 -- a snapshot is the source's own: it is of the source's dataset and has its number
 pub record IsOwn (source : Source) (snapshot : Snapshot) : Type 0 where

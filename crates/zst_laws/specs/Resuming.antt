@@ -1,14 +1,14 @@
 -- What a cut leaves, and how a resumed send completes it.
 use Rattle.std.specs.Prelude.{◌≡◌, List, ◌++◌, Ok}
-use Rattle.zst_model.specs.declared.header.Point.{Point}
-use Rattle.zst_model.specs.declared.item.Item.{Item}
-use Rattle.zst_model.specs.State.{State}
-use Rattle.zst_model.specs.View.{View, IsView}
-use Rattle.zst_model.specs.Items.{items, origin}
-use Rattle.zst_model.specs.Apply.{apply_all}
-use Rattle.zst_model.specs.Points.{point_of}
-use Rattle.zst_model.specs.Target.{target}
-use Rattle.zst_model.specs.StandsFor.{StandsFor}
+use Rattle.zst_model.specs.declared.sends.header.Point.{Point}
+use Rattle.zst_model.specs.declared.states.item.Item.{Item}
+use Rattle.zst_model.specs.states.State.{State}
+use Rattle.zst_model.specs.sends.View.{View, IsView}
+use Rattle.zst_model.specs.sends.Items.{items, origin}
+use Rattle.zst_model.specs.states.Apply.{apply_all}
+use Rattle.zst_model.specs.sends.Points.{point_of}
+use Rattle.zst_model.specs.sends.Target.{target}
+use Rattle.zst_model.specs.sends.StandsFor.{StandsFor}
 
 -- the items from a point on make the target of each state that stands for that point
 abbrev pub ResumeIsExact : Type 0

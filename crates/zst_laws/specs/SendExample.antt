@@ -1,14 +1,14 @@
 -- The items of an object with all that an object may have, and those of an increment over several objects.
 use Rattle.std.specs.Prelude.{◌≡◌, ℕ, false, [], ◌∷◌, replicate, Some, None, if◌then◌else◌, ◌==◌}
-use Rattle.zst_model.specs.declared.header.Header.{Header}
-use Rattle.zst_model.specs.declared.item.Change.TheVariants.{Put, Spill, FreeFrom, Free, Write}
-use Rattle.zst_model.specs.declared.item.Item.{Item}
-use Rattle.zst_model.specs.declared.item.Item.TheVariants.{FreeObjects, At}
-use Rattle.zst_model.specs.State.{Block, Hole, Data}
-use Rattle.zst_model.specs.Dated.{DatedState}
-use Rattle.zst_model.specs.Included.{no_pairs}
-use Rattle.zst_model.specs.View.{view_of}
-use Rattle.zst_model.specs.Items.{items, origin}
+use Rattle.zst_model.specs.declared.sends.header.Header.{Header}
+use Rattle.zst_model.specs.declared.states.item.Change.TheVariants.{Put, Spill, FreeFrom, Free, Write}
+use Rattle.zst_model.specs.declared.states.item.Item.{Item}
+use Rattle.zst_model.specs.declared.states.item.Item.TheVariants.{FreeObjects, At}
+use Rattle.zst_model.specs.states.State.{Block, Hole, Data}
+use Rattle.zst_model.specs.states.Dated.{DatedState}
+use Rattle.zst_model.specs.sends.Included.{no_pairs}
+use Rattle.zst_model.specs.sends.View.{view_of}
+use Rattle.zst_model.specs.sends.Items.{items, origin}
 use Rattle.zst_laws.specs.Sending.{full}
 use Rattle.zst_laws.specs.Example.{file_of, first_block, padded, since, rest_gone}
 use Rattle.zst_laws.specs.LineExample.{whole_object}

@@ -1,13 +1,13 @@
 -- What a whole send gives.
 use Rattle.std.specs.Prelude.{◌≡◌, ℕ, Bool, true, false, Option, Some, None, Ok}
-use Rattle.zst_model.specs.declared.header.Header.{Header}
-use Rattle.zst_model.specs.declared.header.Point.{Point}
-use Rattle.zst_model.specs.State.{Object, State, IsState, is_hole, no_objects}
-use Rattle.zst_model.specs.Dated.{DatedState}
-use Rattle.zst_model.specs.Included.{Pairs, Choice, no_pairs}
-use Rattle.zst_model.specs.View.{IsView, view_of}
-use Rattle.zst_model.specs.Items.{items}
-use Rattle.zst_model.specs.Target.{target, redacted, CanRedact, BaseOk}
+use Rattle.zst_model.specs.declared.sends.header.Header.{Header}
+use Rattle.zst_model.specs.declared.sends.header.Point.{Point}
+use Rattle.zst_model.specs.states.State.{Object, State, IsState, is_hole, no_objects}
+use Rattle.zst_model.specs.states.Dated.{DatedState}
+use Rattle.zst_model.specs.sends.Included.{Pairs, Choice, no_pairs}
+use Rattle.zst_model.specs.sends.View.{IsView, view_of}
+use Rattle.zst_model.specs.sends.Items.{items}
+use Rattle.zst_model.specs.sends.Target.{target, redacted, CanRedact, BaseOk}
 
 -- over a base that is fit for it, a send gives exactly its snapshot, with the listed pairs redacted and no other changed
 abbrev pub SendIsExact : Type 0

@@ -1,17 +1,17 @@
 -- A receive that is cut and resumed, any number of times.
 use Rattle.std.specs.Prelude.{◌≡◌, ℕ, List, [], ◌∷◌, ◌++◌, Some, Ok}
-use Rattle.zst_model.specs.declared.header.Header.{Header}
-use Rattle.zst_model.specs.declared.header.Point.{Point}
-use Rattle.zst_model.specs.declared.item.Item.{Item}
-use Rattle.zst_model.specs.State.{State, IsState, no_objects}
-use Rattle.zst_model.specs.Dated.{DatedState}
-use Rattle.zst_model.specs.Included.{Pairs}
-use Rattle.zst_model.specs.View.{View, IsView, view_of}
-use Rattle.zst_model.specs.Items.{items, origin}
-use Rattle.zst_model.specs.Apply.{apply_all}
-use Rattle.zst_model.specs.Points.{point_of}
-use Rattle.zst_model.specs.Target.{target, redacted, CanRedact}
-use Rattle.zst_model.specs.StandsFor.{StandsFor}
+use Rattle.zst_model.specs.declared.sends.header.Header.{Header}
+use Rattle.zst_model.specs.declared.sends.header.Point.{Point}
+use Rattle.zst_model.specs.declared.states.item.Item.{Item}
+use Rattle.zst_model.specs.states.State.{State, IsState, no_objects}
+use Rattle.zst_model.specs.states.Dated.{DatedState}
+use Rattle.zst_model.specs.sends.Included.{Pairs}
+use Rattle.zst_model.specs.sends.View.{View, IsView, view_of}
+use Rattle.zst_model.specs.sends.Items.{items, origin}
+use Rattle.zst_model.specs.states.Apply.{apply_all}
+use Rattle.zst_model.specs.sends.Points.{point_of}
+use Rattle.zst_model.specs.sends.Target.{target, redacted, CanRedact}
+use Rattle.zst_model.specs.sends.StandsFor.{StandsFor}
 use Rattle.zst_laws.specs.Sending.{full}
 use Rattle.zst_laws.specs.Commits.{Commit, apply_commits, AreLater}
 

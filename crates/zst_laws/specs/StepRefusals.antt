@@ -1,19 +1,19 @@
 -- What a pool refuses, and with which refusal where several could come.
 use Rattle.std.specs.Prelude.{◌≡◌, ℕ, ◌+◌, ◌<◌, ◌≤◌, true, false, List, [], ◌∷◌, length, Option, Some, None, Err, ◌==◌}
 use Rattle.std.specs.List.{before_first}
-use Rattle.zst_model.specs.declared.apply_fault.ApplyFault.TheVariants.{NoObject, SizeDiffers, OddBlock}
-use Rattle.zst_model.specs.declared.attr.ObjectHead.{ObjectHead}
-use Rattle.zst_model.specs.declared.command.Command.{Command}
-use Rattle.zst_model.specs.declared.command.Command.TheVariants as commands
-use Rattle.zst_model.specs.declared.faults.Quantity.TheVariants as quantities
-use Rattle.zst_model.specs.declared.named.Name.{Name}
-use Rattle.zst_model.specs.declared.named.Name.TheVariants as names
-use Rattle.zst_model.specs.declared.refusal.Refusal.{Refusal}
-use Rattle.zst_model.specs.declared.refusal.Refusal.TheVariants as refusals
-use Rattle.zst_model.specs.State.{Object, Redacted, IsState, is_odd_size}
-use Rattle.zst_model.specs.Dated.{DatedState}
-use Rattle.zst_model.specs.Pool.{Pool, Dataset, Snapshot, Partial, dataset_named, snapshot_named, partial_of}
-use Rattle.zst_model.specs.Step.{stepped, no_such, exists_already, busy_partial, cannot_apply, state_named}
+use Rattle.zst_model.specs.declared.refusals.apply_fault.ApplyFault.TheVariants.{NoObject, SizeDiffers, OddBlock}
+use Rattle.zst_model.specs.declared.states.attr.ObjectHead.{ObjectHead}
+use Rattle.zst_model.specs.declared.pools.command.Command.{Command}
+use Rattle.zst_model.specs.declared.pools.command.Command.TheVariants as commands
+use Rattle.zst_model.specs.declared.refusals.faults.Quantity.TheVariants as quantities
+use Rattle.zst_model.specs.declared.refusals.named.Name.{Name}
+use Rattle.zst_model.specs.declared.refusals.named.Name.TheVariants as names
+use Rattle.zst_model.specs.declared.refusals.refusal.Refusal.{Refusal}
+use Rattle.zst_model.specs.declared.refusals.refusal.Refusal.TheVariants as refusals
+use Rattle.zst_model.specs.states.State.{Object, Redacted, IsState, is_odd_size}
+use Rattle.zst_model.specs.states.Dated.{DatedState}
+use Rattle.zst_model.specs.pools.Pool.{Pool, Dataset, Snapshot, Partial, dataset_named, snapshot_named, partial_of}
+use Rattle.zst_model.specs.pools.Step.{stepped, no_such, exists_already, busy_partial, cannot_apply, state_named}
 
 -- the pool refuses the command so, whatever the time
 abbrev pub Refuses : Pool → Command → Refusal → Type 0

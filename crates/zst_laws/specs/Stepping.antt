@@ -1,9 +1,9 @@
 -- What commands keep of a pool.
 use Rattle.std.specs.Prelude.{◌≡◌, ℕ, Ok}
-use Rattle.zst_model.specs.declared.command.Command.{Command}
-use Rattle.zst_model.specs.Pool.{Pool, IsPool}
-use Rattle.zst_model.specs.Sound.{Sound}
-use Rattle.zst_model.specs.Step.{Stepped, stepped, IsCommand}
+use Rattle.zst_model.specs.declared.pools.command.Command.{Command}
+use Rattle.zst_model.specs.pools.Pool.{Pool, IsPool}
+use Rattle.zst_model.specs.pools.Sound.{Sound}
+use Rattle.zst_model.specs.pools.Step.{Stepped, stepped, IsCommand}
 
 -- a command makes a lawful pool of a lawful pool
 abbrev pub StepsKeepPools : Type 0

@@ -1,14 +1,14 @@
 -- What a walk over a view has left, and how it goes on.
 use Rattle.std.specs.Prelude.{◌≡◌, ℕ, ◌+◌, ◌*◌, ◌<◌, ◌≤◌, Bool, true, false, List, [], ◌∷◌, ◌++◌, flat_map, map, pred, Some, None, if◌then◌else◌, nat_lt, ◌==◌}
-use Rattle.zst_model.specs.declared.attr.Attr.{Attr}
-use Rattle.zst_model.specs.declared.header.Point.{Point}
-use Rattle.zst_model.specs.declared.item.Change.TheVariants.{Free, Redact, Write}
-use Rattle.zst_model.specs.declared.item.Change.{Change}
-use Rattle.zst_model.specs.declared.item.Item.{Item}
-use Rattle.zst_model.specs.declared.item.Item.TheVariants.{At, FreeObjects}
-use Rattle.zst_model.specs.State.{Block, Hole, Redacted, Data, is_number, number_bound}
-use Rattle.zst_model.specs.View.{View, ObjectView, Shown, Left, Gone, There}
-use Rattle.zst_model.specs.Items.{joined, single_items, rising, number_items, block_changes, block_change, opening}
+use Rattle.zst_model.specs.declared.states.attr.Attr.{Attr}
+use Rattle.zst_model.specs.declared.sends.header.Point.{Point}
+use Rattle.zst_model.specs.declared.states.item.Change.TheVariants.{Free, Redact, Write}
+use Rattle.zst_model.specs.declared.states.item.Change.{Change}
+use Rattle.zst_model.specs.declared.states.item.Item.{Item}
+use Rattle.zst_model.specs.declared.states.item.Item.TheVariants.{At, FreeObjects}
+use Rattle.zst_model.specs.states.State.{Block, Hole, Redacted, Data, is_number, number_bound}
+use Rattle.zst_model.specs.sends.View.{View, ObjectView, Shown, Left, Gone, There}
+use Rattle.zst_model.specs.sends.Items.{joined, single_items, rising, number_items, block_changes, block_change, opening}
 
 -- what is left of the point's own number once its opening was given
 abbrev pub number_rest : ℕ → ℕ → Shown → List Item

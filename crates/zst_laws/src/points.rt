@@ -1,7 +1,7 @@
 ghost use Rattle.std.specs.Prelude.{◌≡◌};
 ghost use Rattle.zst_laws.specs.Places.{HasPlace, ChangeHasPlace};
-ghost use Rattle.zst_model.specs.declared.item.Item.TheVariants.{At};
-ghost use Rattle.zst_model.specs.Points.{point_after};
+ghost use Rattle.zst_model.specs.declared.states.item.Item.TheVariants.{At};
+ghost use Rattle.zst_model.specs.sends.Points.{point_after};
 
 use zst_model::{Change, Item, Point};
 
@@ -9,7 +9,7 @@ use zst_model::{Change, Item, Point};
 const NUMBER_BOUND: u64 = 1 << 48;
 
 /// Where a receiver stands after an item: past its range, whose end is a number of 64 bits.
-#[tactic(auto, unfolding(zst_model::specs::State::number_bound))]
+#[tactic(auto, unfolding(zst_model::specs::states::State::number_bound))]
 pub fn point_after(point: Point, item: &Item) -> Point
     requires { HasPlace item.now }
     ensures { result ≡ point_after point item.now }

@@ -6,8 +6,8 @@ use Rattle.std.specs.List.{AllZip}
 use Rattle.hex.specs.Hex.{decode_of}
 use Rattle.hex.proofs.HexLemmas.{decode_of-ok}
 use Rattle.zst_names.specs.Names.{IsDataset, IsSnapshot, StopsAt}
-use Rattle.zst_model.specs.State.{is_block_size}
-use Rattle.zst_model.specs.declared.command.Command.TheVariants as commands
+use Rattle.zst_model.specs.states.State.{is_block_size}
+use Rattle.zst_model.specs.declared.pools.command.Command.TheVariants as commands
 use Rattle.zst_line.specs.declared.kind.Kind.{Kind}
 use Rattle.zst_line.specs.declared.kind.Kind.TheVariants as kinds
 use Rattle.zst_line.specs.declared.line.Line.TheVariants.{Create, Step}

@@ -3,7 +3,7 @@ use Rattle.std.specs.Prelude.{◌≡◌, ◌≢◌, ◌⊎◌, ℕ, ◌+◌, ◌
 use Rattle.std.specs.List.{AllPass, AllZip, Contains}
 use Rattle.hex.specs.Hex.{is_hex_digit}
 use Rattle.zst_names.specs.Names.{IsDataset, IsSnapshot, StopsAt}
-use Rattle.zst_model.specs.State.{is_block_size, is_spill_size}
+use Rattle.zst_model.specs.states.State.{is_block_size, is_spill_size}
 use Rattle.zst_line.specs.declared.kind.Kind.{Kind}
 use Rattle.zst_line.specs.declared.kind.Kind.TheVariants.{Dump, Create, Fs, Volume, Object, Write, Punch, Free, Snapshot}
 use Rattle.zst_line.specs.declared.slot.Slot.{Slot}

@@ -2,13 +2,13 @@
 use Rattle.std.specs.Prelude.{◌≡◌, ◌≢◌, ℕ, ◌^◌, ◌<◌, ◌≤◌, List, [], ◌∷◌, None, Result, Ok, Err, codes, decimal}
 use Rattle.std.specs.Result.{result_err}
 use Rattle.hex.specs.Hex.{decode_of}
-use Rattle.zst_model.specs.declared.command.Command.{Command}
-use Rattle.zst_model.specs.declared.command.Command.TheVariants as commands
-use Rattle.zst_model.specs.declared.faults.Lack.TheVariants as lacks
-use Rattle.zst_model.specs.declared.plan_fault.PlanFault.TheVariants as plans
-use Rattle.zst_model.specs.declared.refusal.Refusal.{Refusal}
-use Rattle.zst_model.specs.declared.refusal.Refusal.TheVariants as refusals
-use Rattle.zst_model.specs.Step.{IsCommand}
+use Rattle.zst_model.specs.declared.pools.command.Command.{Command}
+use Rattle.zst_model.specs.declared.pools.command.Command.TheVariants as commands
+use Rattle.zst_model.specs.declared.refusals.faults.Lack.TheVariants as lacks
+use Rattle.zst_model.specs.declared.refusals.plan_fault.PlanFault.TheVariants as plans
+use Rattle.zst_model.specs.declared.refusals.refusal.Refusal.{Refusal}
+use Rattle.zst_model.specs.declared.refusals.refusal.Refusal.TheVariants as refusals
+use Rattle.zst_model.specs.pools.Step.{IsCommand}
 use Rattle.zst_line.specs.Grammar.{UsageAt, BadNameAt, IsUnbuiltLine, IsLine}
 use Rattle.zst_line.specs.declared.line.Line.{Line}
 use Rattle.zst_line.specs.declared.line.Line.TheVariants.{Dump, Create, Step}

@@ -2,7 +2,7 @@ ghost use Rattle.std.specs.Prelude.{◌≡◌, ◌↔◌, IsTrue, codes};
 ghost use Rattle.std.specs.List.{AllPass, Contains};
 ghost use Rattle.hex.specs.Hex.{is_hex_digit};
 ghost use Rattle.zst_line.specs.Grammar.{IsOption, IsHex, IsNumber, IsSize, IsSpill, Fits};
-ghost use Rattle.zst_model.specs.State.{is_block_size, is_spill_size};
+ghost use Rattle.zst_model.specs.states.State.{is_block_size, is_spill_size};
 
 use zst_bytes::decimal;
 
@@ -39,14 +39,14 @@ pub enum Slot {
     HexBytes { most: u64 },
 }
 
-#[tactic(auto, unfolding(zst_model::specs::State::is_block_size, zst_model::specs::State::largest_block))]
+#[tactic(auto, unfolding(zst_model::specs::states::State::is_block_size, zst_model::specs::states::State::largest_block))]
 fn is_block_size(size: u64) -> bool
     ensures { result ≡ is_block_size size }
 {
     SMALLEST_BLOCK <= size && size <= LARGEST_BLOCK && size % SMALLEST_BLOCK == 0
 }
 
-#[tactic(auto, unfolding(zst_model::specs::State::is_spill_size))]
+#[tactic(auto, unfolding(zst_model::specs::states::State::is_spill_size))]
 fn is_spill_size(size: u64) -> bool
     ensures { result ≡ is_spill_size size }
 {

@@ -2,3 +2,5 @@ mod Appended
 mod RunLists
 pub mod Sizes
 mod Rising
+pub mod OrderLaws
+pub mod InsertedLaws

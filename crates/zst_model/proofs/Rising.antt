@@ -2,7 +2,7 @@
 use Rattle.std.proofs.Common.{◌≡◌, ℕ, suc, ◌-◌, ◌<◌, true, nat_lt, List, [], ◌∷◌, ◌++◌, length, get_or, ap, ◌∙◌, arith}
 use Rattle.std.proofs.lemmas.Bool.{and_parts}
 use Rattle.std.proofs.lemmas.Bool.Decides.{nat_tests}
-use Rattle.zst_model.specs.Guids.{is_rising}
+use Rattle.zst_model.specs.fields.Guids.{is_rising}
 
 -- behind guids that rise another one rises where it is above the last
 pub is_rising-push : (guids : List ℕ) (guid last : ℕ) → is_rising guids ≡ true → 0 < length guids → last ≡ get_or guids (length guids - 1) last → is_rising (guids ++ guid ∷ []) ≡ nat_lt last guid

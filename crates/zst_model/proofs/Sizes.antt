@@ -1,7 +1,7 @@
 -- What sizes and lawful objects give.
 use Rattle.std.proofs.Common.{◌≡◌, ℕ, ◌%◌, ◌<◌, true, ◌&&◌, arith, ◌==◌, nat_le}
 use Rattle.std.proofs.lemmas.Bool.{and_parts, leb-true}
-use Rattle.zst_model.specs.State.{Object, IsObject, largest_block, is_block_size, is_spill_size}
+use Rattle.zst_model.specs.states.State.{Object, IsObject, largest_block, is_block_size, is_spill_size}
 
 -- a block size is over 0
 pub block_size_over_none : (size : ℕ) → is_block_size size ≡ true → 0 < size

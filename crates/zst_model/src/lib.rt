@@ -1,36 +1,25 @@
 //! Plain types that the other crates speak of, and the definitions of what a send gives and what a receive makes of it.
 #![tactic(auto)]
 
-mod apply_fault;
-mod attr;
-mod bytes;
-mod cell;
-mod command;
-mod faults;
-mod guids;
-mod header;
-mod item;
-mod list;
-mod name;
-mod named;
-mod plan_fault;
-mod refusal;
-mod reply;
-mod text;
+mod fields;
+mod pools;
+mod refusals;
+mod sends;
+mod states;
 
-pub use apply_fault::ApplyFault;
-pub use attr::{Attr, ObjectHead};
-pub use bytes::Bytes;
-pub use cell::{Cell, Run};
-pub use command::Command;
-pub use faults::{Flaw, Lack, Quantity};
-pub use guids::GuidSet;
-pub use header::{Header, Point};
-pub use item::{Change, Item};
-pub use list::List;
-pub use name::NameText;
-pub use named::{Holder, Missing, Name, Present, ResumePlace};
-pub use plan_fault::PlanFault;
-pub use refusal::Refusal;
-pub use reply::Reply;
-pub use text::{Text, guid_text};
+pub use fields::bytes::Bytes;
+pub use fields::guids::GuidSet;
+pub use fields::list::List;
+pub use fields::name::NameText;
+pub use pools::command::Command;
+pub use pools::reply::Reply;
+pub use refusals::apply_fault::ApplyFault;
+pub use refusals::faults::{Flaw, Lack, Quantity};
+pub use refusals::named::{Holder, Missing, Name, Present, ResumePlace};
+pub use refusals::plan_fault::PlanFault;
+pub use refusals::refusal::Refusal;
+pub use refusals::text::{Text, guid_text};
+pub use sends::header::{Header, Point};
+pub use states::attr::{Attr, ObjectHead};
+pub use states::cell::{Cell, Run};
+pub use states::item::{Change, Item};

@@ -7,34 +7,34 @@ use Rattle.std.specs.Prelude.{count_ones}
 use Rattle.std.proofs.lemmas.Bool.Decides.{nat_tests}
 use Rattle.std.specs.Borrow.{Bor}
 use Rattle.std.specs.Option.{option_copied}
-use Rattle.zst_model.specs.declared.apply_fault.ApplyFault.{ApplyFault}
-use Rattle.zst_model.specs.declared.apply_fault.ApplyFault.TheVariants.{NoObject, OddBlock, SizeDiffers, Unaligned}
-use Rattle.zst_model.specs.declared.faults.Quantity.TheVariants as quantities
-use Rattle.zst_model.specs.declared.item.Change.{Change}
-use Rattle.zst_model.specs.declared.item.Change.TheVariants.{Free, Put, Spill, Write}
-use Rattle.zst_model.specs.declared.item.Item.{Item}
-use Rattle.zst_model.specs.declared.item.Item.TheVariants.{At, FreeObjects}
-use Rattle.zst_model.specs.declared.plan_fault.PlanFault.{PlanFault}
-use Rattle.zst_model.specs.declared.refusal.Refusal.{Refusal}
-use Rattle.zst_model.specs.declared.refusal.Refusal.TheVariants as refusals
+use Rattle.zst_model.specs.declared.refusals.apply_fault.ApplyFault.{ApplyFault}
+use Rattle.zst_model.specs.declared.refusals.apply_fault.ApplyFault.TheVariants.{NoObject, OddBlock, SizeDiffers, Unaligned}
+use Rattle.zst_model.specs.declared.refusals.faults.Quantity.TheVariants as quantities
+use Rattle.zst_model.specs.declared.states.item.Change.{Change}
+use Rattle.zst_model.specs.declared.states.item.Change.TheVariants.{Free, Put, Spill, Write}
+use Rattle.zst_model.specs.declared.states.item.Item.{Item}
+use Rattle.zst_model.specs.declared.states.item.Item.TheVariants.{At, FreeObjects}
+use Rattle.zst_model.specs.declared.refusals.plan_fault.PlanFault.{PlanFault}
+use Rattle.zst_model.specs.declared.refusals.refusal.Refusal.{Refusal}
+use Rattle.zst_model.specs.declared.refusals.refusal.Refusal.TheVariants as refusals
 use Rattle.zst_model.proofs.Sizes.{size_of_lawful}
-use Rattle.zst_model.specs.State.{State, Object, Hole, Data, IsObjectOrNone, is_odd_size, attr_at, number_bound, index_bound}
-use Rattle.zst_model.specs.Apply.{unless, ◌>>=◌, apply, apply_change, put_at, within, is_unaligned, attr_with}
-use Rattle.zst_model.specs.Dated.{DatedState, apply_dated, apply_all_dated, size_at, touches_index, touches_number}
-use Rattle.zst_model.specs.Pool.{Pool}
-use Rattle.zst_model.specs.Refusal.{refusal_of}
-use Rattle.zst_model.specs.Step.{applied, cannot_apply, committed, in_indices, in_numbers, of_applying, filled, punched, written}
+use Rattle.zst_model.specs.states.State.{State, Object, Hole, Data, IsObjectOrNone, is_odd_size, attr_at, number_bound, index_bound}
+use Rattle.zst_model.specs.states.Apply.{unless, ◌>>=◌, apply, apply_change, put_at, within, is_unaligned, attr_with}
+use Rattle.zst_model.specs.states.Dated.{DatedState, apply_dated, apply_all_dated, size_at, touches_index, touches_number}
+use Rattle.zst_model.specs.pools.Pool.{Pool}
+use Rattle.zst_model.specs.refusals.Refusal.{refusal_of}
+use Rattle.zst_model.specs.pools.Step.{applied, cannot_apply, committed, in_indices, in_numbers, of_applying, filled, punched, written}
 use Rattle.zst_pool.specs.Checks.{ChangesHead, PlansHead, freed, next_of, put_in, with_head_of}
-use Rattle.zst_objset.specs.Meaning.{Blocks, AttrIs, SetIs}
-use Rattle.zst_objset.specs.Rows.{Lists}
+use Rattle.zst_flat.specs.Meaning.{Blocks, AttrIs, SetIs}
+use Rattle.zst_flat.specs.Rows.{Lists}
 use Rattle.zst_pool.specs.Faults.{WriteFault}
 use Rattle.zst_pool.specs.declared.fault.PoolFault.{PoolFault}
 use Rattle.zst_pool.specs.declared.fault.PoolFault.TheVariants.{Plan}
 use Rattle.zst_pool.proofs.Doing.{write_fault}
 use Rattle.zst_pool.proofs.Judging.{err_is}
-use Rattle.zst_model.specs.declared.attr.ObjectHead.{ObjectHead}
-use Rattle.zst_model.specs.Items.{spill_change}
-use Rattle.zst_objset.specs.declared.rows.StoredObject.{StoredObject}
+use Rattle.zst_model.specs.declared.states.attr.ObjectHead.{ObjectHead}
+use Rattle.zst_model.specs.sends.Items.{spill_change}
+use Rattle.zst_flat.specs.declared.rows.StoredObject.{StoredObject}
 
 -- a range that ends at or below its bound passes, and one that doesn't is refused
 pub numbers_pass : {A : Type 0} (past : ℕ) (rest : Result A Refusal) → nat_lt (2 ^ 48) past ≡ false → in_numbers past rest ≡ rest

@@ -4,10 +4,10 @@ use Rattle.std.proofs.Common.{◌≡◌, ◌⊎◌, inl, inr, ⊎_elim, ℕ, ◌
 use Rattle.zst_outside.specs.Images.{DiskState, Leaves, WritesIn, IsSynced, Leaves-weaker, Leaves-then}
 use Rattle.zst_outside.specs.Ranges.{Torn}
 use Rattle.zst_space.specs.FreeSectors.{FreeSectors, IsFree}
-use Rattle.zst_space.specs.FreeSectorsLaws.{Rise-end}
+use Rattle.zst_space.proofs.FreeSectorsLaws.{Rise-end}
 use Rattle.zst_space.specs.declared.space.Extent.{Extent}
 use Rattle.zst_block.specs.Blocks.{Has, IsTaken, FitsDisk, FillsFree, SparesTaken, Spared}
-use Rattle.zst_block.specs.BlocksLaws.{Has-spared, Has-head, SparesTaken-fewer, FillsFree-then, KeepsBlocks-fills}
+use Rattle.zst_block.proofs.BlocksLaws.{Has-spared, Has-head, SparesTaken-fewer, FillsFree-then, KeepsBlocks-fills}
 use Rattle.zst_block.specs.declared.ptr.Ptr.{Ptr}
 use Rattle.zst_block.specs.Ptr.{is_lawful, hole_of}
 use Rattle.zst_uber.specs.Body.{UberFits, InRange}
@@ -16,7 +16,7 @@ use Rattle.zst_uber.specs.Commit.{HasOldOrNew}
 use Rattle.zst_uber.specs.declared.uber.Uber.{Uber}
 use Rattle.zst_uber.specs.declared.fault.UberFault.{UberFault}
 use Rattle.zst_uber.specs.declared.fault.UberFault.TheVariants as ubers
-use Rattle.zst_model.specs.Pool.{Pool}
+use Rattle.zst_model.specs.pools.Pool.{Pool}
 use Rattle.zst_dir.specs.Rows.{Rows}
 use Rattle.zst_pool.specs.Faults.{WriteFault, of_uber}
 use Rattle.zst_pool.specs.Reads.{Describes, IsDirRun, ReadsAs, Reads, Rests, free_by}

@@ -7,9 +7,9 @@ use Rattle.zst_outside.specs.Images.{DiskState, Leaves, OnlyReads, Leaves-weaker
 use Rattle.zst_space.specs.FreeSectors.{FreeSectors, largest_of}
 use Rattle.zst_uber.specs.Slots.{latest}
 use Rattle.zst_uber.specs.declared.uber.Uber.{Uber}
-use Rattle.zst_model.specs.Pool.{Pool, IsPool}
+use Rattle.zst_model.specs.pools.Pool.{Pool, IsPool}
 use Rattle.zst_dir.specs.Rows.{Rows, no_rows}
-use Rattle.zst_objset.specs.Meaning.{Blocks}
+use Rattle.zst_flat.specs.Meaning.{Blocks}
 use Rattle.zst_pool.specs.Faults.{WriteFault}
 use Rattle.zst_pool.specs.Making.{CreateAnswers, RefusedLeaves}
 use Rattle.zst_pool.specs.Reads.{Reads, RowsAre, dir_sectors, new_pool}

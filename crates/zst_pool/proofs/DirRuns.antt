@@ -8,8 +8,8 @@ use Rattle.std.proofs.Math.Nat.{mul-mod_left}
 use Rattle.std.proofs.Math.Seq.{take-append_seam}
 use Rattle.zst_bytes.specs.Words.{word, filling}
 use Rattle.zst_bytes.specs.Fields.{zeros}
-use Rattle.zst_bytes.specs.FieldsLaws.{length-zeros}
-use Rattle.zst_bytes.specs.BytesLaws.{length-number_bytes}
+use Rattle.zst_bytes.proofs.FieldsLaws.{length-zeros}
+use Rattle.zst_bytes.proofs.BytesLaws.{length-number_bytes}
 use Rattle.zst_dir.specs.Rows.{Rows, no_rows}
 use Rattle.zst_dir.specs.Spelling.{IsDir, dir_bytes, dataset_bytes, bookmark_bytes, partial_bytes, rows_bytes}
 use Rattle.zst_pool.specs.Reads.{IsDirRun, dir_sectors}

@@ -4,12 +4,12 @@ use Rattle.std.proofs.Common.{◌≡◌, ◌⊎◌, inl, inr, ⊎_elim, ℕ, Lis
 use Rattle.zst_outside.specs.Images.{DiskState, Leaves, Leaves-weaker}
 use Rattle.zst_space.specs.FreeSectors.{FreeSectors}
 use Rattle.zst_block.specs.Blocks.{Has, FitsDisk, FillsFree, IsTaken, SparesTaken, Spared}
-use Rattle.zst_block.specs.BlocksLaws.{Has-spared}
+use Rattle.zst_block.proofs.BlocksLaws.{Has-spared}
 use Rattle.zst_uber.specs.Body.{InRange}
 use Rattle.zst_uber.specs.declared.uber.Uber.{Uber}
-use Rattle.zst_model.specs.declared.refusal.Refusal.{Refusal}
-use Rattle.zst_model.specs.Pool.{Pool}
-use Rattle.zst_model.specs.Step.{Stepped}
+use Rattle.zst_model.specs.declared.refusals.refusal.Refusal.{Refusal}
+use Rattle.zst_model.specs.pools.Pool.{Pool}
+use Rattle.zst_model.specs.pools.Step.{Stepped}
 use Rattle.zst_dir.specs.Rows.{Rows}
 use Rattle.zst_pool.specs.Faults.{StepFault, WriteFault, ReadFault}
 use Rattle.zst_pool.specs.Reads.{ReadsAs, Reads, Rests, BeforeOrAfter, free_by}

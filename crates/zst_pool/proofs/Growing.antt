@@ -1,23 +1,26 @@
 -- What stands over some blocks stands over more.
 use Rattle.std.specs.Prelude.{Option, Some, None}
 use Rattle.std.proofs.Common.{inl, inr, ℕ, List, [], ◌∷◌, filter}
-use Rattle.zst_uber.specs.Reading.{Grows}
 use Rattle.zst_uber.specs.declared.uber.Uber.{Uber}
 use Rattle.zst_block.specs.declared.ptr.Ptr.{Ptr}
-use Rattle.zst_model.specs.declared.attr.Attr.{Attr}
-use Rattle.zst_model.specs.State.{Block}
-use Rattle.zst_model.specs.Dated.{DatedState}
-use Rattle.zst_model.specs.Pool.{Pool}
-use Rattle.zst_model.specs.Pool as plain
+use Rattle.zst_model.specs.declared.states.attr.Attr.{Attr}
+use Rattle.zst_model.specs.states.State.{Block}
+use Rattle.zst_model.specs.states.Dated.{DatedState}
+use Rattle.zst_model.specs.pools.Pool.{Pool}
+use Rattle.zst_model.specs.pools.Pool as plain
 use Rattle.zst_tree.specs.declared.tree.ObjSet.{ObjSet}
 use Rattle.zst_dir.specs.Rows.{Rows}
-use Rattle.zst_objset.specs.Rows.{Lists, no_lists}
-use Rattle.zst_objset.specs.Meaning.{Blocks, BlockIs, SpillIs, AttrIs, SetIs}
+use Rattle.zst_flat.specs.Rows.{Lists, no_lists}
+use Rattle.zst_flat.specs.Meaning.{Blocks, BlockIs, SpillIs, AttrIs, SetIs}
 use Rattle.zst_pool.specs.Reads.{Match, RootIs, HeadIs, DatasetIs, SnapshotIs, PartialIs, RowsAre, HasDir, Describes}
 use Rattle.zst_dir.specs.declared.rows.Dataset.{Dataset}
 use Rattle.zst_dir.specs.declared.rows.Snapshot.{Snapshot}
 use Rattle.zst_dir.specs.declared.rows.Partial.{Partial}
-use Rattle.zst_objset.specs.declared.rows.StoredObject.{StoredObject}
+use Rattle.zst_flat.specs.declared.rows.StoredObject.{StoredObject}
+
+-- what some blocks describe, those and more describe too
+abbrev pub Grows : ((Ptr → List ℕ → Type 0) → Type 0) → Type 1
+Grows describes = (has more : Ptr → List ℕ → Type 0) → ((ptr : Ptr) (bytes : List ℕ) → has ptr bytes → more ptr bytes) → describes has → describes more
 
 -- each block of the first is one of the second
 abbrev pub AreMore : Blocks → Blocks → Type 0

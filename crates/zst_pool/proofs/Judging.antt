@@ -5,19 +5,19 @@ use Rattle.std.specs.List.{position, list_any, filter, count_by}
 use Rattle.std.specs.Str.{bytes_eq}
 use Rattle.std.proofs.lemmas.Bool.Decides.{nat_tests}
 use Rattle.std.proofs.lemmas.List.Sums.{length-filter}
-use Rattle.zst_model.specs.declared.faults.Quantity.{Quantity}
-use Rattle.zst_model.specs.declared.faults.Quantity.TheVariants as quantities
-use Rattle.zst_model.specs.declared.refusal.Refusal.{Refusal}
-use Rattle.zst_model.specs.declared.refusal.Refusal.TheVariants as refusals
-use Rattle.zst_model.specs.declared.named.Name.TheVariants as names
-use Rattle.zst_model.specs.Apply.{unless}
-use Rattle.zst_model.specs.Pool.{Pool, dataset_named, partial_of, snapshot_named}
-use Rattle.zst_model.specs.Pool as plain
-use Rattle.zst_model.specs.Step.{Stepped, limited, committed, count_datasets, exists_already, no_such, busy_partial, on_dataset, last_number, last_guid, most_datasets, most_snapshots, with_dataset}
+use Rattle.zst_model.specs.declared.refusals.faults.Quantity.{Quantity}
+use Rattle.zst_model.specs.declared.refusals.faults.Quantity.TheVariants as quantities
+use Rattle.zst_model.specs.declared.refusals.refusal.Refusal.{Refusal}
+use Rattle.zst_model.specs.declared.refusals.refusal.Refusal.TheVariants as refusals
+use Rattle.zst_model.specs.declared.refusals.named.Name.TheVariants as names
+use Rattle.zst_model.specs.states.Apply.{unless}
+use Rattle.zst_model.specs.pools.Pool.{Pool, dataset_named, partial_of, snapshot_named}
+use Rattle.zst_model.specs.pools.Pool as plain
+use Rattle.zst_model.specs.pools.Step.{Stepped, limited, committed, count_datasets, exists_already, no_such, busy_partial, on_dataset, last_number, last_guid, most_datasets, most_snapshots, with_dataset}
 use Rattle.zst_pool.specs.Checks.{next_of, with_new, if_new_snapshot, if_guid_left}
 use Rattle.zst_dir.specs.Rows.{Rows, HasDataset, HasSnapshot}
 use Rattle.zst_pool.specs.Reads.{RowsAre, DatasetIs, SnapshotIs, PartialIs}
-use Rattle.zst_objset.specs.Meaning.{Blocks}
+use Rattle.zst_flat.specs.Meaning.{Blocks}
 use Rattle.zst_dir.specs.declared.rows.Dataset.{Dataset}
 use Rattle.zst_dir.specs.declared.rows.Partial.{Partial}
 use Rattle.zst_dir.specs.declared.rows.Snapshot.{Snapshot}

@@ -11,7 +11,7 @@ use Rattle.std.proofs.lemmas.Slice.Eq.{bytes_eq-Decides}
 use Rattle.std.proofs.lemmas.List.Folds.{list_any_at}
 use Rattle.std.proofs.lemmas.List.Sums.{length-filter}
 use Rattle.std.proofs.lemmas.List.Quantifiers.{position-Some}
-use Rattle.zst_model.specs.Pool.{inserted}
+use Rattle.zst_model.specs.pools.Pool.{inserted}
 use Rattle.zst_pool.specs.Reads.{Match}
 
 -- lists that match have equal lengths

@@ -11,20 +11,20 @@ use Rattle.zst_names.specs.Names.{IsDataset, IsSnapshot, dataset_of}
 use Rattle.zst_names.proofs.Marked.{at_is_mark, join_is_name}
 use Rattle.zst_uber.specs.declared.uber.Uber.{Uber}
 use Rattle.zst_laws.specs.Stepping.{StepsKeepPools}
-use Rattle.zst_model.specs.declared.command.Command.TheVariants as commands
-use Rattle.zst_model.specs.declared.attr.ObjectHead.{ObjectHead}
-use Rattle.zst_model.specs.Dated.{DatedState}
-use Rattle.zst_model.specs.Pool.{Pool, IsPool, is_before, snapshot_is_before, inserted, untouched}
-use Rattle.zst_model.specs.Pool as plain
-use Rattle.zst_model.specs.Step.{Stepped, stepped, IsCommand, on_head, punched, written, with_dataset, new_dataset, with_head_at, with_snapshot, snapshot_of}
+use Rattle.zst_model.specs.declared.pools.command.Command.TheVariants as commands
+use Rattle.zst_model.specs.declared.states.attr.ObjectHead.{ObjectHead}
+use Rattle.zst_model.specs.states.Dated.{DatedState}
+use Rattle.zst_model.specs.pools.Pool.{Pool, IsPool, is_before, snapshot_is_before, inserted, untouched}
+use Rattle.zst_model.specs.pools.Pool as plain
+use Rattle.zst_model.specs.pools.Step.{Stepped, stepped, IsCommand, on_head, punched, written, with_dataset, new_dataset, with_head_at, with_snapshot, snapshot_of}
 use Rattle.zst_tree.specs.Sets as sets
 use Rattle.zst_tree.specs.declared.tree.ObjSet.{ObjSet}
 use Rattle.zst_pool.specs.Checks.{freed, next_of, put_in, with_head_of, with_new, with_taken}
 use Rattle.zst_dir.specs.Rows.{Rows, HasDataset, HasSnapshot, IsPartialRow}
 use Rattle.zst_dir.specs.Rows as dir_rows
 use Rattle.zst_pool.specs.Reads.{Describes, DatasetIs, SnapshotIs, HeadIs}
-use Rattle.zst_objset.specs.Meaning.{Blocks, SetIs}
-use Rattle.zst_objset.specs.Rows.{no_lists}
+use Rattle.zst_flat.specs.Meaning.{Blocks, SetIs}
+use Rattle.zst_flat.specs.Rows.{no_lists}
 use Rattle.zst_pool.specs.Work.{NextIs}
 use Rattle.zst_dir.specs.declared.rows.Dataset.{Dataset}
 use Rattle.zst_dir.specs.declared.rows.Partial.{Partial}

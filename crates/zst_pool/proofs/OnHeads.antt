@@ -5,15 +5,15 @@ use Rattle.std.proofs.lemmas.Result.{IfErr-weaker}
 use Rattle.zst_outside.specs.Images.{DiskState}
 use Rattle.zst_space.specs.FreeSectors.{FreeSectors, largest_of}
 use Rattle.zst_block.specs.Blocks.{FitsDisk, Has, FillsFree}
-use Rattle.zst_block.specs.BlocksLaws.{KeepsBlocks-fills}
-use Rattle.zst_model.specs.declared.refusal.Refusal.{Refusal}
-use Rattle.zst_model.specs.Apply.{◌>>=◌}
-use Rattle.zst_model.specs.Dated.{DatedState}
-use Rattle.zst_model.specs.Pool.{Pool, IsPool}
-use Rattle.zst_model.specs.Step.{Stepped, committed, on_head}
-use Rattle.zst_objset.specs.Meaning.{SetIs}
-use Rattle.zst_objset.specs.Rows.{Lists}
-use Rattle.zst_objset.specs.Spelling.{lists_bytes}
+use Rattle.zst_block.proofs.BlocksLaws.{KeepsBlocks-fills}
+use Rattle.zst_model.specs.declared.refusals.refusal.Refusal.{Refusal}
+use Rattle.zst_model.specs.states.Apply.{◌>>=◌}
+use Rattle.zst_model.specs.states.Dated.{DatedState}
+use Rattle.zst_model.specs.pools.Pool.{Pool, IsPool}
+use Rattle.zst_model.specs.pools.Step.{Stepped, committed, on_head}
+use Rattle.zst_flat.specs.Meaning.{SetIs}
+use Rattle.zst_flat.specs.Rows.{Lists}
+use Rattle.zst_flat.specs.Spelling.{lists_bytes}
 use Rattle.zst_pool.specs.Checks.{ChangesHead, FindsHead, next_of, with_head_of}
 use Rattle.zst_pool.specs.Faults.{HasDiskCause, IsStepFault, StepFault, WriteFault, is_disk_fault}
 use Rattle.zst_pool.specs.Reads.{Rests, RowsAre, dir_sectors, free_by}

@@ -7,14 +7,14 @@ use Rattle.zst_outside.specs.Images.{DiskState}
 use Rattle.zst_outside.specs.Ranges.{length-bytes_at}
 use Rattle.zst_block.specs.Blocks.{Has, IsBlock, IsTaken}
 use Rattle.zst_uber.specs.Body.{IsBody, InRange, body_bytes, uber_at}
-use Rattle.zst_uber.specs.BodyLaws.{uber_at-body_bytes, version-back}
+use Rattle.zst_uber.proofs.BodyLaws.{uber_at-body_bytes, version-back}
 use Rattle.zst_uber.specs.Opening.{Answers, Opens, IsLatest}
 use Rattle.zst_uber.specs.Slots.{latest}
 use Rattle.zst_uber.specs.declared.TheConstants.{VERSION}
 use Rattle.zst_uber.specs.declared.fault.UberFault.{UberFault}
 use Rattle.zst_uber.specs.declared.fault.UberFault.TheVariants as ubers
 use Rattle.zst_uber.specs.declared.uber.Uber.{Uber}
-use Rattle.zst_model.specs.Pool.{Pool}
+use Rattle.zst_model.specs.pools.Pool.{Pool}
 use Rattle.zst_dir.specs.Rows.{Rows}
 use Rattle.zst_pool.specs.Faults.{ReadFault, LoadFault, of_uber}
 use Rattle.zst_pool.specs.Making.{OpenAnswers, GivesPool, IsDamagedPool}

@@ -6,13 +6,13 @@ use Rattle.zst_outside.specs.Causes.{Rose-earlier}
 use Rattle.zst_outside.specs.Images.{DiskState, OnlyReads-none}
 use Rattle.zst_space.specs.FreeSectors.{FreeSectors}
 use Rattle.zst_block.specs.Blocks.{FitsDisk, FillsFree, Has, IsTaken}
-use Rattle.zst_block.specs.BlocksLaws.{IsTaken-head, FillsFree-reads, FillsFree-then, KeepsBlocks-fills}
+use Rattle.zst_block.proofs.BlocksLaws.{IsTaken-head, FillsFree-reads, FillsFree-then, KeepsBlocks-fills}
 use Rattle.zst_uber.specs.Body.{InRange}
 use Rattle.zst_uber.specs.Slots.{IsNext}
 use Rattle.zst_uber.specs.declared.uber.Uber.{Uber}
-use Rattle.zst_model.specs.declared.refusal.Refusal.{Refusal}
-use Rattle.zst_model.specs.Pool.{Pool}
-use Rattle.zst_model.specs.Step.{Stepped}
+use Rattle.zst_model.specs.declared.refusals.refusal.Refusal.{Refusal}
+use Rattle.zst_model.specs.pools.Pool.{Pool}
+use Rattle.zst_model.specs.pools.Step.{Stepped}
 use Rattle.zst_pool.specs.declared.kept.Kept.{Kept}
 use Rattle.zst_dir.specs.Rows.{Rows}
 use Rattle.zst_pool.specs.Faults.{HasDiskCause, StepFault, is_disk_fault}

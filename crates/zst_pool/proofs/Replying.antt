@@ -3,18 +3,18 @@ use Rattle.std.specs.Prelude.{Result, Ok, Err, IfOk}
 use Rattle.std.proofs.Common.{◌≡◌, ℕ, ◌+◌, ◌≤◌, ◌<◌, ◌^◌, Bool, true, false, List, [], ◌∷◌, Option, Some, None, is_some, length, not, nat_lt, refl, ap, arith}
 use Rattle.std.proofs.lemmas.Bool.Decides.{nat_tests}
 use Rattle.std.proofs.lemmas.Result.{IfOk-at_ok}
-use Rattle.zst_model.specs.declared.command.Command.{Command}
-use Rattle.zst_model.specs.declared.command.Command.TheVariants as commands
-use Rattle.zst_model.specs.declared.faults.Quantity.TheVariants as quantities
-use Rattle.zst_model.specs.declared.refusal.Refusal.{Refusal}
-use Rattle.zst_model.specs.declared.refusal.Refusal.TheVariants as refusals
-use Rattle.zst_model.specs.Apply.{unless, ◌>>=◌}
-use Rattle.zst_model.specs.Dated.{DatedState}
-use Rattle.zst_model.specs.Lines.{ok_line}
+use Rattle.zst_model.specs.declared.pools.command.Command.{Command}
+use Rattle.zst_model.specs.declared.pools.command.Command.TheVariants as commands
+use Rattle.zst_model.specs.declared.refusals.faults.Quantity.TheVariants as quantities
+use Rattle.zst_model.specs.declared.refusals.refusal.Refusal.{Refusal}
+use Rattle.zst_model.specs.declared.refusals.refusal.Refusal.TheVariants as refusals
+use Rattle.zst_model.specs.states.Apply.{unless, ◌>>=◌}
+use Rattle.zst_model.specs.states.Dated.{DatedState}
+use Rattle.zst_model.specs.pools.Lines.{ok_line}
 use Rattle.zst_names.specs.Names.{dataset_of}
-use Rattle.zst_model.specs.declared.named.Name.TheVariants as names
-use Rattle.zst_model.specs.Pool.{Pool, Dataset, dataset_named, partial_of, snapshot_named}
-use Rattle.zst_model.specs.Step.{Stepped, stepped, busy_partial, committed, count_datasets, exists_already, last_guid, last_number, limited, most_datasets, most_snapshots, no_such, or_else, on_head, punched, written, with_dataset, with_snapshot}
+use Rattle.zst_model.specs.declared.refusals.named.Name.TheVariants as names
+use Rattle.zst_model.specs.pools.Pool.{Pool, Dataset, dataset_named, partial_of, snapshot_named}
+use Rattle.zst_model.specs.pools.Step.{Stepped, stepped, busy_partial, committed, count_datasets, exists_already, last_guid, last_number, limited, most_datasets, most_snapshots, no_such, or_else, on_head, punched, written, with_dataset, with_snapshot}
 use Rattle.zst_pool.specs.Checks.{freed, put_in, if_guid_left, if_new_snapshot, next_of, with_head_of, with_new, with_taken}
 use Rattle.zst_pool.specs.Stepping.{is_built}
 

@@ -10,9 +10,9 @@ use Rattle.zst_space.specs.Taking.{shortened, extents_without, end_without, with
 use Rattle.zst_space.specs.declared.space.Extent.{Extent}
 use Rattle.zst_block.specs.Blocks.{Has}
 use Rattle.zst_uber.specs.declared.uber.Uber.{Uber}
-use Rattle.zst_model.specs.State.{is_block_size, largest_block}
-use Rattle.zst_objset.specs.Rows.{Lists}
-use Rattle.zst_objset.specs.Spelling.{lists_bytes}
+use Rattle.zst_model.specs.states.State.{is_block_size, largest_block}
+use Rattle.zst_flat.specs.Rows.{Lists}
+use Rattle.zst_flat.specs.Spelling.{lists_bytes}
 use Rattle.zst_dir.specs.Rows.{Rows}
 use Rattle.zst_dir.specs.Spelling.{dir_bytes}
 use Rattle.zst_pool.specs.Faults.{IsStepFault, WriteFault}

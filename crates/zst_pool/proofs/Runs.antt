@@ -3,13 +3,13 @@ use Rattle.std.specs.Prelude.{Result, Ok, Err}
 use Rattle.std.proofs.Common.{◌≡◌, inl, inr, ℕ, ◌%◌, ◌<◌, true, List, length, ◌++◌, flat_map, arith, length-append}
 use Rattle.zst_bytes.specs.Words.{word}
 use Rattle.zst_bytes.specs.Fields.{zeros}
-use Rattle.zst_bytes.specs.BytesLaws.{length-number_bytes}
+use Rattle.zst_bytes.proofs.BytesLaws.{length-number_bytes}
 use Rattle.zst_block.specs.declared.ptr.Ptr.{Ptr}
-use Rattle.zst_model.specs.Dated.{DatedState}
-use Rattle.zst_model.specs.State.{is_block_size, largest_block}
-use Rattle.zst_objset.specs.Rows.{Lists}
-use Rattle.zst_objset.specs.Meaning.{Blocks, SetIs}
-use Rattle.zst_objset.specs.Spelling.{IsRun, lists_bytes, object_bytes, index_bytes}
+use Rattle.zst_model.specs.states.Dated.{DatedState}
+use Rattle.zst_model.specs.states.State.{is_block_size, largest_block}
+use Rattle.zst_flat.specs.Rows.{Lists}
+use Rattle.zst_flat.specs.Meaning.{Blocks, SetIs}
+use Rattle.zst_flat.specs.Spelling.{IsRun, lists_bytes, object_bytes, index_bytes}
 use Rattle.zst_pool.specs.Reads.{RootIs}
 use Rattle.zst_pool.specs.Work.{ReadAnswer}
 use Rattle.zst_pool.specs.declared.fault.PoolFault.{PoolFault}

@@ -4,10 +4,10 @@ use Rattle.zst_outside.specs.Images.{DiskState}
 use Rattle.zst_outside.specs.Ranges.{bytes_at}
 use Rattle.zst_space.specs.FreeSectors.{FreeSectors}
 use Rattle.zst_block.specs.Blocks.{FitsDisk, FillsFree, IsTaken, SparesTaken}
-use Rattle.zst_block.specs.BlocksLaws.{IsTaken-head}
+use Rattle.zst_block.proofs.BlocksLaws.{IsTaken-head}
 use Rattle.zst_uber.specs.Commit.{HeadSettled}
 use Rattle.zst_uber.specs.Slots.{latest}
-use Rattle.zst_uber.specs.SlotsLaws.{latest-head}
+use Rattle.zst_uber.proofs.SlotsLaws.{latest-head}
 use Rattle.zst_pool.specs.Faults.{HasDiskCause, is_disk_fault}
 use Rattle.zst_pool.specs.Work.{Works}
 use Rattle.zst_pool.specs.declared.fault.PoolFault.{PoolFault}

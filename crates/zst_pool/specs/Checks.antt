@@ -1,25 +1,25 @@
 -- What the checks of a command say of its definition.
 use Rattle.std.specs.Prelude.{◌≡◌, ℕ, ◌+◌, List, [], ◌∷◌, length, map, false, is_some, Option, Result, Ok, Err}
 use Rattle.std.specs.Borrow.{Bor}
-use Rattle.zst_model.specs.declared.attr.ObjectHead.{ObjectHead}
-use Rattle.zst_model.specs.declared.item.Change.TheVariants.{Put}
-use Rattle.zst_model.specs.declared.item.Item.TheVariants.{At, FreeObjects}
-use Rattle.zst_model.specs.Items.{spill_change}
-use Rattle.zst_model.specs.declared.plan_fault.PlanFault.{PlanFault}
-use Rattle.zst_model.specs.declared.refusal.Refusal.{Refusal}
-use Rattle.zst_model.specs.declared.faults.Quantity.TheVariants as quantities
-use Rattle.zst_model.specs.declared.named.Name.TheVariants as names
-use Rattle.zst_model.specs.Apply.{unless, ◌>>=◌}
-use Rattle.zst_model.specs.Dated.{DatedState}
-use Rattle.zst_model.specs.Lines.{ok_line}
-use Rattle.zst_model.specs.Pool.{Pool, is_before, snapshot_is_before, inserted, snapshot_named}
-use Rattle.zst_model.specs.Pool as plain
-use Rattle.zst_model.specs.Refusal.{refusal_of}
-use Rattle.zst_model.specs.Step.{Stepped, exists_already, limited, last_guid, most_snapshots, on_dataset, on_head, committed, with_head, new_dataset, snapshot_of, with_snapshot, applied, in_numbers}
+use Rattle.zst_model.specs.declared.states.attr.ObjectHead.{ObjectHead}
+use Rattle.zst_model.specs.declared.states.item.Change.TheVariants.{Put}
+use Rattle.zst_model.specs.declared.states.item.Item.TheVariants.{At, FreeObjects}
+use Rattle.zst_model.specs.sends.Items.{spill_change}
+use Rattle.zst_model.specs.declared.refusals.plan_fault.PlanFault.{PlanFault}
+use Rattle.zst_model.specs.declared.refusals.refusal.Refusal.{Refusal}
+use Rattle.zst_model.specs.declared.refusals.faults.Quantity.TheVariants as quantities
+use Rattle.zst_model.specs.declared.refusals.named.Name.TheVariants as names
+use Rattle.zst_model.specs.states.Apply.{unless, ◌>>=◌}
+use Rattle.zst_model.specs.states.Dated.{DatedState}
+use Rattle.zst_model.specs.pools.Lines.{ok_line}
+use Rattle.zst_model.specs.pools.Pool.{Pool, is_before, snapshot_is_before, inserted, snapshot_named}
+use Rattle.zst_model.specs.pools.Pool as plain
+use Rattle.zst_model.specs.refusals.Refusal.{refusal_of}
+use Rattle.zst_model.specs.pools.Step.{Stepped, exists_already, limited, last_guid, most_snapshots, on_dataset, on_head, committed, with_head, new_dataset, snapshot_of, with_snapshot, applied, in_numbers}
 use Rattle.zst_pool.specs.Faults.{StepFault}
 use Rattle.zst_pool.specs.Reads.{DatasetIs}
-use Rattle.zst_objset.specs.Meaning.{Blocks, SetIs}
-use Rattle.zst_objset.specs.Rows.{Lists}
+use Rattle.zst_flat.specs.Meaning.{Blocks, SetIs}
+use Rattle.zst_flat.specs.Rows.{Lists}
 use Rattle.zst_dir.specs.declared.rows.Dataset.{Dataset}
 use Rattle.zst_pool.specs.declared.fault.PoolFault.{PoolFault}
 

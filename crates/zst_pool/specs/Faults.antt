@@ -5,10 +5,10 @@ use Rattle.zst_block.specs.declared.fault.BlockFault.{BlockFault}
 use Rattle.zst_block.specs.declared.fault.BlockFault.TheVariants as blocks
 use Rattle.zst_uber.specs.declared.fault.UberFault.{UberFault}
 use Rattle.zst_uber.specs.declared.fault.UberFault.TheVariants as ubers
-use Rattle.zst_model.specs.declared.refusal.Refusal.{Refusal}
-use Rattle.zst_model.specs.declared.refusal.Refusal.TheVariants as refusals
-use Rattle.zst_model.specs.Refusal.{refusal_of}
-use Rattle.zst_model.specs.Step.{Stepped}
+use Rattle.zst_model.specs.declared.refusals.refusal.Refusal.{Refusal}
+use Rattle.zst_model.specs.declared.refusals.refusal.Refusal.TheVariants as refusals
+use Rattle.zst_model.specs.refusals.Refusal.{refusal_of}
+use Rattle.zst_model.specs.pools.Step.{Stepped}
 use Rattle.zst_pool.specs.declared.fault.PoolFault.{PoolFault}
 use Rattle.zst_pool.specs.declared.fault.PoolFault.TheVariants as faults
 

@@ -6,10 +6,10 @@ use Rattle.zst_uber.specs.Body.{IsBody}
 use Rattle.zst_uber.specs.Slots.{latest}
 use Rattle.zst_uber.specs.declared.TheConstants.{VERSION}
 use Rattle.zst_uber.specs.declared.uber.Uber.{Uber}
-use Rattle.zst_model.specs.declared.faults.Quantity.TheVariants as quantities
-use Rattle.zst_model.specs.declared.named.Present.TheVariants as present
-use Rattle.zst_model.specs.declared.plan_fault.PlanFault.TheVariants as plans
-use Rattle.zst_model.specs.declared.plan_fault.PlanFault.{PlanFault}
+use Rattle.zst_model.specs.declared.refusals.faults.Quantity.TheVariants as quantities
+use Rattle.zst_model.specs.declared.refusals.named.Present.TheVariants as present
+use Rattle.zst_model.specs.declared.refusals.plan_fault.PlanFault.TheVariants as plans
+use Rattle.zst_model.specs.declared.refusals.plan_fault.PlanFault.{PlanFault}
 use Rattle.zst_dir.specs.Rows.{Rows}
 use Rattle.zst_pool.specs.Reads.{free_by, HasDir}
 use Rattle.zst_block.specs.Blocks.{Has}

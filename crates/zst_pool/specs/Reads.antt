@@ -8,11 +8,11 @@ use Rattle.zst_bytes.specs.Fields.{zeros}
 use Rattle.zst_uber.specs.Body.{UberFits, InRange}
 use Rattle.zst_uber.specs.Slots.{Stands}
 use Rattle.zst_uber.specs.declared.uber.Uber.{Uber}
-use Rattle.zst_model.specs.declared.refusal.Refusal.{Refusal}
-use Rattle.zst_model.specs.Dated.{DatedState}
-use Rattle.zst_model.specs.Pool.{Pool, IsPool}
-use Rattle.zst_model.specs.Pool as plain
-use Rattle.zst_model.specs.Step.{Stepped}
+use Rattle.zst_model.specs.declared.refusals.refusal.Refusal.{Refusal}
+use Rattle.zst_model.specs.states.Dated.{DatedState}
+use Rattle.zst_model.specs.pools.Pool.{Pool, IsPool}
+use Rattle.zst_model.specs.pools.Pool as plain
+use Rattle.zst_model.specs.pools.Step.{Stepped}
 use Rattle.zst_tree.specs.declared.tree.ObjSet.{ObjSet}
 use Rattle.zst_dir.specs.Rows.{Rows}
 use Rattle.zst_dir.specs.Spelling.{IsDir, dir_bytes}
@@ -20,9 +20,9 @@ use Rattle.zst_dir.specs.declared.rows.Dataset.{Dataset}
 use Rattle.zst_dir.specs.declared.rows.Snapshot.{Snapshot}
 use Rattle.zst_dir.specs.declared.rows.Bookmark.{Bookmark}
 use Rattle.zst_dir.specs.declared.rows.Partial.{Partial}
-use Rattle.zst_objset.specs.Rows.{Lists, no_lists}
-use Rattle.zst_objset.specs.Meaning.{Blocks, SetIs}
-use Rattle.zst_objset.specs.Spelling.{IsRun}
+use Rattle.zst_flat.specs.Rows.{Lists, no_lists}
+use Rattle.zst_flat.specs.Meaning.{Blocks, SetIs}
+use Rattle.zst_flat.specs.Spelling.{IsRun}
 
 -- each element of a list matches the one at its place in the other, and there are as many
 abbrev pub Match : {A B : Type 0} → (A → B → Type 0) → List A → List B → Type 0

@@ -3,8 +3,8 @@ use Rattle.std.specs.Prelude.{◌≡◌, ◌⊎◌, ◌+◌, ◌-◌, ◌/◌, �
 use Rattle.zst_space.specs.FreeSectors.{FreeSectors, largest_of}
 use Rattle.zst_block.specs.declared.ptr.Ptr.{Ptr}
 use Rattle.zst_uber.specs.declared.uber.Uber.{Uber}
-use Rattle.zst_objset.specs.Rows.{Lists}
-use Rattle.zst_objset.specs.Spelling.{lists_bytes}
+use Rattle.zst_flat.specs.Rows.{Lists}
+use Rattle.zst_flat.specs.Spelling.{lists_bytes}
 use Rattle.zst_dir.specs.Rows.{Rows}
 use Rattle.zst_dir.specs.Spelling.{dir_bytes}
 use Rattle.zst_dir.specs.declared.rows.Dataset.{Dataset}

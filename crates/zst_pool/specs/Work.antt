@@ -7,11 +7,11 @@ use Rattle.zst_uber.specs.Body.{InRange}
 use Rattle.zst_uber.specs.Commit.{HeadSettled}
 use Rattle.zst_uber.specs.Slots.{latest, IsNext}
 use Rattle.zst_uber.specs.declared.uber.Uber.{Uber}
-use Rattle.zst_model.specs.declared.refusal.Refusal.{Refusal}
-use Rattle.zst_model.specs.Pool.{Pool, IsPool}
-use Rattle.zst_model.specs.Step.{Stepped}
+use Rattle.zst_model.specs.declared.refusals.refusal.Refusal.{Refusal}
+use Rattle.zst_model.specs.pools.Pool.{Pool, IsPool}
+use Rattle.zst_model.specs.pools.Step.{Stepped}
 use Rattle.zst_dir.specs.Rows.{Rows}
-use Rattle.zst_objset.specs.Meaning.{Blocks}
+use Rattle.zst_flat.specs.Meaning.{Blocks}
 use Rattle.zst_pool.specs.Faults.{HasDiskCause, is_disk_fault, ReadFault, WriteFault, StepFault}
 use Rattle.zst_pool.specs.Reads.{Reads, RowsAre, Rests, BeforeOrAfter}
 use Rattle.zst_pool.specs.declared.fault.PoolFault.{PoolFault}

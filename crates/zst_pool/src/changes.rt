@@ -3,18 +3,18 @@
 ghost use Rattle.std.specs.Prelude.{◌≡◌, ◌↔◌, ◌+◌, ◌*◌, ◌<◌, ◌≤◌, ◌^◌, ◌∷◌, false, true, [], ℕ, List, Option, Ok, length, map, nat_lt, IsTrue, IfErr, IfOk, IfSome, OnOk};
 ghost use Rattle.zst_space.specs.FreeSectors.{FreeSectors, largest_of};
 ghost use Rattle.zst_block.specs.Blocks.{FitsDisk, Has};
-ghost use Rattle.zst_model.specs.declared.item.Change.TheVariants.{Free, Put, Spill, Write};
-ghost use Rattle.zst_model.specs.declared.attr.ObjectHead.{ObjectHead};
-ghost use Rattle.zst_model.specs.declared.item.Item.TheVariants.{At, FreeObjects};
-ghost use Rattle.zst_model.specs.Items.{spill_change};
-ghost use Rattle.zst_model.specs.State.{index_bound, is_block_size, number_bound, IsHead, IsBonus, IsSpill};
-ghost use Rattle.zst_model.specs.Dated.{DatedState, size_at, apply_dated, apply_all_dated};
-ghost use Rattle.zst_model.specs.Pool.{Pool};
-ghost use Rattle.zst_model.specs.Step.{filled, punched, written};
+ghost use Rattle.zst_model.specs.declared.states.item.Change.TheVariants.{Free, Put, Spill, Write};
+ghost use Rattle.zst_model.specs.declared.states.attr.ObjectHead.{ObjectHead};
+ghost use Rattle.zst_model.specs.declared.states.item.Item.TheVariants.{At, FreeObjects};
+ghost use Rattle.zst_model.specs.sends.Items.{spill_change};
+ghost use Rattle.zst_model.specs.states.State.{index_bound, is_block_size, number_bound, IsHead, IsBonus, IsSpill};
+ghost use Rattle.zst_model.specs.states.Dated.{DatedState, size_at, apply_dated, apply_all_dated};
+ghost use Rattle.zst_model.specs.pools.Pool.{Pool};
+ghost use Rattle.zst_model.specs.pools.Step.{filled, punched, written};
 ghost use Rattle.zst_pool.specs.Checks.{ChangesHead, PlansHead, freed, put_in};
 ghost use Rattle.zst_pool.specs.Faults.{IsStepFault, WriteFault, is_disk_fault};
-ghost use Rattle.zst_objset.specs.Meaning.{SetIs};
-ghost use Rattle.zst_objset.specs.Spelling.{lists_bytes};
+ghost use Rattle.zst_flat.specs.Meaning.{SetIs};
+ghost use Rattle.zst_flat.specs.Spelling.{lists_bytes};
 ghost use Rattle.zst_pool.specs.Room.{FullBelow, NotFull};
 ghost use Rattle.zst_pool.specs.Work.{Works};
 
@@ -24,7 +24,7 @@ use crate::sets::put_block;
 use std::alloc::{AllocError, Global};
 use zst_block::Io;
 use zst_model::{ApplyFault, Bytes, ObjectHead, PlanFault, Quantity};
-use zst_objset::Flat;
+use zst_flat::Flat;
 use zst_outside::Disk;
 
 /// Object numbers stand below this.
@@ -49,7 +49,7 @@ fn limit(which: Quantity, number: u64) -> PoolFault
 
 /// The block size of the object whose block is written: E21 where it is absent, where the bytes are
 /// too many or where its odd block has another index, and E23.
-#[tactic(auto, unfolding(zst_model::specs::State::number_bound, zst_model::specs::State::index_bound))]
+#[tactic(auto, unfolding(zst_model::specs::states::State::number_bound, zst_model::specs::states::State::index_bound))]
 fn plan_block(
     flat: &Flat,
     number: u64,
@@ -133,7 +133,7 @@ pub fn change_block<D: Disk>(
 }
 
 /// Finds the object whose blocks become holes: E21 where it is absent, and E23.
-#[tactic(auto, unfolding(zst_model::specs::State::number_bound, zst_model::specs::State::index_bound))]
+#[tactic(auto, unfolding(zst_model::specs::states::State::number_bound, zst_model::specs::states::State::index_bound))]
 fn plan_holes(
     flat: &Flat,
     number: u64,
@@ -189,7 +189,7 @@ pub fn change_holes(
 }
 
 /// Checks the numbers that are freed: E23.
-#[tactic(auto, unfolding(zst_model::specs::State::number_bound, zst_model::specs::State::index_bound))]
+#[tactic(auto, unfolding(zst_model::specs::states::State::number_bound, zst_model::specs::states::State::index_bound))]
 fn plan_numbers(number: u64, first: u64, count: u64) -> Result<(), PoolFault>
     ensures past { OnOk result (first + count ≤ number_bound) }
     ensures number { OnOk result (number < 2 ^ 63) }
@@ -224,7 +224,7 @@ pub fn change_numbers(flat: &mut Flat, number: u64, first: u64, count: u64) -> R
 }
 
 /// Checks the number of an object: E23.
-#[tactic(auto, unfolding(zst_model::specs::State::number_bound, zst_model::specs::State::index_bound))]
+#[tactic(auto, unfolding(zst_model::specs::states::State::number_bound, zst_model::specs::states::State::index_bound))]
 fn plan_object(number: u64, object: u64) -> Result<(), PoolFault>
     ensures object { OnOk result (object < number_bound) }
     ensures number { OnOk result (number < 2 ^ 63) }

@@ -1,8 +1,8 @@
 // The commands that commit, each over the Io of a pool that hasn't failed.
 ghost use Rattle.std.specs.Prelude.{◌≡◌, ◌⊎◌, ◌+◌, ◌*◌, ◌<◌, ◌≤◌, ◌^◌, ◌||◌, false, [], None, bytes_eq, filter, length, not, IfErr, IfOk, OnErr};
 ghost use Rattle.zst_names.specs.Names.{dataset_of};
-ghost use Rattle.zst_model.specs.Pool.{Pool, inserted};
-ghost use Rattle.zst_model.specs.Step.{with_dataset, with_snapshot};
+ghost use Rattle.zst_model.specs.pools.Pool.{Pool, inserted};
+ghost use Rattle.zst_model.specs.pools.Step.{with_dataset, with_snapshot};
 ghost use Rattle.zst_tree.specs.Sets.{no_objects};
 ghost use Rattle.zst_dir.specs.Rows.{HasDataset, HasSnapshot, IsDatasetRow, IsLawful, IsSnapshotRow, snapshot_is_before};
 ghost use Rattle.zst_dir.specs.Spelling.{dir_bytes};

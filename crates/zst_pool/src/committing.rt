@@ -4,7 +4,7 @@ ghost use Rattle.zst_space.specs.FreeSectors.{largest_of};
 ghost use Rattle.zst_block.specs.Blocks.{FitsDisk, FillsFree, Has};
 ghost use Rattle.zst_block.specs.Ptr.{hole_of};
 ghost use Rattle.zst_uber.specs.Slots.{latest};
-ghost use Rattle.zst_model.specs.Pool.{Pool};
+ghost use Rattle.zst_model.specs.pools.Pool.{Pool};
 ghost use Rattle.zst_dir.specs.Rows.{Rows};
 ghost use Rattle.zst_pool.specs.Faults.{HasDiskCause, WriteFault, is_disk_fault};
 ghost use Rattle.zst_pool.specs.Reads.{IsDirRun, Rests, dir_sectors, free_by};

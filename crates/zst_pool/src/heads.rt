@@ -2,15 +2,15 @@
 ghost use Rattle.std.specs.Prelude.{◌≡◌, ◌||◌, ◌+◌, ◌<◌, ◌≤◌, ◌^◌, false, true, [], length, IfErr, IfOk, IfSome, OnOk, OnErr};
 ghost use Rattle.zst_block.specs.Blocks.{FitsDisk, FillsFree, Has};
 ghost use Rattle.zst_names.specs.Names.{IsDataset};
-ghost use Rattle.zst_model.specs.State.{IsHead, IsBonus, IsSpill};
-ghost use Rattle.zst_model.specs.Dated.{DatedState};
-ghost use Rattle.zst_model.specs.Pool.{Pool, IsPool};
-ghost use Rattle.zst_model.specs.Step.{on_head, punched, written};
+ghost use Rattle.zst_model.specs.states.State.{IsHead, IsBonus, IsSpill};
+ghost use Rattle.zst_model.specs.states.Dated.{DatedState};
+ghost use Rattle.zst_model.specs.pools.Pool.{Pool, IsPool};
+ghost use Rattle.zst_model.specs.pools.Step.{on_head, punched, written};
 ghost use Rattle.zst_pool.specs.Checks.{FindsHead, freed, next_of, put_in, with_head_of};
 ghost use Rattle.zst_pool.specs.Faults.{HasDiskCause, IsStepFault, WriteFault, is_disk_fault};
 ghost use Rattle.zst_pool.specs.Reads.{Rests, RowsAre, dir_sectors, free_by};
 ghost use Rattle.zst_pool.specs.Room.{AreHeadRows, FindsNoRoom, FullBelow, NotFull, set_sectors};
-ghost use Rattle.zst_objset.specs.Meaning.{SetIs};
+ghost use Rattle.zst_flat.specs.Meaning.{SetIs};
 ghost use Rattle.zst_pool.specs.Work.{Commits, Did, Ready, Works};
 
 use crate::changes::{change_block, change_holes, change_numbers, change_object};
@@ -24,7 +24,7 @@ use zst_block::Io;
 use zst_laws::steps_keep_pools;
 use zst_model::{Bytes, ObjectHead};
 use zst_names::DatasetName;
-use zst_objset::Flat;
+use zst_flat::Flat;
 use zst_outside::Disk;
 
 /// Reads the rows of the head of a dataset that has no partial state.

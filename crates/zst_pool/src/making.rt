@@ -3,7 +3,7 @@ ghost use Rattle.std.specs.Prelude.{◌≡◌, ◌⊎◌, ◌↔◌, ◌+◌, �
 ghost use Rattle.zst_outside.specs.Images.{IsSynced, Leaves, OnlyReads};
 ghost use Rattle.zst_block.specs.Blocks.{Has, IsBlock};
 ghost use Rattle.zst_block.specs.Ptr.{hole_of};
-ghost use Rattle.zst_model.specs.Pool.{Pool};
+ghost use Rattle.zst_model.specs.pools.Pool.{Pool};
 ghost use Rattle.zst_uber.specs.Body.{InRange};
 ghost use Rattle.zst_uber.specs.Commit.{HeadSettled};
 ghost use Rattle.zst_uber.specs.Slots.{latest as latest_of};

@@ -1,9 +1,9 @@
 ghost use Rattle.std.specs.Prelude.{◌≡◌, ◌∷◌, ◌||◌, [], ℕ, false, true, not, IfErr, IfOk, OnErr, Ok, Err};
 ghost use Rattle.zst_outside.specs.Images.{Leaves};
-ghost use Rattle.zst_model.specs.Lines.{ok_line};
-ghost use Rattle.zst_model.specs.Pool.{Pool as Plain};
-ghost use Rattle.zst_model.specs.Sound.{Sound};
-ghost use Rattle.zst_model.specs.Step.{Stepped, stepped, IsCommand};
+ghost use Rattle.zst_model.specs.pools.Lines.{ok_line};
+ghost use Rattle.zst_model.specs.pools.Pool.{Pool as Plain};
+ghost use Rattle.zst_model.specs.pools.Sound.{Sound};
+ghost use Rattle.zst_model.specs.pools.Step.{Stepped, stepped, IsCommand};
 ghost use Rattle.zst_pool.specs.Faults.{HasDiskCause, IsStepFault, is_disk_fault};
 ghost use Rattle.zst_pool.specs.Reads.{Rests, BeforeOrAfter, free_by};
 ghost use Rattle.zst_pool.specs.Room.{FindsNoRoom, HasNoRoom};
@@ -129,7 +129,7 @@ fn committed(alloc: Global, number: u64) -> Result<Reply, AllocError>
 }
 
 /// Runs a command that is built, over the sectors that are free by the latest body.
-#[tactic(auto, unfolding(zst_model::specs::Step::stepped))]
+#[tactic(auto, unfolding(zst_model::specs::pools::Step::stepped))]
 fn run<D: Disk>(
     io: &mut Io<'_, D>,
     alloc: Global,

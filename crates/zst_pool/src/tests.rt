@@ -1,6 +1,6 @@
 ghost use Rattle.std.specs.Prelude.{◌≡◌, ◌<◌, ◌≤◌, true, length, IfOk};
-ghost use Rattle.zst_model.specs.State.{is_block_size};
-ghost use Rattle.zst_model.specs.Step.{IsCommand};
+ghost use Rattle.zst_model.specs.states.State.{is_block_size};
+ghost use Rattle.zst_model.specs.pools.Step.{IsCommand};
 
 use crate::{Kept, Pool, PoolFault};
 use std::alloc::{AllocError, Global};
@@ -87,7 +87,7 @@ fn snapshot(text: &str) -> Result<Command, PoolFault>
 }
 
 // The commands of a small pool, in order: a file system, a file in it, its first block and a snapshot.
-#[tactic(auto, unfolding(zst_model::specs::State::is_block_size, zst_model::specs::State::largest_block))]
+#[tactic(auto, unfolding(zst_model::specs::states::State::is_block_size, zst_model::specs::states::State::largest_block))]
 fn small(alloc: Global, place: u64) -> Result<Command, PoolFault>
     ensures { IfOk result IsCommand }
 {
@@ -175,7 +175,7 @@ fn check_refused(
 }
 
 #[test]
-#[tactic(auto, unfolding(zst_model::specs::State::is_block_size, zst_model::specs::State::largest_block))]
+#[tactic(auto, unfolding(zst_model::specs::states::State::is_block_size, zst_model::specs::states::State::largest_block))]
 fn refusals_leave_the_pool(rt: HostRuntime) -> Result<(), PoolFault> {
     let alloc = rt.alloc();
     let mut disk = with_small(alloc, 4)?;

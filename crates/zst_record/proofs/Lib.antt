@@ -1,1 +1,5 @@
 mod Padded
+pub mod TableLaws
+pub mod SizeLaws
+pub mod BeginLaws
+pub mod DecodeLaws

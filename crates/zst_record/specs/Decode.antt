@@ -4,11 +4,11 @@ use Rattle.std.specs.Prelude.{ℕ, ◌+◌, ◌-◌, ◌/◌, ◌%◌, ◌^◌, 
 use Rattle.std.specs.Option.{option_map}
 use Rattle.std.specs.Int.{w32, trailing_zeros}
 use Rattle.zst_bytes.specs.Bytes.{bytes_at, number_at}
-use Rattle.zst_model.specs.declared.header.Header.{Header}
-use Rattle.zst_model.specs.declared.faults.Flaw.TheVariants as flaws
-use Rattle.zst_model.specs.declared.faults.Lack.{Lack}
-use Rattle.zst_model.specs.declared.faults.Lack.TheVariants as lacks
-use Rattle.zst_model.specs.State.{is_block_size}
+use Rattle.zst_model.specs.declared.sends.header.Header.{Header}
+use Rattle.zst_model.specs.declared.refusals.faults.Flaw.TheVariants as flaws
+use Rattle.zst_model.specs.declared.refusals.faults.Lack.{Lack}
+use Rattle.zst_model.specs.declared.refusals.faults.Lack.TheVariants as lacks
+use Rattle.zst_model.specs.states.State.{is_block_size}
 use Rattle.zst_record.specs.declared.TheConstants.{MAGIC, OTHER_FEATURES, LARGE_BLOCKS, RESUMING, REDACTED}
 use Rattle.zst_record.specs.declared.head.Head.{Head}
 use Rattle.zst_record.specs.declared.head.Head.TheVariants as heads

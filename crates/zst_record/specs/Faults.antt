@@ -1,6 +1,6 @@
 -- A fault of a stream as a refusal.
-use Rattle.zst_model.specs.declared.refusal.Refusal.{Refusal}
-use Rattle.zst_model.specs.declared.refusal.Refusal.TheVariants as refusals
+use Rattle.zst_model.specs.declared.refusals.refusal.Refusal.{Refusal}
+use Rattle.zst_model.specs.declared.refusals.refusal.Refusal.TheVariants as refusals
 use Rattle.zst_record.specs.declared.fault.StreamFault.{StreamFault}
 use Rattle.zst_record.specs.declared.fault.StreamFault.TheVariants as faults
 

@@ -1,6 +1,6 @@
 -- What is written is read again, and what passes its checks is in its table's ranges.
 use Rattle.std.specs.Prelude.{ℕ, ◌≡◌, ◌<◌, ◌≤◌, ◌%◌, List, Ok}
-use Rattle.zst_model.specs.declared.header.Header.{Header}
+use Rattle.zst_model.specs.declared.sends.header.Header.{Header}
 use Rattle.zst_record.specs.declared.head.Head.{Head}
 use Rattle.zst_record.specs.declared.head.Head.TheVariants as heads
 use Rattle.zst_record.specs.Heads.{payload_len}

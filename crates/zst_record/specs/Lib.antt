@@ -4,7 +4,3 @@ pub mod Table
 pub mod Decode
 pub mod Fits
 pub mod Laws
-pub mod TableLaws
-pub mod DecodeLaws
-pub mod BeginLaws
-pub mod SizeLaws

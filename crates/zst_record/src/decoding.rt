@@ -2,7 +2,7 @@ ghost use Rattle.std.specs.Prelude.{◌≡◌, ◌+◌, ◌/◌, ◌%◌, ◌≤
 ghost use Rattle.std.specs.Int.{w32, trailing_zeros};
 ghost use Rattle.zst_bytes.specs.Bytes.{number_at, bytes_at};
 ghost use Rattle.zst_record.specs.declared.fault.StreamFault.TheVariants.{Grammar, Unsupported};
-ghost use Rattle.zst_model.specs.State.{is_block_size};
+ghost use Rattle.zst_model.specs.states.State.{is_block_size};
 ghost use Rattle.zst_record.specs.Decode.{decoded, typed, begin_of, snapshot_of, header_with, object_of, write_of, free_of, spill_of, redact_of, is_object, is_range, is_payload_len, needs_payload, name_in, sums_at, lack_of_feature};
 
 use crate::fault::StreamFault;
@@ -34,7 +34,7 @@ fn names_object(object: u64) -> bool
     0 < object && object < 0x1_0000_0000_0000
 }
 
-#[tactic(auto, unfolding(zst_model::specs::State::is_block_size, zst_model::specs::State::largest_block))]
+#[tactic(auto, unfolding(zst_model::specs::states::State::is_block_size, zst_model::specs::states::State::largest_block))]
 fn sizes_block(size: u64) -> bool
     ensures { result ≡ is_block_size size }
 {

@@ -6,7 +6,7 @@ use Rattle.std.proofs.lemmas.List.Quantifiers.{position-Some}
 use Rattle.std.proofs.lemmas.List.Sums.{fails_before_first}
 use Rattle.zst_space.specs.FreeSectors.{FreeSectors, Rise, IsSpaceFrom, greatest, largest_of}
 use Rattle.zst_space.specs.Taking.{shortened, run_first, extents_without, end_without, without}
-use Rattle.zst_space.specs.FreeSectorsLaws.{Rise-end}
+use Rattle.zst_space.proofs.FreeSectorsLaws.{Rise-end}
 use Rattle.zst_space.specs.declared.space.Extent.{Extent}
 
 abbrev pub has_so_many : ℕ → Extent → Bool

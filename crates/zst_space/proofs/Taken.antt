@@ -2,7 +2,7 @@
 use Rattle.std.proofs.Common.{◌≡◌, ◌⊎◌, inl, inr, ⊎_elim, ℕ, ◌+◌, ◌-◌, ◌<◌, ◌≤◌, ◌==◌, max, Bool, true, false, cond, nat_le, List, [], ◌∷◌, ◌++◌, refl, sym, ◌∙◌, ap, subst, arith}
 use Rattle.std.proofs.lemmas.Bool.{cases_Bool, cond-true, cond-false, leb-true, leb-false, eqb-true, cases_lt}
 use Rattle.zst_space.specs.FreeSectors.{FreeSectors, IsWithin, IsInSome, IsFree, Rise, IsSpaceFrom, greatest, largest_of, total, room}
-use Rattle.zst_space.specs.FreeSectorsLaws.{Rise-end, Rise-earlier, Rise-above}
+use Rattle.zst_space.proofs.FreeSectorsLaws.{Rise-end, Rise-earlier, Rise-above}
 use Rattle.zst_space.specs.Taking.{shortened, run_first, extents_without, end_without, without, place_of, Takes}
 use Rattle.zst_space.specs.declared.space.Extent.{Extent}
 

@@ -1,3 +1,2 @@
 pub mod FreeSectors
 pub mod Taking
-pub mod FreeSectorsLaws

@@ -4,18 +4,18 @@ use Rattle.std.specs.List.{All, flat_map}
 use Rattle.std.proofs.lemmas.Bool.{and_parts, or_left, or_right, leb-true, ltb-true, lt-ltb}
 use Rattle.std.proofs.lemmas.List.Elements.{All-nil, All-cons, All-head, All-tail, All-append, All-map, All-same, All-weaker}
 use Rattle.std.proofs.lemmas.List.Concat.{flat_map-cons}
-use Rattle.zst_model.specs.declared.attr.Attr.{Attr}
-use Rattle.zst_model.specs.declared.header.Header.{Header}
-use Rattle.zst_model.specs.declared.header.Point.{Point}
-use Rattle.zst_model.specs.declared.item.Change.{Change}
-use Rattle.zst_model.specs.declared.item.Change.TheVariants.{Put, Spill, FreeFrom, Free, Redact, Write}
-use Rattle.zst_model.specs.declared.item.Item.{Item}
-use Rattle.zst_model.specs.declared.item.Item.TheVariants.{FreeObjects, At}
-use Rattle.zst_model.specs.State.{Block, Hole, Redacted, Data, Object, BlockFits, IsHead, IsBonus, IsSpill, IsAttr, IsObject, IsObjectOrNone, IsState, is_hole, past_last, end_of, end_at, is_number, number_bound, index_bound, is_block_size, largest_block}
-use Rattle.zst_model.specs.Dated.{DatedState}
-use Rattle.zst_model.specs.Included.{Choice, includes_pair, includes_number}
-use Rattle.zst_model.specs.View.{ObjectView, Shown, Left, Gone, There, object_view, shown_object, view_of}
-use Rattle.zst_model.specs.Items.{rising, block_change, change_at, block_changes, spill_change, opening, number_items, items_at, single_items, join_changes, join, before_item, before, joined, items}
+use Rattle.zst_model.specs.declared.states.attr.Attr.{Attr}
+use Rattle.zst_model.specs.declared.sends.header.Header.{Header}
+use Rattle.zst_model.specs.declared.sends.header.Point.{Point}
+use Rattle.zst_model.specs.declared.states.item.Change.{Change}
+use Rattle.zst_model.specs.declared.states.item.Change.TheVariants.{Put, Spill, FreeFrom, Free, Redact, Write}
+use Rattle.zst_model.specs.declared.states.item.Item.{Item}
+use Rattle.zst_model.specs.declared.states.item.Item.TheVariants.{FreeObjects, At}
+use Rattle.zst_model.specs.states.State.{Block, Hole, Redacted, Data, Object, BlockFits, IsHead, IsBonus, IsSpill, IsAttr, IsObject, IsObjectOrNone, IsState, is_hole, past_last, end_of, end_at, is_number, number_bound, index_bound, is_block_size, largest_block}
+use Rattle.zst_model.specs.states.Dated.{DatedState}
+use Rattle.zst_model.specs.sends.Included.{Choice, includes_pair, includes_number}
+use Rattle.zst_model.specs.sends.View.{ObjectView, Shown, Left, Gone, There, object_view, shown_object, view_of}
+use Rattle.zst_model.specs.sends.Items.{rising, block_change, change_at, block_changes, spill_change, opening, number_items, items_at, single_items, join_changes, join, before_item, before, joined, items}
 use Rattle.zst_model.proofs.Sizes.{spill_is_block}
 use Rattle.zst_record.specs.Decode.{is_object, is_range}
 use Rattle.zst_record.specs.Fits.{Fits}

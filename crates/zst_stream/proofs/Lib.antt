@@ -1,1 +1,3 @@
 mod Carried
+pub mod ExampleLaws
+pub mod Whole

@@ -1,6 +1,6 @@
 -- A small stream: one object with a block, and nothing behind it.
 use Rattle.std.specs.Prelude.{◌-◌, ◌^◌, List, [], ◌∷◌, None, codes, replicate}
-use Rattle.zst_model.specs.declared.header.Header.{Header}
+use Rattle.zst_model.specs.declared.sends.header.Header.{Header}
 use Rattle.zst_record.specs.declared.head.Head.TheVariants as heads
 use Rattle.zst_stream.specs.Image.{Piece, IsStream}
 

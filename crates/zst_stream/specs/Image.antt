@@ -1,7 +1,7 @@
 -- The bytes of a stream as they are written, and the records that they are.
 use Rattle.std.specs.Prelude.{ℕ, ◌+◌, ◌≡◌, true, List, [], ◌∷◌, ◌++◌, length, take, None, Ok}
 use Rattle.zst_fletcher.specs.WeightSum.{weight_sum, parts_of}
-use Rattle.zst_model.specs.declared.header.Header.{Header}
+use Rattle.zst_model.specs.declared.sends.header.Header.{Header}
 use Rattle.zst_record.specs.declared.head.Head.{Head}
 use Rattle.zst_record.specs.declared.head.Head.TheVariants as heads
 use Rattle.zst_record.specs.Heads.{Covered, payload_len}

@@ -1,6 +1,6 @@
 -- What ties the bytes that are written to the records that are read.
 use Rattle.std.specs.Prelude.{ℕ, ◌≡◌, ◌⊎◌, List, [], ◌∷◌, ◌++◌, map}
-use Rattle.zst_model.specs.declared.header.Header.{Header}
+use Rattle.zst_model.specs.declared.sends.header.Header.{Header}
 use Rattle.zst_record.specs.declared.head.Head.TheVariants as heads
 use Rattle.zst_record.specs.Heads.{Covered}
 use Rattle.zst_stream.specs.Reading.{reading, FrontOf, waiting, complete}

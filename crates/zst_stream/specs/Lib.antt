@@ -3,7 +3,5 @@ pub mod Growth
 pub mod Image
 pub mod Laws
 pub mod Findings
-pub mod Whole
 pub mod Example
-pub mod ExampleLaws
 pub mod Records

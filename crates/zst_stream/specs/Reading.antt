@@ -2,7 +2,7 @@
 use Rattle.std.specs.Prelude.{ℕ, ◌+◌, ◌==◌, ◌&&◌, ◌≡◌, ◌⊎◌, Bool, true, false, if◌then◌else◌, List, [], ◌∷◌, ◌++◌, length, take, drop, Option, Some, None, Ok, Err, nat_lt, slice_index, zero, suc}
 use Rattle.zst_fletcher.specs.WeightSum.{weight_sum, parts_of}
 use Rattle.zst_bytes.specs.Bytes.{number_at}
-use Rattle.zst_model.specs.declared.faults.Lack.TheVariants as lacks
+use Rattle.zst_model.specs.declared.refusals.faults.Lack.TheVariants as lacks
 use Rattle.zst_record.specs.Heads.{Covered, payload_len, size_of}
 use Rattle.zst_record.specs.Decode.{Decoded, sums_at, decoded, features_in}
 use Rattle.zst_record.specs.declared.head.Head.{Head}

@@ -1,3 +1,4 @@
+pub mod IndicesLaws
 pub mod Spelled
 pub mod Span
 pub mod Below
@@ -6,3 +7,11 @@ pub mod Loaded
 pub mod Finding
 pub mod Quieter
 pub mod Emptier
+pub mod Sides
+pub mod Children
+pub mod Most
+pub mod Made
+pub mod Mended
+pub mod Narrow
+pub mod Sums
+pub mod Whole

@@ -91,9 +91,13 @@ pub record Changed (old new : Map) (base from below above : ℕ) (leaf : Ptr) : 
 abbrev pub Puts : Map → Map → ℕ → ℕ → Ptr → Type 0
 Puts old new from below leaf = Changed old new 0 from below (2 ^ 44) leaf
 
+-- no block is told as damaged
+abbrev pub IsNoDamage : BlockFault → Type 0
+IsNoDamage (Damaged sector stated found) = ⊥
+IsNoDamage (Full need largest) = Unit {0}
+IsNoDamage DiskFault = Unit {0}
+
 -- what a call gives is so, and it finds no damage
 abbrev pub Delivers : {T : Type 0} → (T → Type 0) → Result T BlockFault → Type 0
 Delivers P (Ok value) = P value
-Delivers P (Err (Damaged sector stated found)) = ⊥
-Delivers P (Err (Full need largest)) = Unit {0}
-Delivers P (Err DiskFault) = Unit {0}
+Delivers P (Err fault) = IsNoDamage fault

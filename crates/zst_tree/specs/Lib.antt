@@ -1,7 +1,7 @@
 pub mod Sets
 pub mod Indices
-pub mod IndicesLaws
 pub mod Finding
 pub mod Reaching
 pub mod Later
 pub mod Earlier
+pub mod Changes

@@ -5,12 +5,14 @@ mod earlier;
 mod get;
 mod later;
 mod nodes;
+mod put;
 mod reach;
 mod spans;
 mod steps;
 mod tree;
 mod walks;
 mod words;
+mod writes;
 
 pub use spans::INDEX_BOUND;
 pub use steps::Steps;

@@ -4,7 +4,7 @@ use Rattle.zst_bytes.specs.Bytes.{number_at}
 use Rattle.zst_outside.specs.Images.{DiskState, IsSynced, OnlyReads}
 use Rattle.zst_outside.specs.Ranges.{bytes_at}
 use Rattle.zst_uber.specs.Body.{IsBody, InRange, body_bytes, uber_at}
-use Rattle.zst_uber.specs.BodyLaws.{uber_at-body_bytes, version-back, number_back}
+use Rattle.zst_uber.proofs.BodyLaws.{uber_at-body_bytes, version-back, number_back}
 use Rattle.zst_uber.specs.Slots.{latest, Stands, IsNext}
 use Rattle.zst_uber.specs.Commit.{HeadSettled}
 use Rattle.zst_uber.specs.Opening.{Decodes, GivesUber, IsLatest, TellsNext}

@@ -5,9 +5,9 @@ use Rattle.std.proofs.lemmas.List.{length-take}
 use Rattle.zst_bytes.specs.Bytes.{number_at}
 use Rattle.zst_outside.specs.Ranges.{bytes_at, Torn}
 use Rattle.zst_uber.specs.Body.{body_bytes}
-use Rattle.zst_uber.specs.BodyLaws.{length-body, magic-back, number_back}
+use Rattle.zst_uber.proofs.BodyLaws.{length-body, magic-back, number_back}
 use Rattle.zst_uber.specs.Slots.{gate_place, body_place, other, counts, in_slot, gate_of, slot_at, latest, IsOpen, IsNext, Stands}
-use Rattle.zst_uber.specs.SlotsLaws.{of_slot, chosen, latest_is, same_slot}
+use Rattle.zst_uber.proofs.SlotsLaws.{of_slot, chosen, latest_is, same_slot}
 use Rattle.zst_uber.specs.declared.TheConstants.{MAGIC}
 use Rattle.zst_uber.specs.declared.uber.Uber.{Uber}
 use Rattle.zst_uber.specs.declared.slot.Slot.{Slot}

@@ -2,10 +2,10 @@
 use Rattle.std.proofs.Common.{◌≡◌, inl, inr, ⊎_elim, ℕ, ◌+◌, ◌≤◌, List, refl, sym, ◌∙◌, ap, subst, arith, slice_index, Result, Ok, Err, OnOk}
 use Rattle.zst_outside.specs.Images.{DiskState, TornImage, IsSynced, Leaves, OnlyReads, WritesIn, Leaves-weaker, Leaves-then, WritesIn-wider}
 use Rattle.zst_outside.specs.Ranges.{bytes_at, Torn, Torn-same, Torn-then, Torn-wider}
-use Rattle.zst_block.specs.BlocksLaws.{Has-head}
+use Rattle.zst_block.proofs.BlocksLaws.{Has-head}
 use Rattle.zst_uber.specs.Slots.{gate_place, body_place, other, gate_of, slot_at, latest, IsOpen, IsNext, Stands}
 use Rattle.zst_uber.specs.Commit.{HasOldOrNew, KeepsOldOrNew, HeadSettled, Closing, ClosedImage, Closes}
-use Rattle.zst_uber.specs.SlotsLaws.{same_slot, latest-head}
+use Rattle.zst_uber.proofs.SlotsLaws.{same_slot, latest-head}
 use Rattle.zst_uber.specs.declared.uber.Uber.{Uber}
 use Rattle.zst_uber.specs.declared.slot.Slot.{Slot}
 use Rattle.zst_uber.specs.declared.slot.Slot.TheVariants.{First, Second}

@@ -3,7 +3,7 @@ use Rattle.std.proofs.Common.{◌≡◌, Bool, true, false, ℕ, ◌-◌, List, 
 use Rattle.std.proofs.lemmas.List.{take-append-drop, take_all}
 use Rattle.zst_bytes.specs.Bytes.{bytes_at}
 use Rattle.zst_bytes.specs.Fields.{lay}
-use Rattle.zst_bytes.specs.FieldsLaws.{lay-back}
+use Rattle.zst_bytes.proofs.FieldsLaws.{lay-back}
 use Rattle.zst_fletcher.specs.WeightSum.{weight_sum, parts_of}
 use Rattle.zst_record.specs.declared.head.Head.{Head}
 use Rattle.zst_record.specs.declared.head.Head.TheVariants as heads

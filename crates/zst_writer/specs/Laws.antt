@@ -1,6 +1,6 @@
 -- What a writer writes is an image.
 use Rattle.std.specs.Prelude.{ℕ, ◌≡◌, List, []}
-use Rattle.zst_model.specs.declared.header.Header.{Header}
+use Rattle.zst_model.specs.declared.sends.header.Header.{Header}
 use Rattle.zst_stream.specs.Image.{Piece, IsStream, image}
 use Rattle.zst_stream.specs.Laws.{all_pieces}
 use Rattle.zst_writer.specs.Writes.{puts_after}

@@ -1,4 +1,4 @@
-use Rattle.zst_laws.proofs.Walk.{block_run_next}
+use Rattle.zst_laws.proofs.sends.Walk.{block_run_next}
 use Rattle.zst_laws.proofs.block_run_is_next.Goals as goal
 
 pub returns : goal.returns

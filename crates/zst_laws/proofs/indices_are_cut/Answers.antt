@@ -1,4 +1,4 @@
-use Rattle.zst_laws.proofs.Ranges.{indices_cut}
+use Rattle.zst_laws.proofs.sends.Ranges.{indices_cut}
 use Rattle.zst_laws.proofs.indices_are_cut.Goals as goal
 
 pub returns : goal.returns

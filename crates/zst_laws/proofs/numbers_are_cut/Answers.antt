@@ -1,4 +1,4 @@
-use Rattle.zst_laws.proofs.Ranges.{numbers_cut}
+use Rattle.zst_laws.proofs.sends.Ranges.{numbers_cut}
 use Rattle.zst_laws.proofs.numbers_are_cut.Goals as goal
 
 pub returns : goal.returns

@@ -1,4 +1,4 @@
-use Rattle.zst_stream.specs.ExampleLaws.{example-fits}
+use Rattle.zst_stream.proofs.ExampleLaws.{example-fits}
 use Rattle.zst_stream.proofs.example_is_a_stream.Goals as goal
 
 pub returns : goal.returns

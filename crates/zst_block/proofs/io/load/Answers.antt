@@ -1,5 +1,5 @@
 use Rattle.std.proofs.Common.{◌≡◌, ◌∙◌, sym}
-use Rattle.zst_block.specs.BlocksLaws.{IsBlock-length}
+use Rattle.zst_block.proofs.BlocksLaws.{IsBlock-length}
 use Rattle.zst_block.proofs.io.load.Goals as goal
 
 pub returns-then-ptr-ne8192-clause-there : goal.returns-then-ptr-ne8192-clause-there

@@ -2,8 +2,8 @@ use Rattle.std.proofs.Common.{rules, of_calls, ◌≡◌, true, not}
 use Rattle.std.specs.Ordering.{nat_cmp, is_le}
 use Rattle.std.specs.Cmp.Lexicographic.{slice_cmp}
 use Rattle.std.proofs.lemmas.List.Sorted.{IsPartitionPoint-from_clause}
-use Rattle.zst_model.specs.Pool.{is_before}
-use Rattle.zst_model.specs.OrderLaws.{before_trans}
+use Rattle.zst_model.specs.pools.Pool.{is_before}
+use Rattle.zst_model.proofs.OrderLaws.{before_trans}
 use Rattle.zst_dir.proofs.Places.{le-before, partitioned, partition-place}
 use Rattle.zst_dir.specs.declared.rows.Dataset.{Dataset}
 use Rattle.zst_dir.proofs.dir.place_of_dataset.Goals as goal

@@ -1,6 +1,6 @@
 use Rattle.std.proofs.Common.{rules, of_calls, ◌≡◌, false, not, refl}
 use Rattle.std.proofs.lemmas.List.Sorted.{IsPartitionPoint-from_clause}
-use Rattle.zst_model.specs.OrderLaws.{row_before_later}
+use Rattle.zst_model.proofs.OrderLaws.{row_before_later}
 use Rattle.zst_dir.specs.Rows.{snapshot_is_before}
 use Rattle.zst_dir.specs.declared.rows.Snapshot.{Snapshot}
 use Rattle.zst_dir.proofs.Places.{partitioned, partition-place}

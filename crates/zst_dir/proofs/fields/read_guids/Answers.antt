@@ -2,7 +2,7 @@ use Rattle.std.proofs.Common.{◌≡◌, Some, ◌++◌, ◌∷◌, [], length, 
 use Rattle.std.proofs.lemmas.List.Elements.{All-push}
 use Rattle.std.specs.List.{flat_map}
 use Rattle.zst_bytes.specs.Words.{word}
-use Rattle.zst_model.specs.Guids.{IsGuidSet}
+use Rattle.zst_model.specs.fields.Guids.{IsGuidSet}
 use Rattle.zst_dir.proofs.Guids.{words_parts, IsGuidSet-front}
 use Rattle.zst_dir.proofs.Standing.{stands_first, stands_next, stands_more, stands_last, fits_next}
 use Rattle.zst_dir.proofs.fields.read_guids.Goals as goal

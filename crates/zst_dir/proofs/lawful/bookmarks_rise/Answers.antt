@@ -1,5 +1,5 @@
 use Rattle.std.proofs.Common.{rules, of_calls}
-use Rattle.zst_model.specs.Pool.{is_before}
+use Rattle.zst_model.specs.pools.Pool.{is_before}
 use Rattle.zst_dir.specs.declared.rows.Bookmark.{Bookmark}
 use Rattle.zst_dir.proofs.Rising.{names_rise, neighbours_from_clause}
 use Rattle.zst_dir.proofs.lawful.bookmarks_rise.Goals as goal

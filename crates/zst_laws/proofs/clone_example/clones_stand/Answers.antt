@@ -1,5 +1,5 @@
-use Rattle.zst_laws.proofs.CloneExamples.{clones_standing}
-use Rattle.zst_laws.proofs.SoundClones.{clones_sound}
+use Rattle.zst_laws.proofs.examples.CloneExamples.{clones_standing}
+use Rattle.zst_laws.proofs.examples.SoundClones.{clones_sound}
 use Rattle.zst_laws.proofs.clone_example.clones_stand.Goals as goal
 
 pub returns : goal.returns

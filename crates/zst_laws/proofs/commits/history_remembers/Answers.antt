@@ -1,4 +1,4 @@
-use Rattle.zst_laws.proofs.Increments.{history_remembered}
+use Rattle.zst_laws.proofs.histories.Increments.{history_remembered}
 use Rattle.zst_laws.proofs.commits.history_remembers.Goals as goal
 
 pub returns : goal.returns

@@ -1,4 +1,4 @@
-use Rattle.zst_laws.proofs.Increments.{increment_exact}
+use Rattle.zst_laws.proofs.histories.Increments.{increment_exact}
 use Rattle.zst_laws.proofs.commits.increment_is_exact.Goals as goal
 
 pub returns : goal.returns

@@ -1,4 +1,4 @@
-use Rattle.zst_laws.proofs.Dating.{dates_exact}
+use Rattle.zst_laws.proofs.histories.Dating.{dates_exact}
 use Rattle.zst_laws.proofs.dates.dates_are_exact.Goals as goal
 
 pub returns : goal.returns

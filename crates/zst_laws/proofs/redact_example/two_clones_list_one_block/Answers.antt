@@ -1,4 +1,4 @@
-use Rattle.zst_laws.proofs.RedactExamples.{two_clones_list, redacted_items}
+use Rattle.zst_laws.proofs.examples.RedactExamples.{two_clones_list, redacted_items}
 use Rattle.zst_laws.proofs.redact_example.two_clones_list_one_block.Goals as goal
 
 pub returns : goal.returns

@@ -1,4 +1,4 @@
-use Rattle.zst_laws.proofs.SourceBases.{own_remembered, taken_remembers}
+use Rattle.zst_laws.proofs.pools.SourceBases.{own_remembered, taken_remembers}
 use Rattle.zst_laws.proofs.remembering.own_is_remembered.Goals as goal
 
 pub returns : goal.returns

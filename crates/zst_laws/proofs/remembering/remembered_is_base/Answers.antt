@@ -1,4 +1,4 @@
-use Rattle.zst_laws.proofs.SourceBases.{remembered_base}
+use Rattle.zst_laws.proofs.pools.SourceBases.{remembered_base}
 use Rattle.zst_laws.proofs.remembering.remembered_is_base.Goals as goal
 
 pub returns : goal.returns

@@ -1,4 +1,4 @@
-use Rattle.zst_laws.proofs.SourceBases.{sources_bases}
+use Rattle.zst_laws.proofs.pools.SourceBases.{sources_bases}
 use Rattle.zst_laws.proofs.remembering.sources_are_bases.Goals as goal
 
 pub returns : goal.returns

@@ -1,4 +1,4 @@
-use Rattle.zst_laws.proofs.SoundSteps.{steps_remember}
+use Rattle.zst_laws.proofs.pools.SoundSteps.{steps_remember}
 use Rattle.zst_laws.proofs.remembering.steps_remember.Goals as goal
 
 pub returns : goal.returns

@@ -1,4 +1,4 @@
-use Rattle.zst_laws.proofs.Receives.{cuts_exact}
+use Rattle.zst_laws.proofs.sends.Receives.{cuts_exact}
 use Rattle.zst_laws.proofs.sessions.cuts_are_exact.Goals as goal
 
 pub returns : goal.returns

@@ -1,4 +1,4 @@
-use Rattle.zst_laws.proofs.StepExamples.{small_steps}
+use Rattle.zst_laws.proofs.examples.StepExamples.{small_steps}
 use Rattle.zst_laws.proofs.step_examples.small_is_made.Goals as goal
 
 pub returns : goal.returns

@@ -1,5 +1,5 @@
-use Rattle.zst_laws.proofs.Counted.{commits_count, answers_keep}
-use Rattle.zst_laws.proofs.LawfulPools.{steps_keep_lawful}
+use Rattle.zst_laws.proofs.pools.Counted.{commits_count, answers_keep}
+use Rattle.zst_laws.proofs.pools.LawfulPools.{steps_keep_lawful}
 use Rattle.zst_laws.proofs.stepping.steps_keep_pools.Goals as goal
 
 pub returns : goal.returns

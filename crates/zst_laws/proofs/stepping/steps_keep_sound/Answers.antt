@@ -1,4 +1,4 @@
-use Rattle.zst_laws.proofs.SoundSteps.{steps_sound}
+use Rattle.zst_laws.proofs.pools.SoundSteps.{steps_sound}
 use Rattle.zst_laws.proofs.stepping.steps_keep_sound.Goals as goal
 
 pub returns : goal.returns

@@ -1,11 +1,11 @@
 use Rattle.std.proofs.Common.{ℕ, ◌*◌, List, sym, ap, ◌∙◌, subst}
 use Rattle.std.proofs.lemmas.Result.{err_from_is_err_and}
 use Rattle.zst_block.specs.Blocks.{Has}
-use Rattle.zst_block.specs.BlocksLaws.{KeepsBlocks-fills}
-use Rattle.zst_model.specs.declared.item.Change.TheVariants.{Write}
-use Rattle.zst_model.specs.declared.item.Item.TheVariants.{At}
-use Rattle.zst_model.specs.Dated.{apply_dated, size_at}
-use Rattle.zst_model.specs.Step.{filled, written}
+use Rattle.zst_block.proofs.BlocksLaws.{KeepsBlocks-fills}
+use Rattle.zst_model.specs.declared.states.item.Change.TheVariants.{Write}
+use Rattle.zst_model.specs.declared.states.item.Item.TheVariants.{At}
+use Rattle.zst_model.specs.states.Dated.{apply_dated, size_at}
+use Rattle.zst_model.specs.pools.Step.{filled, written}
 use Rattle.zst_pool.specs.Checks.{ChangesHead}
 use Rattle.zst_pool.proofs.Doing.{write_fault}
 use Rattle.zst_pool.proofs.Growing.{SetIs-grows}

@@ -1,6 +1,6 @@
 use Rattle.std.proofs.Common.{sym, subst}
 use Rattle.zst_block.specs.Blocks.{Has}
-use Rattle.zst_model.specs.Step.{punched}
+use Rattle.zst_model.specs.pools.Step.{punched}
 use Rattle.zst_pool.specs.Checks.{ChangesHead}
 use Rattle.zst_pool.proofs.Judging.{err_is}
 use Rattle.zst_pool.proofs.changes.change_holes.Goals as goal

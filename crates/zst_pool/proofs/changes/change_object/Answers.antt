@@ -1,14 +1,14 @@
 use Rattle.std.specs.Prelude.{Result, Ok}
 use Rattle.std.proofs.Common.{◌≡◌, ◌∷◌, false, ℕ, ◌+◌, List, Option, map, sym, ap, ◌∙◌, subst}
 use Rattle.zst_block.specs.Blocks.{Has}
-use Rattle.zst_model.specs.declared.apply_fault.ApplyFault.{ApplyFault}
-use Rattle.zst_model.specs.declared.item.Change.TheVariants.{Put, Spill}
-use Rattle.zst_model.specs.declared.item.Item.TheVariants.{At}
-use Rattle.zst_model.specs.Apply.{◌>>=◌}
-use Rattle.zst_model.specs.Dated.{DatedState, apply_all_dated, apply_dated}
-use Rattle.zst_model.specs.Items.{spill_change}
+use Rattle.zst_model.specs.declared.refusals.apply_fault.ApplyFault.{ApplyFault}
+use Rattle.zst_model.specs.declared.states.item.Change.TheVariants.{Put, Spill}
+use Rattle.zst_model.specs.declared.states.item.Item.TheVariants.{At}
+use Rattle.zst_model.specs.states.Apply.{◌>>=◌}
+use Rattle.zst_model.specs.states.Dated.{DatedState, apply_all_dated, apply_dated}
+use Rattle.zst_model.specs.sends.Items.{spill_change}
 use Rattle.zst_pool.specs.Checks.{ChangesHead, put_in}
-use Rattle.zst_objset.specs.Meaning.{SetIs}
+use Rattle.zst_flat.specs.Meaning.{SetIs}
 use Rattle.zst_pool.proofs.Changing.{changed_by_spill, none_left, put_first, spill_is}
 use Rattle.zst_pool.proofs.Judging.{err_is}
 use Rattle.zst_pool.proofs.Known.{if_known_write}

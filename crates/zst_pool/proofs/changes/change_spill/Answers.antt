@@ -1,9 +1,9 @@
 use Rattle.std.proofs.Common.{◌≡◌, true, length, subst}
 use Rattle.zst_block.specs.Blocks.{Has}
-use Rattle.zst_block.specs.BlocksLaws.{KeepsBlocks-fills}
-use Rattle.zst_model.specs.State.{is_spill_size}
+use Rattle.zst_block.proofs.BlocksLaws.{KeepsBlocks-fills}
+use Rattle.zst_model.specs.states.State.{is_spill_size}
 use Rattle.zst_model.proofs.Sizes.{spill_is_block}
-use Rattle.zst_objset.proofs.Ranges.{length-block}
+use Rattle.zst_flat.proofs.Ranges.{length-block}
 use Rattle.zst_pool.proofs.Growing.{SetIs-grows}
 use Rattle.zst_pool.proofs.changes.change_spill.Goals as goal
 

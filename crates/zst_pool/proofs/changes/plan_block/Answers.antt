@@ -4,17 +4,17 @@ use Rattle.std.proofs.Common.{List, ◌≡◌, ℕ, ◌+◌, ◌*◌, ◌^◌, �
 use Rattle.std.specs.Option.{option_copied}
 use Rattle.zst_space.specs.FreeSectors.{FreeSectors}
 use Rattle.zst_block.specs.Blocks.{Has}
-use Rattle.zst_model.specs.declared.item.Change.TheVariants.{Write}
-use Rattle.zst_model.specs.declared.item.Item.TheVariants.{At}
-use Rattle.zst_model.specs.declared.refusal.Refusal.{Refusal}
-use Rattle.zst_model.specs.State.{IsObjectOrNone, is_odd_size, number_bound}
-use Rattle.zst_model.specs.Apply.{◌>>=◌}
-use Rattle.zst_model.specs.Dated.{DatedState, apply_dated, size_at}
-use Rattle.zst_model.specs.Pool.{Pool}
-use Rattle.zst_model.specs.Step.{committed, filled, in_indices, written}
+use Rattle.zst_model.specs.declared.states.item.Change.TheVariants.{Write}
+use Rattle.zst_model.specs.declared.states.item.Item.TheVariants.{At}
+use Rattle.zst_model.specs.declared.refusals.refusal.Refusal.{Refusal}
+use Rattle.zst_model.specs.states.State.{IsObjectOrNone, is_odd_size, number_bound}
+use Rattle.zst_model.specs.states.Apply.{◌>>=◌}
+use Rattle.zst_model.specs.states.Dated.{DatedState, apply_dated, size_at}
+use Rattle.zst_model.specs.pools.Pool.{Pool}
+use Rattle.zst_model.specs.pools.Step.{committed, filled, in_indices, written}
 use Rattle.zst_pool.specs.Checks.{with_head_of}
 use Rattle.zst_pool.specs.Faults.{StepFault}
-use Rattle.zst_objset.specs.Meaning.{SetIs}
+use Rattle.zst_flat.specs.Meaning.{SetIs}
 use Rattle.zst_pool.proofs.Changing.{IsThere, none_at, planned_last, refused, stored_at, indices_end, indices_pass, not_odd_first, not_odd_size, odd_later, size_over_none, written_absent, written_long, written_odd, written_there}
 use Rattle.zst_pool.proofs.changes.plan_block.Goals as goal
 use Rattle.zst_pool.proofs.changes.plan_block.Goals.{In-Some, Joined-else-index-gt0, Else-index-ge-INDEX_BOUND, else-index-gt0-via-then-index-gt0+else-size-ne1, else-index-gt0-via-else-index-gt0}

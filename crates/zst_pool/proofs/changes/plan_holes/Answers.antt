@@ -2,16 +2,16 @@ use Rattle.std.specs.Prelude.{Ok}
 use Rattle.std.proofs.Common.{List, ◌≡◌, ℕ, ◌+◌, ◌*◌, sym, ap, ◌∙◌, subst}
 use Rattle.zst_space.specs.FreeSectors.{FreeSectors}
 use Rattle.zst_block.specs.Blocks.{Has}
-use Rattle.zst_model.specs.declared.item.Change.TheVariants.{Free}
-use Rattle.zst_model.specs.declared.item.Item.TheVariants.{At}
-use Rattle.zst_model.specs.State.{number_bound}
-use Rattle.zst_model.specs.Apply.{◌>>=◌}
-use Rattle.zst_model.specs.Dated.{DatedState, apply_dated, size_at}
-use Rattle.zst_model.specs.Pool.{Pool}
-use Rattle.zst_model.specs.Step.{committed, in_indices, punched}
+use Rattle.zst_model.specs.declared.states.item.Change.TheVariants.{Free}
+use Rattle.zst_model.specs.declared.states.item.Item.TheVariants.{At}
+use Rattle.zst_model.specs.states.State.{number_bound}
+use Rattle.zst_model.specs.states.Apply.{◌>>=◌}
+use Rattle.zst_model.specs.states.Dated.{DatedState, apply_dated, size_at}
+use Rattle.zst_model.specs.pools.Pool.{Pool}
+use Rattle.zst_model.specs.pools.Step.{committed, in_indices, punched}
 use Rattle.zst_pool.specs.Checks.{with_head_of}
 use Rattle.zst_pool.specs.Faults.{StepFault}
-use Rattle.zst_objset.specs.Meaning.{SetIs}
+use Rattle.zst_flat.specs.Meaning.{SetIs}
 use Rattle.zst_pool.proofs.Changing.{none_at, planned_last, refused, stored_at, none_copied, some_copied, indices_pass, indices_end, punched_absent, punched_there}
 use Rattle.zst_pool.proofs.changes.plan_holes.Goals as goal
 use Rattle.zst_pool.proofs.changes.plan_holes.Goals.{Else-is_none}

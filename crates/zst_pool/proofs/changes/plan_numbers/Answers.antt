@@ -1,6 +1,6 @@
 use Rattle.std.proofs.Common.{ℕ, ◌+◌, sym, ap, ◌∙◌}
-use Rattle.zst_model.specs.declared.item.Item.TheVariants.{FreeObjects}
-use Rattle.zst_model.specs.Dated.{apply_dated}
+use Rattle.zst_model.specs.declared.states.item.Item.TheVariants.{FreeObjects}
+use Rattle.zst_model.specs.states.Dated.{apply_dated}
 use Rattle.zst_pool.specs.Checks.{with_head_of}
 use Rattle.zst_pool.proofs.Changing.{freed_is, planned_last}
 use Rattle.zst_pool.proofs.changes.plan_numbers.Goals as goal

@@ -1,12 +1,12 @@
 use Rattle.std.specs.Prelude.{Result}
 use Rattle.std.proofs.Common.{◌≡◌, ℕ, ◌+◌, ◌^◌, ◌∷◌, map, false, nat_lt, sym, ap, ◌∙◌, arith}
 use Rattle.std.proofs.lemmas.Bool.Decides.{nat_tests}
-use Rattle.zst_model.specs.declared.apply_fault.ApplyFault.{ApplyFault}
-use Rattle.zst_model.specs.declared.item.Change.TheVariants.{Put}
-use Rattle.zst_model.specs.declared.item.Item.TheVariants.{At}
-use Rattle.zst_model.specs.Apply.{◌>>=◌}
-use Rattle.zst_model.specs.Dated.{DatedState, apply_all_dated}
-use Rattle.zst_model.specs.Items.{spill_change}
+use Rattle.zst_model.specs.declared.refusals.apply_fault.ApplyFault.{ApplyFault}
+use Rattle.zst_model.specs.declared.states.item.Change.TheVariants.{Put}
+use Rattle.zst_model.specs.declared.states.item.Item.TheVariants.{At}
+use Rattle.zst_model.specs.states.Apply.{◌>>=◌}
+use Rattle.zst_model.specs.states.Dated.{DatedState, apply_all_dated}
+use Rattle.zst_model.specs.sends.Items.{spill_change}
 use Rattle.zst_pool.specs.Checks.{with_head_of}
 use Rattle.zst_pool.proofs.Changing.{planned_last, put_is, put_steps}
 use Rattle.zst_pool.proofs.changes.plan_object.Goals as goal

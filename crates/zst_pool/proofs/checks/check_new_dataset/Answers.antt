@@ -1,6 +1,6 @@
 use Rattle.std.proofs.Common.{◌∙◌, sym, ap, is_some, arith}
 use Rattle.zst_block.specs.Blocks.{Has}
-use Rattle.zst_model.specs.Refusal.{refusal_of}
+use Rattle.zst_model.specs.refusals.Refusal.{refusal_of}
 use Rattle.std.proofs.Common.{Err}
 use Rattle.zst_pool.proofs.Judging.{dataset_is_there, partial_is_there, dataset_is_taken, dataset_is_partial, datasets_are_many, dataset_is_new, no_dataset}
 use Rattle.zst_pool.proofs.checks.check_new_dataset.Goals as goal

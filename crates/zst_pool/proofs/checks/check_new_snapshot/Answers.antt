@@ -1,7 +1,7 @@
 use Rattle.std.proofs.Common.{◌∙◌, sym, ap, is_some, ◌+◌, List, length, Err, arith}
 use Rattle.zst_block.specs.Blocks.{Has}
-use Rattle.zst_model.specs.Step.{exists_already}
-use Rattle.zst_model.specs.declared.named.Name.TheVariants as names
+use Rattle.zst_model.specs.pools.Step.{exists_already}
+use Rattle.zst_model.specs.declared.refusals.named.Name.TheVariants as names
 use Rattle.zst_dir.specs.declared.rows.Snapshot.{Snapshot}
 use Rattle.zst_pool.proofs.Judging.{snapshot_is_there, snapshots_are_counted, snapshot_is_taken, snapshots_are_many, snapshot_is_new, no_snapshot}
 use Rattle.zst_pool.proofs.checks.check_new_snapshot.Goals as goal

@@ -3,7 +3,7 @@ use Rattle.std.specs.Str.{bytes_eq}
 use Rattle.std.proofs.lemmas.List.Quantifiers.{position-Some}
 use Rattle.std.proofs.lemmas.Slice.Eq.{bytes_eq-Decides}
 use Rattle.zst_block.specs.Blocks.{Has}
-use Rattle.zst_model.specs.Refusal.{refusal_of}
+use Rattle.zst_model.specs.refusals.Refusal.{refusal_of}
 use Rattle.zst_tree.specs.Sets.{no_objects}
 use Rattle.zst_pool.specs.Reads.{DatasetIs}
 use Rattle.zst_dir.specs.declared.rows.Dataset.{Dataset}

@@ -4,12 +4,12 @@ use Rattle.std.proofs.Common.{◌≡◌, ℕ, List, sym, ap, ◌∙◌, subst}
 use Rattle.zst_space.specs.FreeSectors.{FreeSectors}
 use Rattle.zst_block.specs.Blocks.{Has}
 use Rattle.zst_names.specs.Names.{dataset_of}
-use Rattle.zst_model.specs.declared.refusal.Refusal.{Refusal}
-use Rattle.zst_model.specs.Pool.{Pool, Dataset}
-use Rattle.zst_model.specs.Step.{Stepped, committed, on_dataset, with_snapshot}
+use Rattle.zst_model.specs.declared.refusals.refusal.Refusal.{Refusal}
+use Rattle.zst_model.specs.pools.Pool.{Pool, Dataset}
+use Rattle.zst_model.specs.pools.Step.{Stepped, committed, on_dataset, with_snapshot}
 use Rattle.zst_pool.specs.Checks.{FindsDataset, if_new_snapshot, if_guid_left, with_taken, JudgesSnapshot}
 use Rattle.zst_pool.specs.Reads.{RowsAre}
-use Rattle.zst_objset.specs.Meaning.{Blocks}
+use Rattle.zst_flat.specs.Meaning.{Blocks}
 use Rattle.zst_dir.specs.declared.rows.Dataset.{Dataset as Row}
 use Rattle.zst_pool.proofs.Judging.{err_is}
 use Rattle.zst_pool.proofs.checks.plan_snapshot.Goals as goal

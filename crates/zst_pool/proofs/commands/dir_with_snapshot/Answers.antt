@@ -2,7 +2,7 @@ use Rattle.std.proofs.Common.{◌≡◌, ℕ, ◌∷◌, ◌++◌, List, sym, ap
 use Rattle.std.specs.List.{filter, All}
 use Rattle.std.specs.Str.{bytes_eq}
 use Rattle.zst_names.specs.Names.{dataset_of}
-use Rattle.zst_model.specs.Pool.{inserted}
+use Rattle.zst_model.specs.pools.Pool.{inserted}
 use Rattle.zst_dir.specs.Rows.{Rows, snapshot_is_before}
 use Rattle.zst_dir.specs.declared.rows.Partial.{Partial}
 use Rattle.zst_pool.proofs.NextPools.{partials_are_apart, dataset_stays, no_snapshot_stays}

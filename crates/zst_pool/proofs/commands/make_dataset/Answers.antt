@@ -1,8 +1,8 @@
 use Rattle.std.proofs.Common.{ap, ◌∙◌, subst, length, arith}
 use Rattle.zst_block.specs.Blocks.{Has}
 use Rattle.zst_names.specs.Names.{IsDataset}
-use Rattle.zst_model.specs.Pool.{is_before, inserted}
-use Rattle.zst_model.specs.Step.{with_dataset}
+use Rattle.zst_model.specs.pools.Pool.{is_before, inserted}
+use Rattle.zst_model.specs.pools.Step.{with_dataset}
 use Rattle.zst_pool.specs.Checks.{next_of, with_new}
 use Rattle.zst_dir.specs.Rows.{Rows}
 use Rattle.zst_dir.specs.declared.rows.Dataset.{Dataset}

@@ -3,8 +3,8 @@ use Rattle.std.specs.List.{filter}
 use Rattle.std.specs.Str.{bytes_eq}
 use Rattle.zst_block.specs.Blocks.{Has}
 use Rattle.zst_names.specs.Names.{IsSnapshot, dataset_of}
-use Rattle.zst_model.specs.Pool.{inserted}
-use Rattle.zst_model.specs.Step.{with_snapshot}
+use Rattle.zst_model.specs.pools.Pool.{inserted}
+use Rattle.zst_model.specs.pools.Step.{with_snapshot}
 use Rattle.zst_pool.specs.Checks.{next_of, with_taken}
 use Rattle.zst_dir.specs.Rows.{HasSnapshot, IsDatasetRow, snapshot_is_before}
 use Rattle.zst_dir.specs.declared.rows.Snapshot.{Snapshot}

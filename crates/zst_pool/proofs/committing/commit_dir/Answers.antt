@@ -3,8 +3,8 @@ use Rattle.std.proofs.lemmas.Result.{err_from_is_err_and}
 use Rattle.std.specs.Prelude.{Err}
 use Rattle.zst_outside.specs.Images.{Leaves}
 use Rattle.zst_block.specs.Blocks.{Has}
-use Rattle.zst_block.specs.BlocksLaws.{IsTaken-head}
-use Rattle.zst_model.specs.Pool.{Pool}
+use Rattle.zst_block.proofs.BlocksLaws.{IsTaken-head}
+use Rattle.zst_model.specs.pools.Pool.{Pool}
 use Rattle.zst_pool.specs.Work.{NextIs, OldOrNext}
 use Rattle.zst_pool.specs.Faults.{of_uber, is_disk_fault}
 use Rattle.zst_pool.specs.declared.fault.PoolFault.{PoolFault}

@@ -2,8 +2,8 @@ use Rattle.std.specs.Prelude.{IsErrAnd, Result}
 use Rattle.std.proofs.Common.{◌≡◌, sym, ap, ◌∙◌, subst, ℕ, ◌+◌, ◌*◌, ◌/◌, length, arith}
 use Rattle.zst_outside.specs.Images.{DiskState}
 use Rattle.zst_block.specs.Blocks.{FillsFree, Has}
-use Rattle.zst_block.specs.BlocksLaws.{FillsFree-then}
-use Rattle.zst_model.specs.Pool.{Pool}
+use Rattle.zst_block.proofs.BlocksLaws.{FillsFree-then}
+use Rattle.zst_model.specs.pools.Pool.{Pool}
 use Rattle.zst_pool.specs.Checks.{next_of, with_head_of}
 use Rattle.zst_dir.specs.Rows.{Rows, with_head}
 use Rattle.zst_pool.specs.Faults.{WriteFault, is_disk_fault}

@@ -1,12 +1,12 @@
 use Rattle.std.specs.Prelude.{Result, Ok, Err}
 use Rattle.std.proofs.Common.{◌≡◌, ℕ, List}
 use Rattle.zst_block.specs.Blocks.{Has}
-use Rattle.zst_model.specs.declared.refusal.Refusal.{Refusal}
-use Rattle.zst_model.specs.Apply.{◌>>=◌}
-use Rattle.zst_model.specs.Pool.{Dataset, Pool}
-use Rattle.zst_model.specs.Step.{Stepped, committed, on_dataset, on_head}
-use Rattle.zst_objset.specs.Meaning.{Blocks, SetIs}
-use Rattle.zst_objset.specs.Rows.{Lists}
+use Rattle.zst_model.specs.declared.refusals.refusal.Refusal.{Refusal}
+use Rattle.zst_model.specs.states.Apply.{◌>>=◌}
+use Rattle.zst_model.specs.pools.Pool.{Dataset, Pool}
+use Rattle.zst_model.specs.pools.Step.{Stepped, committed, on_dataset, on_head}
+use Rattle.zst_flat.specs.Meaning.{Blocks, SetIs}
+use Rattle.zst_flat.specs.Rows.{Lists}
 use Rattle.zst_pool.specs.Checks.{FindsHead, with_head_of}
 use Rattle.zst_pool.specs.Work.{ReadAnswer}
 use Rattle.zst_pool.specs.declared.fault.PoolFault.{PoolFault}

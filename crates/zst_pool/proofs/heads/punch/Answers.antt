@@ -1,5 +1,5 @@
 use Rattle.std.proofs.Common.{◌∙◌}
-use Rattle.zst_model.specs.Step.{punched}
+use Rattle.zst_model.specs.pools.Step.{punched}
 use Rattle.zst_pool.proofs.NextPools.{punched_is_lawful}
 use Rattle.zst_pool.proofs.OnHeads.{Changes, Loads, change_fell, change_ready, changes_rows, head_committed, load_fell}
 use Rattle.zst_pool.proofs.heads.punch.Given.{Over}

@@ -1,5 +1,5 @@
 use Rattle.std.proofs.Common.{◌∙◌, arith}
-use Rattle.zst_model.specs.Step.{written}
+use Rattle.zst_model.specs.pools.Step.{written}
 use Rattle.zst_pool.proofs.NextPools.{written_is_lawful}
 use Rattle.zst_pool.proofs.OnHeads.{Changes, Loads, change_fell, change_ready, head_committed, load_fell}
 use Rattle.zst_pool.proofs.heads.write_block.Given.{Over}

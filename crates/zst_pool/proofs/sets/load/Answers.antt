@@ -1,5 +1,5 @@
 use Rattle.std.proofs.Common.{arith}
-use Rattle.zst_objset.specs.SpellingLaws.{lists_bytes-none}
+use Rattle.zst_flat.proofs.SpellingLaws.{lists_bytes-none}
 use Rattle.zst_pool.proofs.Runs.{loaded}
 use Rattle.zst_pool.proofs.sets.load.Goals as goal
 

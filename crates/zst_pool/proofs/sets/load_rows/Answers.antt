@@ -1,5 +1,5 @@
 use Rattle.std.proofs.Common.{◌≡◌, Some, sym, ◌∙◌, subst}
-use Rattle.zst_objset.specs.Spelling.{IsRun}
+use Rattle.zst_flat.specs.Spelling.{IsRun}
 use Rattle.zst_pool.proofs.sets.load_rows.Goals as goal
 
 pub returns-in-Some-clause-there : goal.returns-in-Some-clause-there

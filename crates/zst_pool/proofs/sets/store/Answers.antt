@@ -1,7 +1,7 @@
 use Rattle.std.specs.Prelude.{Ok}
 use Rattle.std.proofs.Common.{inr, refl, sym, subst, ◌/◌, ◌≤◌, length, ap, arith}
-use Rattle.zst_block.specs.BlocksLaws.{KeepsBlocks-fills}
-use Rattle.zst_objset.specs.Spelling.{IsRun}
+use Rattle.zst_block.proofs.BlocksLaws.{KeepsBlocks-fills}
+use Rattle.zst_flat.specs.Spelling.{IsRun}
 use Rattle.zst_pool.specs.Room.{set_sectors}
 use Rattle.zst_pool.proofs.Growing.{SetIs-grows}
 use Rattle.zst_pool.proofs.Runs.{IsRun-some}

@@ -1,4 +1,4 @@
-use Rattle.zst_record.specs.SizeLaws.{bounded}
+use Rattle.zst_record.proofs.SizeLaws.{bounded}
 use Rattle.zst_record.proofs.laws.payload_is_bounded.Goals as goal
 
 pub returns : goal.returns

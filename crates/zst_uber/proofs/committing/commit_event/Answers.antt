@@ -1,5 +1,5 @@
 use Rattle.std.proofs.Common.{arith}
-use Rattle.zst_space.specs.FreeSectorsLaws.{Rise-end}
+use Rattle.zst_space.proofs.FreeSectorsLaws.{Rise-end}
 use Rattle.zst_uber.proofs.Stages.{keeps_blocks}
 use Rattle.zst_uber.proofs.committing.commit_event.Goals as goal
 

@@ -1,4 +1,4 @@
-use Rattle.zst_block.specs.PtrLaws.{ptr_at-range}
+use Rattle.zst_block.proofs.PtrLaws.{ptr_at-range}
 use Rattle.zst_block.proofs.ptr.Ptr.get.Goals as goal
 
 pub returns-clause-back : goal.returns-clause-back

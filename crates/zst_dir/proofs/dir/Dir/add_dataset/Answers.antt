@@ -1,5 +1,5 @@
 use Rattle.std.proofs.Common.{◌≡◌, List, length, IfSome, sym, ap, ◌∙◌, subst, arith}
-use Rattle.zst_model.specs.Pool.{is_before, inserted}
+use Rattle.zst_model.specs.pools.Pool.{is_before, inserted}
 use Rattle.zst_dir.specs.Rows.{Rows, HasDataset, HasSnapshot, IsLawful}
 use Rattle.zst_dir.specs.declared.rows.Dataset.{Dataset}
 use Rattle.zst_dir.proofs.Places.{position_or_len-le}

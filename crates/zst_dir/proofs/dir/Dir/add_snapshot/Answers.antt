@@ -1,7 +1,7 @@
 use Rattle.std.proofs.Common.{◌≡◌, ◌≢◌, List, ◌∷◌, ◌++◌, length, sym, ap, ◌∙◌, subst, arith}
 use Rattle.std.specs.List.{All}
 use Rattle.zst_names.specs.Names.{dataset_of}
-use Rattle.zst_model.specs.Pool.{inserted}
+use Rattle.zst_model.specs.pools.Pool.{inserted}
 use Rattle.zst_dir.specs.Rows.{Rows, HasDataset, HasSnapshot, IsLawful, snapshot_is_before}
 use Rattle.zst_dir.specs.declared.rows.Snapshot.{Snapshot}
 use Rattle.zst_dir.proofs.Places.{position_or_len-le}

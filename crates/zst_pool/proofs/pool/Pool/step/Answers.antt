@@ -1,6 +1,6 @@
 use Rattle.std.proofs.Common.{◌≡◌, ℕ, ◌+◌, [], ◌∷◌, sym, ap, ◌∙◌, subst, arith}
-use Rattle.zst_model.specs.Lines.{ok_line}
-use Rattle.zst_model.specs.Step.{stepped}
+use Rattle.zst_model.specs.pools.Lines.{ok_line}
+use Rattle.zst_model.specs.pools.Step.{stepped}
 use Rattle.zst_pool.specs.Stepping.{StepAnswer}
 use Rattle.zst_pool.specs.declared.fault.PoolFault.TheVariants.{OutOfMemory, Full}
 use Rattle.zst_pool.specs.Reads.{free_by}

@@ -1,0 +1,10 @@
+pub mod OneObject
+pub mod Examples
+pub mod StepExamples
+pub mod RedactExamples
+pub mod CloneExamples
+pub mod Meant
+pub mod LinesTold
+pub mod SentObjects
+pub mod SoundClones
+pub mod Commanded

@@ -1,0 +1,14 @@
+pub mod Standing
+pub mod Rows
+pub mod SourceBases
+pub mod Accepted
+pub mod Counted
+pub mod Descent
+pub mod OtherDatasets
+pub mod SoundHeads
+pub mod SoundDatasets
+pub mod SoundSnapshots
+pub mod SoundSteps
+pub mod LawfulHeads
+pub mod LawfulPools
+pub mod Refused

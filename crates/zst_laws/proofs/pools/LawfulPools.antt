@@ -1,0 +1,244 @@
+-- What commands make of a lawful pool is lawful.
+use Rattle.std.proofs.Common.{inl, inr, subst, ◌≡◌, ◌≢◌, ℕ, ◌+◌, ◌^◌, ◌<◌, ◌≤◌, true, false, List, ◌∷◌, ◌++◌, Option, Some, None, IfSome, is_some, Result, Ok, refl, sym, ap, ◌∙◌, arith}
+use Rattle.std.specs.List.{All, Contains}
+use Rattle.std.proofs.lemmas.List.Elements.{All-weaker, All-contains}
+use Rattle.zst_names.specs.Names.{IsDataset, IsSnapshot, IsComponent, dataset_of}
+use Rattle.zst_names.proofs.Marked.{at_is_mark, join_is_name}
+use Rattle.zst_model.specs.declared.pools.command.Command.TheVariants as commands
+use Rattle.zst_model.specs.declared.refusals.refusal.Refusal.{Refusal}
+use Rattle.zst_model.specs.states.State.{IsState, no_objects}
+use Rattle.zst_model.specs.states.Dated.{DatedState}
+use Rattle.zst_model.specs.fields.Guids.{IsGuidSet}
+use Rattle.zst_model.specs.pools.Pool.{Pool, Dataset, Snapshot, IsPool, IsKind, IsGuid, HasDataset, HasSnapshot, dataset_named, snapshot_named, partial_of, dataset_of_snapshot, is_before, snapshot_is_before, inserted}
+use Rattle.zst_model.specs.pools.Step.{Stepped, committed, last_number, last_guid, next_guid, new_dataset, with_head_at, with_head, snapshot_of, with_dataset, on_head, with_snapshot, stepped}
+use Rattle.zst_model.proofs.InsertedLaws.{All-from_contains, contains-map, contains-inserted, inserted_has_rest, All-inserted, AllPairs-map}
+use Rattle.zst_model.proofs.OrderLaws.{names_differ-inserted, names_rise-inserted, rows_rise-inserted}
+use Rattle.zst_laws.specs.Stepping.{StepsKeepPools}
+use Rattle.zst_laws.proofs.pools.Rows.{All-with_head, committed_ok, on_head_ok, named_found, none_named, name_under_head}
+use Rattle.zst_laws.proofs.pools.Accepted.{with_dataset_ok, with_snapshot_ok, read_keeps, list_keeps, list_objects_keeps}
+use Rattle.zst_laws.proofs.pools.LawfulHeads.{object_is_lawful, write_is_lawful, punch_is_lawful, free_is_lawful}
+
+-- a lawful pool with another number
+numbered_pool : (pool : Pool) (number : ℕ) → IsPool pool → number ≤ 2 ^ 63 → IsPool (record pool { number = number })
+numbered_pool pool number p below = record {
+  id = p.id;
+  number = below;
+  guids = p.guids;
+  named = record {
+    dataset_names = p.named.dataset_names;
+    datasets = p.named.datasets;
+    snapshot_names = p.named.snapshot_names;
+    snapshots = p.named.snapshots;
+    snapshots_differ = p.named.snapshots_differ;
+    bookmark_names = p.named.bookmark_names;
+    bookmarks = p.named.bookmarks;
+    targets = p.named.targets;
+    partials = p.named.partials;
+  };
+  linked = record { snapshots = p.linked.snapshots; origins = p.linked.origins; bases = p.linked.bases; components = p.linked.components };
+  datasets = p.datasets;
+  snapshots = p.snapshots;
+  bookmarks = p.bookmarks;
+  partials = p.partials;
+}
+
+committed_pool : (pool : Pool) (after : Stepped) → IsPool pool → committed pool ≡ Ok after → IsPool after.pool
+unfolding last_number
+committed_pool pool after p h =
+    let made = committed_ok pool after h in
+    subst (λ s. IsPool s.pool) made.1 (numbered_pool pool (pool.number + 1) p made.0)
+
+-- a state that nothing touched is lawful
+no_objects_are_lawful : IsState no_objects
+no_objects_are_lawful = record { zero = refl; bounded = λ k l. refl; objects = λ k. tt }
+
+-- a lawful pool with a new dataset
+dataset_added : (kind : ℕ) (name : List ℕ) (pool : Pool) → IsPool pool → IsDataset name → IsKind kind → is_some (dataset_named name pool) ≡ false
+    → IsPool (record pool { datasets = inserted (λ a b. is_before a.name b.name) (new_dataset kind name) pool.datasets })
+dataset_added kind name pool p is_name is_kind absent =
+    let row = new_dataset kind name in
+    let by_name = λ (a b : Dataset). is_before a.name b.name in
+    let differs : (x : Dataset) → Contains pool.datasets x → x.name ≢ name = none_named (λ d. d.name) name pool.datasets absent in
+    let added = record pool { datasets = inserted by_name row pool.datasets } in
+    let more : (n : List ℕ) → HasDataset pool n → HasDataset added n = λ n h. (h.0, inserted_has_rest by_name row pool.datasets h.0 h.1, h.2) in
+    record {
+      id = p.id;
+      number = p.number;
+      guids = p.guids;
+      named = record {
+        dataset_names = All-inserted (λ d. IsDataset d.name) by_name row pool.datasets is_name p.named.dataset_names;
+        datasets = names_rise-inserted (λ (d : Dataset). d.name) row pool.datasets differs p.named.datasets;
+        snapshot_names = p.named.snapshot_names;
+        snapshots = p.named.snapshots;
+        snapshots_differ = p.named.snapshots_differ;
+        bookmark_names = p.named.bookmark_names;
+        bookmarks = p.named.bookmarks;
+        targets = p.named.targets;
+        partials = p.named.partials;
+      };
+      linked = record {
+        snapshots =
+            All-weaker (λ s. HasDataset pool (dataset_of_snapshot s)) (λ s. HasDataset added (dataset_of_snapshot s)) (λ s. more (dataset_of_snapshot s))
+            pool.snapshots p.linked.snapshots;
+        origins = All-inserted (λ d. IfSome d.origin (HasSnapshot pool)) by_name row pool.datasets tt p.linked.origins;
+        bases = p.linked.bases;
+        components = p.linked.components;
+      };
+      datasets =
+          All-inserted (λ d. IsKind d.kind × IsGuidSet d.redact × IsState d.head.state) by_name row pool.datasets
+          (is_kind, (omega arith, refl), no_objects_are_lawful) p.datasets;
+      snapshots = p.snapshots;
+      bookmarks = p.bookmarks;
+      partials = p.partials;
+    }
+
+-- the next guid is one that a snapshot may have
+next_is_guid : (pool : Pool) → pool.id < 2 ^ 31 → pool.guids + 1 < 2 ^ 32 → IsGuid (next_guid pool)
+next_is_guid pool id guids = (omega arith, omega arith)
+
+-- what holds of each dataset whatever its head holds under another head
+under_head : (P : Dataset → Type 0) (name : List ℕ) (head : DatedState) (datasets : List Dataset)
+    → ((d : Dataset) → P d → P (record d { head = head })) → All P datasets → All P (with_head name head datasets)
+under_head P name head datasets keeps h = All-with_head P name head datasets (λ d there e. keeps d (All-contains P datasets d h there)) h
+
+-- a lawful pool with another head of a dataset
+head_changed : (name : List ℕ) (head : DatedState) (pool : Pool) → IsPool pool → IsState head.state
+    → IsPool (record pool { datasets = with_head name head pool.datasets })
+head_changed name head pool p lawful =
+    let change = with_head_at name head in
+    let changed = record pool { datasets = with_head name head pool.datasets } in
+    let more : (n : List ℕ) → HasDataset pool n → HasDataset changed n =
+    λ n h. (change h.0, contains-map change pool.datasets h.0 h.1, name_under_head name head h.0 ∙ h.2) in
+    record {
+      id = p.id;
+      number = p.number;
+      guids = p.guids;
+      named = record {
+        dataset_names = under_head (λ d. IsDataset d.name) name head pool.datasets (λ d h. h) p.named.dataset_names;
+        datasets =
+            AllPairs-map (λ a b. is_before a.name b.name ≡ true) (λ a b. is_before a.name b.name ≡ true) change
+            (λ a b h.
+            ap (λ n. is_before n (change b).name) (name_under_head name head a)
+            ∙ ap (is_before a.name) (name_under_head name head b) ∙ h)
+            pool.datasets p.named.datasets;
+        snapshot_names = p.named.snapshot_names;
+        snapshots = p.named.snapshots;
+        snapshots_differ = p.named.snapshots_differ;
+        bookmark_names = p.named.bookmark_names;
+        bookmarks = p.named.bookmarks;
+        targets = p.named.targets;
+        partials = p.named.partials;
+      };
+      linked = record {
+        snapshots =
+            All-weaker (λ s. HasDataset pool (dataset_of_snapshot s)) (λ s. HasDataset changed (dataset_of_snapshot s)) (λ s. more (dataset_of_snapshot s))
+            pool.snapshots p.linked.snapshots;
+        origins = under_head (λ d. IfSome d.origin (HasSnapshot pool)) name head pool.datasets (λ d h. h) p.linked.origins;
+        bases = p.linked.bases;
+        components = p.linked.components;
+      };
+      datasets =
+          under_head (λ d. IsKind d.kind × IsGuidSet d.redact × IsState d.head.state) name head pool.datasets
+          (λ d h. (h.0, h.1, lawful)) p.datasets;
+      snapshots = p.snapshots;
+      bookmarks = p.bookmarks;
+      partials = p.partials;
+    }
+
+-- what holds of a value that is there holds more weakly
+IfSome_weaker : {A : Type 0} (o : Option A) (P Q : A → Type 0) → ((x : A) → P x → Q x) → IfSome o P → IfSome o Q
+IfSome_weaker None P Q f h = tt
+IfSome_weaker (Some x) P Q f h = f x h
+
+-- a lawful pool with a new snapshot of a dataset
+snapshot_added : (now : ℕ) (name : List ℕ) (pool : Pool) (dataset : Dataset) → IsPool pool → IsSnapshot name
+    → dataset_named (dataset_of 64 name) pool ≡ Some dataset → is_some (partial_of (dataset_of 64 name) pool) ≡ false
+    → is_some (snapshot_named name pool) ≡ false → pool.guids + 1 ≤ last_guid
+    → IsPool (record pool { guids = pool.guids + 1; snapshots = inserted snapshot_is_before (snapshot_of now name pool dataset) pool.snapshots })
+unfolding last_guid
+snapshot_added now name pool dataset p is_name there free absent guids =
+    let row = snapshot_of now name pool dataset in
+    let rows = pool.snapshots in
+    let found = named_found (λ d. d.name) (dataset_of 64 name) pool.datasets dataset there in
+    let of_dataset = All-contains (λ d. IsKind d.kind × IsGuidSet d.redact × IsState d.head.state) pool.datasets dataset p.datasets found.0 in
+    let differs : (x : Snapshot) → Contains rows x → x.name ≢ name = none_named (λ s. s.name) name rows absent in
+    let added = record pool { guids = pool.guids + 1; snapshots = inserted snapshot_is_before row rows } in
+    let more : (n : List ℕ) → HasSnapshot pool n → HasSnapshot added n =
+    λ n h. (h.0, inserted_has_rest snapshot_is_before row rows h.0 h.1, h.2) in
+    record {
+      id = p.id;
+      number = p.number;
+      guids = omega (arith, guids);
+      named = record {
+        dataset_names = p.named.dataset_names;
+        datasets = p.named.datasets;
+        snapshot_names = All-inserted (λ s. IsSnapshot s.name) snapshot_is_before row rows is_name p.named.snapshot_names;
+        snapshots = rows_rise-inserted dataset_of_snapshot (λ s. s.number) row rows p.named.snapshots;
+        snapshots_differ = names_differ-inserted (λ (s : Snapshot). s.name) snapshot_is_before row rows differs p.named.snapshots_differ;
+        bookmark_names = p.named.bookmark_names;
+        bookmarks = p.named.bookmarks;
+        targets = p.named.targets;
+        partials = p.named.partials;
+      };
+      linked = record {
+        snapshots =
+            All-inserted (λ s. HasDataset pool (dataset_of_snapshot s)) snapshot_is_before row rows
+            (dataset, found.0, found.1) p.linked.snapshots;
+        origins =
+            All-weaker (λ d. IfSome d.origin (HasSnapshot pool)) (λ d. IfSome d.origin (HasSnapshot added)) (λ d. IfSome_weaker d.origin (HasSnapshot pool) (HasSnapshot added) more) pool.datasets p.linked.origins;
+        bases =
+            All-weaker (λ q. IfSome q.base (HasSnapshot pool)) (λ q. IfSome q.base (HasSnapshot added)) (λ q. IfSome_weaker q.base (HasSnapshot pool) (HasSnapshot added) more) pool.partials p.linked.bases;
+        components = All-from_contains (λ q. HasSnapshot added (q.target ++ 64 ∷ q.component) → ⊥) pool.partials (λ q k has. elim (contains-inserted snapshot_is_before row rows has.0 has.1) [
+          | inl e ↦
+              let target = (All-contains (λ r. IsDataset r.target × IsComponent r.component) pool.partials q p.named.targets k).0 in
+              let same : dataset_of 64 name ≡ q.target =
+              ap (λ s. dataset_of 64 s.name) e ∙ ap (dataset_of 64) has.2 ∙ (join_is_name 64 q.target q.component at_is_mark target).dataset_back in
+              none_named (λ r. r.target) (dataset_of 64 name) pool.partials free q k (sym same)
+          | inr old ↦ All-contains (λ r. HasSnapshot pool (r.target ++ 64 ∷ r.component) → ⊥) pool.partials q p.linked.components k (has.0, old, has.2)
+        ]);
+      };
+      datasets = p.datasets;
+      snapshots =
+          All-inserted (λ s. IsGuid s.guid × IsGuidSet s.redact × IsState s.objects.state) snapshot_is_before row rows
+          (next_is_guid pool p.id.1 (omega (arith, guids)), of_dataset.1, of_dataset.2) p.snapshots;
+      bookmarks = p.bookmarks;
+      partials = p.partials;
+    }
+
+-- what each command makes
+dataset_steps : (kind : ℕ) (name : List ℕ) (pool : Pool) (after : Stepped) → IsPool pool → IsDataset name → IsKind kind
+    → with_dataset kind name pool ≡ Ok after → IsPool after.pool
+dataset_steps kind name pool after p is_name is_kind h =
+    let new = with_dataset_ok kind name pool after h in committed_pool _ after (dataset_added kind name pool p is_name is_kind new.absent) new.made
+
+head_steps : (name : List ℕ) (pool : Pool) (change : DatedState → Result DatedState Refusal) (after : Stepped) → IsPool pool
+    → ((old new : DatedState) → IsState old.state → change old ≡ Ok new → IsState new.state)
+    → on_head name pool change ≡ Ok after → IsPool after.pool
+head_steps name pool change after p lawful h =
+    let made = on_head_ok name pool change after h in
+    let there = (named_found (λ d. d.name) name pool.datasets made.0 made.2).0 in
+    let old = All-contains (λ d. IsKind d.kind × IsGuidSet d.redact × IsState d.head.state) pool.datasets made.0 p.datasets there in
+    committed_pool _ after (head_changed name made.1 pool p (lawful made.0.head made.1 old.2 made.4)) made.5
+
+snapshot_steps : (now : ℕ) (name : List ℕ) (pool : Pool) (after : Stepped) → IsPool pool → IsSnapshot name
+    → with_snapshot now name pool ≡ Ok after → IsPool after.pool
+snapshot_steps now name pool after p is_name h =
+    let new = with_snapshot_ok now name pool after h in
+    committed_pool _ after (snapshot_added now name pool new.dataset p is_name new.there new.free new.absent new.guids) new.made
+
+pub steps_keep_lawful : StepsKeepPools
+unfolding stepped
+steps_keep_lawful now (commands.Fs name) pool after c p h = dataset_steps 2 name pool after p c (inl refl) h
+steps_keep_lawful now (commands.Volume name) pool after c p h = dataset_steps 3 name pool after p c (inr refl) h
+steps_keep_lawful now (commands.Object name k head bonus spill) pool after c p h =
+    head_steps name pool _ after p (λ old new s made. object_is_lawful pool k head bonus spill old new s c.1 c.2 c.3 c.4 made) h
+steps_keep_lawful now (commands.Write name k i bytes) pool after c p h =
+    head_steps name pool _ after p (λ old new s made. write_is_lawful pool k i bytes old new s c.1 made) h
+steps_keep_lawful now (commands.Punch name k first count) pool after c p h =
+    head_steps name pool _ after p (λ old new s made. punch_is_lawful pool k first count old new s c.1 made) h
+steps_keep_lawful now (commands.Free name first count) pool after c p h =
+    head_steps name pool _ after p (λ old new s made. free_is_lawful pool first count old new s made) h
+steps_keep_lawful now (commands.Snapshot name) pool after c p h = snapshot_steps now name pool after p c h
+steps_keep_lawful now (commands.Read name k i) pool after c p h = subst IsPool (sym (read_keeps now name k i pool after h)) p
+steps_keep_lawful now commands.List pool after c p h = subst IsPool (sym (list_keeps now pool after h)) p
+steps_keep_lawful now (commands.ListObjects name) pool after c p h = subst IsPool (sym (list_objects_keeps now name pool after h)) p

@@ -1,0 +1,15 @@
+pub mod Runs
+pub mod Fold
+pub mod Joins
+pub mod Blocks
+pub mod Numbers
+pub mod Ends
+pub mod Exact
+pub mod Resume
+pub mod CutBlocks
+pub mod Cut
+pub mod Writer
+pub mod Walk
+pub mod More
+pub mod Ranges
+pub mod Receives

@@ -1,0 +1,21 @@
+-- Which pairs a redaction bookmark lists (zfs-redact(8)): the blocks that no redaction snapshot has kept.
+use Rattle.std.specs.Prelude.{ℕ, Bool, true, false, List, Option, Some, None, nat_lt, ◌&&◌}
+use Rattle.std.specs.List.{list_all}
+use Rattle.zst_model.specs.states.State.{Block, Hole, Redacted, Data, Object, is_user_data}
+use Rattle.zst_model.specs.states.Dated.{DatedState}
+use Rattle.zst_model.specs.sends.Included.{Pairs}
+
+-- whether a block has data
+abbrev pub is_data : Block → Bool
+is_data Hole = false
+is_data Redacted = false
+is_data (Data bytes) = true
+
+-- whether an index of what stands at a number is data of a file or a volume
+abbrev pub is_user_block : Option Object → ℕ → Bool
+is_user_block None i = false
+is_user_block (Some object) i = is_user_data object.attr && is_data (object.blocks i)
+
+-- the pairs of user data of a snapshot with this number that every redaction snapshot dates after it
+abbrev pub red_set : DatedState → ℕ → List DatedState → Pairs
+red_set snap number redactions k i = is_user_block (snap.state k) i && list_all (λ redaction. nat_lt number (redaction.index_date k i)) redactions

@@ -1,0 +1,4 @@
+pub mod bytes;
+pub mod guids;
+pub mod list;
+pub mod name;

@@ -1,0 +1,99 @@
+ghost use Rattle.std.specs.Prelude.{◌≡◌, ◌∷◌, ◌++◌, ◌↔◌, ℕ, List, [], true, IsTrue};
+ghost use Rattle.zst_model.specs.fields.Guids.{is_rising, IsGuidSet};
+
+use arrayvec::ArrayVec;
+use std::marker::Model;
+
+/// At most sixteen guids, rising.
+#[derive(Drop)]
+pub struct GuidSet {
+    guids: ArrayVec<u64, 16>,
+}
+
+impl Model for GuidSet {
+    ghost Value = { List ℕ };
+
+    ghost view = { λ s. s.guids.items };
+
+    ghost invariant = { λ s. IsGuidSet s.guids.items };
+}
+
+impl GuidSet {
+    /// The set of no guids.
+    pub fn empty() -> GuidSet
+        ensures { result ≡ [] }
+    {
+        GuidSet {
+            guids: ArrayVec::new(),
+        }
+    }
+
+    /// The guids, rising.
+    pub fn as_slice(&self) -> &[u64]
+        ensures same { result.now ≡ self.now }
+        ensures set { IsGuidSet self.now }
+    {
+        self.guids.as_slice()
+    }
+
+    /// The same set, which takes no memory.
+    pub fn duplicate(&self) -> GuidSet
+        ensures { result ≡ self.now }
+    {
+        let mut guids = ArrayVec::new();
+        let _ = guids.try_extend_from_slice(self.guids.as_slice());
+        GuidSet { guids }
+    }
+
+    /// Adds a guid above all others, where one more has room. Tells whether it did.
+    pub fn insert_last(&mut self, guid: u64) -> bool
+        ensures added { IsTrue result → self.new ≡ self.old ++ guid ∷ [] }
+        ensures exact { IsTrue result ↔ IsGuidSet (self.old ++ guid ∷ []) }
+        ensures set { IsGuidSet self.new }
+    {
+        if self.guids.is_full() || !rises_to(self.guids.as_slice(), guid) {
+            return false;
+        }
+        self.guids.push(guid);
+        true
+    }
+}
+
+// Whether a guid is above guids that rise.
+fn rises_to(guids: &[u64], guid: u64) -> bool
+    requires { is_rising guids.now ≡ true }
+    ensures { result ≡ is_rising (guids.now ++ guid ∷ []) }
+{
+    match guids.last() {
+        Some(last) => *last < guid,
+        None => true,
+    }
+}
+
+#[cfg(test)]
+mod tests {
+    use super::*;
+
+    #[test]
+    fn an_empty_set_has_no_guids(rt: HostRuntime) {
+        assert!(rt; GuidSet::empty().as_slice().is_empty());
+    }
+
+    #[test]
+    fn a_set_takes_guids_that_rise(rt: HostRuntime) {
+        let mut set = GuidSet::empty();
+        assert!(rt; set.insert_last(3) && set.insert_last(u64::MAX));
+        assert!(rt; !set.insert_last(u64::MAX) && !set.insert_last(4));
+        assert!(rt; set.as_slice() == [3, u64::MAX].as_slice());
+    }
+
+    #[test]
+    fn a_set_takes_no_more_than_sixteen(rt: HostRuntime) {
+        let mut set = GuidSet::empty();
+        for guid in 1..=16 {
+            assert!(rt; set.insert_last(guid));
+        }
+        assert!(rt; !set.insert_last(17));
+        assert_eq!(rt; set.as_slice().len(), 16);
+    }
+}

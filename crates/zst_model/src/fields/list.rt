@@ -1,0 +1,272 @@
+ghost use Rattle.std.specs.Prelude.{◌≡◌, ◌↔◌, [], true, not, find, IsSome, IsNone, IfSome};
+ghost use Rattle.zst_model.specs.fields.Lists.{Runs, IsRunList, IsLeastFrom, HasNoneFrom, ends_by, has_pair, is_run, is_run_list, stands_before};
+
+use crate::states::cell::Run;
+use std::alloc::Global;
+use std::marker::Model;
+
+/// Object numbers stand below this (`DN_MAX_OBJECT` of dnode.h).
+const NUMBER_BOUND: u64 = 1 << 48;
+
+/// A run ends at or below this index, in blocks.
+const INDEX_BOUND: u64 = 1 << 43;
+
+/// The redacted blocks of a redaction bookmark (zfs-redact(8)): pairs of an object's number and an index, in blocks.
+/// Its runs rise, and no two of them touch.
+#[derive(Drop)]
+pub struct List {
+    runs: Vec<Run>,
+}
+
+impl Model for List {
+    ghost Value = { Runs };
+
+    ghost view = { λ l. l.runs.items };
+
+    ghost invariant = { λ l. IsRunList l.runs.items };
+}
+
+impl List {
+    /// The list of these runs: none where one is empty or out of bounds, or where they fall, overlap or touch.
+    pub fn new(runs: Vec<Run>) -> Option<List>
+        ensures lawful { IsSome result ↔ IsRunList runs.items }
+        ensures same { IfSome result (λ list. list ≡ runs.items) }
+    {
+        if is_run_list(runs.as_slice()) {
+            Some(List { runs })
+        } else {
+            None
+        }
+    }
+
+    /// The list of no pairs.
+    pub fn empty(alloc: Global) -> List
+        ensures { result ≡ [] }
+    {
+        List {
+            runs: Vec::new(alloc),
+        }
+    }
+
+    /// Its runs, rising.
+    pub fn runs(&self) -> &[Run]
+        ensures same { result.now ≡ self.now }
+        ensures lawful { IsRunList self.now }
+    {
+        self.runs.as_slice()
+    }
+
+    /// Its runs, rising.
+    pub fn into_vec(self) -> Vec<Run>
+        ensures same { result.items ≡ self }
+        ensures lawful { IsRunList self }
+    {
+        self.runs
+    }
+
+    /// Whether this pair is in the list.
+    pub fn has(&self, object: u64, block: u64) -> bool
+        ensures { result ≡ has_pair self.now object block }
+    {
+        match self.first_behind(object, block) {
+            Some(run) => run.object == object && run.first <= block,
+            None => false,
+        }
+    }
+
+    /// The least pair at or after this one, by object, then by index.
+    pub fn next_from(&self, object: u64, block: u64) -> Option<(u64, u64)>
+        ensures least { IfSome result (λ pair.
+            IsLeastFrom (has_pair self.now) object block pair.0 pair.1) }
+        ensures none { IsNone result ↔ HasNoneFrom (has_pair self.now) object block }
+    {
+        let run = self.first_behind(object, block)?;
+        let index = if run.object == object {
+            run.first.max(block)
+        } else {
+            run.first
+        };
+        Some((run.object, index))
+    }
+
+    /// The first run that doesn't end by this pair: of all runs it alone may have the pair.
+    fn first_behind(&self, object: u64, block: u64) -> Option<Run>
+        ensures first { result ≡ find (λ run. not (ends_by run object block)) self.now }
+        ensures lawful { IsRunList self.now }
+    {
+        let runs = self.runs.as_slice();
+        let place = runs.partition_point(|run| ends_by(run, object, block));
+        runs.get(place).copied()
+    }
+}
+
+/// Whether each pair of a run stands before this one.
+fn ends_by(run: &Run, object: u64, block: u64) -> bool
+    ensures { result ≡ ends_by run.now object block }
+{
+    // A difference, since the sum of the run's numbers may not fit.
+    run.object < object
+        || run.object == object && run.first <= block && run.count <= block - run.first
+}
+
+/// Whether a list may have this run.
+#[tactic(auto, using(std::proofs::lemmas::Bool::Decides::nat_tests), unfolding(crate::specs::states::State::index_bound, crate::specs::states::State::number_bound))]
+fn is_run(run: &Run) -> bool
+    ensures { result ≡ is_run run.now }
+{
+    0 < run.object
+        && run.object < NUMBER_BOUND
+        && 0 < run.count
+        && run.count <= INDEX_BOUND
+        && run.first <= INDEX_BOUND - run.count
+}
+
+/// Whether a run stands before another without touching it.
+#[tactic(auto, using(std::proofs::lemmas::Bool::Decides::nat_tests), unfolding(crate::specs::states::State::index_bound))]
+fn stands_before(run: &Run, next: &Run) -> bool
+    requires { is_run run.now ≡ true }
+    ensures { result ≡ stands_before run.now next.now }
+{
+    run.object < next.object || run.object == next.object && run.first + run.count < next.first
+}
+
+/// Whether these are the runs of a list.
+fn is_run_list(runs: &[Run]) -> bool
+    ensures { result ≡ is_run_list runs.now }
+{
+    let Some((first, rest)) = runs.split_first() else {
+        return true;
+    };
+    let mut last = first;
+    for run in rest {
+        if !is_run(last) || !stands_before(last, run) {
+            return false;
+        }
+        last = run;
+    }
+    is_run(last)
+}
+
+#[cfg(test)]
+mod tests {
+    use super::*;
+    use std::test::Fail;
+
+    fn run(object: u64, first: u64, count: u64) -> Run {
+        Run {
+            object,
+            first,
+            count,
+        }
+    }
+
+    #[test]
+    fn the_empty_list_has_no_pair(rt: HostRuntime) {
+        let list = List::empty(rt.alloc());
+        assert!(rt; list.runs().is_empty());
+        assert!(rt; !list.has(1, 0));
+        assert_eq!(rt; list.next_from(0, 0), None);
+    }
+
+    #[test]
+    fn a_list_gives_its_runs_back(rt: HostRuntime) -> Result<(), Fail> {
+        let runs = [run(1, 0, 2), run(1, 3, 1), run(2, 3, 1)];
+        let list = List::new(runs.to_vec(rt.alloc())?).ok_or("refused")?;
+        assert!(rt; list.runs() == runs.as_slice());
+        assert!(rt; list.into_vec().as_slice() == runs.as_slice());
+        Ok(())
+    }
+
+    #[test]
+    fn a_list_has_the_indices_of_its_runs_alone(rt: HostRuntime) -> Result<(), Fail> {
+        let runs = [run(1, 0, 1), run(1, 4, 3), run(9, 2, 2)];
+        let list = List::new(runs.to_vec(rt.alloc())?).ok_or("refused")?;
+        for (object, block) in [(1, 0), (1, 4), (1, 5), (1, 6), (9, 2), (9, 3)] {
+            assert!(rt; list.has(object, block), "({object}, {block})");
+        }
+        for (object, block) in [
+            (0, 0),
+            (1, 1),
+            (1, 3),
+            (1, 7),
+            (2, 0),
+            (2, 5),
+            (9, 1),
+            (9, 4),
+            (10, 2),
+            (u64::MAX, u64::MAX),
+        ] {
+            assert!(rt; !list.has(object, block), "({object}, {block})");
+        }
+        Ok(())
+    }
+
+    #[test]
+    fn the_next_pair_is_the_least_from_there(rt: HostRuntime) -> Result<(), Fail> {
+        let runs = [run(1, 0, 1), run(1, 4, 3), run(9, 2, 2)];
+        let list = List::new(runs.to_vec(rt.alloc())?).ok_or("refused")?;
+        for (object, block, want) in [
+            (0, 0, Some((1, 0))),
+            (0, u64::MAX, Some((1, 0))),
+            (1, 0, Some((1, 0))),
+            (1, 1, Some((1, 4))),
+            (1, 4, Some((1, 4))),
+            (1, 6, Some((1, 6))),
+            (1, 7, Some((9, 2))),
+            (2, 5, Some((9, 2))),
+            (9, 1, Some((9, 2))),
+            (9, 3, Some((9, 3))),
+            (9, 4, None),
+            (10, 0, None),
+        ] {
+            assert_eq!(rt; list.next_from(object, block), want, "({object}, {block})");
+        }
+        Ok(())
+    }
+
+    #[test]
+    fn runs_at_the_bounds_are_taken(rt: HostRuntime) -> Result<(), Fail> {
+        for last in [
+            run(1, 0, 8_796_093_022_208),
+            run(1, 8_796_093_022_207, 1),
+            run(281_474_976_710_655, 0, 1),
+        ] {
+            let list = List::new(vec![in rt.alloc(); last]?).ok_or("refused")?;
+            assert!(rt; list.has(last.object, last.first), "{last:?}");
+        }
+        Ok(())
+    }
+
+    #[test]
+    fn a_run_out_of_bounds_is_refused(rt: HostRuntime) -> Result<(), Fail> {
+        for last in [
+            run(2, 0, 0),
+            run(0, 0, 1),
+            run(281_474_976_710_656, 0, 1),
+            run(2, 8_796_093_022_207, 2),
+            run(2, 8_796_093_022_208, 1),
+            run(2, u64::MAX, 1),
+            run(2, 1, u64::MAX),
+        ] {
+            assert!(rt; List::new(vec![in rt.alloc(); last]?).is_none(), "{last:?}");
+            let runs = vec![in rt.alloc(); run(1, 0, 1), last]?;
+            assert!(rt; List::new(runs).is_none(), "{last:?} behind another");
+        }
+        Ok(())
+    }
+
+    #[test]
+    fn runs_that_fall_or_touch_are_refused(rt: HostRuntime) -> Result<(), Fail> {
+        for (first, next) in [
+            (run(1, 0, 2), run(1, 2, 1)),
+            (run(1, 0, 2), run(1, 1, 2)),
+            (run(1, 0, 2), run(1, 0, 2)),
+            (run(1, 4, 1), run(1, 0, 1)),
+            (run(2, 0, 1), run(1, 4, 1)),
+        ] {
+            let runs = vec![in rt.alloc(); first, next]?;
+            assert!(rt; List::new(runs).is_none(), "{first:?}, {next:?}");
+        }
+        Ok(())
+    }
+}

@@ -1,0 +1,62 @@
+use crate::fields::bytes::Bytes;
+use crate::refusals::named::Name;
+use crate::states::attr::ObjectHead;
+use zst_names::{DatasetName, SnapName};
+
+/// A command on a pool, with the words that it was given.
+#[derive(Drop)]
+pub enum Command {
+    /// Makes a file system.
+    Fs {
+        dataset: DatasetName,
+    },
+    /// Makes a volume.
+    Volume {
+        dataset: DatasetName,
+    },
+    /// Allocates an object of a dataset's head, or gives it other attributes.
+    Object {
+        dataset: DatasetName,
+        object: u64,
+        head: ObjectHead,
+        bonus: Bytes,
+        /// The spill block in its whole length, where there is one.
+        spill: Option<Bytes>,
+    },
+    /// Writes one block of an object; zeros fill it up.
+    Write {
+        dataset: DatasetName,
+        object: u64,
+        index: u64,
+        bytes: Bytes,
+    },
+    /// Makes holes of `count` blocks of an object.
+    Punch {
+        dataset: DatasetName,
+        object: u64,
+        first: u64,
+        count: u64,
+    },
+    /// Frees `count` object numbers.
+    Free {
+        dataset: DatasetName,
+        first: u64,
+        count: u64,
+    },
+    /// Takes a snapshot of a dataset's head.
+    Snapshot {
+        name: SnapName,
+    },
+    /// Reads one block of a dataset's head or of a snapshot.
+    Read {
+        name: Name,
+        object: u64,
+        index: u64,
+    },
+    /// Lists the pool.
+    List,
+    /// Lists the objects of a dataset's head or of a snapshot.
+    ListObjects {
+        name: Name,
+    },
+}

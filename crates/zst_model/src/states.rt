@@ -1,0 +1,3 @@
+pub mod attr;
+pub mod cell;
+pub mod item;

@@ -1,0 +1,66 @@
+-- The small stream can be stated.
+use Rattle.std.proofs.Common.{◌^◌, ◌-◌, refl, lit<, lit≤}
+use Rattle.zst_model.specs.states.State.{is_block_size, largest_block}
+use Rattle.zst_record.specs.Decode.{is_object, is_range, is_payload_len, needs_payload}
+use Rattle.zst_record.specs.Fits.{BeginFits, ObjectFits, WriteFits, FreeFits}
+use Rattle.zst_stream.specs.Reading.{opened}
+use Rattle.zst_stream.specs.Image.{PiecesFit}
+use Rattle.zst_stream.specs.Example.{example_header, example_pieces, ExampleIsStream}
+
+begins : BeginFits example_header 0
+unfolding is_payload_len needs_payload
+begins = record {
+  features = lit< tt;
+  accepted = refl;
+  small_blocks = refl;
+  kind = refl;
+  flags = lit< tt;
+  time = lit< tt;
+  to = lit< tt;
+  to_there = refl;
+  from = lit< tt;
+  name = lit< tt;
+  no_zero = refl;
+  len = refl;
+  stated = λ e. refl;
+  no_resume = refl;
+  no_redact = refl;
+  no_from_redact = refl;
+}
+
+object-fits : ObjectFits 1 19 0 512 0 0 4294967297
+unfolding is_object is_block_size largest_block
+object-fits = record {
+  object_fits = refl;
+  kind_fits = lit< tt;
+  kind_there = refl;
+  bonus_kind_fits = lit< tt;
+  size = refl;
+  bonus_len_fits = lit≤ tt;
+  max_block_fits = lit< tt;
+  to_fits = lit< tt;
+}
+
+write-fits : WriteFits 1 19 0 512 4294967297
+unfolding is_object is_block_size largest_block
+write-fits = record { object_fits = refl; kind_fits = lit< tt; offset_fits = lit< tt; size_fits = refl; to_fits = lit< tt }
+
+free-fits : FreeFits 1 512 (2 ^ 64 - 1) 4294967297
+unfolding is_object is_range
+free-fits = record { object_fits = refl; offset_fits = lit< tt; size_fits = lit< tt; range = refl; to_fits = lit< tt }
+
+pieces-fit : PiecesFit 4 example_pieces
+unfolding opened
+pieces-fit = (
+  record { later = tt; not_end = refl; built = refl; fits = (lit< tt, lit< tt, lit< tt); len = refl; sound = refl },
+  (
+    record { later = tt; not_end = refl; built = refl; fits = object-fits; len = refl; sound = refl },
+    (
+      record { later = tt; not_end = refl; built = refl; fits = write-fits; len = refl; sound = refl },
+      (record { later = tt; not_end = refl; built = refl; fits = free-fits; len = refl; sound = refl }, tt),
+    ),
+  ),
+)
+
+pub example-fits : ExampleIsStream
+example-fits = record { begins = begins; pieces_fit = pieces-fit }

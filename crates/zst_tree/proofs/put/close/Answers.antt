@@ -1,0 +1,13 @@
+use Rattle.std.proofs.Common.{◌-◌, ap, ◌∙◌}
+use Rattle.zst_block.specs.declared.ptr.Ptr.{Ptr}
+use Rattle.zst_tree.proofs.Made.{closes, has_kind, Parts-grows}
+use Rattle.zst_tree.proofs.Below.{kept_works}
+use Rattle.zst_tree.proofs.put.close.Goals as goal
+
+pub returns-clause-whole : goal.returns-clause-whole
+returns-clause-whole g c = λ base map parts.
+    let saved = c.in_ok-ptr.ensures in
+    let kept = kept_works _ _ _ _ _ _ _ _ _ saved.works in
+    closes _ map c.args.level base c.args.io.now.node _ c.requires.inner (has_kind _ _ c.in_ok-ptr.ptr _ _ saved.wrote)
+    (ap (λ (p : Ptr). p.level) saved.pointer) c.summary_of-summary.ensures.kind (ap (λ (p : Ptr). p.number) saved.pointer ∙ c.summary_of-summary.ensures.number)
+    (Parts-grows _ _ kept (c.args.level - 1) c.args.io.now.node base map parts)

@@ -1,0 +1,10 @@
+use Rattle.std.proofs.Common.{zero-add, ◌∙◌}
+use Rattle.zst_tree.proofs.Whole.{none_changed}
+use Rattle.zst_tree.proofs.writes.punch_end.Goals as goal
+
+pub returns-then-first-span-clause-puts : goal.returns-then-first-span-clause-puts
+returns-then-first-span-clause-puts g c = λ map put honest s changed. none_changed _ map put _ _ _ _ (c.if-first-span.true ∙ c.span_of-span.ensures) changed s
+
+pub returns-clause-puts : goal.returns-clause-puts
+returns-clause-puts g c = λ map put honest s changed.
+    c.put_in.ensures.put 0 map put honest s (rw (c.hole.ensures, c.span_of-span.ensures) (simp zero-add changed))

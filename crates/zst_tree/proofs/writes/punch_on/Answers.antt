@@ -1,0 +1,31 @@
+use Rattle.std.proofs.Common.{arith}
+use Rattle.std.proofs.lemmas.Result.{err_from_is_err_and}
+use Rattle.zst_block.specs.Ptr.{hole_of}
+use Rattle.zst_block.proofs.Working.{Works-then, Works-more}
+use Rattle.zst_tree.specs.Indices.{span}
+use Rattle.zst_tree.proofs.Most.{most_two}
+use Rattle.zst_tree.proofs.Whole.{over_on, over_on-changed, tail_holds}
+use Rattle.zst_tree.proofs.writes.punch_on.Goals as goal
+
+pub returns-in_err-root-clause-puts : goal.returns-in_err-root-clause-puts
+returns-in_err-root-clause-puts g c = λ map put honest holds puts.
+    let stands = c.in_ok-grown.ensures.grown holds.whole holds.stands in
+    let p = err_from_is_err_and c.from_residual-in_err-root.result c.from_residual-in_err-root.ensures.1 in
+    rw (p.1, p.2) (c.in_err-root.ensures.puts holds.whole (over_on holds.whole c.args.first (hole_of c.args.number)) honest stands.below (over_on-changed holds.whole 0 c.args.first (span c.in_ok-grown.grown.levels) (hole_of c.args.number)))
+
+pub returns-in_err-root-clause-works : goal.returns-in_err-root-clause-works
+returns-in_err-root-clause-works g c =
+    let two = most_two c.in_ok-grown.grown.levels c.args.first (span c.in_ok-grown.grown.levels) in
+    let p = err_from_is_err_and c.from_residual-in_err-root.result c.from_residual-in_err-root.ensures.1 in
+    rw (p.1, p.2) (Works-more (omega (arith, two, c.in_ok-grown.ensures.size.1, c.in_ok-grown.ensures.size.2)) (Works-then c.in_ok-grown.ensures.works c.in_err-root.ensures.works))
+
+pub returns-clause-puts : goal.returns-clause-puts
+returns-clause-puts g c = λ map put honest holds puts.
+    let stands = c.in_ok-grown.ensures.grown holds.whole holds.stands in
+    tail_holds _ _ _ holds.whole map put _ _ c.in_ok-grown.ensures.size.0 holds.agrees puts
+    (c.in_ok-root.ensures.puts holds.whole (over_on holds.whole c.args.first (hole_of c.args.number)) honest stands.below (over_on-changed holds.whole 0 c.args.first (span c.in_ok-grown.grown.levels) (hole_of c.args.number)))
+
+pub returns-clause-works : goal.returns-clause-works
+returns-clause-works g c =
+    let two = most_two c.in_ok-grown.grown.levels c.args.first (span c.in_ok-grown.grown.levels) in
+    Works-more (omega (arith, two, c.in_ok-grown.ensures.size.1, c.in_ok-grown.ensures.size.2)) (Works-then c.in_ok-grown.ensures.works c.in_ok-root.ensures.works)

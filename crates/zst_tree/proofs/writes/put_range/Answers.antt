@@ -1,0 +1,43 @@
+use Rattle.std.proofs.Common.{zero-add, arith}
+use Rattle.std.proofs.lemmas.Result.{err_from_is_err_and}
+use Rattle.zst_block.proofs.Working.{Works-then, Works-more}
+use Rattle.zst_tree.specs.Indices.{span}
+use Rattle.zst_tree.proofs.Most.{most_two, most-single}
+use Rattle.zst_tree.proofs.Whole.{over, over_changed, range_holds}
+use Rattle.zst_tree.proofs.writes.put_range.Goals as goal
+
+pub returns-in_err-root-clause-puts : goal.returns-in_err-root-clause-puts
+returns-in_err-root-clause-puts g c = λ map put honest holds puts.
+    let stands = c.in_ok-grown.ensures.grown holds.whole holds.stands in
+    let p = err_from_is_err_and c.from_residual-in_err-root.result c.from_residual-in_err-root.ensures.1 in
+    rw (p.1, p.2) (c.in_err-root.ensures.put 0 holds.whole (over holds.whole c.args.first c.args.below c.args.leaf) honest stands.below
+    (simp zero-add (over_changed holds.whole 0 c.args.first c.args.below (span c.in_ok-grown.grown.levels) c.args.leaf)))
+
+pub returns-in_err-root-clause-works : goal.returns-in_err-root-clause-works
+returns-in_err-root-clause-works g c =
+    let two = most_two c.in_ok-grown.grown.levels c.args.first c.args.below in
+    let p = err_from_is_err_and c.from_residual-in_err-root.result c.from_residual-in_err-root.ensures.1 in
+    rw (p.1, p.2) (Works-more (omega (arith, two, c.in_ok-grown.ensures.size.1, c.in_ok-grown.ensures.size.2)) (Works-then c.in_ok-grown.ensures.works c.in_err-root.ensures.works))
+
+pub returns-in_err-root-clause-one : goal.returns-in_err-root-clause-one
+returns-in_err-root-clause-one g c = λ single.
+    let one = most-single c.in_ok-grown.grown.levels c.args.first c.args.below single in
+    let p = err_from_is_err_and c.from_residual-in_err-root.result c.from_residual-in_err-root.ensures.1 in
+    rw (p.1, p.2) (Works-more (omega (arith, one, c.in_ok-grown.ensures.size.1, c.in_ok-grown.ensures.size.2)) (Works-then c.in_ok-grown.ensures.works c.in_err-root.ensures.works))
+
+pub returns-clause-puts : goal.returns-clause-puts
+returns-clause-puts g c = λ map put honest holds puts.
+    let stands = c.in_ok-grown.ensures.grown holds.whole holds.stands in
+    range_holds _ _ _ _ holds.whole map put _ _ _ c.in_ok-grown.ensures.size.0 stands.past holds.agrees puts
+    (c.in_ok-root.ensures.put 0 holds.whole (over holds.whole c.args.first c.args.below c.args.leaf) honest stands.below
+    (simp zero-add (over_changed holds.whole 0 c.args.first c.args.below (span c.in_ok-grown.grown.levels) c.args.leaf)))
+
+pub returns-clause-works : goal.returns-clause-works
+returns-clause-works g c =
+    let two = most_two c.in_ok-grown.grown.levels c.args.first c.args.below in
+    Works-more (omega (arith, two, c.in_ok-grown.ensures.size.1, c.in_ok-grown.ensures.size.2)) (Works-then c.in_ok-grown.ensures.works c.in_ok-root.ensures.works)
+
+pub returns-clause-one : goal.returns-clause-one
+returns-clause-one g c = λ single.
+    let one = most-single c.in_ok-grown.grown.levels c.args.first c.args.below single in
+    Works-more (omega (arith, one, c.in_ok-grown.ensures.size.1, c.in_ok-grown.ensures.size.2)) (Works-then c.in_ok-grown.ensures.works c.in_ok-root.ensures.works)

@@ -1,0 +1,37 @@
+-- How the nodes of a tree are changed, and what that costs.
+use Rattle.std.specs.Prelude.{◌≡◌, ◌≢◌, ℕ, ◌+◌, ◌-◌, ◌*◌, ◌<◌, ◌≤◌, ◌==◌, ◌&&◌, ◌||◌, if◌then◌else◌, List, length}
+use Rattle.zst_block.specs.declared.ptr.Ptr.{Ptr}
+use Rattle.zst_tree.specs.Indices.{Blocks, Map, HasPointers, IsSpelled, Subtree, child, span}
+
+-- at this place the block has this pointer
+pub record HasChild (bytes : List ℕ) (k : ℕ) (ptr : Ptr) : Type 0 where
+  pub child_is : child bytes k ≡ ptr
+  pub spelled : IsSpelled bytes k
+
+-- at this place the block has the pointer that it had
+pub record KeepsChild (old new : List ℕ) (k : ℕ) : Type 0 where
+  pub child_is : child new k ≡ child old k
+  pub spelled : IsSpelled old k → IsSpelled new k
+
+-- the block has this pointer at one place, and is else as it was
+pub record PutsChild (old new : List ℕ) (place : ℕ) (ptr : Ptr) : Type 0 where
+  pub long : length new ≡ 8192
+  pub here : HasChild new place ptr
+  pub others : (k : ℕ) → k < 128 → k ≢ place → KeepsChild old new k
+
+-- the block has this pointer at each place of a range, and is else as it was
+pub record FillsChildren (old new : List ℕ) (from below : ℕ) (ptr : Ptr) : Type 0 where
+  pub inside : (k : ℕ) → from ≤ k → k < below → HasChild new k ptr
+  pub before : (k : ℕ) → k < from → KeepsChild old new k
+  pub behind : (k : ℕ) → below ≤ k → k < 128 → KeepsChild old new k
+
+-- the block has 128 pointers, and below them stands this map
+pub record Parts (has : Blocks) (level : ℕ) (bytes : List ℕ) (base : ℕ) (map : Map) : Type 0 where
+  pub pointers : HasPointers bytes
+  pub below : (k : ℕ) → k < 128 → Subtree has level (child bytes k) (base + k * span level) map
+
+-- how many nodes a change of a range writes at most: none for a whole subtree, one path to one end or to one index, else two paths that share their first node
+unfoldable pub most : ℕ → ℕ → ℕ → ℕ
+most level first below = if (first == 0) && (below == span level) then 0
+    else if ((first == 0) || (below == span level)) || (below == first + 1) then level
+    else 2 * level - 1
