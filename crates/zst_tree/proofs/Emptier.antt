@@ -6,7 +6,8 @@ use Rattle.zst_block.specs.Ptr.{is_present}
 use Rattle.zst_block.specs.declared.ptr.Ptr.{Ptr}
 use Rattle.zst_tree.specs.Earlier.{Empty, IsLast, HasPresent, ReachesEarlier}
 use Rattle.zst_tree.specs.Indices.{Blocks, Map, Subtree, IsNode, child, any_present, kind_over, span}
-use Rattle.zst_tree.specs.Reaching.{Parts, nearer_of}
+use Rattle.zst_tree.specs.Changes.{Parts}
+use Rattle.zst_tree.specs.Reaching.{nearer_of}
 use Rattle.zst_tree.specs.declared.reach.Beside.{Beside}
 use Rattle.zst_tree.specs.declared.reach.Reach.{Reach}
 use Rattle.zst_tree.specs.declared.reach.Reach.TheVariants.{Nothing, Here, There}
@@ -78,7 +79,7 @@ module _ (map : Map) where
 
     pub children_empty : (level base a b : ℕ) (bytes : List ℕ) → 0 < level → b ≤ 128 → Parts has (level - 1) bytes base map → ((k : ℕ) → a ≤ k → k < b → is_present (child bytes k) ≡ false)
         → Empty map (base + a * span (level - 1)) (base + b * span (level - 1))
-    children_empty level base a b bytes some le parts absent = empty_parts (level - 1) base a b (λ j u less. empty_below (level - 1) (child bytes j) (base + j * span (level - 1)) (absent j u less) (parts j (omega arith)))
+    children_empty level base a b bytes some le parts absent = empty_parts (level - 1) base a b (λ j u less. empty_below (level - 1) (child bytes j) (base + j * span (level - 1)) (absent j u less) (parts.below j (omega arith)))
 
     -- a node with something present has a child with it
     pub some_present : (level : ℕ) (ptr : Ptr) (bytes : List ℕ) → IsNode has level ptr bytes → is_present ptr ≡ true → ((k : ℕ) → k < 128 → is_present (child bytes k) ≡ false) → ⊥
@@ -102,7 +103,7 @@ module _ (map : Map) where
           under = omega arith;
           present = subst (λ (p : Ptr). is_present p ≡ true) (sym same) present;
           empty = record { absent = λ i u l. behind.absent i (omega arith) l };
-          stands = subst (λ (p : Ptr). Subtree has (level - 1) p start map) (sym same) (subst (λ (b : ℕ). Subtree has (level - 1) (child bytes k) b map) (sym at) (parts k (omega arith)));
+          stands = subst (λ (p : Ptr). Subtree has (level - 1) p start map) (sym same) (subst (λ (b : ℕ). Subtree has (level - 1) (child bytes k) b map) (sym at) (parts.below k (omega arith)));
         }
 
     -- what the path below a child shows, or else what is before the child

@@ -1,5 +1,5 @@
 -- What a node that was read says of the subtrees below it.
-use Rattle.std.proofs.Common.{◌≡◌, ℕ, zero, suc, ◌+◌, ◌-◌, ◌*◌, ◌<◌, ◌≤◌, ◌||◌, ◌==◌, Bool, true, false, List, Option, Some, None, Result, Ok, Err, refl, sym, ◌∙◌, ap, subst, arith}
+use Rattle.std.proofs.Common.{◌≡◌, ℕ, zero, suc, ◌-◌, ◌<◌, ◌==◌, Bool, false, List, Option, Err, sym, subst, arith}
 use Rattle.std.proofs.lemmas.Bool.{ne_eqb}
 use Rattle.zst_outside.specs.Images.{DiskState}
 use Rattle.zst_space.specs.FreeSectors.{FreeSectors}
@@ -10,9 +10,11 @@ use Rattle.zst_block.specs.Working.{Looks}
 use Rattle.zst_block.specs.declared.ptr.Ptr.{Ptr}
 use Rattle.zst_block.specs.declared.fault.BlockFault.{BlockFault}
 use Rattle.zst_block.specs.declared.fault.BlockFault.TheVariants.{Full, Damaged, DiskFault}
-use Rattle.zst_tree.specs.Indices.{Blocks, Map, Subtree, IsNode, Delivers, child, span}
-use Rattle.zst_tree.specs.Reaching.{Parts, stands_throughout}
+use Rattle.zst_tree.specs.Indices.{Blocks, Map, Subtree, IsNode, IsNoDamage}
+use Rattle.zst_tree.specs.Changes.{Parts}
+use Rattle.zst_tree.specs.Reaching.{stands_throughout}
 use Rattle.zst_tree.proofs.Below.{node_below}
+use Rattle.zst_tree.proofs.Made.{node_parts}
 
 -- the node that was read is the one below the pointer, and its parts stand below it
 pub record Loaded (has : Blocks) (level : ℕ) (ptr : Ptr) (base : ℕ) (map : Map) (loaded : List ℕ) : Type 0 where
@@ -26,7 +28,7 @@ loaded_is has level ptr base map loaded some inner gives stands =
     let same : loaded ≡ below.bytes = gives below.bytes below.node in
     record {
       node = subst (λ (bytes : List ℕ). IsNode has level ptr bytes) (sym same) below.node;
-      parts = subst (λ (bytes : List ℕ). Parts has (level - 1) bytes base map) (sym same) below.below;
+      parts = node_parts has level ptr base map loaded below same;
     }
 
 module _ (old : DiskState) (space : FreeSectors) (old_failed : Bool) (new : DiskState) (less : FreeSectors) (new_failed : Bool) (stop : Option BlockFault) (looks : Looks old space old_failed new less new_failed stop) where
@@ -38,16 +40,16 @@ module _ (old : DiskState) (space : FreeSectors) (old_failed : Bool) (new : Disk
   there_before P is = subst (λ (seen : List ℕ). P seen space) looks.reads.seen (subst (λ (s : FreeSectors). P new.seen s) looks.space is)
 
 -- a block that is there isn't damaged
-gives_no_damage : {T : Type 0} (P : T → Type 0) (bytes read : List ℕ) (fault : BlockFault) → GivesBlock bytes read (Err fault) → Delivers P (Err fault)
-gives_no_damage P bytes read (Full need largest) given = tt
-gives_no_damage P bytes read (Damaged sector stated found) given = given
-gives_no_damage P bytes read DiskFault given = tt
+gives_no_damage : (bytes read : List ℕ) (fault : BlockFault) → GivesBlock bytes read (Err fault) → IsNoDamage fault
+gives_no_damage bytes read (Full need largest) given = tt
+gives_no_damage bytes read (Damaged sector stated found) given = given
+gives_no_damage bytes read DiskFault given = tt
 
 -- so a node that is there isn't
-pub node_fault : {T : Type 0} (P : T → Type 0) (has : Blocks) (level : ℕ) (ptr : Ptr) (base : ℕ) (map : Map) (read : List ℕ) (fault : BlockFault) → 0 < level → is_flat ptr ≡ false
-    → ((bytes : List ℕ) → IsNode has level ptr bytes → GivesBlock bytes read (Err fault)) → Subtree has level ptr base map → Delivers P (Err fault)
-node_fault P has level ptr base map read fault some inner gives stands =
-    let below = node_below has level ptr base map some inner stands in gives_no_damage P below.bytes read fault (gives below.bytes below.node)
+pub node_fault : (has : Blocks) (level : ℕ) (ptr : Ptr) (base : ℕ) (map : Map) (read : List ℕ) (fault : BlockFault) → 0 < level → is_flat ptr ≡ false
+    → ((bytes : List ℕ) → IsNode has level ptr bytes → GivesBlock bytes read (Err fault)) → Subtree has level ptr base map → IsNoDamage fault
+node_fault has level ptr base map read fault some inner gives stands =
+    let below = node_below has level ptr base map some inner stands in gives_no_damage below.bytes read fault (gives below.bytes below.node)
 
 -- so the parts of a node that was read stand below it
 pub loaded_parts : (old : DiskState) (space : FreeSectors) (old_failed : Bool) (new : DiskState) (less : FreeSectors) (new_failed : Bool) (stop : Option BlockFault) → Looks old space old_failed new less new_failed stop

@@ -6,7 +6,8 @@ use Rattle.zst_block.specs.Ptr.{is_flat}
 use Rattle.zst_block.specs.declared.ptr.Ptr.{Ptr}
 use Rattle.zst_tree.specs.Indices.{Blocks, Map, Subtree, IsNode, child, greatest, span}
 use Rattle.zst_tree.specs.Later.{Quiet, IsFirst, HasLater, ReachesLater}
-use Rattle.zst_tree.specs.Reaching.{Parts, nearer_of, stands_throughout}
+use Rattle.zst_tree.specs.Changes.{Parts}
+use Rattle.zst_tree.specs.Reaching.{nearer_of, stands_throughout}
 use Rattle.zst_tree.specs.declared.reach.Beside.{Beside}
 use Rattle.zst_tree.specs.declared.reach.Reach.{Reach}
 use Rattle.zst_tree.specs.declared.reach.Reach.TheVariants.{Nothing, Here, There}
@@ -94,7 +95,7 @@ module _ (map : Map) (number : ℕ) where
 
     pub children_quiet : (level base a b : ℕ) (bytes : List ℕ) → 0 < level → b ≤ 128 → Parts has (level - 1) bytes base map → ((k : ℕ) → a ≤ k → k < b → (child bytes k).number ≤ number)
         → Quiet map (base + a * span (level - 1)) (base + b * span (level - 1)) number
-    children_quiet level base a b bytes some le parts early = quiet_parts (level - 1) base a b (λ j u less. quiet_below (level - 1) (child bytes j) (base + j * span (level - 1)) (early j u less) (parts j (omega arith)))
+    children_quiet level base a b bytes some le parts early = quiet_parts (level - 1) base a b (λ j u less. quiet_below (level - 1) (child bytes j) (base + j * span (level - 1)) (early j u less) (parts.below j (omega arith)))
 
     pub first_child : (level base k found : ℕ) (bytes : List ℕ) → 0 < level → k < 128 → Parts has (level - 1) bytes base map → ((j : ℕ) → 0 ≤ j → j < k → (child bytes j).number ≤ number)
         → IsFirst map (base + k * span (level - 1)) ((base + k * span (level - 1)) + span (level - 1)) number found → IsFirst map base (base + span level) number found
@@ -127,7 +128,7 @@ module _ (map : Map) (number : ℕ) where
           under = omega (arith, span-over level some);
           late = subst (λ (p : Ptr). number < p.number) (sym same) late;
           quiet = record { early = λ i u l. before.early i u (omega arith) };
-          stands = subst (λ (p : Ptr). Subtree has (level - 1) p start map) (sym same) (subst (λ (b : ℕ). Subtree has (level - 1) (child bytes k) b map) (sym at) (parts k less));
+          stands = subst (λ (p : Ptr). Subtree has (level - 1) p start map) (sym same) (subst (λ (b : ℕ). Subtree has (level - 1) (child bytes k) b map) (sym at) (parts.below k less));
         }
 
     -- what the path below a child shows, or else what is behind the child

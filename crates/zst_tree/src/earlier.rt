@@ -5,8 +5,9 @@ ghost use Rattle.zst_block.specs.Blocks.{FitsDisk, Has};
 ghost use Rattle.zst_block.specs.Ptr.{is_present};
 ghost use Rattle.zst_block.specs.Working.{Looks, stop_of};
 ghost use Rattle.zst_tree.specs.Earlier.{Empty, HasPresent, IsLast, ReachesEarlier};
+ghost use Rattle.zst_tree.specs.Changes.{Parts};
 ghost use Rattle.zst_tree.specs.Indices.{Delivers, Map, Subtree, child, span};
-ghost use Rattle.zst_tree.specs.Reaching.{IsChild, IsInside, Parts};
+ghost use Rattle.zst_tree.specs.Reaching.{IsChild, IsInside};
 
 use crate::nodes::{child_at, load_node};
 use crate::reach::{Beside, Reach, nearer, stands_throughout};

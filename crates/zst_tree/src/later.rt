@@ -3,9 +3,10 @@ ghost use Rattle.std.specs.Prelude.{◌≡◌, ◌+◌, ◌-◌, ◌*◌, ◌^�
 ghost use Rattle.zst_space.specs.FreeSectors.{FreeSectors};
 ghost use Rattle.zst_block.specs.Blocks.{FitsDisk, Has};
 ghost use Rattle.zst_block.specs.Working.{Looks, stop_of};
+ghost use Rattle.zst_tree.specs.Changes.{Parts};
 ghost use Rattle.zst_tree.specs.Indices.{Delivers, Map, Subtree, child, span};
 ghost use Rattle.zst_tree.specs.Later.{HasLater, IsFirst, Quiet, ReachesLater};
-ghost use Rattle.zst_tree.specs.Reaching.{IsChild, IsInside, Parts};
+ghost use Rattle.zst_tree.specs.Reaching.{IsChild, IsInside};
 
 use crate::nodes::{child_at, load_counted};
 use crate::reach::{Beside, Reach, nearer, stands_throughout};

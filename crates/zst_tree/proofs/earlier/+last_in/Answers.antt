@@ -1,10 +1,9 @@
-use Rattle.std.proofs.Common.{rules, ◌≡◌, ◌+◌, ◌-◌, ◌*◌, ◌<◌, ◌≤◌, ℕ, true, false, refl, sym, ◌∙◌, arith}
+use Rattle.std.proofs.Common.{◌≡◌, ◌+◌, ◌-◌, true, false, sym, ◌∙◌, arith}
 use Rattle.std.proofs.lemmas.Result.{err_from_is_err_and}
 use Rattle.zst_block.specs.Blocks.{Has}
-use Rattle.zst_block.specs.Ptr.{is_flat}
 use Rattle.zst_tree.specs.Indices.{span}
-use Rattle.zst_tree.specs.Reaching.{Parts, stands_throughout}
-use Rattle.zst_tree.specs.Earlier.{IsLast}
+use Rattle.zst_tree.specs.Changes.{Parts}
+use Rattle.zst_tree.specs.Reaching.{stands_throughout}
 use Rattle.zst_tree.proofs.Emptier.{at_present, last_leaf, last_under, some_present}
 use Rattle.zst_tree.proofs.Loaded.{inner_level, loaded_is, loaded_parts, node_fault}
 use Rattle.zst_tree.proofs.Quieter.{here}
@@ -31,7 +30,7 @@ returns-in_err-load_node-clause-last g t c = λ map honest present stands.
     let throughout : stands_throughout c.args.level c.args.ptr ≡ false = sym c.stands_throughout.ensures ∙ c.if-stands_throughout.false in
     let inner = inner_level c.args.level c.args.ptr throughout in
     let p = err_from_is_err_and c.from_residual.result c.from_residual.ensures.1 in
-    rw (p.1, p.2) (node_fault (IsLast map c.args.base (c.args.base + span c.args.level)) _ c.args.level c.args.ptr c.args.base map c.load_node.new.io.node _ inner.0 inner.1
+    rw (p.1, p.2) (node_fault _ c.args.level c.args.ptr c.args.base map c.load_node.new.io.node _ inner.0 inner.1
     (λ bytes node. c.in_err-load_node.ensures.there bytes honest node) stands)
 
 pub returns-in-None-clause-last : goal.returns-in-None-clause-last
@@ -48,6 +47,6 @@ returns-in-Some-clause-last g t c = λ map honest present stands.
     let was_honest = c.last_in.ensures.looks.reads.honest honest in
     let parts : Parts (Has (g.D.Disk.state c.load_node.new.io.disk.now).seen c.load_node.new.io.space) (c.args.level - 1) c.load_node.new.io.node c.args.base map =
     loaded_parts _ _ _ _ _ _ _ c.in_ok-load_node.ensures.looks c.args.level c.args.ptr c.args.base map c.load_node.new.io.node inner.0 inner.1 (λ bytes node. c.in_ok-load_node.ensures.there bytes was_honest node) stands in
-    delivers_if c.last_in.result
+    delivers_if _ _ c.last_in.result
     (λ found last. last_under map _ c.args.level c.args.base c.in-Some.k found c.load_node.new.io.node inner.0 c.in-Some.ensures.0 parts c.in-Some.ensures.2 (rw c.start_of-start.ensures.value at last))
-    (c.last_in.ensures.last map honest (rw c.child_at-child.ensures.child c.in-Some.ensures.1) (rw (c.child_at-child.ensures.child, c.start_of-start.ensures.value) (parts c.in-Some.k c.in-Some.ensures.0)))
+    (c.last_in.ensures.last map honest (rw c.child_at-child.ensures.child c.in-Some.ensures.1) (rw (c.child_at-child.ensures.child, c.start_of-start.ensures.value) (parts.below c.in-Some.k c.in-Some.ensures.0)))

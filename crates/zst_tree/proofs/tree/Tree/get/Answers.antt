@@ -1,4 +1,4 @@
-use Rattle.std.proofs.Common.{◌≡◌, arith}
+use Rattle.std.proofs.Common.{arith}
 use Rattle.std.proofs.lemmas.Result.{IfOk-weaker}
 use Rattle.zst_tree.proofs.Finding.{shows_in}
 use Rattle.zst_tree.proofs.Results.{delivers_if}
@@ -7,7 +7,7 @@ use Rattle.zst_tree.proofs.tree.Tree.get.Goals as goal
 
 pub returns-clause-shows : goal.returns-clause-shows
 returns-clause-shows g c = λ map honest is.
-    delivers_if c.find_in.result
+    delivers_if _ _ c.find_in.result
     (λ found finds. shows_in _ _ c.args.self.now map c.args.index found c.requires.index is (record { inside = λ under. finds; past = λ past. absurd (omega arith) }))
     (c.find_in.ensures.finds 0 is.whole honest is.stands.below)
 
