@@ -13,8 +13,9 @@ use Rattle.zst_record.specs.Heads.{Covered}
 use Rattle.zst_model.specs.declared.refusals.stream_fault.StreamFault.{StreamFault}
 use Rattle.zst_model.specs.declared.refusals.stream_fault.StreamFault.TheVariants as faults
 use Rattle.zst_stream.specs.Reading.{Reading, Outcome, waiting, faulty, complete, reading}
-use Rattle.zst_stream.specs.Growth.{front}
-use Rattle.zst_stream.specs.Findings.{Finds-reading, FindsAtEnd}
+use Rattle.zst_stream.specs.Findings.{FindsAtEnd}
+use Rattle.zst_stream.proofs.FindingLaws.{Finds-reading}
+use Rattle.zst_stream.proofs.Growth.{front}
 use Rattle.zst_reader.specs.StandsFor.{StandsFor, HandsOut}
 use Rattle.zst_reader.specs.declared.reader.Reader.{Reader}
 use Rattle.zst_dump.specs.Lines.{line_text, lines_of}

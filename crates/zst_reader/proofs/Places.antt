@@ -4,7 +4,7 @@ use Rattle.std.proofs.lemmas.List.{take-append-drop, nil_from_length, length-tak
 use Rattle.zst_bytes.specs.Bytes.{bytes_at, number_at}
 use Rattle.zst_fletcher.specs.WeightSum.{weight_sum}
 use Rattle.zst_record.specs.Decode.{features_in}
-use Rattle.zst_stream.specs.Growth.{number-grown}
+use Rattle.zst_stream.proofs.Growth.{number-grown}
 use Rattle.zst_reader.specs.Place.{IsPlaceAfter, IsWithin}
 use Rattle.zst_reader.specs.declared.place.Place.{Place}
 

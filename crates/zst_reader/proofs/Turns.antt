@@ -5,7 +5,7 @@ use Rattle.zst_record.specs.Heads.{Covered, payload_len, size_of}
 use Rattle.zst_record.specs.declared.head.Head.{Head}
 use Rattle.zst_model.specs.declared.refusals.stream_fault.StreamFault.{StreamFault}
 use Rattle.zst_stream.specs.Reading.{Reading, wait, refuse, last, more, waiting, faulty, complete, ruling, covered_at, covered_last, after, reading_from, prepend, ends}
-use Rattle.zst_stream.specs.Growth.{ruling-grown, more-fits, part-grown}
+use Rattle.zst_stream.proofs.Growth.{ruling-grown, more-fits, part-grown}
 
 pub reading-wait : (fuel index : ℕ) (before rest : List ℕ) → ruling before rest ≡ wait → reading_from (fuel + 1) index before rest ≡ ends waiting
 unfolding reading_from after

@@ -1,3 +1,5 @@
 mod Carried
 pub mod ExampleLaws
+pub mod FindingLaws
+pub mod Growth
 pub mod Whole

@@ -19,7 +19,7 @@ use Rattle.zst_record.proofs.DecodeLaws.{later-back}
 use Rattle.zst_record.proofs.BeginLaws.{begin-back}
 use Rattle.zst_stream.specs.Reading.{Reading, FrontOf, last, more, waiting, complete, same_sums, sum_fault, is_built, cover, finish, ruling, closing, opened, after, reading_from, reading, prepend, sealed_next}
 use Rattle.zst_stream.specs.Image.{Piece, record_after, piece_after, end_after, image_after, front_of, begin_head, begin_payload, image, covers_after, covers, PiecesFit, IsStream}
-use Rattle.zst_stream.specs.Growth.{number-grown, front}
+use Rattle.zst_stream.proofs.Growth.{number-grown, front}
 use Rattle.zst_stream.specs.Laws.{piece_of, all_pieces}
 
 -- ---- sums

@@ -1,5 +1,4 @@
 pub mod Reading
-pub mod Growth
 pub mod Image
 pub mod Laws
 pub mod Findings

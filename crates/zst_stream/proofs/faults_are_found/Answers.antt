@@ -1,4 +1,4 @@
-use Rattle.zst_stream.specs.Findings.{Finds-reading}
+use Rattle.zst_stream.proofs.FindingLaws.{Finds-reading}
 use Rattle.zst_stream.proofs.faults_are_found.Goals as goal
 
 pub returns : goal.returns

@@ -1,4 +1,4 @@
-use Rattle.zst_stream.specs.Growth.{front}
+use Rattle.zst_stream.proofs.Growth.{front}
 use Rattle.zst_stream.proofs.fronts_agree.Goals as goal
 
 pub returns : goal.returns
