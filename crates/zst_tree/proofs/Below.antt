@@ -1,8 +1,8 @@
 -- What stands below a pointer, taken apart.
-use Rattle.std.proofs.Common.{◌≡◌, ◌⊎◌, inl, inr, ⊎_elim, ℕ, zero, suc, ◌+◌, ◌-◌, ◌*◌, ◌<◌, ◌≤◌, nat_le, Bool, List, length, true, false, if◌then◌else◌, refl, ◌∙◌, sym, subst, arith}
+use Rattle.std.proofs.Common.{◌≡◌, ◌⊎◌, inl, inr, ℕ, zero, suc, ◌+◌, ◌-◌, ◌*◌, ◌<◌, Bool, List, true, false, if◌then◌else◌, refl, ◌∙◌, sym, subst, arith}
 use Rattle.std.proofs.lemmas.Bool.{false≢true}
-use Rattle.zst_block.specs.Blocks.{Has, KeepsBlocks, FitsDisk}
-use Rattle.zst_block.proofs.BlocksLaws.{KeepsBlocks-fills, IsBlock-length}
+use Rattle.zst_block.specs.Blocks.{Has, KeepsBlocks}
+use Rattle.zst_block.proofs.BlocksLaws.{KeepsBlocks-fills}
 use Rattle.zst_block.specs.Ptr.{is_flat, is_lawful}
 use Rattle.zst_block.specs.Working.{Looks, Works}
 use Rattle.zst_block.specs.declared.ptr.Ptr.{Ptr}

@@ -1,11 +1,11 @@
 -- The pointers of a block after some are put into it.
-use Rattle.std.proofs.Common.{◌≡◌, ◌≢◌, ◌⊎◌, inl, inr, ⊎_elim, ℕ, zero, suc, ◌+◌, ◌*◌, ◌<◌, ◌≤◌, List, length, true, ◌∙◌, refl, sym, ap, subst, arith}
+use Rattle.std.proofs.Common.{◌≡◌, ⊎_elim, ℕ, ◌+◌, ◌*◌, ◌<◌, ◌≤◌, List, length, ◌∙◌, refl, sym, ap, subst, arith}
 use Rattle.zst_bytes.specs.Bytes.{bytes_at, written}
 use Rattle.zst_bytes.proofs.BytesLaws.{length-written, written-same, written-above, written-below}
-use Rattle.zst_block.specs.Ptr.{ptr_bytes, ptr_at, PtrFits}
+use Rattle.zst_block.specs.Ptr.{ptr_bytes, PtrFits}
 use Rattle.zst_block.proofs.PtrLaws.{length-ptr_bytes, ptr_at-range, ptr_at-same}
 use Rattle.zst_block.specs.declared.ptr.Ptr.{Ptr}
-use Rattle.zst_tree.specs.Indices.{child, IsSpelled}
+use Rattle.zst_tree.specs.Indices.{child}
 use Rattle.zst_tree.specs.Changes.{HasChild, KeepsChild, PutsChild, FillsChildren}
 use Rattle.zst_tree.proofs.Sides.{sides}
 

@@ -1,5 +1,5 @@
 -- What a tree holds it holds as long as its blocks are there.
-use Rattle.std.proofs.Common.{◌≡◌, inl, inr, ⊎_elim, ℕ, zero, suc, ◌+◌, ◌*◌, List}
+use Rattle.std.proofs.Common.{inl, inr, ℕ, zero, suc, ◌+◌, ◌*◌, List}
 use Rattle.zst_block.specs.declared.ptr.Ptr.{Ptr}
 use Rattle.zst_tree.specs.declared.tree.Tree.{Tree}
 use Rattle.zst_tree.specs.Indices.{Blocks, Map, Subtree, Stands, TreeIs, child, span}

@@ -1,5 +1,5 @@
 -- What stands below a pointer, put together.
-use Rattle.std.proofs.Common.{◌≡◌, inl, inr, ⊎_elim, ℕ, zero, suc, ◌+◌, ◌-◌, ◌*◌, ◌<◌, ◌≤◌, List, length, true, ◌∙◌, sym, subst, arith}
+use Rattle.std.proofs.Common.{◌≡◌, inl, inr, ℕ, zero, suc, ◌+◌, ◌-◌, ◌*◌, ◌<◌, ◌≤◌, List, length, true, ◌∙◌, sym, subst, arith}
 use Rattle.std.proofs.Math.Nat.{mul-le-mul_right}
 use Rattle.zst_block.specs.Blocks.{Has}
 use Rattle.zst_block.specs.Ptr.{is_flat, is_lawful}

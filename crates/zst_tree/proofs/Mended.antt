@@ -1,5 +1,5 @@
 -- The pointers of a node after a change, and what stands below them.
-use Rattle.std.proofs.Common.{◌≡◌, ⊎_elim, ℕ, ◌+◌, ◌*◌, ◌<◌, ◌≤◌, List, length, true, ◌∙◌, sym, subst, arith}
+use Rattle.std.proofs.Common.{◌≡◌, ⊎_elim, ℕ, ◌+◌, ◌*◌, ◌<◌, ◌≤◌, List, length, true, sym, subst, arith}
 use Rattle.std.proofs.Math.Nat.{mul-le-mul_right}
 use Rattle.zst_block.specs.Ptr.{is_flat, is_lawful}
 use Rattle.zst_block.specs.declared.ptr.Ptr.{Ptr}

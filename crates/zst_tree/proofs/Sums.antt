@@ -1,5 +1,5 @@
 -- What a pointer says of the first pointers of its node.
-use Rattle.std.proofs.Common.{◌≡◌, ℕ, suc, ◌+◌, List, max, refl, false, ◌||◌, add-one}
+use Rattle.std.proofs.Common.{◌≡◌, ℕ, ◌+◌, List, max, refl, false, ◌||◌, add-one}
 use Rattle.zst_block.specs.Ptr.{is_present}
 use Rattle.zst_tree.specs.Indices.{child, greatest, any_present}
 

@@ -1,10 +1,8 @@
-use Rattle.std.proofs.Common.{◌≡◌, ◌+◌, ◌-◌, ◌*◌, ◌<◌, ◌≤◌, ⊎_elim, true, ap, ◌∙◌, sym, arith}
+use Rattle.std.proofs.Common.{◌≡◌, ◌+◌, ◌-◌, ◌*◌, ◌<◌, ap, ◌∙◌, arith}
 use Rattle.std.proofs.lemmas.Result.{err_from_is_err_and}
-use Rattle.zst_block.specs.Ptr.{is_flat}
 use Rattle.zst_block.proofs.Working.{Works-after, Works-then, Works-more, Works-looks, Looks-none}
-use Rattle.zst_tree.specs.Indices.{span, Subtree}
+use Rattle.zst_tree.specs.Indices.{span}
 use Rattle.zst_tree.proofs.IndicesLaws.{Subtree-grows}
-use Rattle.zst_tree.specs.Changes.{most}
 use Rattle.zst_tree.proofs.Below.{kept_looks, kept_works}
 use Rattle.zst_tree.proofs.Made.{child_stands}
 use Rattle.zst_tree.proofs.Narrow.{all_changed, one_changed, one_beside, low_changed, high_changed, two_beside, two_between}

@@ -1,4 +1,4 @@
-use Rattle.std.proofs.Common.{◌-◌, ap, ◌∙◌, ℕ, List}
+use Rattle.std.proofs.Common.{◌-◌, ap, ◌∙◌}
 use Rattle.zst_block.specs.declared.ptr.Ptr.{Ptr}
 use Rattle.zst_tree.proofs.Made.{closes, has_kind, Parts-grows}
 use Rattle.zst_tree.proofs.Below.{kept_works}

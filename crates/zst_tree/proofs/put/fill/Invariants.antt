@@ -1,4 +1,4 @@
-use Rattle.std.proofs.Common.{◌≡◌, ◌<◌, ◌≤◌, length}
+use Rattle.std.proofs.Common.{◌≡◌, ◌<◌, length}
 use Rattle.zst_tree.specs.Changes.{FillsChildren}
 use Rattle.zst_tree.proofs.put.fill.Given as goal
 

@@ -1,5 +1,4 @@
-use Rattle.std.proofs.Common.{◌+◌, ◌-◌, ◌*◌, ap, sym}
-use Rattle.zst_tree.specs.Indices.{span}
+use Rattle.std.proofs.Common.{◌+◌, ◌-◌, ap}
 use Rattle.zst_tree.proofs.IndicesLaws.{Subtree-grows}
 use Rattle.zst_tree.proofs.Span.{span-over}
 use Rattle.zst_tree.proofs.Mended.{one_parts}

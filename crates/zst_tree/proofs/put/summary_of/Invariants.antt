@@ -1,4 +1,4 @@
-use Rattle.std.proofs.Common.{◌≡◌, ◌≤◌}
+use Rattle.std.proofs.Common.{◌≡◌}
 use Rattle.zst_tree.specs.Indices.{greatest, any_present}
 use Rattle.zst_tree.proofs.put.summary_of.Given as goal
 

@@ -1,9 +1,8 @@
-use Rattle.std.proofs.Common.{◌+◌, ◌-◌, ◌*◌, ◌≤◌, arith}
+use Rattle.std.proofs.Common.{arith}
 use Rattle.std.proofs.lemmas.Result.{err_from_is_err_and}
 use Rattle.zst_block.specs.Ptr.{hole_of}
 use Rattle.zst_block.proofs.Working.{Works-then, Works-more}
 use Rattle.zst_tree.specs.Indices.{span}
-use Rattle.zst_tree.specs.Changes.{most}
 use Rattle.zst_tree.proofs.Most.{most_two}
 use Rattle.zst_tree.proofs.Whole.{over_on, over_on-changed, tail_holds}
 use Rattle.zst_tree.proofs.writes.punch_on.Goals as goal

@@ -1,8 +1,7 @@
-use Rattle.std.proofs.Common.{◌+◌, ◌-◌, ◌*◌, ◌≤◌, zero-add, arith}
+use Rattle.std.proofs.Common.{zero-add, arith}
 use Rattle.std.proofs.lemmas.Result.{err_from_is_err_and}
 use Rattle.zst_block.proofs.Working.{Works-then, Works-more}
 use Rattle.zst_tree.specs.Indices.{span}
-use Rattle.zst_tree.specs.Changes.{most}
 use Rattle.zst_tree.proofs.Most.{most_two, most-single}
 use Rattle.zst_tree.proofs.Whole.{over, over_changed, range_holds}
 use Rattle.zst_tree.proofs.writes.put_range.Goals as goal

@@ -1,6 +1,4 @@
-use Rattle.std.proofs.Common.{◌≡◌, ◌+◌, ◌-◌, ℕ, subst, arith}
 use Rattle.std.proofs.lemmas.Result.{err_from_is_err_and}
-use Rattle.zst_tree.specs.Changes.{Parts}
 use Rattle.zst_tree.proofs.Whole.{grown_parts, taller_stands}
 use Rattle.zst_tree.proofs.writes.raise.Goals as goal
 
