@@ -6,7 +6,7 @@ use Rattle.zst_bytes.specs.Fields.{found, is_clear, zeros, Fills}
 use Rattle.zst_bytes.proofs.FieldsLaws.{number-back, text-back, length-laid}
 use Rattle.zst_block.specs.Ptr.{ptr_bytes}
 use Rattle.zst_block.proofs.PtrLaws.{length-ptr_bytes, ptr_at-range}
-use Rattle.zst_model.specs.State.{is_block_size, largest_block, index_bound}
+use Rattle.zst_model.specs.states.State.{is_block_size, largest_block, index_bound}
 use Rattle.zst_dnode.specs.Dnode.{dnode_fields, dnode_at, DnodeFits}
 use Rattle.zst_dnode.specs.Slot.{slot_at, slot_bytes, slot_fields, SlotFits}
 use Rattle.zst_dnode.specs.declared.dnode.Dnode.{Dnode}

@@ -4,7 +4,7 @@ use Rattle.zst_bytes.specs.Bytes.{bytes_at, number_at}
 use Rattle.zst_bytes.specs.Fields.{Field, number, text}
 use Rattle.zst_block.specs.Ptr.{ptr_bytes, ptr_at, PtrFits, is_flat, is_lawful}
 use Rattle.zst_block.specs.declared.ptr.Ptr.{Ptr}
-use Rattle.zst_model.specs.State.{index_bound, is_odd_size, is_spill_size, IsHead}
+use Rattle.zst_model.specs.states.State.{index_bound, is_odd_size, is_spill_size, IsHead}
 use Rattle.zst_dnode.specs.declared.dnode.Dnode.{Dnode}
 
 -- the fields of a dnode, one a line: place, width, value

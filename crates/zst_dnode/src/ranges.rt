@@ -1,6 +1,6 @@
 //! Whether the values of a dnode are in their ranges.
 ghost use Rattle.std.specs.Prelude.{◌≡◌, ◌↔◌, ◌≤◌, ◌^◌, ◌<◌, true, All, IsTrue, length};
-ghost use Rattle.zst_model.specs.State.{index_bound, is_block_size, is_odd_size, is_spill_size, IsHead};
+ghost use Rattle.zst_model.specs.states.State.{index_bound, is_block_size, is_odd_size, is_spill_size, IsHead};
 ghost use Rattle.zst_dnode.specs.Dnode.{IsBonusField, is_root, is_spill};
 
 use crate::dnode::Dnode;
@@ -10,7 +10,7 @@ use zst_block::Ptr;
 const INDEX_BOUND: u64 = 1 << 43;
 
 // Whether a block may have so many bytes: a multiple of 512 from 512 to 131,072.
-#[tactic(auto, unfolding(zst_model::specs::State::is_block_size, zst_model::specs::State::largest_block))]
+#[tactic(auto, unfolding(zst_model::specs::states::State::is_block_size, zst_model::specs::states::State::largest_block))]
 fn is_block_size(bytes: u32) -> bool
     ensures { result ≡ is_block_size bytes }
 {
@@ -18,7 +18,7 @@ fn is_block_size(bytes: u32) -> bool
 }
 
 // Whether a spill block may have so many bytes: a multiple of 512 from 512 to 131,072.
-#[tactic(auto, unfolding(zst_model::specs::State::is_spill_size))]
+#[tactic(auto, unfolding(zst_model::specs::states::State::is_spill_size))]
 fn is_spill_size(bytes: u32) -> bool
     ensures { result ≡ is_spill_size bytes }
 {
@@ -33,7 +33,7 @@ fn is_head(type_: u32, bonus_type: u32, block_size: u32) -> bool
 }
 
 // Whether an object of blocks of this size may have this end.
-#[tactic(auto, unfolding(zst_model::specs::State::index_bound))]
+#[tactic(auto, unfolding(zst_model::specs::states::State::index_bound))]
 fn is_end(end: u64, block_size: u32) -> bool
     ensures { IsTrue result ↔ ((end ≤ index_bound) × (is_odd_size block_size ≡ true → end ≤ 1)) }
 {

@@ -195,7 +195,8 @@ fn ends_of(level: u8, first: u64, below: u64) -> Ends
     }
 }
 
-// Gives the leaf to the offsets of a range below a pointer, and gives the pointer to what is then there.
+// Gives the leaf to the offsets of a range below a pointer, and gives the pointer to what is then
+// there.
 pub(crate) fn put_in<D: Disk>(
     io: &mut Io<'_, D>,
     level: u8,

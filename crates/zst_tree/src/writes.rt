@@ -1,4 +1,5 @@
-// What changes a tree: it grows, and a range gets one leaf. The tree is changed last, so a refusal leaves it.
+// What changes a tree: it grows, and a range gets one leaf. The tree is changed last, so a refusal
+// leaves it.
 ghost use Rattle.std.specs.Prelude.{◌≡◌, ◌⊎◌, ◌+◌, ◌-◌, ◌*◌, ◌^◌, ◌<◌, ◌≤◌, ℕ, true, false, OnErr, IfOk};
 ghost use Rattle.zst_block.specs.Blocks.{FitsDisk, Has};
 ghost use Rattle.zst_block.specs.Ptr.{hole_of, redacted_of, is_flat, is_lawful};
@@ -212,3 +213,6 @@ impl Tree {
         put_range(self, io, first, first + count, Ptr::redacted(number))
     }
 }
+
+#[cfg(test)]
+mod tests;
