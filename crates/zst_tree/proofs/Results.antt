@@ -5,17 +5,9 @@ use Rattle.zst_block.specs.declared.fault.BlockFault.{BlockFault}
 use Rattle.zst_block.specs.declared.fault.BlockFault.TheVariants.{Full, Damaged, DiskFault}
 use Rattle.zst_tree.specs.Indices.{Delivers}
 
-pub delivers_if : {T : Type 0} {P Q : T → Type 0} → (result : Result T BlockFault) → ((value : T) → P value → Q value) → Delivers P result → Delivers Q result
-delivers_if (Ok value) more is = more value is
-delivers_if (Err (Full need largest)) more is = is
-delivers_if (Err (Damaged sector stated found)) more is = is
-delivers_if (Err DiskFault) more is = is
-
--- a fault is passed on
-pub delivers_fault : {T U : Type 0} (P : T → Type 0) (Q : U → Type 0) → (fault : BlockFault) → Delivers P (Err fault) → Delivers Q (Err fault)
-delivers_fault P Q (Full need largest) is = is
-delivers_fault P Q (Damaged sector stated found) is = is
-delivers_fault P Q DiskFault is = is
+pub delivers_if : {T : Type 0} → (P Q : T → Type 0) (result : Result T BlockFault) → ((value : T) → P value → Q value) → Delivers P result → Delivers Q result
+delivers_if P Q (Ok value) more is = more value is
+delivers_if P Q (Err fault) more is = is
 
 -- what was loaded of a block that is there
 pub delivers_block : (P : Type 0) (bytes loaded : List ℕ) (result : Result (Unit {0}) BlockFault) → GivesBlock bytes loaded result → (loaded ≡ bytes → P) → Delivers (λ done. P) result
