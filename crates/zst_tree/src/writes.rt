@@ -212,3 +212,6 @@ impl Tree {
         put_range(self, io, first, first + count, Ptr::redacted(number))
     }
 }
+
+#[cfg(test)]
+mod tests;
