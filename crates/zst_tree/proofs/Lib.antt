@@ -11,3 +11,7 @@ pub mod Mended
 pub mod Narrow
 pub mod Sums
 pub mod Whole
+pub mod Loaded
+pub mod Finding
+pub mod Quieter
+pub mod Emptier

@@ -1,11 +1,16 @@
 //! A copy-on-write tree of pointers over indices, and the bytes of an object set.
 #![tactic(auto)]
 
+mod earlier;
+mod get;
+mod later;
 mod nodes;
 mod put;
+mod reach;
 mod spans;
 mod steps;
 mod tree;
+mod walks;
 mod words;
 mod writes;
 

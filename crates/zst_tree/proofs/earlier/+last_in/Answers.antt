@@ -1,0 +1,53 @@
+use Rattle.std.proofs.Common.{rules, ◌≡◌, ◌+◌, ◌-◌, ◌*◌, ◌<◌, ◌≤◌, ℕ, true, false, refl, sym, ◌∙◌, arith}
+use Rattle.std.proofs.lemmas.Result.{err_from_is_err_and}
+use Rattle.zst_block.specs.Blocks.{Has}
+use Rattle.zst_block.specs.Ptr.{is_flat}
+use Rattle.zst_tree.specs.Indices.{span}
+use Rattle.zst_tree.specs.Reaching.{Parts, stands_throughout}
+use Rattle.zst_tree.specs.Earlier.{IsLast}
+use Rattle.zst_tree.proofs.Emptier.{at_present, last_leaf, last_under, some_present}
+use Rattle.zst_tree.proofs.Loaded.{inner_level, loaded_is, loaded_parts, node_fault}
+use Rattle.zst_tree.proofs.Quieter.{here}
+use Rattle.zst_tree.proofs.Results.{delivers_as}
+use Rattle.zst_tree.proofs.Span.{span-pos}
+use Rattle.zst_tree.proofs.earlier.+last_in.Goals as goal
+
+pub overflow_sub-result : goal.overflow_sub-result
+overflow_sub-result g t c = omega (arith, c.span_of.ensures, span-pos c.args.level)
+
+pub returns-then-stands_throughout-clause-last : goal.returns-then-stands_throughout-clause-last
+returns-then-stands_throughout-clause-last g t c = λ map honest present stands.
+    let throughout : stands_throughout c.args.level c.args.ptr ≡ true = sym c.stands_throughout.ensures ∙ c.if-stands_throughout.true in
+    let some = span-pos c.args.level in
+    rw c.span_of.ensures
+    (last_leaf map c.args.level c.args.base (c.args.base + (span c.args.level - 1)) (omega arith)
+    (at_present map (c.args.base + (span c.args.level - 1)) c.args.ptr (here _ map c.args.level c.args.ptr c.args.base (span c.args.level - 1) throughout (omega arith) stands) present))
+
+pub returns-then-stands_throughout-clause-range : goal.returns-then-stands_throughout-clause-range
+returns-then-stands_throughout-clause-range g t c = (omega arith, omega (arith, c.span_of.ensures, span-pos c.args.level))
+
+pub returns-in_err-load_node-clause-last : goal.returns-in_err-load_node-clause-last
+returns-in_err-load_node-clause-last g t c = λ map honest present stands.
+    let throughout : stands_throughout c.args.level c.args.ptr ≡ false = sym c.stands_throughout.ensures ∙ c.if-stands_throughout.false in
+    let inner = inner_level c.args.level c.args.ptr throughout in
+    let p = err_from_is_err_and c.from_residual.result c.from_residual.ensures.1 in
+    rw (p.1, p.2) (node_fault (IsLast map c.args.base (c.args.base + span c.args.level)) _ c.args.level c.args.ptr c.args.base map c.load_node.new.io.node _ inner.0 inner.1
+    (λ bytes node. c.in_err-load_node.ensures.there bytes honest node) stands)
+
+pub returns-in-None-clause-last : goal.returns-in-None-clause-last
+returns-in-None-clause-last g t c = λ map honest present stands.
+    let throughout : stands_throughout c.args.level c.args.ptr ≡ false = sym c.stands_throughout.ensures ∙ c.if-stands_throughout.false in
+    let inner = inner_level c.args.level c.args.ptr throughout in
+    let loaded = loaded_is _ c.args.level c.args.ptr c.args.base map c.load_node.new.io.node inner.0 inner.1 (λ bytes node. c.in_ok-load_node.ensures.there bytes honest node) stands in
+    absurd (some_present map _ c.args.level c.args.ptr c.load_node.new.io.node loaded.node present c.in-None.ensures)
+
+pub returns-in-Some-clause-last : goal.returns-in-Some-clause-last
+returns-in-Some-clause-last g t c = λ map honest present stands.
+    let throughout : stands_throughout c.args.level c.args.ptr ≡ false = sym c.stands_throughout.ensures ∙ c.if-stands_throughout.false in
+    let inner = inner_level c.args.level c.args.ptr throughout in
+    let was_honest = c.last_in.ensures.looks.reads.honest honest in
+    let parts : Parts (Has (g.D.Disk.state c.load_node.new.io.disk.now).seen c.load_node.new.io.space) (c.args.level - 1) c.load_node.new.io.node c.args.base map =
+    loaded_parts _ _ _ _ _ _ _ c.in_ok-load_node.ensures.looks c.args.level c.args.ptr c.args.base map c.load_node.new.io.node inner.0 inner.1 (λ bytes node. c.in_ok-load_node.ensures.there bytes was_honest node) stands in
+    delivers_as c.last_in.result
+    (λ found last. last_under map _ c.args.level c.args.base c.in-Some.k found c.load_node.new.io.node inner.0 c.in-Some.ensures.0 parts c.in-Some.ensures.2 (rw c.start_of-start.ensures.value at last))
+    (c.last_in.ensures.last map honest (rw c.child_at-child.ensures.child c.in-Some.ensures.1) (rw (c.child_at-child.ensures.child, c.start_of-start.ensures.value) (parts c.in-Some.k c.in-Some.ensures.0)))

@@ -1,0 +1,58 @@
+use Rattle.std.proofs.Common.{rules, ◌≡◌, List, ◌+◌, ◌-◌, ◌*◌, ◌<◌, ◌≤◌, ℕ, true, false, refl, sym, ◌∙◌, arith}
+use Rattle.std.proofs.lemmas.Result.{err_from_is_err_and}
+use Rattle.zst_space.specs.FreeSectors.{FreeSectors}
+use Rattle.zst_block.specs.Blocks.{Has}
+use Rattle.zst_block.specs.Ptr.{is_flat}
+use Rattle.zst_tree.specs.Indices.{span}
+use Rattle.zst_tree.specs.Reaching.{Parts, stands_throughout}
+use Rattle.zst_tree.specs.Later.{Quiet, ReachesLater}
+use Rattle.zst_tree.proofs.Loaded.{inner_level, loaded_parts, node_fault, there_after}
+use Rattle.zst_tree.proofs.Quieter.{quiet_below, at_late, here, later_nearer}
+use Rattle.zst_tree.proofs.Results.{delivers_fault}
+use Rattle.zst_tree.proofs.later.+along.Goals as goal
+
+pub returns-then-ptr-number-clause-reaches : goal.returns-then-ptr-number-clause-reaches
+returns-then-ptr-number-clause-reaches g t c = λ map honest stands.
+    let quiet : Quiet map c.args.base (c.args.base + span c.args.level) c.args.number = quiet_below map c.args.number _ c.args.level c.args.ptr c.args.base (omega arith) stands in
+    record { early = λ i from below. quiet.early i (omega arith) below }
+
+pub returns-then-stands_throughout-clause-reaches : goal.returns-then-stands_throughout-clause-reaches
+returns-then-stands_throughout-clause-reaches g t c = λ map honest stands.
+    let throughout : stands_throughout c.args.level c.args.ptr ≡ true = sym c.stands_throughout.ensures ∙ c.if-stands_throughout.true in
+    (refl, omega arith, at_late map c.args.number (c.args.base + c.args.offset) c.args.ptr (here _ map c.args.level c.args.ptr c.args.base c.args.offset throughout c.requires.offset stands) (omega arith))
+
+pub returns-in_err-load_counted-clause-reaches : goal.returns-in_err-load_counted-clause-reaches
+returns-in_err-load_counted-clause-reaches g t c = λ map honest stands.
+    let throughout : stands_throughout c.args.level c.args.ptr ≡ false = sym c.stands_throughout.ensures ∙ c.if-stands_throughout.false in
+    let inner = inner_level c.args.level c.args.ptr throughout in
+    let p = err_from_is_err_and c.from_residual.result c.from_residual.ensures.1 in
+    let has = Has (g.D.Disk.state c.load_counted.new.io.disk.now).seen c.load_counted.new.io.space in
+    rw (p.1, p.2) (node_fault (ReachesLater has map (c.args.level - 1) (c.args.base + c.args.offset) (c.args.base + span c.args.level) c.args.number) _ c.args.level c.args.ptr c.args.base map c.load_counted.new.io.node _ inner.0 inner.1
+    (λ bytes node. c.in_err-load_counted.ensures.there bytes honest node) stands)
+
+pub returns-in_err-reach-clause-reaches : goal.returns-in_err-reach-clause-reaches
+returns-in_err-reach-clause-reaches g t c = λ map honest stands.
+    let throughout : stands_throughout c.args.level c.args.ptr ≡ false = sym c.stands_throughout.ensures ∙ c.if-stands_throughout.false in
+    let inner = inner_level c.args.level c.args.ptr throughout in
+    let was_honest = c.in_err-reach.ensures.looks.reads.honest honest in
+    let parts : Parts (Has (g.D.Disk.state c.load_counted.new.io.disk.now).seen c.load_counted.new.io.space) (c.args.level - 1) c.load_counted.new.io.node c.args.base map =
+    loaded_parts _ _ _ _ _ _ _ c.in_ok-load_counted.ensures.looks c.args.level c.args.ptr c.args.base map c.load_counted.new.io.node inner.0 inner.1 (λ bytes node. c.in_ok-load_counted.ensures.there bytes was_honest node) stands in
+    let p = err_from_is_err_and c.from_residual-in_err-reach.result c.from_residual-in_err-reach.ensures.1 in
+    let has = Has (g.D.Disk.state c.along.new.io.disk.now).seen c.along.new.io.space in
+    rw (p.1, p.2) (delivers_fault (ReachesLater has map (c.args.level - 1 - 1) (c.start_of-start.result + c.place_of-place.result.rest) (c.start_of-start.result + span (c.args.level - 1)) c.args.number)
+    (ReachesLater has map (c.args.level - 1) (c.args.base + c.args.offset) (c.args.base + span c.args.level) c.args.number) _
+    (c.in_err-reach.ensures.reaches map honest (rw (c.child_at-child.ensures.child, c.start_of-start.ensures.value) (parts c.place_of-place.result.child c.place_of-place.ensures.child))))
+
+pub returns-clause-reaches : goal.returns-clause-reaches
+returns-clause-reaches g t c = λ map honest stands.
+    let throughout : stands_throughout c.args.level c.args.ptr ≡ false = sym c.stands_throughout.ensures ∙ c.if-stands_throughout.false in
+    let inner = inner_level c.args.level c.args.ptr throughout in
+    let was_honest = c.in_ok-reach.ensures.looks.reads.honest honest in
+    let parts : Parts (Has (g.D.Disk.state c.load_counted.new.io.disk.now).seen c.load_counted.new.io.space) (c.args.level - 1) c.load_counted.new.io.node c.args.base map =
+    loaded_parts _ _ _ _ _ _ _ c.in_ok-load_counted.ensures.looks c.args.level c.args.ptr c.args.base map c.load_counted.new.io.node inner.0 inner.1 (λ bytes node. c.in_ok-load_counted.ensures.there bytes was_honest node) stands in
+    let now = Has (g.D.Disk.state c.along.new.io.disk.now).seen c.along.new.io.space in
+    let later : Parts now (c.args.level - 1) c.load_counted.new.io.node c.args.base map = there_after _ _ _ _ _ _ _ c.in_ok-reach.ensures.looks (λ (seen : List ℕ) (s : FreeSectors). Parts (Has seen s) (c.args.level - 1) c.load_counted.new.io.node c.args.base map) parts in
+    rw c.nearer.ensures
+    (later_nearer map c.args.number now c.args.level c.args.base c.place_of-place.result.child c.place_of-place.result.rest c.args.offset c.start_of-start.result c.in_ok-reach.reach c.later_from-behind.result inner.0 c.place_of-place.ensures.child c.place_of-place.ensures.rest c.place_of-place.ensures.sum c.start_of-start.ensures.value
+    (c.in_ok-reach.ensures.reaches map honest (rw (c.child_at-child.ensures.child, c.start_of-start.ensures.value) (parts c.place_of-place.result.child c.place_of-place.ensures.child)))
+    (c.later_from-behind.ensures.later _ _ map later (omega arith)))

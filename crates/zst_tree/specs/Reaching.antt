@@ -1,0 +1,35 @@
+-- What a path down to an index shows beside it.
+use Rattle.std.specs.Prelude.{◌≡◌, ℕ, ◌+◌, ◌*◌, ◌<◌, ◌≤◌, ◌==◌, ◌||◌, Bool, List, Option, None, Some}
+use Rattle.zst_block.specs.Ptr.{is_flat}
+use Rattle.zst_block.specs.declared.ptr.Ptr.{Ptr}
+use Rattle.zst_tree.specs.Indices.{Blocks, Map, Subtree, child, span}
+use Rattle.zst_tree.specs.declared.reach.Beside.{Beside}
+use Rattle.zst_tree.specs.declared.reach.Reach.{Reach}
+use Rattle.zst_tree.specs.declared.reach.Reach.TheVariants.{Nothing, Here, There}
+
+-- a pointer at this level stands for every index below it: it is a leaf's, a hole or redacted
+abbrev pub stands_throughout : ℕ → Ptr → Bool
+stands_throughout level ptr = (level == 0) || is_flat ptr
+
+-- below each of the 128 pointers of a block stands its part of the map
+abbrev pub Parts : Blocks → ℕ → List ℕ → ℕ → Map → Type 0
+Parts has level bytes base map = (k : ℕ) → k < 128 → Subtree has level (child bytes k) (base + k * span level) map
+
+-- what is shown stands from here to there, and a subtree isn't higher than this level
+abbrev pub IsInside : ℕ → ℕ → ℕ → Reach → Type 0
+IsInside level from below Nothing = Unit {0}
+IsInside level from below (Here index) = (from ≤ index) × (index < below)
+IsInside level from below (There beside) = (beside.level ≤ level) × (from ≤ beside.base) × (beside.base + span beside.level ≤ below)
+
+-- the subtree at a child stands from here to there
+pub record IsChild (level from below : ℕ) (beside : Beside) : Type 0 where
+  pub level_is : beside.level ≡ level
+  pub from_on : from ≤ beside.base
+  pub under : beside.base + span beside.level ≤ below
+
+-- what the path shows, or else the subtree beside it
+abbrev pub nearer_of : Reach → Option Beside → Reach
+nearer_of Nothing None = Nothing
+nearer_of Nothing (Some beside) = There beside
+nearer_of (Here index) other = Here index
+nearer_of (There beside) other = There beside

@@ -1,0 +1,42 @@
+//! What a path down to an index shows.
+ghost use Rattle.std.specs.Prelude.{◌≡◌};
+ghost use Rattle.zst_tree.specs.Reaching.{nearer_of, stands_throughout};
+
+use zst_block::Ptr;
+
+// Whether a pointer at a level stands for every index below it.
+pub(crate) fn stands_throughout(level: u8, ptr: &Ptr) -> bool
+    ensures { result ≡ stands_throughout level ptr.now }
+{
+    level == 0 || ptr.is_flat()
+}
+
+// A subtree beside the path, with something in it that is looked for.
+#[derive(Clone, Copy, Debug, PartialEq, Eq)]
+pub(crate) struct Beside {
+    pub level: u8,
+    pub ptr: Ptr,
+    pub base: u64,
+}
+
+// What a path shows: nothing that is looked for, the index itself, or a subtree beside the path.
+#[derive(Clone, Copy, Debug, PartialEq, Eq)]
+pub(crate) enum Reach {
+    Nothing,
+    Here(u64),
+    There(Beside),
+}
+
+// What the rest of the path shows, or else what is beside it here.
+pub(crate) fn nearer(reach: Reach, beside: Option<Beside>) -> Reach
+    ensures { result ≡ nearer_of reach beside }
+{
+    match reach {
+        Reach::Nothing => match beside {
+            None => Reach::Nothing,
+            Some(beside) => Reach::There(beside),
+        },
+        Reach::Here(index) => Reach::Here(index),
+        Reach::There(nearest) => Reach::There(nearest),
+    }
+}

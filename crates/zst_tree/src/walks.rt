@@ -1,0 +1,198 @@
+//! What reads a tree.
+ghost use Rattle.std.specs.Prelude.{◌≡◌, ◌⊎◌, ◌+◌, ◌-◌, ◌*◌, ◌^◌, ◌<◌, ◌≤◌, ℕ, IfOk, IfSome, MatchOption};
+ghost use Rattle.zst_block.specs.Blocks.{FitsDisk, Has};
+ghost use Rattle.zst_block.specs.Working.{Looks, stop_of};
+ghost use Rattle.zst_tree.specs.Earlier.{FindsLast};
+ghost use Rattle.zst_tree.specs.Indices.{Delivers, Map, Subtree, span};
+ghost use Rattle.zst_tree.specs.Later.{FindsFirst};
+
+use crate::earlier::{back_along, last_in};
+use crate::get::find_in;
+use crate::later::{along, first_in};
+use crate::reach::Reach;
+use crate::spans::{INDEX_BOUND, span_of};
+use crate::steps::Steps;
+use crate::tree::Tree;
+use std::sync::ledger::Ledger;
+use zst_block::{BlockFault, Io, Ptr};
+use zst_outside::Disk;
+
+// The first index from one on below the root of a tree that is dated after a number.
+#[tactic(auto, using(crate::proofs::Span::span_limit))]
+fn first_from<D: Disk, L: Ledger>(
+    io: &mut Io<'_, D>,
+    levels: u8,
+    root: Ptr,
+    index: u64,
+    number: u64,
+    steps: &mut Steps<L>,
+) -> Result<Option<u64>, BlockFault>
+    requires levels { levels ≤ 7 }
+    requires fits { FitsDisk (D.state io.old.disk.now).size io.old.space }
+    ensures first { (map : Map) → (D.state io.new.disk.now).honest → Subtree (Has (D.state io.old.disk.now).seen io.old.space) levels root 0 map →
+        Delivers (FindsFirst map index (span levels) number) result }
+    ensures range { IfOk result (λ found. IfSome found (λ first. (index ≤ first) × (first < span levels))) }
+    ensures looks { Looks (D.state io.old.disk.now) io.old.space io.old.failed (D.state io.new.disk.now) io.new.space io.new.failed (stop_of result) }
+    ensures steps { (steps.old ≤ steps.new) × (steps.new ≤ steps.old + (2 * levels - 1)) }
+    ensures calls { (D.state io.new.disk.now).calls + steps.old ≤ (D.state io.old.disk.now).calls + steps.new }
+    ensures kept_fit { FitsDisk (D.state io.new.disk.now).size io.new.space }
+    ensures same { io.new.disk.ghost_name ≡ io.old.disk.ghost_name }
+{
+    if index >= span_of(levels) {
+        return Ok(None);
+    }
+    match along(io, levels, root, 0, index, number, steps)? {
+        Reach::Nothing => Ok(None),
+        Reach::Here(found) => Ok(Some(found)),
+        Reach::There(behind) => Ok(Some(first_in(
+            io,
+            behind.level,
+            behind.ptr,
+            behind.base,
+            number,
+            steps,
+        )?)),
+    }
+}
+
+// The last index up to one below the root of a tree that has something present.
+#[tactic(auto, using(crate::proofs::Span::span_limit))]
+fn last_to<D: Disk>(
+    io: &mut Io<'_, D>,
+    levels: u8,
+    root: Ptr,
+    index: u64,
+) -> Result<Option<u64>, BlockFault>
+    requires levels { levels ≤ 7 }
+    requires index { index < span levels }
+    requires fits { FitsDisk (D.state io.old.disk.now).size io.old.space }
+    ensures last { (map : Map) → (D.state io.new.disk.now).honest → Subtree (Has (D.state io.old.disk.now).seen io.old.space) levels root 0 map →
+        Delivers (FindsLast map 0 (index + 1)) result }
+    ensures range { IfOk result (λ found. IfSome found (λ last. last ≤ index)) }
+    ensures looks { Looks (D.state io.old.disk.now) io.old.space io.old.failed (D.state io.new.disk.now) io.new.space io.new.failed (stop_of result) }
+    ensures calls { (D.state io.new.disk.now).calls ≤ (D.state io.old.disk.now).calls + (2 * levels - 1) }
+    ensures kept_fit { FitsDisk (D.state io.new.disk.now).size io.new.space }
+    ensures same { io.new.disk.ghost_name ≡ io.old.disk.ghost_name }
+{
+    match back_along(io, levels, root, 0, index)? {
+        Reach::Nothing => Ok(None),
+        Reach::Here(found) => Ok(Some(found)),
+        Reach::There(before) => Ok(Some(last_in(io, before.level, before.ptr, before.base)?)),
+    }
+}
+
+impl Tree {
+    ghost use Rattle.std.specs.Prelude.{◌≡◌, ◌+◌, ◌^◌, ◌<◌, ◌≤◌, ℕ, IfOk, IfSome};
+    ghost use Rattle.zst_block.specs.Blocks.{FitsDisk, Has};
+    ghost use Rattle.zst_block.specs.Working.{Looks, stop_of};
+    ghost use Rattle.zst_tree.specs.Earlier.{FindsLast};
+    ghost use Rattle.zst_tree.specs.Finding.{FindsIn, Shows};
+    ghost use Rattle.zst_tree.specs.Indices.{Delivers, Map, TreeIs};
+    ghost use Rattle.zst_tree.specs.Later.{FindsFirst};
+
+    /// The pointer of an index, and of how many from it on it is that: 1 for a leaf with a block,
+    /// what is left of its span for a hole or a redacted pointer, and past the span of the tree
+    /// what is left up to 2^44. A hole's number is its date.
+    pub fn get<D: Disk, L: Ledger>(
+        &self,
+        io: &mut Io<'_, D>,
+        index: u64,
+        steps: &mut Steps<L>,
+    ) -> Result<(Ptr, u64), BlockFault>
+        requires levels { self.now.levels ≤ 7 }
+        requires index { index < 2 ^ 44 }
+        requires fits { FitsDisk (D.state io.old.disk.now).size io.old.space }
+
+        // A tree that is there shows what it holds, and isn't damaged.
+        ensures shows { (map : Map) → (D.state io.new.disk.now).honest → TreeIs (Has (D.state io.old.disk.now).seen io.old.space) self.now map → Delivers (Shows map index) result }
+        ensures count { (map : Map) → (D.state io.new.disk.now).honest → TreeIs (Has (D.state io.old.disk.now).seen io.old.space) self.now map → Delivers (FindsIn (Has (D.state io.old.disk.now).seen io.old.space) self.now index) result }
+        ensures range { IfOk result (λ found. (0 < found.1) × (index + found.1 ≤ 2 ^ 49)) }
+
+        // It only reads, a block each step.
+        ensures looks { Looks (D.state io.old.disk.now) io.old.space io.old.failed (D.state io.new.disk.now) io.new.space io.new.failed (stop_of result) }
+        ensures steps { (steps.old ≤ steps.new) × (steps.new ≤ steps.old + 7) }
+        ensures calls { (D.state io.new.disk.now).calls + steps.old ≤ (D.state io.old.disk.now).calls + steps.new }
+        ensures kept_fit { FitsDisk (D.state io.new.disk.now).size io.new.space }
+        ensures same { io.new.disk.ghost_name ≡ io.old.disk.ghost_name }
+    {
+        if index >= span_of(self.levels) {
+            return Ok((Ptr::hole(self.past), INDEX_BOUND - index));
+        }
+        find_in(io, self.levels, self.root, index, steps)
+    }
+
+    /// The least index from one on and below another that is dated after a number.
+    pub fn next_after<D: Disk, L: Ledger>(
+        &self,
+        io: &mut Io<'_, D>,
+        index: u64,
+        below: u64,
+        number: u64,
+        steps: &mut Steps<L>,
+    ) -> Result<Option<u64>, BlockFault>
+        requires levels { self.now.levels ≤ 7 }
+        requires below { below ≤ 2 ^ 44 }
+        requires fits { FitsDisk (D.state io.old.disk.now).size io.old.space }
+
+        // A tree that is there has it found, and isn't damaged.
+        ensures first { (map : Map) → (D.state io.new.disk.now).honest → TreeIs (Has (D.state io.old.disk.now).seen io.old.space) self.now map → Delivers (FindsFirst map index below number) result }
+        ensures range { IfOk result (λ found. IfSome found (λ first. (index ≤ first) × (first < below))) }
+
+        // It only reads, a block each step.
+        ensures looks { Looks (D.state io.old.disk.now) io.old.space io.old.failed (D.state io.new.disk.now) io.new.space io.new.failed (stop_of result) }
+        ensures steps { (steps.old ≤ steps.new) × (steps.new ≤ steps.old + 13) }
+        ensures calls { (D.state io.new.disk.now).calls + steps.old ≤ (D.state io.old.disk.now).calls + steps.new }
+        ensures kept_fit { FitsDisk (D.state io.new.disk.now).size io.new.space }
+        ensures same { io.new.disk.ghost_name ≡ io.old.disk.ghost_name }
+    {
+        match first_from(io, self.levels, self.root, index, number, steps)? {
+            Some(found) => Ok(limited(found, below)),
+            None => Ok(first_past(self.past, index.max(span_of(self.levels)), below, number)),
+        }
+    }
+
+    /// The greatest index below one that isn't a hole.
+    pub fn last_below<D: Disk>(
+        &self,
+        io: &mut Io<'_, D>,
+        index: u64,
+    ) -> Result<Option<u64>, BlockFault>
+        requires levels { self.now.levels ≤ 7 }
+        requires index { index ≤ 2 ^ 44 }
+        requires fits { FitsDisk (D.state io.old.disk.now).size io.old.space }
+
+        // A tree that is there has it found, and isn't damaged.
+        ensures last { (map : Map) → (D.state io.new.disk.now).honest → TreeIs (Has (D.state io.old.disk.now).seen io.old.space) self.now map → Delivers (FindsLast map 0 index) result }
+        ensures range { IfOk result (λ found. IfSome found (λ last. last < index)) }
+
+        // It only reads, and little.
+        ensures looks { Looks (D.state io.old.disk.now) io.old.space io.old.failed (D.state io.new.disk.now) io.new.space io.new.failed (stop_of result) }
+        ensures calls { (D.state io.new.disk.now).calls ≤ (D.state io.old.disk.now).calls + 14 }
+        ensures kept_fit { FitsDisk (D.state io.new.disk.now).size io.new.space }
+        ensures same { io.new.disk.ghost_name ≡ io.old.disk.ghost_name }
+    {
+        let end = index.min(span_of(self.levels));
+        if end == 0 {
+            return Ok(None);
+        }
+        last_to(io, self.levels, self.root, end - 1)
+    }
+}
+
+// An index where it is below another.
+fn limited(found: u64, below: u64) -> Option<u64>
+    ensures { MatchOption result (below ≤ found) (λ limited. (limited ≡ found) × (found < below)) }
+{
+    if found < below { Some(found) } else { None }
+}
+
+// The first index past the span of a tree that is dated after a number.
+fn first_past(past: u64, from: u64, below: u64, number: u64) -> Option<u64>
+    ensures { MatchOption result ((past ≤ number) ⊎ (below ≤ from)) (λ found. (found ≡ from) × (from < below) × (number < past)) }
+{
+    if past > number && from < below {
+        Some(from)
+    } else {
+        None
+    }
+}
