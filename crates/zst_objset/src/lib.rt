@@ -4,7 +4,11 @@
 mod commands;
 mod fault;
 mod laws;
+mod leaves;
+mod putting;
+mod reading;
 mod slots;
+mod trees;
 
 pub use commands::{changes_are_commands, reads_are_commands};
 pub use fault::ObjFault;
