@@ -1,3 +1,4 @@
+pub mod AnswerLaws
 mod CommandLaws
 pub mod LeafLaws
 pub mod SetGrows
