@@ -1,5 +1,8 @@
+pub mod AnswerLaws
 mod CommandLaws
+pub mod LeafLaws
 pub mod SetGrows
 pub mod SetOnly
 pub mod SetLaws
+pub mod SetPuts
 pub mod SlotLaws

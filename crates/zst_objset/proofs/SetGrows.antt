@@ -11,7 +11,7 @@ use Rattle.zst_tree.specs.Indices.{Blocks, Map}
 use Rattle.zst_tree.proofs.IndicesLaws.{TreeIs-grows}
 use Rattle.zst_tree.specs.declared.tree.ObjSet.{ObjSet}
 use Rattle.zst_objset.specs.Dnodes.{BlockIs, SpillIs, SlotIs, ObjectIs, tree_of}
-use Rattle.zst_objset.specs.Sets.{AreSlots, LeafIs, SetHolds}
+use Rattle.zst_objset.specs.Sets.{AreSlots, LeafIs, NamesSlots, SetHolds}
 
 module _ (has more : Blocks) (up : (ptr : Ptr) (bytes : List ℕ) → has ptr bytes → more ptr bytes) where
   BlockIs-grows : (ptr : Ptr) (block : Block) → BlockIs has ptr block → BlockIs more ptr block
@@ -44,13 +44,17 @@ module _ (has more : Blocks) (up : (ptr : Ptr) (bytes : List ℕ) → has ptr by
   pub AreSlots-grows : (snap : DatedState) (j : ℕ) (slots : ℕ → Slot) → AreSlots has snap j slots → AreSlots more snap j slots
   AreSlots-grows snap j slots are = record { numbers = λ s less number. SlotIs-grows snap (16 * j + s) (slots s) (are.numbers s less number); no_number = are.no_number }
 
-  LeafIs-grows : (snap : DatedState) (j : ℕ) (ptr : Ptr) → LeafIs has snap j ptr → LeafIs more snap j ptr
+  pub NamesSlots-grows : (ptr : Ptr) (bytes : List ℕ) (slots : ℕ → Slot) → NamesSlots has ptr bytes slots → NamesSlots more ptr bytes slots
+  NamesSlots-grows ptr bytes slots names = record { there = up ptr bytes names.there; kind = names.kind; level = names.level; number = names.number; spells = names.spells }
+
+  pub LeafIs-grows : (snap : DatedState) (j : ℕ) (ptr : Ptr) → LeafIs has snap j ptr → LeafIs more snap j ptr
   LeafIs-grows snap j ptr (inl none) = inl none
-  LeafIs-grows snap j ptr (inr (bytes, slots, leaf)) = inr (
-    bytes,
-    slots,
-    record { there = up ptr bytes leaf.there; kind = leaf.kind; level = leaf.level; number = leaf.number; spells = leaf.spells; slots_are = AreSlots-grows snap j slots leaf.slots_are },
-  )
+  LeafIs-grows snap j ptr (inr leaf) = inr (record {
+    bytes = leaf.bytes;
+    slots = leaf.slots;
+    names = NamesSlots-grows ptr leaf.bytes leaf.slots leaf.names;
+    slots_are = AreSlots-grows snap j leaf.slots leaf.slots_are;
+  })
 
   pub SetHolds-grows : (set : ObjSet) (snap : DatedState) → SetHolds has set snap → SetHolds more set snap
   SetHolds-grows set snap holds = record {

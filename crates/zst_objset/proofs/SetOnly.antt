@@ -48,19 +48,19 @@ flat_kind : (kind : ℕ) (test : Bool) → ((kind == 0) || (kind == 2)) ≡ true
 flat_kind kind true flat is = let e : ((3 == 0) || (3 == 2)) ≡ true = subst (λ (n : ℕ). ((n == 0) || (n == 2)) ≡ true) is flat in false≢true e
 flat_kind kind false flat is = let e : ((4 == 0) || (4 == 2)) ≡ true = subst (λ (n : ℕ). ((n == 0) || (n == 2)) ≡ true) is flat in false≢true e
 
-hole_kind : (kind : ℕ) (test : Bool) → kind ≡ 0 → kind ≡ (if test then 3 else 4) → ⊥
+pub hole_kind : (kind : ℕ) (test : Bool) → kind ≡ 0 → kind ≡ (if test then 3 else 4) → ⊥
 hole_kind kind true hole is = omega (arith, hole, is)
 hole_kind kind false hole is = omega (arith, hole, is)
 
-small : (k : ℕ) → is_number k ≡ true → k / 16 < 2 ^ 44
+pub small : (k : ℕ) → is_number k ≡ true → k / 16 < 2 ^ 44
 unfolding number_bound
 small k number = grind (arith, nat_tests)
 
-under_bound : (i : ℕ) → i < index_bound → i < 2 ^ 44
+pub under_bound : (i : ℕ) → i < index_bound → i < 2 ^ 44
 unfolding index_bound
 under_bound i less = omega arith
 
-no_number_at : (state : State) (k : ℕ) → IsState state → is_number k ≡ false → state k ≡ None
+pub no_number_at : (state : State) (k : ℕ) → IsState state → is_number k ≡ false → state k ≡ None
 unfolding number_bound
 no_number_at state k lawful test = ⊎_elim (λ (zero_is : k ≡ 0). ap state zero_is ∙ lawful.zero) (λ (over : 2 ^ 48 ≤ k). lawful.bounded k over) (grind (arith, nat_tests))
 
@@ -133,13 +133,13 @@ module _ (has : Blocks) (one : (ptr : Ptr) (a b : List ℕ) → has ptr a → ha
       → (a.state (16 * j + s) ≡ b.state (16 * j + s)) × (a.number_date (16 * j + s) ≡ b.number_date (16 * j + s)) × ((i : ℕ) → i < index_bound → a.index_date (16 * j + s) i ≡ b.index_date (16 * j + s) i)
   leaf_one a b j s ptr less number lawful lawful2 (inl first) (inl second) =
       slot_one a b (16 * j + s) (Absent ptr.number) lawful lawful2 (first.absent s less number) (second.absent s less number)
-  leaf_one a b j s ptr less number lawful lawful2 (inl first) (inr second) = absurd (hole_kind ptr.kind (any_there second.1 16) first.kind second.2.kind)
-  leaf_one a b j s ptr less number lawful lawful2 (inr first) (inl second) = absurd (hole_kind ptr.kind (any_there first.1 16) second.kind first.2.kind)
+  leaf_one a b j s ptr less number lawful lawful2 (inl first) (inr second) = absurd (hole_kind ptr.kind (any_there second.slots 16) first.kind second.names.kind)
+  leaf_one a b j s ptr less number lawful lawful2 (inr first) (inl second) = absurd (hole_kind ptr.kind (any_there first.slots 16) second.kind first.names.kind)
   leaf_one a b j s ptr less number lawful lawful2 (inr first) (inr second) =
-      let bytes = one ptr first.0 second.0 first.2.there second.2.there in
-      let same = slot_bytes-unique (first.1 s) (second.1 s) (first.2.spells.fits s less) (second.2.spells.fits s less)
-      (sym (first.2.spells.spelled s less) ∙ ap (λ (xs : List ℕ). bytes_at xs (512 * s) 512) bytes ∙ second.2.spells.spelled s less) in
-      slot_one a b (16 * j + s) (first.1 s) lawful lawful2 (first.2.slots_are.numbers s less number) (subst (SlotIs has b (16 * j + s)) (sym same) (second.2.slots_are.numbers s less number))
+      let bytes = one ptr first.bytes second.bytes first.names.there second.names.there in
+      let same = slot_bytes-unique (first.slots s) (second.slots s) (first.names.spells.fits s less) (second.names.spells.fits s less)
+      (sym (first.names.spells.spelled s less) ∙ ap (λ (xs : List ℕ). bytes_at xs (512 * s) 512) bytes ∙ second.names.spells.spelled s less) in
+      slot_one a b (16 * j + s) (first.slots s) lawful lawful2 (first.slots_are.numbers s less number) (subst (SlotIs has b (16 * j + s)) (sym same) (second.slots_are.numbers s less number))
 
   -- one number
   number_one : (set : ObjSet) (a b : DatedState) → SetHolds has set a → SetHolds has set b → (k : ℕ) → is_number k ≡ true

@@ -14,15 +14,17 @@ use Rattle.zst_objset.specs.Sets.{any_there, date_in, is_there, latest, Spells}
 pub record Puts (bytes old new : List ℕ) (from below : ℕ) : Type 0 where
   pub put : (s : ℕ) → from ≤ s → s < below → bytes_at new (512 * s) 512 ≡ bytes
   pub kept : (s : ℕ) → s < 16 → (s < from) ⊎ (below ≤ s) → bytes_at new (512 * s) 512 ≡ bytes_at old (512 * s) 512
+  pub long : from < below → length new ≡ 8192
 
 pub Puts-none : (bytes old : List ℕ) (from : ℕ) → Puts bytes old old from from
-Puts-none bytes old from = record { put = λ s over under. absurd (omega arith); kept = λ s less beside. refl }
+Puts-none bytes old from = record { put = λ s over under. absurd (omega arith); kept = λ s less beside. refl; long = λ less. absurd (omega arith) }
 
 -- the next place
 pub Puts-next : (bytes old mid : List ℕ) (from place : ℕ) → from ≤ place → place < 16 → length bytes ≡ 512 → length mid ≡ 8192 → Puts bytes old mid from place → Puts bytes old (written (512 * place) 512 bytes mid) from (place + 1)
 Puts-next bytes old mid from place over less long size before = record {
   put = λ s from_on under. ⊎_elim (λ (earlier : s < place). above s earlier ∙ before.put s from_on earlier) (λ (here : place ≤ s). at s here under) (cases_lt s place);
   kept = λ s small beside. ⊎_elim (λ (earlier : s < place). above s earlier ∙ before.kept s small (first s beside earlier)) (λ (here : place ≤ s). below s small here beside ∙ before.kept s small (inr here)) (cases_lt s place);
+  long = λ some. length-written (512 * place) 512 bytes mid long (omega arith) ∙ size;
 }
   where
     above : (s : ℕ) → s < place → bytes_at (written (512 * place) 512 bytes mid) (512 * s) 512 ≡ bytes_at mid (512 * s) 512

@@ -11,7 +11,8 @@ use Rattle.zst_model.specs.declared.refusals.refusal.Refusal.TheVariants as refu
 use Rattle.zst_model.specs.states.State.{Block, Hole, Data}
 use Rattle.zst_model.specs.states.Dated.{DatedState}
 use Rattle.zst_tree.specs.Indices.{Blocks}
-use Rattle.zst_objset.specs.Dnodes.{DnodeIs, SlotIs}
+use Rattle.zst_model.specs.declared.refusals.apply_fault.ApplyFault.TheVariants.{NoObject}
+use Rattle.zst_objset.specs.Dnodes.{DnodeIs, IsThere, SlotIs}
 use Rattle.zst_objset.specs.declared.fault.ObjFault.{ObjFault}
 use Rattle.zst_objset.specs.declared.fault.ObjFault.TheVariants as faults
 
@@ -77,3 +78,16 @@ IsOfBlock (faults.CannotApply fault) = ⊥
 IsOfBlock (faults.Redacted object block) = ⊥
 IsOfBlock (faults.Limit which number) = ⊥
 IsOfBlock (faults.Block fault) = Unit {0}
+
+-- a dnode is that of the object; E21 where there is none; the disk may fail
+abbrev pub FindsThere : Blocks → DatedState → ℕ → Result Dnode ObjFault → Type 0
+FindsThere has snap k (Ok dnode) = IsThere has snap k dnode
+FindsThere has snap k (Err (faults.CannotApply fault)) = (fault ≡ NoObject) × (snap.state k ≡ None)
+FindsThere has snap k (Err (faults.Redacted object block)) = ⊥
+FindsThere has snap k (Err (faults.Limit which number)) = ⊥
+FindsThere has snap k (Err (faults.Block fault)) = IsDiskFault (faults.Block fault)
+
+-- these bytes were read as data; the disk may fail
+abbrev pub ReadsData : List ℕ → List ℕ → Result Cell ObjFault → Type 0
+ReadsData bytes read (Ok cell) = (cell ≡ cells.Data) × (read ≡ bytes)
+ReadsData bytes read (Err fault) = IsDiskFault fault

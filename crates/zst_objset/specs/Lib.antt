@@ -1,4 +1,5 @@
 pub mod Answers
 pub mod Changes
 pub mod Dnodes
+pub mod Putting
 pub mod Sets

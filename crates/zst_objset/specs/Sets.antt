@@ -41,13 +41,19 @@ pub record AreSlots (has : Blocks) (snap : DatedState) (j : ℕ) (slots : ℕ �
   pub numbers : (s : ℕ) → s < 16 → is_number (16 * j + s) ≡ true → SlotIs has snap (16 * j + s) (slots s)
   pub no_number : (s : ℕ) → s < 16 → is_number (16 * j + s) ≡ false → slots s ≡ Absent 0
 
--- a leaf: its kind says whether there is an object, and its number is the latest date that its slots tell
-pub record IsLeaf (has : Blocks) (snap : DatedState) (j : ℕ) (ptr : Ptr) (bytes : List ℕ) (slots : ℕ → Slot) : Type 0 where
+-- the pointer of a leaf names its slots: its kind says whether there is an object, and its number is the latest date that they tell
+pub record NamesSlots (has : Blocks) (ptr : Ptr) (bytes : List ℕ) (slots : ℕ → Slot) : Type 0 where
   pub there : has ptr bytes
   pub kind : ptr.kind ≡ (if any_there slots 16 then 3 else 4)
   pub level : ptr.level ≡ 0
   pub number : ptr.number ≡ latest slots 16
   pub spells : Spells bytes slots
+
+-- a leaf: its pointer names sixteen slots, which are those of its index
+pub record IsLeaf (has : Blocks) (snap : DatedState) (j : ℕ) (ptr : Ptr) : Type 0 where
+  pub bytes : List ℕ
+  pub slots : ℕ → Slot
+  pub names : NamesSlots has ptr bytes slots
   pub slots_are : AreSlots has snap j slots
 
 -- a hole in place of a leaf: its sixteen numbers are absent since its date
@@ -57,7 +63,7 @@ pub record IsHole (snap : DatedState) (j : ℕ) (ptr : Ptr) : Type 0 where
 
 -- what a pointer in the tree of a set says of sixteen numbers
 abbrev pub LeafIs : Blocks → DatedState → ℕ → Ptr → Type 0
-LeafIs has snap j ptr = IsHole snap j ptr ⊎ ((bytes : List ℕ) × (slots : ℕ → Slot) × IsLeaf has snap j ptr bytes slots)
+LeafIs has snap j ptr = IsHole snap j ptr ⊎ IsLeaf has snap j ptr
 
 -- what isn't a number or an index has the date 0
 pub record IsBounded (snap : DatedState) : Type 0 where
@@ -73,3 +79,9 @@ pub record SetHolds (has : Blocks) (set : ObjSet) (snap : DatedState) : Type 0 w
   pub map : Map
   pub tree : TreeIs has set.tree map
   pub leaves : (j : ℕ) → j < 2 ^ 44 → LeafIs has snap j (map j)
+
+-- these bytes have the sixteen slots of the leaf of this index
+pub record HasSlots (has : Blocks) (snap : DatedState) (j : ℕ) (bytes : List ℕ) : Type 0 where
+  pub slots : ℕ → Slot
+  pub spells : Spells bytes slots
+  pub slots_are : AreSlots has snap j slots

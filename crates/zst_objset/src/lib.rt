@@ -1,11 +1,18 @@
 //! Object sets over trees of blocks: the objects of a head, of a snapshot or of a partial state.
 #![tactic(auto)]
 
+mod answers;
 mod commands;
 mod fault;
 mod laws;
+mod leaves;
+mod objects;
+mod putting;
+mod reading;
 mod slots;
+mod trees;
 
 pub use commands::{changes_are_commands, reads_are_commands};
 pub use fault::ObjFault;
 pub use laws::sets_hold_states;
+pub use objects::Objects;

@@ -1,5 +1,5 @@
 //! The sixteen slots of a leaf, in a node.
-ghost use Rattle.std.specs.Prelude.{◌≡◌, ◌⊎◌, ◌*◌, ◌<◌, ◌≤◌, ℕ, Some};
+ghost use Rattle.std.specs.Prelude.{◌≡◌, ◌⊎◌, ◌*◌, ◌<◌, ◌≤◌, ℕ, Some, length};
 ghost use Rattle.zst_bytes.specs.Bytes.{bytes_at};
 ghost use Rattle.zst_dnode.specs.Slot.{slot_bytes, SlotFits};
 ghost use Rattle.zst_dnode.specs.declared.slot.Slot.{Slot};
@@ -73,6 +73,8 @@ pub(crate) fn put_slots(node: &mut Node, from: usize, below: usize, slot: &Slot)
     requires fits { SlotFits slot.now }
     ensures put { (s : ℕ) → from ≤ s → s < below → bytes_at node.new (512 * s) 512 ≡ slot_bytes slot.now }
     ensures kept { (s : ℕ) → s < 16 → (s < from) ⊎ (below ≤ s) → bytes_at node.new (512 * s) 512 ≡ bytes_at node.old (512 * s) 512 }
+    ensures long { from < below → length node.new ≡ 8192 }
+    ensures fits { SlotFits slot.now }
 {
     let mut bytes = [0; 512];
     slot.put(&mut bytes, 0);

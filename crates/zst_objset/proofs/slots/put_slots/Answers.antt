@@ -12,3 +12,6 @@ beside s from below place end (inr behind) = inr (omega arith)
 
 pub returns-clause-kept : goal.returns-clause-kept
 returns-clause-kept c = λ s small out. c.loop-place.invariant.kept s small (beside s c.args.from c.args.below c.loop-place.place (omega (arith, c.loop-place.auto.place-end c.requires.from)) out)
+
+pub returns-clause-long : goal.returns-clause-long
+returns-clause-long c = λ some. c.loop-place.invariant.long (omega (arith, c.loop-place-test.false))

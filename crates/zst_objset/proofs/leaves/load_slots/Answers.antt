@@ -1,0 +1,19 @@
+use Rattle.std.proofs.Common.{◌≡◌, arith, subst, sym, ℕ}
+use Rattle.zst_block.specs.Blocks.{Has}
+use Rattle.zst_objset.specs.Sets.{HasSlots, LeafIs}
+use Rattle.zst_objset.proofs.LeafLaws.{HasSlots-absent, HasSlots-first}
+use Rattle.zst_objset.proofs.leaves.load_slots.Goals as goal
+
+pub returns-then-leaf-eq0-clause-slots : goal.returns-then-leaf-eq0-clause-slots
+returns-then-leaf-eq0-clause-slots g c = λ snap honest is.
+    let has = Has (g.D.Disk.state c.args.io.now.disk.now).seen c.args.io.now.space in
+    let all = c.put_slots.ensures in
+    let first = c.put_slots-then-leaf-eq0.ensures in
+    let zero_is : c.args.leaf ≡ 0 = omega arith in
+    subst (λ (j : ℕ). HasSlots has snap j c.put_slots-then-leaf-eq0.new.node) (sym zero_is)
+    (HasSlots-first has snap c.args.ptr c.put_slots-then-leaf-eq0.new.node c.put_slots.new.node all.fits (omega arith) (first.long (omega arith)) all.put first.put first.kept (subst (λ (j : ℕ). LeafIs has snap j c.args.ptr) zero_is is))
+
+pub returns-else-leaf-eq0-clause-slots : goal.returns-else-leaf-eq0-clause-slots
+returns-else-leaf-eq0-clause-slots g c = λ snap honest is.
+    let there = c.put_slots.ensures in
+    HasSlots-absent _ snap c.args.leaf c.args.ptr c.put_slots.new.node (omega arith) (omega arith) there.fits (omega arith) (there.long (omega arith)) there.put is

@@ -1,0 +1,22 @@
+use Rattle.std.proofs.Common.{arith, refl, ℕ, List}
+use Rattle.std.proofs.lemmas.Result.{err_from_is_err_and}
+use Rattle.zst_space.specs.FreeSectors.{FreeSectors}
+use Rattle.zst_block.specs.Blocks.{Has}
+use Rattle.zst_objset.specs.Dnodes.{SlotIs}
+use Rattle.zst_objset.proofs.LeafLaws.{look_on, slot_found, slot_there}
+use Rattle.zst_objset.proofs.reading.slot_at.Goals as goal
+
+pub returns-in_err-was-clause-found : goal.returns-in_err-was-clause-found
+returns-in_err-was-clause-found g c = λ snap honest holds.
+    let p = err_from_is_err_and c.from_residual.result c.from_residual.ensures.1 in
+    rw (p.1, p.2) (c.in_err-was.ensures.slots snap honest holds)
+
+pub returns-in-Some-clause-found : goal.returns-in-Some-clause-found
+returns-in-Some-clause-found g c = λ snap honest holds.
+    let found = c.in_ok-was.ensures in
+    look_on (λ (seen : List ℕ) (space : FreeSectors). SlotIs (Has seen space) snap c.args.object c.in-Some.slot) _ _ _ _ _ _ _ found.looks
+    (slot_found _ snap c.args.object _ _ c.in-Some.slot (omega arith) (omega arith) (found.slots snap honest holds) c.as_slice.ensures.bytes c.in-Some.ensures.back)
+
+pub returns-in-None-clause-found : goal.returns-in-None-clause-found
+returns-in-None-clause-found g c = λ snap honest holds.
+    absurd (slot_there _ snap c.args.object _ _ (c.in_ok-was.ensures.slots snap honest holds) c.as_slice.ensures.bytes (c.in-None.ensures.none refl))

@@ -1,0 +1,81 @@
+//! The leaves of a set, read and written.
+ghost use Rattle.std.specs.Prelude.{◌≡◌, ◌⊎◌, ◌+◌, ◌*◌, ◌^◌, ◌<◌, ◌≤◌, true, ℕ, IfOk, OnOk, length};
+ghost use Rattle.zst_block.specs.Blocks.{FitsDisk, Has};
+ghost use Rattle.zst_block.specs.Ptr.{is_lawful};
+ghost use Rattle.zst_block.specs.Working.{Looks, Works, stop_of};
+ghost use Rattle.zst_dnode.specs.declared.slot.Slot.{Slot};
+ghost use Rattle.zst_model.specs.states.Dated.{DatedState};
+ghost use Rattle.zst_tree.specs.Indices.{Delivers};
+ghost use Rattle.zst_objset.specs.Sets.{HasSlots, LeafIs, NamesSlots, SetHolds, Spells};
+
+use crate::slots::{put_slots, summed_up};
+use crate::trees::leaf_at;
+use zst_block::{BlockFault, Io, Ptr, load, save};
+use zst_dnode::Slot;
+use zst_outside::Disk;
+use zst_tree::ObjSet;
+
+// Loads the sixteen slots that a pointer stands for into the node. A hole stands for absent ones of
+// its date; no object has the number 0, whose slot stays as it began.
+pub(crate) fn load_slots<D: Disk>(io: &mut Io<'_, D>, ptr: Ptr, leaf: u64) -> Result<(), BlockFault>
+    requires leaf { leaf < 2 ^ 44 }
+    requires fits { FitsDisk (D.state io.old.disk.now).size io.old.space }
+    ensures slots { (snap : DatedState) → (D.state io.new.disk.now).honest → LeafIs (Has (D.state io.old.disk.now).seen io.old.space) snap leaf ptr
+        → Delivers (λ done. HasSlots (Has (D.state io.old.disk.now).seen io.old.space) snap leaf io.new.node) result }
+    ensures looks { Looks (D.state io.old.disk.now) io.old.space io.old.failed (D.state io.new.disk.now) io.new.space io.new.failed (stop_of result) }
+    ensures calls { (D.state io.new.disk.now).calls ≤ (D.state io.old.disk.now).calls + 1 }
+    ensures kept_fit { FitsDisk (D.state io.new.disk.now).size io.new.space }
+    ensures same { io.new.disk.ghost_name ≡ io.old.disk.ghost_name }
+{
+    if ptr.kind != 0 {
+        return load(io, ptr);
+    }
+    put_slots(&mut io.node, 0, 16, &Slot::Absent { date: ptr.number });
+    if leaf == 0 {
+        put_slots(&mut io.node, 0, 1, &Slot::Absent { date: 0 });
+    }
+    Ok(())
+}
+
+// Saves the node as a leaf, in place of the one that this pointer stood for.
+pub(crate) fn save_slots<D: Disk>(io: &mut Io<'_, D>, was: &Ptr) -> Result<Ptr, BlockFault>
+    requires fits { FitsDisk (D.state io.old.disk.now).size io.old.space }
+    ensures names { (slots : ℕ → Slot) → Spells io.old.node slots → Delivers (λ ptr. NamesSlots (Has (D.state io.new.disk.now).seen io.new.space) ptr io.old.node slots) result }
+    ensures lawful { IfOk result (λ ptr. is_lawful ptr ≡ true) }
+    ensures works { Works 16 16 (D.state io.old.disk.now) io.old.space io.old.failed (D.state io.new.disk.now) io.new.space io.new.failed (stop_of result) }
+    ensures same { io.new.disk.ghost_name ≡ io.old.disk.ghost_name }
+{
+    match summed_up(&io.node) {
+        None => Err(BlockFault::of_layout(was)),
+        Some(told) => {
+            let kind = if told.there { 3 } else { 4 };
+            let ptr = save(io, 0, told.number)?;
+            Ok(Ptr { kind, ..ptr })
+        }
+    }
+}
+
+// Loads the sixteen slots of a leaf of a set into the node, and gives the pointer that stands for
+// them. A set of more than 7 levels isn't of the layout.
+pub(crate) fn find_slots<D: Disk>(
+    set: &ObjSet,
+    io: &mut Io<'_, D>,
+    leaf: u64,
+) -> Result<Ptr, BlockFault>
+    requires leaf { leaf < 2 ^ 44 }
+    requires fits { FitsDisk (D.state io.old.disk.now).size io.old.space }
+    ensures slots { (snap : DatedState) → (D.state io.new.disk.now).honest → SetHolds (Has (D.state io.old.disk.now).seen io.old.space) set.now snap
+        → Delivers (λ was. HasSlots (Has (D.state io.old.disk.now).seen io.old.space) snap leaf io.new.node) result }
+    ensures levels { OnOk result (set.now.tree.levels ≤ 7) }
+    ensures looks { Looks (D.state io.old.disk.now) io.old.space io.old.failed (D.state io.new.disk.now) io.new.space io.new.failed (stop_of result) }
+    ensures calls { (D.state io.new.disk.now).calls ≤ (D.state io.old.disk.now).calls + 8 }
+    ensures kept_fit { FitsDisk (D.state io.new.disk.now).size io.new.space }
+    ensures same { io.new.disk.ghost_name ≡ io.old.disk.ghost_name }
+{
+    if set.tree.levels > 7 {
+        return Err(BlockFault::of_layout(&set.tree.root));
+    }
+    let was = leaf_at(&set.tree, io, leaf)?;
+    load_slots(io, was, leaf)?;
+    Ok(was)
+}

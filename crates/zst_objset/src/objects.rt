@@ -1,0 +1,189 @@
+ghost use Rattle.std.specs.Prelude.{◌≡◌, ◌/◌, ◌+◌, ◌<◌, ◌≤◌, ℕ, List, length, IfErr, IfOk, IfSome, OnErr, Some};
+ghost use Rattle.zst_space.specs.FreeSectors.{FreeSectors};
+ghost use Rattle.zst_block.specs.Blocks.{FitsDisk, Has, KeepsBlocks};
+ghost use Rattle.zst_block.specs.Working.{Looks, Works};
+ghost use Rattle.zst_dnode.specs.Dnode.{DnodeFits};
+ghost use Rattle.zst_dnode.specs.Slot.{SlotFits};
+ghost use Rattle.zst_model.specs.pools.Pool.{untouched};
+ghost use Rattle.zst_model.specs.states.Dated.{DatedState};
+ghost use Rattle.zst_model.specs.states.State.{Object, IsBonus, IsHead, IsSpill, IsState, number_bound};
+ghost use Rattle.zst_tree.specs.Indices.{Blocks};
+ghost use Rattle.zst_objset.specs.Answers.{Changes, FindsObject, FindsSlot, IsOfBlock, ReadsBlock, stop_of};
+ghost use Rattle.zst_objset.specs.Changes.{block_written, found_at, holes_made, object_put, objects_freed, range_redacted, spill_put};
+
+use crate::fault::ObjFault;
+use zst_block::Io;
+use zst_dnode::{Dnode, Slot};
+use zst_model::{Cell, ObjectHead};
+use zst_outside::Disk;
+
+/// A set of objects over the blocks of a disk.
+///
+/// What a call makes of the dated state that the set holds is what the definition of that name
+/// makes of it. It is refused as the definition is, is full only where the definition accepts, and
+/// finds no damage where the set is held. At a refusal the set is as it was.
+pub trait Objects<D: Disk> {
+    /// The set holds this dated state, over the blocks that are there.
+    ghost holds: { Self → Blocks → DatedState → Type 0 };
+
+    /// The set of no objects, which nothing touched.
+    fn empty() -> Self
+        ensures { (image : List ℕ) (space : FreeSectors) → holds result (Has image space) untouched };
+
+    /// The dnode of an object.
+    fn attr(&self, io: &mut Io<'_, D>, object: u64) -> Result<Option<Dnode>, ObjFault>
+        requires object { 0 < object }
+        requires fits { FitsDisk (D.state io.old.disk.now).size io.old.space }
+        ensures found { (state : DatedState) → (D.state io.new.disk.now).honest → holds self.now (Has (D.state io.old.disk.now).seen io.old.space) state
+            → FindsObject (Has (D.state io.new.disk.now).seen io.new.space) state object result }
+        ensures ranges { IfOk result (λ found. IfSome found DnodeFits) }
+        ensures known { IfErr result IsOfBlock }
+        ensures looks { Looks (D.state io.old.disk.now) io.old.space io.old.failed (D.state io.new.disk.now) io.new.space io.new.failed (stop_of result) }
+        ensures calls { (D.state io.new.disk.now).calls ≤ (D.state io.old.disk.now).calls + 8 }
+        ensures same { io.new.disk.ghost_name ≡ io.old.disk.ghost_name };
+
+    /// What stands at a number: of an absent one its date.
+    fn slot(&self, io: &mut Io<'_, D>, object: u64) -> Result<Slot, ObjFault>
+        requires object { (0 < object) × (object < number_bound) }
+        requires fits { FitsDisk (D.state io.old.disk.now).size io.old.space }
+        ensures found { (state : DatedState) → (D.state io.new.disk.now).honest → holds self.now (Has (D.state io.old.disk.now).seen io.old.space) state
+            → FindsSlot (Has (D.state io.new.disk.now).seen io.new.space) state object result }
+        ensures ranges { IfOk result SlotFits }
+        ensures known { IfErr result IsOfBlock }
+        ensures looks { Looks (D.state io.old.disk.now) io.old.space io.old.failed (D.state io.new.disk.now) io.new.space io.new.failed (stop_of result) }
+        ensures calls { (D.state io.new.disk.now).calls ≤ (D.state io.old.disk.now).calls + 8 }
+        ensures same { io.new.disk.ghost_name ≡ io.old.disk.ghost_name };
+
+    /// Reads one index of an object, whose blocks are as long as the buffer.
+    fn read_block(
+        &self,
+        io: &mut Io<'_, D>,
+        object: u64,
+        index: u64,
+        into: &mut [u8],
+    ) -> Result<Cell, ObjFault>
+        requires object { 0 < object }
+        requires fits { FitsDisk (D.state io.old.disk.now).size io.old.space }
+        ensures read { (state : DatedState) → (D.state io.new.disk.now).honest → holds self.now (Has (D.state io.old.disk.now).seen io.old.space) state
+            → ((there : Object) → state.state object ≡ Some there → length into.old ≡ there.attr.block_size)
+            → ReadsBlock (found_at object index state) into.new result }
+        ensures looks { Looks (D.state io.old.disk.now) io.old.space io.old.failed (D.state io.new.disk.now) io.new.space io.new.failed (stop_of result) }
+        ensures calls { (D.state io.new.disk.now).calls ≤ (D.state io.old.disk.now).calls + 16 }
+        ensures same { io.new.disk.ghost_name ≡ io.old.disk.ghost_name };
+
+    /// Allocates an object, or gives it other attributes.
+    fn put_object(
+        &mut self,
+        io: &mut Io<'_, D>,
+        object: u64,
+        head: ObjectHead,
+        bonus: &[u8],
+        keep_spill: bool,
+        number: u64,
+    ) -> Result<(), ObjFault>
+        requires object { 0 < object }
+        requires head { IsHead head }
+        requires bonus { IsBonus bonus.now }
+        requires fits { FitsDisk (D.state io.old.disk.now).size io.old.space }
+        ensures changed { (state : DatedState) → (D.state io.new.disk.now).honest → holds self.old (Has (D.state io.old.disk.now).seen io.old.space) state
+            → Changes (holds self.new (Has (D.state io.new.disk.now).seen io.new.space)) (object_put number object head bonus.now keep_spill state) result }
+        ensures kept { OnErr result (self.new ≡ self.old) }
+        ensures works { Works 640 16 (D.state io.old.disk.now) io.old.space io.old.failed (D.state io.new.disk.now) io.new.space io.new.failed (stop_of result) }
+        ensures same { io.new.disk.ghost_name ≡ io.old.disk.ghost_name };
+
+    /// Gives an object another spill block.
+    fn put_spill(
+        &mut self,
+        io: &mut Io<'_, D>,
+        object: u64,
+        bytes: &[u8],
+        number: u64,
+    ) -> Result<(), ObjFault>
+        requires object { 0 < object }
+        requires spill { IsSpill bytes.now }
+        requires fits { FitsDisk (D.state io.old.disk.now).size io.old.space }
+        ensures changed { (state : DatedState) → (D.state io.new.disk.now).honest → holds self.old (Has (D.state io.old.disk.now).seen io.old.space) state
+            → Changes (holds self.new (Has (D.state io.new.disk.now).seen io.new.space)) (spill_put number object bytes.now state) result }
+        ensures kept { OnErr result (self.new ≡ self.old) }
+        ensures works { Works (640 + length bytes.now / 512) (length bytes.now / 512) (D.state io.old.disk.now) io.old.space io.old.failed (D.state io.new.disk.now) io.new.space io.new.failed (stop_of result) }
+        ensures same { io.new.disk.ghost_name ≡ io.old.disk.ghost_name };
+
+    /// Frees `count` numbers.
+    fn free_objects(
+        &mut self,
+        io: &mut Io<'_, D>,
+        first: u64,
+        count: u64,
+        number: u64,
+    ) -> Result<(), ObjFault>
+        requires first { 0 < first }
+        requires fits { FitsDisk (D.state io.old.disk.now).size io.old.space }
+        ensures changed { (state : DatedState) → (D.state io.new.disk.now).honest → holds self.old (Has (D.state io.old.disk.now).seen io.old.space) state
+            → Changes (holds self.new (Has (D.state io.new.disk.now).seen io.new.space)) (objects_freed number first count state) result }
+        ensures kept { OnErr result (self.new ≡ self.old) }
+        ensures works { Works 1280 16 (D.state io.old.disk.now) io.old.space io.old.failed (D.state io.new.disk.now) io.new.space io.new.failed (stop_of result) }
+        ensures same { io.new.disk.ghost_name ≡ io.old.disk.ghost_name };
+
+    /// Writes the whole block of one index.
+    fn write_block(
+        &mut self,
+        io: &mut Io<'_, D>,
+        object: u64,
+        index: u64,
+        bytes: &[u8],
+        number: u64,
+    ) -> Result<(), ObjFault>
+        requires object { 0 < object }
+        requires fits { FitsDisk (D.state io.old.disk.now).size io.old.space }
+        ensures changed { (state : DatedState) → (D.state io.new.disk.now).honest → holds self.old (Has (D.state io.old.disk.now).seen io.old.space) state
+            → Changes (holds self.new (Has (D.state io.new.disk.now).seen io.new.space)) (block_written number object index bytes.now state) result }
+        ensures kept { OnErr result (self.new ≡ self.old) }
+        ensures works { Works (640 + length bytes.now / 512) (length bytes.now / 512) (D.state io.old.disk.now) io.old.space io.old.failed (D.state io.new.disk.now) io.new.space io.new.failed (stop_of result) }
+        ensures same { io.new.disk.ghost_name ≡ io.old.disk.ghost_name };
+
+    /// Makes holes of `count` indices.
+    fn punch(
+        &mut self,
+        io: &mut Io<'_, D>,
+        object: u64,
+        first: u64,
+        count: u64,
+        number: u64,
+    ) -> Result<(), ObjFault>
+        requires object { 0 < object }
+        requires fits { FitsDisk (D.state io.old.disk.now).size io.old.space }
+        ensures changed { (state : DatedState) → (D.state io.new.disk.now).honest → holds self.old (Has (D.state io.old.disk.now).seen io.old.space) state
+            → Changes (holds self.new (Has (D.state io.new.disk.now).seen io.new.space)) (holes_made number object first count state) result }
+        ensures kept { OnErr result (self.new ≡ self.old) }
+        ensures works { Works 1280 16 (D.state io.old.disk.now) io.old.space io.old.failed (D.state io.new.disk.now) io.new.space io.new.failed (stop_of result) }
+        ensures same { io.new.disk.ghost_name ≡ io.old.disk.ghost_name };
+
+    /// Redacts `count` indices.
+    fn redact_range(
+        &mut self,
+        io: &mut Io<'_, D>,
+        object: u64,
+        first: u64,
+        count: u64,
+        number: u64,
+    ) -> Result<(), ObjFault>
+        requires object { 0 < object }
+        requires fits { FitsDisk (D.state io.old.disk.now).size io.old.space }
+        ensures changed { (state : DatedState) → (D.state io.new.disk.now).honest → holds self.old (Has (D.state io.old.disk.now).seen io.old.space) state
+            → Changes (holds self.new (Has (D.state io.new.disk.now).seen io.new.space)) (range_redacted number object first count state) result }
+        ensures kept { OnErr result (self.new ≡ self.old) }
+        ensures works { Works 1280 16 (D.state io.old.disk.now) io.old.space io.old.failed (D.state io.new.disk.now) io.new.space io.new.failed (stop_of result) }
+        ensures same { io.new.disk.ghost_name ≡ io.old.disk.ghost_name };
+
+    /// What a set holds is held as long as all blocks are there.
+    ghost grows: { (set : Self) (old : List ℕ) (space : FreeSectors) (new : List ℕ) (less : FreeSectors) (state : DatedState)
+        → KeepsBlocks old space new less → holds set (Has old space) state → holds set (Has new less) state };
+
+    /// A set holds one dated state.
+    ghost only: { (set : Self) (image : List ℕ) (space : FreeSectors) (state other : DatedState)
+        → holds set (Has image space) state → holds set (Has image space) other → state ≡ other };
+
+    /// It is a lawful one.
+    ghost lawful: { (set : Self) (image : List ℕ) (space : FreeSectors) (state : DatedState)
+        → holds set (Has image space) state → IsState state.state };
+}

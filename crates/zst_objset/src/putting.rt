@@ -1,0 +1,50 @@
+//! A slot, put at some numbers of one leaf of a set.
+ghost use Rattle.std.specs.Prelude.{◌≡◌, ◌+◌, ◌*◌, ◌/◌, ◌<◌, ◌≤◌, ◌^◌};
+ghost use Rattle.zst_block.specs.Blocks.{FitsDisk, Has};
+ghost use Rattle.zst_block.specs.Working.{Works, stop_of};
+ghost use Rattle.zst_dnode.specs.Slot.{SlotFits};
+ghost use Rattle.zst_model.specs.states.Dated.{DatedState};
+ghost use Rattle.zst_tree.specs.Indices.{Delivers};
+ghost use Rattle.zst_objset.specs.Putting.{PutsSlot};
+ghost use Rattle.zst_objset.specs.Sets.{SetHolds};
+
+use crate::leaves::{find_slots, save_slots};
+use crate::slots::put_slots;
+use zst_block::{BlockFault, Io};
+use zst_dnode::Slot;
+use zst_outside::Disk;
+use zst_tree::ObjSet;
+
+/// The set with this slot from one number on and below another, all of one leaf. A slot that isn't
+/// in its ranges is of no set that is held.
+pub(crate) fn put_in_leaf<D: Disk>(
+    set: ObjSet,
+    io: &mut Io<'_, D>,
+    first: u64,
+    below: u64,
+    slot: &Slot,
+) -> Result<ObjSet, BlockFault>
+    requires first { 0 < first }
+    requires some { first < below }
+    requires bound { below ≤ 2 ^ 48 }
+    requires leaf { below ≤ 16 * (first / 16) + 16 }
+    requires fits { FitsDisk (D.state io.old.disk.now).size io.old.space }
+    ensures put { (snap after : DatedState) → (D.state io.new.disk.now).honest → SetHolds (Has (D.state io.old.disk.now).seen io.old.space) set snap → SlotFits slot.now
+        → PutsSlot (Has (D.state io.old.disk.now).seen io.old.space) snap after first below slot.now
+        → Delivers (λ made. SetHolds (Has (D.state io.new.disk.now).seen io.new.space) made after) result }
+    ensures works { Works 240 16 (D.state io.old.disk.now) io.old.space io.old.failed (D.state io.new.disk.now) io.new.space io.new.failed (stop_of result) }
+    ensures same { io.new.disk.ghost_name ≡ io.old.disk.ghost_name }
+{
+    if !slot.is_in_range() {
+        return Err(BlockFault::of_layout(&set.tree.root));
+    }
+    let leaf = first / 16;
+    let from = first - 16 * leaf;
+    let to = below - 16 * leaf;
+    let was = find_slots(&set, io, leaf)?;
+    put_slots(&mut io.node, from as usize, to as usize, slot);
+    let ptr = save_slots(io, &was)?;
+    let mut made = set;
+    made.tree.set(io, leaf, ptr)?;
+    Ok(made)
+}

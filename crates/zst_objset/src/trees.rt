@@ -1,0 +1,53 @@
+//! The leaf of an index of a tree.
+ghost use Rattle.std.specs.Prelude.{◌≡◌, ◌+◌, ◌^◌, ◌<◌, ◌≤◌};
+ghost use Rattle.zst_block.specs.Blocks.{FitsDisk, Has};
+ghost use Rattle.zst_block.specs.Working.{Looks, stop_of};
+ghost use Rattle.zst_tree.specs.Indices.{Delivers, Map, TreeIs};
+
+use std::marker::Brand;
+use std::sync::ledger::{Blank, Ledger};
+use zst_block::{BlockFault, Io, Ptr};
+use zst_outside::Disk;
+use zst_tree::{Steps, Tree};
+
+/// The leaf of an index.
+pub(crate) fn leaf_at<D: Disk>(
+    tree: &Tree,
+    io: &mut Io<'_, D>,
+    index: u64,
+) -> Result<Ptr, BlockFault>
+    requires levels { tree.now.levels ≤ 7 }
+    requires index { index < 2 ^ 44 }
+    requires fits { FitsDisk (D.state io.old.disk.now).size io.old.space }
+    ensures shows { (map : Map) → (D.state io.new.disk.now).honest → TreeIs (Has (D.state io.old.disk.now).seen io.old.space) tree.now map → Delivers (λ ptr. ptr ≡ map index) result }
+    ensures looks { Looks (D.state io.old.disk.now) io.old.space io.old.failed (D.state io.new.disk.now) io.new.space io.new.failed (stop_of result) }
+    ensures calls { (D.state io.new.disk.now).calls ≤ (D.state io.old.disk.now).calls + 7 }
+    ensures kept_fit { FitsDisk (D.state io.new.disk.now).size io.new.space }
+    ensures same { io.new.disk.ghost_name ≡ io.old.disk.ghost_name }
+{
+    counted::<D, Brand>(tree, io, index, Blank::new(1))
+}
+
+// The leaf of an index, with the nodes on the way counted from 0.
+fn counted<D: Disk, L: Ledger>(
+    tree: &Tree,
+    io: &mut Io<'_, D>,
+    index: u64,
+    blank: Blank,
+) -> Result<Ptr, BlockFault>
+    requires name { blank.name ≡ L.name }
+    requires parts { blank.parts ≡ L.parts }
+    requires some { 0 < blank.parts }
+    requires levels { tree.now.levels ≤ 7 }
+    requires index { index < 2 ^ 44 }
+    requires fits { FitsDisk (D.state io.old.disk.now).size io.old.space }
+    ensures shows { (map : Map) → (D.state io.new.disk.now).honest → TreeIs (Has (D.state io.old.disk.now).seen io.old.space) tree.now map → Delivers (λ ptr. ptr ≡ map index) result }
+    ensures looks { Looks (D.state io.old.disk.now) io.old.space io.old.failed (D.state io.new.disk.now) io.new.space io.new.failed (stop_of result) }
+    ensures calls { (D.state io.new.disk.now).calls ≤ (D.state io.old.disk.now).calls + 7 }
+    ensures kept_fit { FitsDisk (D.state io.new.disk.now).size io.new.space }
+    ensures same { io.new.disk.ghost_name ≡ io.old.disk.ghost_name }
+{
+    let mut steps = Steps::<L>::new(blank);
+    let found = tree.get(io, index, &mut steps)?;
+    Ok(found.0)
+}
