@@ -11,18 +11,18 @@ pub returns-clause-answer : goal.returns-clause-answer
 returns-clause-answer g c = λ told.
     let here : (g.D.Disk.state c.commit_dir-made.new.io.disk.now).honest = search (rules, told) in
     let old = g.D.Disk.state c.args.disk.now in
-    let next = NextIs-new _ c.unborn.result c.new-2.result c.args.id c.requires.id (ap (λ (u : Uber). u.id) c.unborn.ensures) (ap (λ (u : Uber). u.number) c.unborn.ensures) c.new-2.ensures in
+    let next = NextIs-new _ c.unborn.result c.new-3.result c.args.id c.requires.id (ap (λ (u : Uber). u.id) c.unborn.ensures) (ap (λ (u : Uber). u.number) c.unborn.ensures) c.new-3.ensures in
     let over = c.commit_dir-made.ensures.over _ here next in
     let none : latest old.seen ≡ None = c.in_ok-find_none.ensures.answer (c.commit_dir-made.ensures.honest here) in
     let start : FreeSectors = record { end = 8; sectors = c.args.sectors; free = [] } in
     let space : c.new-space.result ≡ start = rw (c.new-space.ensures, c.new.ensures.items) refl in
-    let never = never-full c.new-space.result c.args.sectors c.new-2.result c.commit_dir-made.result space c.new-2.ensures c.requires.sectors.0 c.commit_dir-made.ensures.full c.commit_dir-made.ensures.fault in
+    let never = never-full c.new-space.result c.args.sectors c.new-3.result c.commit_dir-made.result space c.new-3.ensures c.requires.sectors.0 c.commit_dir-made.ensures.full c.commit_dir-made.ensures.fault in
     CreateAnswers-commit old.size (latest old.seen) c.args.sectors _ _ c.commit_dir-made.result none (λ few. omega (arith, few, c.if-bytes-sectors.false, c.bytes.ensures, c.find_none.ensures.reads.size)) never over.answer
 
 pub returns-clause-made : goal.returns-clause-made
 returns-clause-made g c = λ told.
     let here : (g.D.Disk.state c.commit_dir-made.new.io.disk.now).honest = search (rules, told) in
-    let next = NextIs-new _ c.unborn.result c.new-2.result c.args.id c.requires.id (ap (λ (u : Uber). u.id) c.unborn.ensures) (ap (λ (u : Uber). u.number) c.unborn.ensures) c.new-2.ensures in
+    let next = NextIs-new _ c.unborn.result c.new-3.result c.args.id c.requires.id (ap (λ (u : Uber). u.id) c.unborn.ensures) (ap (λ (u : Uber). u.number) c.unborn.ensures) c.new-3.ensures in
     let over = c.commit_dir-made.ensures.over _ here next in
     let made = IfOk-commit _ _ c.commit_dir-made.result over.answer in
     search (rules, made)
@@ -31,7 +31,7 @@ pub returns-clause-moments : goal.returns-clause-moments
 returns-clause-moments g c = λ told.
     let here : (g.D.Disk.state c.commit_dir-made.new.io.disk.now).honest = search (rules, told) in
     let old = g.D.Disk.state c.args.disk.now in
-    let next = NextIs-new _ c.unborn.result c.new-2.result c.args.id c.requires.id (ap (λ (u : Uber). u.id) c.unborn.ensures) (ap (λ (u : Uber). u.number) c.unborn.ensures) c.new-2.ensures in
+    let next = NextIs-new _ c.unborn.result c.new-3.result c.args.id c.requires.id (ap (λ (u : Uber). u.id) c.unborn.ensures) (ap (λ (u : Uber). u.number) c.unborn.ensures) c.new-3.ensures in
     let over = c.commit_dir-made.ensures.over _ here next in
     create-moments old _ _ _ c.new-space.result _ (search rules) c.find_none.ensures.reads over.moments
 
