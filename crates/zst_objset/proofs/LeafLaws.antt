@@ -88,7 +88,7 @@ module _ (has : Blocks) (snap : DatedState) (ptr : Ptr) (bytes mid : List ℕ) (
       no_number zero small test = refl
       no_number (suc s) small test = absurd (grind (arith, nat_tests))
 
-is_number_at : (k : ℕ) → 0 < k → k < 2 ^ 48 → is_number k ≡ true
+pub is_number_at : (k : ℕ) → 0 < k → k < 2 ^ 48 → is_number k ≡ true
 unfolding number_bound
 is_number_at k some less = grind (arith, nat_tests)
 

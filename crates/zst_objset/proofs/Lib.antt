@@ -1,4 +1,5 @@
 pub mod AnswerLaws
+pub mod ChangePuts
 mod CommandLaws
 pub mod LeafLaws
 pub mod SetGrows
@@ -6,3 +7,4 @@ pub mod SetOnly
 pub mod SetLaws
 pub mod SetPuts
 pub mod SlotLaws
+pub mod SpillLaws

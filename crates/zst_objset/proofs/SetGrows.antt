@@ -10,7 +10,7 @@ use Rattle.zst_model.specs.states.Dated.{DatedState}
 use Rattle.zst_tree.specs.Indices.{Blocks, Map}
 use Rattle.zst_tree.proofs.IndicesLaws.{TreeIs-grows}
 use Rattle.zst_tree.specs.declared.tree.ObjSet.{ObjSet}
-use Rattle.zst_objset.specs.Dnodes.{BlockIs, SpillIs, SlotIs, ObjectIs, tree_of}
+use Rattle.zst_objset.specs.Dnodes.{BlockIs, IsThere, SpillIs, SlotIs, ObjectIs, tree_of}
 use Rattle.zst_objset.specs.Sets.{AreSlots, LeafIs, NamesSlots, SetHolds}
 
 module _ (has more : Blocks) (up : (ptr : Ptr) (bytes : List ℕ) → has ptr bytes → more ptr bytes) where
@@ -36,6 +36,9 @@ module _ (has more : Blocks) (up : (ptr : Ptr) (bytes : List ℕ) → has ptr by
     blocks = λ i less. BlockIs-grows (map i) (object.blocks i) (is.blocks i less);
     index_dates = is.index_dates;
   }
+
+  pub IsThere-grows : (snap : DatedState) (k : ℕ) (dnode : Dnode) → IsThere has snap k dnode → IsThere more snap k dnode
+  IsThere-grows snap k dnode is = record { object = is.object; there = is.there; map = is.map; is = ObjectIs-grows dnode is.object (snap.number_date k) (snap.index_date k) is.map is.is }
 
   pub SlotIs-grows : (snap : DatedState) (k : ℕ) (slot : Slot) → SlotIs has snap k slot → SlotIs more snap k slot
   SlotIs-grows snap k (Absent date) is = is

@@ -1,5 +1,5 @@
 //! The calls that read a set.
-ghost use Rattle.std.specs.Prelude.{◌≡◌, ◌+◌, ◌<◌, ◌≤◌, ◌^◌, IfErr, IfOk, IfSome, List, ℕ, Some, length};
+ghost use Rattle.std.specs.Prelude.{◌≡◌, ◌+◌, ◌<◌, ◌≤◌, ◌^◌, IfErr, IfOk, IfSome, OnOk, List, ℕ, Some, length};
 ghost use Rattle.zst_block.specs.Blocks.{FitsDisk, Has};
 ghost use Rattle.zst_block.specs.Working.{Looks};
 ghost use Rattle.zst_dnode.specs.Dnode.{DnodeFits};
@@ -74,6 +74,7 @@ pub(crate) fn object_there<D: Disk>(
     ensures found { (snap : DatedState) → (D.state io.new.disk.now).honest → SetHolds (Has (D.state io.old.disk.now).seen io.old.space) set.now snap
         → FindsThere (Has (D.state io.new.disk.now).seen io.new.space) snap object result }
     ensures ranges { IfOk result DnodeFits }
+    ensures bound { OnOk result (object < 2 ^ 48) }
     ensures looks { Looks (D.state io.old.disk.now) io.old.space io.old.failed (D.state io.new.disk.now) io.new.space io.new.failed (stop_of result) }
     ensures calls { (D.state io.new.disk.now).calls ≤ (D.state io.old.disk.now).calls + 8 }
     ensures kept_fit { FitsDisk (D.state io.new.disk.now).size io.new.space }

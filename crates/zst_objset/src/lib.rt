@@ -2,6 +2,7 @@
 #![tactic(auto)]
 
 mod answers;
+mod changing;
 mod commands;
 mod fault;
 mod laws;

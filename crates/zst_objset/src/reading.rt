@@ -53,6 +53,7 @@ pub(crate) fn dnode_at<D: Disk>(
     ensures found { (snap : DatedState) → (D.state io.new.disk.now).honest → SetHolds (Has (D.state io.old.disk.now).seen io.old.space) set.now snap
         → Delivers (DnodeIs (Has (D.state io.new.disk.now).seen io.new.space) snap object) result }
     ensures ranges { IfOk result (λ found. IfSome found DnodeFits) }
+    ensures bound { IfOk result (λ found. IfSome found (λ dnode. object < 2 ^ 48)) }
     ensures looks { Looks (D.state io.old.disk.now) io.old.space io.old.failed (D.state io.new.disk.now) io.new.space io.new.failed (stop_of result) }
     ensures calls { (D.state io.new.disk.now).calls ≤ (D.state io.old.disk.now).calls + 8 }
     ensures kept_fit { FitsDisk (D.state io.new.disk.now).size io.new.space }

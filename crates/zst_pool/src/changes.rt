@@ -23,8 +23,8 @@ use crate::fault::PoolFault;
 use crate::sets::put_block;
 use std::alloc::{AllocError, Global};
 use zst_block::Io;
-use zst_model::limits::{INDEX_BOUND, NUMBER_BOUND};
 use zst_flat::Flat;
+use zst_model::limits::{INDEX_BOUND, NUMBER_BOUND};
 use zst_model::{ApplyFault, Bytes, ObjectHead, PlanFault, Quantity};
 use zst_outside::Disk;
 

@@ -1,0 +1,97 @@
+use Rattle.std.proofs.Common.{◌≡◌, ℕ, List, arith, ap, subst, sym, ◌∙◌, true}
+use Rattle.zst_space.specs.FreeSectors.{FreeSectors}
+use Rattle.zst_block.specs.Blocks.{Has, KeepsBlocks}
+use Rattle.zst_block.specs.declared.ptr.Ptr.{Ptr}
+use Rattle.zst_block.proofs.BlocksLaws.{KeepsBlocks-fills}
+use Rattle.zst_block.proofs.Working.{Works-after, Works-block, Works-more, Works-then}
+use Rattle.zst_model.specs.declared.states.item.Change.TheVariants.{Spill}
+use Rattle.zst_model.specs.states.State.{is_spill_size}
+use Rattle.zst_objset.proofs.ChangePuts.{change_puts, date_to, dates_to}
+use Rattle.zst_objset.proofs.SpillLaws.{change_not_there, no_spill, spill_fits, spill_is, spill_makes, spill_object, spill_some, spill_whole, spill_small, spilled, stops, undamaged_write}
+use Rattle.zst_dnode.specs.Dnode.{DnodeFits}
+use Rattle.zst_dnode.specs.declared.dnode.Dnode.{Dnode}
+use Rattle.zst_objset.specs.Dnodes.{ObjectIs}
+use Rattle.zst_objset.proofs.LeafLaws.{is_number_at, look_on}
+use Rattle.zst_objset.proofs.SetGrows.{IsThere-grows, SetHolds-grows}
+use Rattle.zst_objset.proofs.changing.put_spill.Goals as goal
+
+pub write-requires-clause-some : goal.write-requires-clause-some
+write-requires-clause-some g c = spill_some _ c.requires.spill
+
+pub write-requires-clause-whole : goal.write-requires-clause-whole
+write-requires-clause-whole g c = spill_whole _ c.requires.spill
+
+pub write-requires-clause-small : goal.write-requires-clause-small
+write-requires-clause-small g c = spill_small _ c.requires.spill
+
+pub returns-in-Err-clause-changed : goal.returns-in-Err-clause-changed
+returns-in-Err-clause-changed g c = λ state honest holds.
+    change_not_there (Has (g.D.Disk.state c.object_there.new.io.disk.now).seen c.object_there.new.io.space) c.args.number c.args.object (Spill c.args.bytes.now) state c.in-Err.fault (no_spill c.args.bytes.now) (c.in-Err.ensures.found state honest holds)
+
+pub returns-in-Err-write-clause-changed : goal.returns-in-Err-write-clause-changed
+returns-in-Err-write-clause-changed g c = λ state honest holds.
+    let there = c.in-Ok.ensures.found state (c.in-Err-write.ensures.works.fills.honest honest) holds in
+    stops _ _ c.in-Err-write.fault (spill_is c.args.number c.args.object c.args.bytes.now state there.object there.there) (undamaged_write c.in-Err-write.fault c.in-Err-write.ensures.never_damaged)
+
+pub returns-in-Err-write-clause-works : goal.returns-in-Err-write-clause-works
+returns-in-Err-write-clause-works g c = Works-after c.in-Ok.ensures.looks (Works-more (omega arith) c.in-Err-write.ensures.works)
+
+pub returns-in-Ok-put_in_leaf-clause-works : goal.returns-in-Ok-put_in_leaf-clause-works
+returns-in-Ok-put_in_leaf-clause-works g c = Works-after c.in-Ok.ensures.looks (Works-more (omega arith) (Works-then c.in-Ok-write.ensures.works (Works-block c.in-Ok-put_in_leaf.ensures.works)))
+
+pub returns-in-Err-put_in_leaf-clause-works : goal.returns-in-Err-put_in_leaf-clause-works
+returns-in-Err-put_in_leaf-clause-works g c = Works-after c.in-Ok.ensures.looks (Works-more (omega arith) (Works-then c.in-Ok-write.ensures.works (Works-block c.in-Err-put_in_leaf.ensures.works)))
+
+pub returns-in-Ok-put_in_leaf-clause-changed : goal.returns-in-Ok-put_in_leaf-clause-changed
+returns-in-Ok-put_in_leaf-clause-changed g c = λ state honest holds.
+    let was_written = c.in-Ok-put_in_leaf.ensures.works.fills.honest honest in
+    let wrote = c.in-Ok-write.ensures in
+    let there = c.in-Ok.ensures.found state (wrote.works.fills.honest was_written) holds in
+    let old = g.D.Disk.state c.args.io.now.disk.now in
+    let mid = g.D.Disk.state c.object_there.new.io.disk.now in
+    let new = g.D.Disk.state c.write.new.io.disk.now in
+    let has = Has new.seen c.write.new.io.space in
+    let writing : KeepsBlocks mid.seen c.object_there.new.io.space new.seen c.write.new.io.space = KeepsBlocks-fills _ _ _ _ wrote.works.fills in
+    let reading : KeepsBlocks old.seen c.args.io.now.space mid.seen c.object_there.new.io.space =
+    look_on (λ (seen : List ℕ) (space : FreeSectors). KeepsBlocks old.seen c.args.io.now.space seen space) _ _ _ _ _ _ _ c.in-Ok.ensures.looks (λ ptr bytes is. is) in
+    let grown = SetHolds-grows (Has old.seen c.args.io.now.space) has (λ ptr bytes is. writing ptr bytes (reading ptr bytes is)) c.args.set.now state holds in
+    let here = IsThere-grows (Has mid.seen c.object_there.new.io.space) has writing state c.args.object c.in-Ok.dnode there in
+    let kind = ap (λ (ptr : Ptr). ptr.kind) wrote.pointer in
+    let size : is_spill_size c.in-Ok-write.ptr.length ≡ true = ap (λ (ptr : Ptr). is_spill_size ptr.length) wrote.pointer ∙ c.requires.spill in
+    let made = c.with_spill.ensures in
+    let fits = subst (λ (dnode : Dnode). DnodeFits dnode) (sym made.made) (spill_fits c.in-Ok.dnode c.in-Ok-write.ptr c.args.number c.in-Ok.ensures.ranges made.fits made.date kind size) in
+    let object_is = subst (λ (dnode : Dnode). ObjectIs has dnode (spilled here.object c.args.bytes.now) (date_to c.args.number c.args.object (Spill c.args.bytes.now) state) (dates_to c.args.number c.args.object (Spill c.args.bytes.now) state) here.map) (sym made.made)
+    (spill_object has c.args.number c.args.object c.args.bytes.now state c.in-Ok.dnode c.in-Ok-write.ptr here kind wrote.wrote) in
+    let number = is_number_at c.args.object (omega arith) (omega (arith, c.in-Ok.ensures.bound)) in
+    let puts = change_puts c.args.number c.args.object (Spill c.args.bytes.now) state has (spilled here.object c.args.bytes.now) c.with_spill.result here.map number holds.lawful holds.bounded
+    (spill_makes c.args.bytes.now (state.state c.args.object) here.object here.there) (number, c.requires.spill) c.applied_is_state.ensures object_is in
+    let done = spill_is c.args.number c.args.object c.args.bytes.now state here.object here.there in
+    let held = c.in-Ok-put_in_leaf.ensures.put state _ honest grown fits puts in
+    (_, done, held)
+
+pub returns-in-Err-put_in_leaf-clause-changed : goal.returns-in-Err-put_in_leaf-clause-changed
+returns-in-Err-put_in_leaf-clause-changed g c = λ state honest holds.
+    let was_written = c.in-Err-put_in_leaf.ensures.works.fills.honest honest in
+    let wrote = c.in-Ok-write.ensures in
+    let there = c.in-Ok.ensures.found state (wrote.works.fills.honest was_written) holds in
+    let old = g.D.Disk.state c.args.io.now.disk.now in
+    let mid = g.D.Disk.state c.object_there.new.io.disk.now in
+    let new = g.D.Disk.state c.write.new.io.disk.now in
+    let has = Has new.seen c.write.new.io.space in
+    let writing : KeepsBlocks mid.seen c.object_there.new.io.space new.seen c.write.new.io.space = KeepsBlocks-fills _ _ _ _ wrote.works.fills in
+    let reading : KeepsBlocks old.seen c.args.io.now.space mid.seen c.object_there.new.io.space =
+    look_on (λ (seen : List ℕ) (space : FreeSectors). KeepsBlocks old.seen c.args.io.now.space seen space) _ _ _ _ _ _ _ c.in-Ok.ensures.looks (λ ptr bytes is. is) in
+    let grown = SetHolds-grows (Has old.seen c.args.io.now.space) has (λ ptr bytes is. writing ptr bytes (reading ptr bytes is)) c.args.set.now state holds in
+    let here = IsThere-grows (Has mid.seen c.object_there.new.io.space) has writing state c.args.object c.in-Ok.dnode there in
+    let kind = ap (λ (ptr : Ptr). ptr.kind) wrote.pointer in
+    let size : is_spill_size c.in-Ok-write.ptr.length ≡ true = ap (λ (ptr : Ptr). is_spill_size ptr.length) wrote.pointer ∙ c.requires.spill in
+    let made = c.with_spill.ensures in
+    let fits = subst (λ (dnode : Dnode). DnodeFits dnode) (sym made.made) (spill_fits c.in-Ok.dnode c.in-Ok-write.ptr c.args.number c.in-Ok.ensures.ranges made.fits made.date kind size) in
+    let object_is = subst (λ (dnode : Dnode). ObjectIs has dnode (spilled here.object c.args.bytes.now) (date_to c.args.number c.args.object (Spill c.args.bytes.now) state) (dates_to c.args.number c.args.object (Spill c.args.bytes.now) state) here.map) (sym made.made)
+    (spill_object has c.args.number c.args.object c.args.bytes.now state c.in-Ok.dnode c.in-Ok-write.ptr here kind wrote.wrote) in
+    let number = is_number_at c.args.object (omega arith) (omega (arith, c.in-Ok.ensures.bound)) in
+    let puts = change_puts c.args.number c.args.object (Spill c.args.bytes.now) state has (spilled here.object c.args.bytes.now) c.with_spill.result here.map number holds.lawful holds.bounded
+    (spill_makes c.args.bytes.now (state.state c.args.object) here.object here.there) (number, c.requires.spill) c.applied_is_state.ensures object_is in
+    let done = spill_is c.args.number c.args.object c.args.bytes.now state here.object here.there in
+    let held = c.in-Err-put_in_leaf.ensures.put state _ honest grown fits puts in
+    stops _ _ c.in-Err-put_in_leaf.fault done held

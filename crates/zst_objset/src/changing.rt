@@ -1,0 +1,68 @@
+//! The calls that change a set.
+ghost use Rattle.std.specs.Prelude.{◌≡◌, ◌+◌, ◌/◌, ◌<◌, ◌^◌, OnErr, length};
+ghost use Rattle.zst_block.specs.Blocks.{FitsDisk, Has};
+ghost use Rattle.zst_block.specs.Ptr.{PtrFits};
+ghost use Rattle.zst_block.specs.Working.{Works};
+ghost use Rattle.zst_model.specs.states.Dated.{DatedState};
+ghost use Rattle.zst_model.specs.states.State.{IsSpill};
+ghost use Rattle.zst_objset.specs.Answers.{Changes, stop_of};
+ghost use Rattle.zst_objset.specs.Changes.{spill_put};
+ghost use Rattle.zst_objset.specs.Sets.{SetHolds};
+
+use crate::answers::object_there;
+use crate::fault::ObjFault;
+use crate::putting::put_in_leaf;
+use zst_block::{Io, Ptr, write};
+use zst_dnode::{Dnode, Slot};
+use zst_laws::applied_is_state;
+use zst_outside::Disk;
+use zst_tree::ObjSet;
+
+// A dnode with another spill pointer, of a date.
+fn with_spill(dnode: Dnode, spill: Ptr, number: u64) -> Dnode
+    ensures made { result ≡ record dnode { spill = spill; date = number } }
+    ensures fits { PtrFits spill }
+    ensures date { number < 2 ^ 64 }
+{
+    Dnode {
+        spill,
+        date: number,
+        ..dnode
+    }
+}
+
+/// Gives an object another spill block.
+pub(crate) fn put_spill<D: Disk>(
+    set: &mut ObjSet,
+    io: &mut Io<'_, D>,
+    object: u64,
+    bytes: &[u8],
+    number: u64,
+) -> Result<(), ObjFault>
+    requires object { 0 < object }
+    requires spill { IsSpill bytes.now }
+    requires fits { FitsDisk (D.state io.old.disk.now).size io.old.space }
+    ensures changed { (state : DatedState) → (D.state io.new.disk.now).honest → SetHolds (Has (D.state io.old.disk.now).seen io.old.space) set.old state
+        → Changes (SetHolds (Has (D.state io.new.disk.now).seen io.new.space) set.new) (spill_put number object bytes.now state) result }
+    ensures kept { OnErr result (set.new ≡ set.old) }
+    ensures works { Works (640 + length bytes.now / 512) (length bytes.now / 512) (D.state io.old.disk.now) io.old.space io.old.failed (D.state io.new.disk.now) io.new.space io.new.failed (stop_of result) }
+    ensures same { io.new.disk.ghost_name ≡ io.old.disk.ghost_name }
+{
+    applied_is_state();
+    let dnode = match object_there(set, io, object) {
+        Ok(dnode) => dnode,
+        Err(fault) => return Err(fault),
+    };
+    let spill = match write(io, bytes, 0, number) {
+        Ok(ptr) => ptr,
+        Err(fault) => return Err(ObjFault::Block(fault)),
+    };
+    let slot = Slot::There(with_spill(dnode, spill, number));
+    match put_in_leaf(*set, io, object, object + 1, &slot) {
+        Ok(made) => {
+            *set = made;
+            Ok(())
+        }
+        Err(fault) => Err(ObjFault::Block(fault)),
+    }
+}
