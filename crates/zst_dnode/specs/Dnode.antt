@@ -4,7 +4,7 @@ use Rattle.zst_bytes.specs.Bytes.{bytes_at, number_at}
 use Rattle.zst_bytes.specs.Fields.{Field, number, text}
 use Rattle.zst_block.specs.Ptr.{ptr_bytes, ptr_at, PtrFits, is_flat, is_lawful}
 use Rattle.zst_block.specs.declared.ptr.Ptr.{Ptr}
-use Rattle.zst_model.specs.states.State.{index_bound, is_odd_size, is_spill_size, IsHead}
+use Rattle.zst_model.specs.states.State.{index_bound, is_odd_size, is_spill_size, largest_bonus, IsHead}
 use Rattle.zst_dnode.specs.declared.dnode.Dnode.{Dnode}
 
 -- the fields of a dnode, one a line: place, width, value
@@ -56,7 +56,7 @@ dnode_at bytes = record {
 -- the field of a bonus of so many bytes: at most 320 of them, and zeros behind them
 pub record IsBonusField (count : ℕ) (field : List ℕ) : Type 0 where
   pub size : length field ≡ 320
-  pub inside : count ≤ 320
+  pub inside : count ≤ largest_bonus
   pub behind : All (λ byte. byte ≡ 0) (drop count field)
 
 -- what a tree of so many levels over blocks of this size may have as its root: a hole or a redacted pointer; or, without levels, data of that size, and with them a block of pointers

@@ -1,35 +1,17 @@
 //! Whether the values of a dnode are in their ranges.
 ghost use Rattle.std.specs.Prelude.{◌≡◌, ◌↔◌, ◌≤◌, ◌^◌, ◌<◌, true, All, IsTrue, length};
-ghost use Rattle.zst_model.specs.states.State.{index_bound, is_block_size, is_odd_size, is_spill_size, IsHead};
+ghost use Rattle.zst_model.specs.states.State.{index_bound, is_odd_size, IsHead};
 ghost use Rattle.zst_dnode.specs.Dnode.{IsBonusField, is_root, is_spill};
 
 use crate::dnode::Dnode;
 use zst_block::Ptr;
-
-// Indices stand below this.
-const INDEX_BOUND: u64 = 1 << 43;
-
-// Whether a block may have so many bytes: a multiple of 512 from 512 to 131,072.
-#[tactic(auto, unfolding(zst_model::specs::states::State::is_block_size, zst_model::specs::states::State::largest_block))]
-fn is_block_size(bytes: u32) -> bool
-    ensures { result ≡ is_block_size bytes }
-{
-    512 <= bytes && bytes <= 131_072 && bytes % 512 == 0
-}
-
-// Whether a spill block may have so many bytes: a multiple of 512 from 512 to 131,072.
-#[tactic(auto, unfolding(zst_model::specs::states::State::is_spill_size))]
-fn is_spill_size(bytes: u32) -> bool
-    ensures { result ≡ is_spill_size bytes }
-{
-    512 <= bytes && bytes <= 131_072 && bytes % 512 == 0
-}
+use zst_model::limits::{INDEX_BOUND, LARGEST_BONUS, is_block_size, is_spill_size};
 
 // Whether an object may have these types and this block size.
 fn is_head(type_: u32, bonus_type: u32, block_size: u32) -> bool
     ensures { IsTrue result ↔ IsHead (record { type_ = type_; bonus_type = bonus_type; block_size = block_size }) }
 {
-    0 < type_ && is_block_size(block_size)
+    0 < type_ && is_block_size(u64::from(block_size))
 }
 
 // Whether an object of blocks of this size may have this end.
@@ -57,7 +39,7 @@ fn is_root(levels: u8, block_size: u32, root: &Ptr) -> bool
 fn is_spill(spill: &Ptr) -> bool
     ensures { result ≡ is_spill spill.now }
 {
-    spill.kind == 0 || (spill.kind == 1 && is_spill_size(spill.length))
+    spill.kind == 0 || (spill.kind == 1 && is_spill_size(u64::from(spill.length)))
 }
 
 // Whether each byte is zero.
@@ -72,7 +54,7 @@ fn is_bonus(bonus_len: u32, bonus: &[u8]) -> bool
     requires { length bonus.now ≡ 320 }
     ensures { IsTrue result ↔ IsBonusField bonus_len bonus.now }
 {
-    bonus_len <= 320 && is_zeros(&bonus[bonus_len as usize..])
+    bonus_len <= LARGEST_BONUS && is_zeros(&bonus[bonus_len as usize..])
 }
 
 impl Dnode {

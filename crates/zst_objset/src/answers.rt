@@ -16,12 +16,10 @@ use crate::reading::{dnode_at, slot_at};
 use crate::trees::leaf_at;
 use zst_block::{BlockFault, Io, Ptr, read};
 use zst_dnode::{Dnode, Slot};
+use zst_model::limits::INDEX_BOUND;
 use zst_model::{ApplyFault, Cell, Quantity};
 use zst_outside::Disk;
 use zst_tree::{ObjSet, Tree};
-
-/// Indices stand below this.
-pub(crate) const INDEX_BOUND: u64 = 8796093022208;
 
 /// What stands at a number: of an absent one its date.
 pub(crate) fn slot<D: Disk>(set: &ObjSet, io: &mut Io<'_, D>, object: u64) -> Result<Slot, ObjFault>

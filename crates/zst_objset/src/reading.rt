@@ -12,11 +12,9 @@ ghost use Rattle.zst_objset.specs.Sets.{SetHolds};
 use crate::leaves::find_slots;
 use zst_block::{BlockFault, Io};
 use zst_dnode::{Dnode, Slot};
+use zst_model::limits::NUMBER_BOUND;
 use zst_outside::Disk;
 use zst_tree::ObjSet;
-
-/// Object numbers stand below this.
-pub(crate) const NUMBER_BOUND: u64 = 281474976710656;
 
 /// The slot of a number.
 pub(crate) fn slot_at<D: Disk>(
