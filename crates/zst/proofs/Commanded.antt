@@ -20,7 +20,7 @@ use Rattle.zst_dir.specs.Rows.{Rows}
 use Rattle.zst_pool.specs.Faults.{HasDiskCause, IsStepFault, StepFault, pool_refusal}
 use Rattle.zst_pool.specs.Making.{GivesPool, OpenAnswers}
 use Rattle.zst_pool.specs.Reads.{Reads, ReadsAs, Rests, BeforeOrAfter}
-use Rattle.zst_pool.specs.Room.{HasNoRoom}
+use Rattle.zst_pool.specs.Room.{HasNoRoom, most_sectors}
 use Rattle.zst_pool.specs.Stepping.{StepAnswer}
 use Rattle.zst_pool.specs.declared.fault.PoolFault.{PoolFault}
 use Rattle.zst_pool.specs.declared.fault.PoolFault.TheVariants as faults
@@ -252,7 +252,7 @@ module _ (now : ℕ) (command : Command) (here mid here' : DiskState) (kept kept
   }
 
   pub stepping_refused : (fault : PoolFault) → HasDiskCause {T = List (List ℕ)} mid.faults here'.faults (Err fault) → IsStepFault fault
-      → ((pool : Pool) (need largest : ℕ) → here'.honest → Rests mid kept.body kept.dir pool → fault ≡ faults.Full need largest → HasNoRoom kept.body kept.dir need largest)
+      → ((pool : Pool) (need largest : ℕ) → here'.honest → Rests mid kept.body kept.dir pool → fault ≡ faults.Full need largest → HasNoRoom (most_sectors command) kept.body kept.dir need largest)
       → ((pool : Pool) → here'.honest → Rests mid kept.body kept.dir pool → StepAnswer here' kept'.body kept'.dir pool (stepped [] now command pool) (Err fault))
       → Stepping now command here here' (Err (pool_refusal fault))
   stepping_refused fault cause known room did = record {

@@ -20,7 +20,7 @@ use Rattle.zst_dir.specs.Rows.{Rows}
 use Rattle.zst_pool.specs.Faults.{pool_refusal}
 use Rattle.zst_pool.specs.Making.{IsOpened}
 use Rattle.zst_pool.specs.Reads.{Reads, ReadsAs, BeforeOrAfter, new_pool}
-use Rattle.zst_pool.specs.Room.{HasNoRoom}
+use Rattle.zst_pool.specs.Room.{HasNoRoom, most_sectors}
 use Rattle.zst_pool.specs.declared.fault.PoolFault.{PoolFault}
 use Rattle.zst.specs.Replies.{Replied}
 
@@ -66,7 +66,7 @@ pub record Stepping (now : ℕ) (command : Command) (here here' : DiskState) (an
   pub answers : (pool : Pool) → here'.honest → Holds here pool → Answers here' pool (stepped [] now command pool) answer
   pub opened : here'.honest → Opened here answer
   pub full : (uber : Uber) (rows : Rows) (pool : Pool) (need largest : ℕ) → here'.honest → ReadsAs uber rows pool here.seen
-      → answer ≡ Err (refusals.Full need largest) → HasNoRoom uber rows need largest
+      → answer ≡ Err (refusals.Full need largest) → HasNoRoom (most_sectors command) uber rows need largest
   pub refused : IfErr answer (IsPoolRefusal here here')
   pub later : here.faults ≤ here'.faults
 

@@ -4,7 +4,7 @@ use Rattle.zst_outside.specs.Causes.{Rose}
 use Rattle.zst_outside.specs.Images.{DiskState, OnlyReads}
 use Rattle.zst_fletcher.specs.WeightSum.{parts_of}
 use Rattle.zst_space.specs.FreeSectors.{FreeSectors, largest_of, room}
-use Rattle.zst_block.specs.Blocks.{FitsDisk, FillsFree, SparesTaken, IsBlock}
+use Rattle.zst_block.specs.Blocks.{FitsDisk, FillsFree}
 use Rattle.zst_block.specs.Reading.{IsDamage}
 use Rattle.zst_block.specs.declared.ptr.Ptr.{Ptr}
 use Rattle.zst_block.specs.declared.fault.BlockFault.{BlockFault}
@@ -63,20 +63,3 @@ TellsDamage image size ptr (Ok value) = Unit {0}
 TellsDamage image size ptr (Err (Damaged sector stated found)) = (sector ≡ ptr.sector) × (stated ≡ parts_of ptr.sum) × (IsDamage image size ptr found ⊎ (found ≡ stated))
 TellsDamage image size ptr (Err (Full need largest)) = Unit {0}
 TellsDamage image size ptr (Err DiskFault) = Unit {0}
-
--- some pointer is told that the caller may follow over the blocks of an image, which is what a read gives but for free sectors
-pub record IsDamaged (reaches : (Ptr → List ℕ → Type 0) → Ptr → Type 0) (space : FreeSectors) (seen : List ℕ) (size sector : ℕ) (stated found : List ℕ) : Type 0 where
-  pub image : List ℕ
-  pub spares : SparesTaken space seen image
-  pub ptr : Ptr
-  pub reached : reaches (IsBlock image) ptr
-  pub sector_is : sector ≡ ptr.sector
-  pub stated_is : stated ≡ parts_of ptr.sum
-  pub found_is : IsDamage image size ptr found ⊎ (found ≡ stated)
-
--- a refusal of damage tells such a pointer
-abbrev pub NamesDamage : {T : Type 0} → ((Ptr → List ℕ → Type 0) → Ptr → Type 0) → DiskState → FreeSectors → Result T BlockFault → Type 0
-NamesDamage reaches old space (Ok value) = Unit {0}
-NamesDamage reaches old space (Err (Damaged sector stated found)) = IsDamaged reaches space old.seen old.size sector stated found
-NamesDamage reaches old space (Err (Full need largest)) = Unit {0}
-NamesDamage reaches old space (Err DiskFault) = Unit {0}

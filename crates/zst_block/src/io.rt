@@ -98,6 +98,7 @@ pub fn load<D: Disk>(io: &mut Io<'_, D>, ptr: Ptr) -> Result<(), BlockFault>
     // What is loaded is the block, and a block that is there is loaded.
     ensures block { (D.state io.new.disk.now).honest → OnOk result (IsBlock (D.state io.old.disk.now).seen ptr io.new.node) }
     ensures there { (bytes : List ℕ) → (D.state io.new.disk.now).honest → Has (D.state io.old.disk.now).seen io.old.space ptr bytes → length bytes ≡ 8192 → GivesBlock bytes io.new.node result }
+    ensures answer { (D.state io.new.disk.now).honest → ptr.length ≡ 8192 → ReadAnswers (D.state io.old.disk.now).seen (D.state io.old.disk.now).size ptr io.new.node result }
     ensures damaged { (D.state io.new.disk.now).honest → TellsDamage (D.state io.old.disk.now).seen (D.state io.old.disk.now).size ptr result }
     ensures long { OnOk result (length io.new.node ≡ 8192) }
 

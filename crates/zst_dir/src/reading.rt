@@ -1,7 +1,8 @@
 //! The rows of a directory, read from the bytes in front. Whether they make a lawful directory is
 //! not looked at here.
-ghost use Rattle.std.specs.Prelude.{IfSome};
+ghost use Rattle.std.specs.Prelude.{◌≡◌, ◌<◌, ◌==◌, ◌↔◌, IfSome, IsTrue, bit_and, length};
 ghost use Rattle.zst_model.specs.pools.Pool.{IsStated};
+ghost use Rattle.zst_model.specs.sends.Features.{redacts, resuming};
 ghost use Rattle.zst_dir.specs.Reading.{ReadsBack, IsSnapshotOf, dataset_front};
 ghost use Rattle.zst_dir.specs.Rows.{IsDatasetRow, IsBookmarkRow, IsPartialRow};
 ghost use Rattle.zst_dir.specs.Spelling.{snapshot_bytes, bookmark_bytes, header_bytes, partial_bytes};
@@ -13,7 +14,8 @@ use crate::fields::{
 };
 use crate::rows::{Bookmark, Dataset, Partial, Snapshot};
 use zst_bytes::Cursor;
-use zst_model::{Header, Point};
+use zst_model::features::{REDACTED, RESUMING};
+use zst_model::{GuidSet, Header, Point};
 use zst_names::DatasetName;
 use zst_tree::{read_ptr, read_set};
 
@@ -85,6 +87,21 @@ pub(crate) fn read_bookmark(cursor: &mut Cursor<'_>) -> Option<Bookmark>
     })
 }
 
+// Whether a header that isn't resumed can state these together: redaction guids exactly where it
+// has REDACTED, and those of a source only where it has a source.
+#[tactic(auto, unfolding(zst_model::specs::sends::Features::redacts, zst_model::specs::sends::Features::resuming))]
+fn go_together(features: u32, from: u64, redact: &GuidSet, from_redact: &GuidSet) -> bool
+    ensures { IsTrue result ↔ ((bit_and features resuming ≡ 0) × ((bit_and features redacts == 0) ≡ (length redact.now == 0)) × (0 < length from_redact.now → 0 < from)) }
+{
+    if features & RESUMING != 0 {
+        return false;
+    }
+    if (features & REDACTED == 0) != redact.as_slice().is_empty() {
+        return false;
+    }
+    from_redact.as_slice().is_empty() || from > 0
+}
+
 /// A header that a stream can state, without a resume point.
 #[tactic(auto, using(crate::proofs::Parts::header_parts))]
 fn read_header(cursor: &mut Cursor<'_>) -> Option<Header>
@@ -100,6 +117,9 @@ fn read_header(cursor: &mut Cursor<'_>) -> Option<Header>
     let name = read_name_text(cursor)?;
     let redact = read_guids(cursor)?;
     let from_redact = read_guids(cursor)?;
+    if !go_together(features, from, &redact, &from_redact) {
+        return None;
+    }
     Some(Header {
         kind,
         flags,

@@ -1,3 +1,4 @@
+pub mod Features
 pub mod Headers
 pub mod Included
 pub mod Items

@@ -1,6 +1,7 @@
 //! Plain types that the other crates speak of, and the definitions of what a send gives and what a receive makes of it.
 #![tactic(auto)]
 
+pub mod features;
 mod fields;
 pub mod limits;
 mod pools;

@@ -37,11 +37,11 @@ Refuses-disk definition (faults.Block (Damaged sector stated found)) is = absurd
 Refuses-disk definition (faults.Block DiskFault) is = tt
 
 -- an index below the bound is no limit
-in_indices_ok : {A : Type 0} (i : ℕ) (made : A) → i < 2 ^ 43 → in_indices (i + 1) (Ok made) ≡ Ok made
+pub in_indices_ok : {A : Type 0} (i : ℕ) (made : A) → i < 2 ^ 43 → in_indices (i + 1) (Ok made) ≡ Ok made
 unfolding index_bound
 in_indices_ok i made less = let test : nat_lt 8796093022208 (i + 1) ≡ false = grind (arith, nat_tests) in rw test refl
 
-in_indices_far : {A : Type 0} (i : ℕ) (made : A) → 2 ^ 43 ≤ i → in_indices (i + 1) (Ok made) ≡ Err (refusals.Limit quantities.Block 8796093022208)
+pub in_indices_far : {A : Type 0} (i : ℕ) (made : A) → 2 ^ 43 ≤ i → in_indices (i + 1) (Ok made) ≡ Err (refusals.Limit quantities.Block 8796093022208)
 unfolding index_bound
 in_indices_far i made over = let test : nat_lt 8796093022208 (i + 1) ≡ true = grind (arith, nat_tests) in rw test refl
 
@@ -67,15 +67,18 @@ module _ (has : Blocks) (ptr : Ptr) (k i : ℕ) (read : List ℕ) (less : i < 2 
   data_read Redacted size result kind is fits told = absurd (omega (arith, kind, is))
   data_read (Data bytes) size result kind is fits told = data_result bytes result (told bytes is.1 fits)
 
--- an object that isn't there
+-- where no object is there, what the definition refuses is refused
+pub none_refused : {A : Type 0} (definition : Result A Refusal) (has : Blocks) (snap : DatedState) (k : ℕ) (fault : ObjFault) → (snap.state k ≡ None → definition ≡ Err (refusals.CannotApply 0 NoObject)) → FindsThere has snap k (Err fault) → Refuses definition fault
+none_refused definition has snap k (faults.CannotApply fault) none is = rw is.0 (none is.1)
+none_refused definition has snap k (faults.Redacted object block) none is = absurd is
+none_refused definition has snap k (faults.Limit which number) none is = absurd is
+none_refused definition has snap k (faults.Block fault) none is = Refuses-disk definition (faults.Block fault) is
+
 found_none : (snap : DatedState) (k i : ℕ) → snap.state k ≡ None → found_at k i snap ≡ Err (refusals.CannotApply 0 NoObject)
 found_none snap k i none = rw none refl
 
 pub not_there : (has : Blocks) (snap : DatedState) (k i : ℕ) (read : List ℕ) (fault : ObjFault) → FindsThere has snap k (Err fault) → ReadsBlock (found_at k i snap) read (Err fault)
-not_there has snap k i read (faults.CannotApply fault) is = rw is.0 (found_none snap k i is.1)
-not_there has snap k i read (faults.Redacted object block) is = absurd is
-not_there has snap k i read (faults.Limit which number) is = absurd is
-not_there has snap k i read (faults.Block fault) is = Refuses-disk (found_at k i snap) (faults.Block fault) is
+not_there has snap k i read fault is = none_refused (found_at k i snap) has snap k fault (found_none snap k i) is
 
 -- an object that is there
 pub object_of : (state : Option Object) (object : Object) → state ≡ Some object → IsObjectOrNone state → IsObject object

@@ -1,5 +1,5 @@
 -- A change of one object puts the slot of its number, and leaves all others.
-use Rattle.std.proofs.Common.{◌≡◌, ◌⊎◌, inl, inr, ℕ, ◌+◌, ◌<◌, ◌≤◌, ◌==◌, ◌&&◌, nat_lt, Bool, true, false, refl, sym, ◌∙◌, subst, arith, if◌then◌else◌, Some, Ok}
+use Rattle.std.proofs.Common.{◌≡◌, ◌⊎◌, inl, inr, ℕ, ◌+◌, ◌<◌, ◌≤◌, ◌==◌, ◌&&◌, nat_lt, Bool, true, false, refl, sym, ◌∙◌, subst, ap, arith, if◌then◌else◌, Some, Ok}
 use Rattle.std.proofs.lemmas.Bool.{true≢false}
 use Rattle.std.proofs.lemmas.Bool.Decides.{nat_tests}
 use Rattle.zst_dnode.specs.declared.dnode.Dnode.{Dnode}
@@ -10,9 +10,11 @@ use Rattle.zst_model.specs.declared.states.item.Item.TheVariants.{At}
 use Rattle.zst_model.specs.states.State.{Object, IsState, is_number, index_bound}
 use Rattle.zst_model.specs.states.Apply.{apply, apply_change, put_at}
 use Rattle.zst_model.specs.states.Dated.{DatedState, apply_dated, dates_index, dates_number}
+use Rattle.zst_model.specs.pools.Step.{of_applying}
 use Rattle.zst_tree.specs.Indices.{Blocks, Map}
 use Rattle.zst_objset.specs.Dnodes.{ObjectIs, SlotIs}
-use Rattle.zst_objset.specs.Putting.{Alike, PutsSlot}
+use Rattle.zst_objset.specs.Putting.{Alike, PutsSlot, MakesDnode, date_to, dates_to}
+use Rattle.zst_objset.specs.Changes.{changed}
 use Rattle.zst_objset.specs.Sets.{IsBounded}
 
 same : (j : ℕ) → (j == j) ≡ true
@@ -26,10 +28,10 @@ no_number_beside : (j k : ℕ) → is_number j ≡ true → is_number k ≡ fals
 no_number_beside j k number none true test = let is : k ≡ j = grind (arith, nat_tests) in absurd (true≢false (sym number ∙ subst (λ (n : ℕ). is_number n ≡ false) is none))
 no_number_beside j k number none false test = refl
 
-under : (i : ℕ) → i < index_bound → nat_lt i index_bound ≡ true
+pub under : (i : ℕ) → i < index_bound → nat_lt i index_bound ≡ true
 under i less = grind (arith, nat_tests)
 
-over : (i : ℕ) → index_bound ≤ i → nat_lt i index_bound ≡ false
+pub over : (i : ℕ) → index_bound ≤ i → nat_lt i index_bound ≡ false
 over i le = grind (arith, nat_tests)
 
 -- tests of a number and an index
@@ -64,13 +66,6 @@ module _ (number j : ℕ) (change : Change) (old : DatedState) where
   unfolding apply
   changed_is object is = rw is refl
 
-  -- the dates of the number and of its indices
-  abbrev pub date_to : ℕ
-  date_to = if dates_number change then number else old.number_date j
-
-  abbrev pub dates_to : ℕ → ℕ
-  dates_to i = if dates_index change (old.state j) i then number else old.index_date j i
-
   kept_at : (object : Object) (k : ℕ) → (k == j) ≡ false → Alike old (changed_to object) k
   kept_at object k other = record {
     state = rw other refl;
@@ -80,7 +75,7 @@ module _ (number j : ℕ) (change : Change) (old : DatedState) where
 
   -- the slot of the number is put
   pub change_puts : (has : Blocks) (object : Object) (dnode : Dnode) (map : Map) → is_number j ≡ true → IsState old.state → IsBounded old → apply_change change (old.state j) ≡ Ok (Some object) → IsLawfulItem (At j change) old.state
-      → AppliedIsState → ObjectIs has dnode object date_to dates_to map → PutsSlot has old (changed_to object) j (j + 1) (There dnode)
+      → AppliedIsState → ObjectIs has dnode object (date_to number j change old) (dates_to number j change old) map → PutsSlot has old (changed_to object) j (j + 1) (There dnode)
   change_puts has object dnode map is_one lawful bounded is item law object_is = record {
     lawful = law number (At j change) old (changed_to object) lawful item (changed_is object is);
     bounded = record {
@@ -110,3 +105,11 @@ module _ (number j : ℕ) (change : Change) (old : DatedState) where
           index_dates = λ i less. object_is.index_dates i less ∙ sym (at_index (j == j) (dates_index change (old.state j) i) (nat_lt i index_bound) number (old.index_date j i) (same j) (under i less));
         };
       }
+
+-- what a change makes of an object is what the definition makes, and its slot is put
+pub makes_dnode : (has : Blocks) (number j : ℕ) (change : Change) (old : DatedState) (dnode : Dnode) → IsState old.state → IsBounded old → AppliedIsState → (makes : MakesDnode has number j change old dnode)
+    → (changed number (At j change) old ≡ Ok (changed_to number j change old makes.object)) × PutsSlot has old (changed_to number j change old makes.object) j (j + 1) (There dnode)
+makes_dnode has number j change old dnode lawful bounded law makes = (
+  ap of_applying (changed_is number j change old makes.object makes.made),
+  change_puts number j change old has makes.object dnode makes.map makes.lawful.0 lawful bounded makes.made makes.lawful law makes.is,
+)

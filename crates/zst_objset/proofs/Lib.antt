@@ -1,10 +1,19 @@
 pub mod AnswerLaws
 pub mod ChangePuts
 mod CommandLaws
+pub mod DamageLaws
+pub mod EndLaws
+pub mod FreeLaws
+pub mod IndicesChanged
 pub mod LeafLaws
+pub mod ObjectLaws
+pub mod RangeLaws
 pub mod SetGrows
-pub mod SetOnly
 pub mod SetLaws
+pub mod SetOnly
 pub mod SetPuts
 pub mod SlotLaws
 pub mod SpillLaws
+pub mod TreeFits
+pub mod Within
+pub mod WriteLaws

@@ -40,7 +40,7 @@ attr_made type bonus_type size bonus spill b e0 e1 e2 e3 e4 = rw (e0, e1, e2, e3
 object_made : (attr : Attr) (blocks : ℕ → Block) (b : Object) → attr ≡ b.attr → blocks ≡ b.blocks → record { attr = attr; blocks = blocks } ≡ b
 object_made attr blocks b e0 e1 = rw (e0, e1) refl
 
-dated_made : (state : State) (dates : ℕ → ℕ) (all : ℕ → ℕ → ℕ) (b : DatedState) → state ≡ b.state → dates ≡ b.number_date → all ≡ b.index_date → record { state = state; number_date = dates; index_date = all } ≡ b
+pub dated_made : (state : State) (dates : ℕ → ℕ) (all : ℕ → ℕ → ℕ) (b : DatedState) → state ≡ b.state → dates ≡ b.number_date → all ≡ b.index_date → record { state = state; number_date = dates; index_date = all } ≡ b
 dated_made state dates all b e0 e1 e2 = rw (e0, e1, e2) refl
 
 -- a kind of 3 or 4 is that of no flat pointer

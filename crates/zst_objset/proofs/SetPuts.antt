@@ -68,17 +68,17 @@ abbrev pub with_slots : (ℕ → Slot) → ℕ → ℕ → Slot → ℕ → Slot
 with_slots slots from below slot s = if nat_le from s && nat_lt s below then slot else slots s
 
 -- where a place is: inside or beside
-inside : {A : Type 0} (from below s : ℕ) (x y : A) → from ≤ s → s < below → (if nat_le from s && nat_lt s below then x else y) ≡ x
+pub inside : {A : Type 0} (from below s : ℕ) (x y : A) → from ≤ s → s < below → (if nat_le from s && nat_lt s below then x else y) ≡ x
 inside from below s x y over less = grind (arith, nat_tests)
 
-outside : {A : Type 0} (from below s : ℕ) (x y : A) → (s < from) ⊎ (below ≤ s) → (if nat_le from s && nat_lt s below then x else y) ≡ y
+pub outside : {A : Type 0} (from below s : ℕ) (x y : A) → (s < from) ⊎ (below ≤ s) → (if nat_le from s && nat_lt s below then x else y) ≡ y
 outside from below s x y (inl before) = grind (arith, nat_tests)
 outside from below s x y (inr behind) = grind (arith, nat_tests)
 
-abbrev Sides : ℕ → ℕ → ℕ → Type 0
+abbrev pub Sides : ℕ → ℕ → ℕ → Type 0
 Sides from below s = ((from ≤ s) × (s < below)) ⊎ ((s < from) ⊎ (below ≤ s))
 
-sides : (from below s : ℕ) → Sides from below s
+pub sides : (from below s : ℕ) → Sides from below s
 sides from below s = ⊎_elim (λ (before : s < from). inr (inl before)) (λ (over : from ≤ s). ⊎_elim (λ (less : s < below). inl (over, less)) (λ (behind : below ≤ s). inr (inr behind)) (cases_lt s below)) (cases_lt s from)
 
 zero_only : (j s : ℕ) → s < 16 → j < 2 ^ 44 → is_number (16 * j + s) ≡ false → 16 * j + s ≡ 0

@@ -8,6 +8,7 @@ use Rattle.zst_bytes.proofs.BytesLaws.{length-written, written-same, written-abo
 use Rattle.zst_dnode.proofs.Slots.{length-slot_bytes}
 use Rattle.zst_dnode.specs.Slot.{slot_bytes, SlotFits}
 use Rattle.zst_dnode.specs.declared.slot.Slot.{Slot}
+use Rattle.zst_objset.specs.Damage.{HasSlot}
 use Rattle.zst_objset.specs.Sets.{any_there, date_in, is_there, latest, Spells}
 
 -- from one place on and below another a node has these bytes, and at each other place what it had
@@ -47,24 +48,29 @@ Puts-next bytes old mid from place over less long size before = record {
 pub record IsSummed (bytes : List ℕ) (place number : ℕ) (there : Bool) : Type 0 where
   pub number_is : (slots : ℕ → Slot) → Spells bytes slots → number ≡ latest slots place
   pub there_is : (slots : ℕ → Slot) → Spells bytes slots → there ≡ any_there slots place
+  pub all : (s : ℕ) → s < place → (slot : Slot) × HasSlot bytes s slot
 
 pub IsSummed-none : (bytes : List ℕ) → IsSummed bytes 0 0 false
 unfolding latest any_there
-IsSummed-none bytes = record { number_is = λ slots spells. refl; there_is = λ slots spells. refl }
+IsSummed-none bytes = record { number_is = λ slots spells. refl; there_is = λ slots spells. refl; all = λ s under. absurd (omega arith) }
 
 -- with the next slot, as it was read
 pub IsSummed-next : (bytes : List ℕ) (place number next : ℕ) (there also : Bool) (slot : Slot) → place < 16
     → ((other : Slot) → SlotFits other → bytes_at bytes (512 * place) 512 ≡ slot_bytes other → Some slot ≡ Some other)
-    → next ≡ max number (date_in slot) → also ≡ (there || is_there slot)
+    → SlotFits slot → bytes_at bytes (512 * place) 512 ≡ slot_bytes slot → next ≡ max number (date_in slot) → also ≡ (there || is_there slot)
     → IsSummed bytes place number there → IsSummed bytes (place + 1) next also
 unfolding latest any_there
-IsSummed-next bytes place number next there also slot less back next_is also_is before = record {
+IsSummed-next bytes place number next there also slot less back fits spelled next_is also_is before = record {
   number_is = λ slots spells. rw (add-one) (next_is ∙ rw (same slots spells, before.number_is slots spells) refl);
   there_is = λ slots spells. rw (add-one) (also_is ∙ rw (same slots spells, before.there_is slots spells) refl);
+  all = λ s under. ⊎_elim (λ earlier. before.all s earlier) (λ here. at s (omega arith)) (cases_lt s place);
 }
   where
     same : (slots : ℕ → Slot) → Spells bytes slots → slot ≡ slots place
     same slots spells = let found = back (slots place) (spells.fits place less) (spells.spelled place less) in cc
+
+    at : (s : ℕ) → s ≡ place → (other : Slot) × HasSlot bytes s other
+    at s is = (slot, record { fits = fits; spelled = rw is spelled })
 
 -- a slot's bytes over others
 pub slot_over : (slot : Slot) (old : List ℕ) → SlotFits slot → length old ≡ 512 → written 0 512 (slot_bytes slot) old ≡ slot_bytes slot

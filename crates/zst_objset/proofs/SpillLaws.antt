@@ -22,9 +22,9 @@ use Rattle.zst_objset.specs.Answers.{BlockStops, FindsThere, Refuses}
 use Rattle.zst_objset.specs.Changes.{changed}
 use Rattle.zst_objset.specs.Dnodes.{IsThere, ObjectIs}
 use Rattle.zst_objset.specs.declared.fault.ObjFault.{ObjFault}
-use Rattle.zst_objset.specs.declared.fault.ObjFault.TheVariants as faults
-use Rattle.zst_objset.proofs.AnswerLaws.{Refuses-disk}
-use Rattle.zst_objset.proofs.ChangePuts.{changed_is, changed_to, date_to, dates_to}
+use Rattle.zst_objset.proofs.AnswerLaws.{none_refused}
+use Rattle.zst_objset.specs.Putting.{date_to, dates_to}
+use Rattle.zst_objset.proofs.ChangePuts.{changed_is, changed_to}
 
 changed_none : (number k : ℕ) (change : Change) (snap : DatedState) → apply_change change None ≡ Err NoObject → snap.state k ≡ None → changed number (At k change) snap ≡ Err (refusals.CannotApply 0 NoObject)
 unfolding apply
@@ -32,10 +32,7 @@ changed_none number k change snap is none = rw (none, is) refl
 
 -- a change of an object that isn't there
 pub change_not_there : (has : Blocks) (number k : ℕ) (change : Change) (snap : DatedState) (fault : ObjFault) → apply_change change None ≡ Err NoObject → FindsThere has snap k (Err fault) → Refuses (changed number (At k change) snap) fault
-change_not_there has number k change snap (faults.CannotApply fault) none is = rw is.0 (changed_none number k change snap none is.1)
-change_not_there has number k change snap (faults.Redacted object block) none is = absurd is
-change_not_there has number k change snap (faults.Limit which number') none is = absurd is
-change_not_there has number k change snap (faults.Block fault) none is = Refuses-disk (changed number (At k change) snap) (faults.Block fault) is
+change_not_there has number k change snap fault none is = none_refused (changed number (At k change) snap) has snap k fault (changed_none number k change snap none) is
 
 -- a block's fault where the definition accepts
 pub stops : {A : Type 0} (definition : Result A Refusal) (after : A) (fault : BlockFault) → definition ≡ Ok after → IsNoDamage fault → BlockStops definition fault

@@ -1,5 +1,10 @@
+pub mod Allocating
 pub mod Answers
 pub mod Changes
+pub mod Damage
 pub mod Dnodes
+pub mod Freeing
 pub mod Putting
+pub mod Ranges
 pub mod Sets
+pub mod Writing

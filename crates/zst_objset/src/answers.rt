@@ -1,25 +1,28 @@
 //! The calls that read a set.
-ghost use Rattle.std.specs.Prelude.{◌≡◌, ◌+◌, ◌<◌, ◌≤◌, ◌^◌, IfErr, IfOk, IfSome, OnOk, List, ℕ, Some, length};
+ghost use Rattle.std.specs.Prelude.{◌≡◌, ◌+◌, ◌<◌, ◌≤◌, ◌^◌, false, IfErr, IfOk, IfSome, OnOk, List, ℕ, Some, length};
 ghost use Rattle.zst_block.specs.Blocks.{FitsDisk, Has};
+ghost use Rattle.zst_block.specs.Ptr.{is_flat};
 ghost use Rattle.zst_block.specs.Working.{Looks};
 ghost use Rattle.zst_dnode.specs.Dnode.{DnodeFits};
 ghost use Rattle.zst_dnode.specs.Slot.{SlotFits};
 ghost use Rattle.zst_model.specs.states.Dated.{DatedState};
 ghost use Rattle.zst_model.specs.states.State.{Block, BlockFits, Object};
+ghost use Rattle.zst_tree.specs.Damage.{IsSeen};
 ghost use Rattle.zst_objset.specs.Answers.{FindsObject, FindsSlot, FindsThere, IsOfBlock, ReadsBlock, ReadsData, stop_of};
 ghost use Rattle.zst_objset.specs.Changes.{block_found, found_at};
+ghost use Rattle.zst_objset.specs.Damage.{IfSetDamaged, IsDamagedBlock, IsDamagedData, IsDamagedSet, StandsIn};
 ghost use Rattle.zst_objset.specs.Dnodes.{BlockIs};
 ghost use Rattle.zst_objset.specs.Sets.{SetHolds};
 
 use crate::fault::ObjFault;
 use crate::reading::{dnode_at, slot_at};
-use crate::trees::leaf_at;
+use crate::trees::{leaf_at, tree_of};
 use zst_block::{BlockFault, Io, Ptr, read};
 use zst_dnode::{Dnode, Slot};
 use zst_model::limits::INDEX_BOUND;
 use zst_model::{ApplyFault, Cell, Quantity};
 use zst_outside::Disk;
-use zst_tree::{ObjSet, Tree};
+use zst_tree::ObjSet;
 
 /// What stands at a number: of an absent one its date.
 pub(crate) fn slot<D: Disk>(set: &ObjSet, io: &mut Io<'_, D>, object: u64) -> Result<Slot, ObjFault>
@@ -29,6 +32,7 @@ pub(crate) fn slot<D: Disk>(set: &ObjSet, io: &mut Io<'_, D>, object: u64) -> Re
         → FindsSlot (Has (D.state io.new.disk.now).seen io.new.space) snap object result }
     ensures ranges { IfOk result SlotFits }
     ensures known { IfErr result IsOfBlock }
+    ensures damaged { (D.state io.new.disk.now).honest → IfSetDamaged result (IsDamagedSet (IsSeen (D.state io.old.disk.now).seen) (D.state io.old.disk.now).size set.now) }
     ensures looks { Looks (D.state io.old.disk.now) io.old.space io.old.failed (D.state io.new.disk.now) io.new.space io.new.failed (stop_of result) }
     ensures calls { (D.state io.new.disk.now).calls ≤ (D.state io.old.disk.now).calls + 8 }
     ensures same { io.new.disk.ghost_name ≡ io.old.disk.ghost_name }
@@ -51,6 +55,7 @@ pub(crate) fn attr<D: Disk>(
         → FindsObject (Has (D.state io.new.disk.now).seen io.new.space) snap object result }
     ensures ranges { IfOk result (λ found. IfSome found DnodeFits) }
     ensures known { IfErr result IsOfBlock }
+    ensures damaged { (D.state io.new.disk.now).honest → IfSetDamaged result (IsDamagedSet (IsSeen (D.state io.old.disk.now).seen) (D.state io.old.disk.now).size set.now) }
     ensures looks { Looks (D.state io.old.disk.now) io.old.space io.old.failed (D.state io.new.disk.now) io.new.space io.new.failed (stop_of result) }
     ensures calls { (D.state io.new.disk.now).calls ≤ (D.state io.old.disk.now).calls + 8 }
     ensures same { io.new.disk.ghost_name ≡ io.old.disk.ghost_name }
@@ -73,6 +78,8 @@ pub(crate) fn object_there<D: Disk>(
         → FindsThere (Has (D.state io.new.disk.now).seen io.new.space) snap object result }
     ensures ranges { IfOk result DnodeFits }
     ensures bound { OnOk result (object < 2 ^ 48) }
+    ensures stands { (D.state io.new.disk.now).honest → IfOk result (StandsIn (IsSeen (D.state io.old.disk.now).seen) set.now) }
+    ensures damaged { (D.state io.new.disk.now).honest → IfSetDamaged result (IsDamagedSet (IsSeen (D.state io.old.disk.now).seen) (D.state io.old.disk.now).size set.now) }
     ensures looks { Looks (D.state io.old.disk.now) io.old.space io.old.failed (D.state io.new.disk.now) io.new.space io.new.failed (stop_of result) }
     ensures calls { (D.state io.new.disk.now).calls ≤ (D.state io.old.disk.now).calls + 8 }
     ensures kept_fit { FitsDisk (D.state io.new.disk.now).size io.new.space }
@@ -97,6 +104,7 @@ fn read_leaf<D: Disk>(
     requires fits { FitsDisk (D.state io.old.disk.now).size io.old.space }
     ensures read { (block : Block) → (D.state io.new.disk.now).honest → BlockIs (Has (D.state io.old.disk.now).seen io.old.space) ptr block → BlockFits (length into.old) block
         → ReadsBlock (block_found object index block) into.new result }
+    ensures damaged { (D.state io.new.disk.now).honest → IfSetDamaged result (IsDamagedData (IsSeen (D.state io.old.disk.now).seen) (D.state io.old.disk.now).size (length into.old) ptr) }
     ensures looks { Looks (D.state io.old.disk.now) io.old.space io.old.failed (D.state io.new.disk.now) io.new.space io.new.failed (stop_of result) }
     ensures calls { (D.state io.new.disk.now).calls ≤ (D.state io.old.disk.now).calls + 1 }
     ensures same { io.new.disk.ghost_name ≡ io.old.disk.ghost_name }
@@ -119,6 +127,7 @@ fn read_leaf<D: Disk>(
 fn read_data<D: Disk>(io: &mut Io<'_, D>, ptr: Ptr, into: &mut [u8]) -> Result<Cell, ObjFault>
     requires fits { FitsDisk (D.state io.old.disk.now).size io.old.space }
     ensures read { (bytes : List ℕ) → (D.state io.new.disk.now).honest → Has (D.state io.old.disk.now).seen io.old.space ptr bytes → length bytes ≡ length into.old → ReadsData bytes into.new result }
+    ensures damaged { is_flat ptr ≡ false → (D.state io.new.disk.now).honest → IfSetDamaged result (IsDamagedData (IsSeen (D.state io.old.disk.now).seen) (D.state io.old.disk.now).size (length into.old) ptr) }
     ensures looks { Looks (D.state io.old.disk.now) io.old.space io.old.failed (D.state io.new.disk.now) io.new.space io.new.failed (stop_of result) }
     ensures calls { (D.state io.new.disk.now).calls ≤ (D.state io.old.disk.now).calls + 1 }
     ensures same { io.new.disk.ghost_name ≡ io.old.disk.ghost_name }
@@ -144,6 +153,7 @@ pub(crate) fn read_block<D: Disk>(
     requires fits { FitsDisk (D.state io.old.disk.now).size io.old.space }
     ensures read { (snap : DatedState) → (D.state io.new.disk.now).honest → SetHolds (Has (D.state io.old.disk.now).seen io.old.space) set.now snap
         → ((there : Object) → snap.state object ≡ Some there → length into.old ≡ there.attr.block_size) → ReadsBlock (found_at object index snap) into.new result }
+    ensures damaged { (D.state io.new.disk.now).honest → IfSetDamaged result (IsDamagedBlock (IsSeen (D.state io.old.disk.now).seen) (D.state io.old.disk.now).size (length into.old) set.now) }
     ensures looks { Looks (D.state io.old.disk.now) io.old.space io.old.failed (D.state io.new.disk.now) io.new.space io.new.failed (stop_of result) }
     ensures calls { (D.state io.new.disk.now).calls ≤ (D.state io.old.disk.now).calls + 16 }
     ensures same { io.new.disk.ghost_name ≡ io.old.disk.ghost_name }
@@ -158,12 +168,7 @@ pub(crate) fn read_block<D: Disk>(
             number: INDEX_BOUND,
         });
     }
-    let tree = Tree {
-        levels: dnode.levels,
-        past: dnode.past,
-        root: dnode.root,
-    };
-    match leaf_at(&tree, io, index) {
+    match leaf_at(&tree_of(&dnode), io, index) {
         Ok(ptr) => read_leaf(io, ptr, object, index, into),
         Err(fault) => Err(ObjFault::Block(fault)),
     }

@@ -14,6 +14,17 @@ pub enum ObjFault {
     Block(BlockFault),
 }
 
+impl From<ApplyFault> for ObjFault {
+    ghost use Rattle.std.specs.Prelude.{◌≡◌};
+    ghost use Rattle.zst_objset.specs.declared.fault.ObjFault.TheVariants as faults;
+
+    ghost from_gives = { λ apply fault. fault ≡ faults.CannotApply apply };
+
+    fn from(apply: ApplyFault) -> Self {
+        ObjFault::CannotApply(apply)
+    }
+}
+
 impl From<BlockFault> for ObjFault {
     ghost use Rattle.std.specs.Prelude.{◌≡◌};
     ghost use Rattle.zst_objset.specs.declared.fault.ObjFault.TheVariants as faults;

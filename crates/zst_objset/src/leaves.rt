@@ -5,7 +5,9 @@ ghost use Rattle.zst_block.specs.Ptr.{is_lawful};
 ghost use Rattle.zst_block.specs.Working.{Looks, Works, stop_of};
 ghost use Rattle.zst_dnode.specs.declared.slot.Slot.{Slot};
 ghost use Rattle.zst_model.specs.states.Dated.{DatedState};
+ghost use Rattle.zst_tree.specs.Damage.{HangsIn, IsSeen, MayHave};
 ghost use Rattle.zst_tree.specs.Indices.{Delivers};
+ghost use Rattle.zst_objset.specs.Damage.{HasAllSlots, IfDamaged, IsDamagedLeaf, IsDamagedSet, IsLoaded, TellsLacking};
 ghost use Rattle.zst_objset.specs.Sets.{HasSlots, LeafIs, NamesSlots, SetHolds, Spells};
 
 use crate::slots::{put_slots, summed_up};
@@ -22,6 +24,8 @@ pub(crate) fn load_slots<D: Disk>(io: &mut Io<'_, D>, ptr: Ptr, leaf: u64) -> Re
     requires fits { FitsDisk (D.state io.old.disk.now).size io.old.space }
     ensures slots { (snap : DatedState) → (D.state io.new.disk.now).honest → LeafIs (Has (D.state io.old.disk.now).seen io.old.space) snap leaf ptr
         → Delivers (λ done. HasSlots (Has (D.state io.old.disk.now).seen io.old.space) snap leaf io.new.node) result }
+    ensures loaded { (D.state io.new.disk.now).honest → OnOk result (IsLoaded (IsSeen (D.state io.old.disk.now).seen) ptr io.new.node) }
+    ensures damaged { (D.state io.new.disk.now).honest → IfDamaged result (IsDamagedLeaf (IsSeen (D.state io.old.disk.now).seen) (D.state io.old.disk.now).size ptr) }
     ensures looks { Looks (D.state io.old.disk.now) io.old.space io.old.failed (D.state io.new.disk.now) io.new.space io.new.failed (stop_of result) }
     ensures calls { (D.state io.new.disk.now).calls ≤ (D.state io.old.disk.now).calls + 1 }
     ensures kept_fit { FitsDisk (D.state io.new.disk.now).size io.new.space }
@@ -42,6 +46,9 @@ pub(crate) fn save_slots<D: Disk>(io: &mut Io<'_, D>, was: &Ptr) -> Result<Ptr, 
     requires fits { FitsDisk (D.state io.old.disk.now).size io.old.space }
     ensures names { (slots : ℕ → Slot) → Spells io.old.node slots → Delivers (λ ptr. NamesSlots (Has (D.state io.new.disk.now).seen io.new.space) ptr io.old.node slots) result }
     ensures lawful { IfOk result (λ ptr. is_lawful ptr ≡ true) }
+    ensures damaged { IfDamaged result (TellsLacking io.old.node was.now) }
+    ensures wrote { IfOk result (λ ptr. Has (D.state io.new.disk.now).seen io.new.space ptr io.old.node) }
+    ensures some { OnOk result (HasAllSlots io.old.node) }
     ensures works { Works 16 16 (D.state io.old.disk.now) io.old.space io.old.failed (D.state io.new.disk.now) io.new.space io.new.failed (stop_of result) }
     ensures same { io.new.disk.ghost_name ≡ io.old.disk.ghost_name }
 {
@@ -67,6 +74,9 @@ pub(crate) fn find_slots<D: Disk>(
     ensures slots { (snap : DatedState) → (D.state io.new.disk.now).honest → SetHolds (Has (D.state io.old.disk.now).seen io.old.space) set.now snap
         → Delivers (λ was. HasSlots (Has (D.state io.old.disk.now).seen io.old.space) snap leaf io.new.node) result }
     ensures levels { OnOk result (set.now.tree.levels ≤ 7) }
+    ensures hangs { (D.state io.new.disk.now).honest → IfOk result (HangsIn (MayHave (IsSeen (D.state io.old.disk.now).seen)) set.now.tree) }
+    ensures loaded { (D.state io.new.disk.now).honest → IfOk result (λ was. IsLoaded (IsSeen (D.state io.old.disk.now).seen) was io.new.node) }
+    ensures damaged { (D.state io.new.disk.now).honest → IfDamaged result (IsDamagedSet (IsSeen (D.state io.old.disk.now).seen) (D.state io.old.disk.now).size set.now) }
     ensures looks { Looks (D.state io.old.disk.now) io.old.space io.old.failed (D.state io.new.disk.now) io.new.space io.new.failed (stop_of result) }
     ensures calls { (D.state io.new.disk.now).calls ≤ (D.state io.old.disk.now).calls + 8 }
     ensures kept_fit { FitsDisk (D.state io.new.disk.now).size io.new.space }

@@ -1,17 +1,24 @@
 //! Object sets over trees of blocks: the objects of a head, of a snapshot or of a partial state.
 #![tactic(auto)]
 
+mod allocating;
 mod answers;
 mod changing;
 mod commands;
 mod fault;
+mod freeing;
 mod laws;
 mod leaves;
 mod objects;
 mod putting;
+mod ranges;
 mod reading;
+mod set;
 mod slots;
+#[cfg(test)]
+mod tests;
 mod trees;
+mod writing;
 
 pub use commands::{changes_are_commands, reads_are_commands};
 pub use fault::ObjFault;

@@ -1,15 +1,18 @@
 ghost use Rattle.std.specs.Prelude.{◌≡◌, ◌/◌, ◌+◌, ◌<◌, ◌≤◌, ℕ, List, length, IfErr, IfOk, IfSome, OnErr, Some};
 ghost use Rattle.zst_space.specs.FreeSectors.{FreeSectors};
-ghost use Rattle.zst_block.specs.Blocks.{FitsDisk, Has, KeepsBlocks};
+ghost use Rattle.zst_block.specs.Blocks.{FitsDisk, Has, SparesTaken};
 ghost use Rattle.zst_block.specs.Working.{Looks, Works};
+ghost use Rattle.zst_block.specs.declared.ptr.Ptr.{Ptr};
 ghost use Rattle.zst_dnode.specs.Dnode.{DnodeFits};
 ghost use Rattle.zst_dnode.specs.Slot.{SlotFits};
 ghost use Rattle.zst_model.specs.pools.Pool.{untouched};
 ghost use Rattle.zst_model.specs.states.Dated.{DatedState};
-ghost use Rattle.zst_model.specs.states.State.{Object, IsBonus, IsHead, IsSpill, IsState, number_bound};
+ghost use Rattle.zst_model.specs.states.State.{Object, IsBonus, IsHead, IsSpill, number_bound};
+ghost use Rattle.zst_tree.specs.Damage.{IsSeen, NamesNode, SumsUp};
 ghost use Rattle.zst_tree.specs.Indices.{Blocks};
 ghost use Rattle.zst_objset.specs.Answers.{Changes, FindsObject, FindsSlot, IsOfBlock, ReadsBlock, stop_of};
 ghost use Rattle.zst_objset.specs.Changes.{block_written, found_at, holes_made, object_put, objects_freed, range_redacted, spill_put};
+ghost use Rattle.zst_objset.specs.Damage.{DamageFact, IfSetDamaged};
 
 use crate::fault::ObjFault;
 use zst_block::Io;
@@ -21,10 +24,23 @@ use zst_outside::Disk;
 ///
 /// What a call makes of the dated state that the set holds is what the definition of that name
 /// makes of it. It is refused as the definition is, is full only where the definition accepts, and
-/// finds no damage where the set is held. At a refusal the set is as it was.
+/// finds no damage where the set is held. Which damage it may tell, where the set isn't held, is a
+/// member of the trait. At a refusal the set is as it was.
 pub trait Objects<D: Disk> {
-    /// The set holds this dated state, over the blocks that are there.
+    /// The set holds this dated state, over the blocks that are there. Of `ObjSet` the laws of what
+    /// is held are clauses of `sets_hold_states`.
     ghost holds: { Self → Blocks → DatedState → Type 0 };
+
+    /// A damage may be told by a call that looks at the slots of a set, where these images may stand
+    /// on a disk of so many bytes.
+    ghost slot_damage: { (List ℕ → Type 0) → ℕ → Self → DamageFact };
+
+    /// By one that also looks at the tree of an object or changes it, where the pointers of its nodes
+    /// have to be right.
+    ghost tree_damage: { (List ℕ → Type 0) → ℕ → (ℕ → Ptr → Type 0) → Self → DamageFact };
+
+    /// By one that also reads a block of an object, of so many bytes.
+    ghost block_damage: { (List ℕ → Type 0) → ℕ → ℕ → Self → DamageFact };
 
     /// The set of no objects, which nothing touched.
     fn empty() -> Self
@@ -38,6 +54,7 @@ pub trait Objects<D: Disk> {
             → FindsObject (Has (D.state io.new.disk.now).seen io.new.space) state object result }
         ensures ranges { IfOk result (λ found. IfSome found DnodeFits) }
         ensures known { IfErr result IsOfBlock }
+        ensures damaged { (D.state io.new.disk.now).honest → IfSetDamaged result (slot_damage (IsSeen (D.state io.old.disk.now).seen) (D.state io.old.disk.now).size self.now) }
         ensures looks { Looks (D.state io.old.disk.now) io.old.space io.old.failed (D.state io.new.disk.now) io.new.space io.new.failed (stop_of result) }
         ensures calls { (D.state io.new.disk.now).calls ≤ (D.state io.old.disk.now).calls + 8 }
         ensures same { io.new.disk.ghost_name ≡ io.old.disk.ghost_name };
@@ -50,6 +67,7 @@ pub trait Objects<D: Disk> {
             → FindsSlot (Has (D.state io.new.disk.now).seen io.new.space) state object result }
         ensures ranges { IfOk result SlotFits }
         ensures known { IfErr result IsOfBlock }
+        ensures damaged { (D.state io.new.disk.now).honest → IfSetDamaged result (slot_damage (IsSeen (D.state io.old.disk.now).seen) (D.state io.old.disk.now).size self.now) }
         ensures looks { Looks (D.state io.old.disk.now) io.old.space io.old.failed (D.state io.new.disk.now) io.new.space io.new.failed (stop_of result) }
         ensures calls { (D.state io.new.disk.now).calls ≤ (D.state io.old.disk.now).calls + 8 }
         ensures same { io.new.disk.ghost_name ≡ io.old.disk.ghost_name };
@@ -67,6 +85,7 @@ pub trait Objects<D: Disk> {
         ensures read { (state : DatedState) → (D.state io.new.disk.now).honest → holds self.now (Has (D.state io.old.disk.now).seen io.old.space) state
             → ((there : Object) → state.state object ≡ Some there → length into.old ≡ there.attr.block_size)
             → ReadsBlock (found_at object index state) into.new result }
+        ensures damaged { (D.state io.new.disk.now).honest → IfSetDamaged result (block_damage (IsSeen (D.state io.old.disk.now).seen) (D.state io.old.disk.now).size (length into.old) self.now) }
         ensures looks { Looks (D.state io.old.disk.now) io.old.space io.old.failed (D.state io.new.disk.now) io.new.space io.new.failed (stop_of result) }
         ensures calls { (D.state io.new.disk.now).calls ≤ (D.state io.old.disk.now).calls + 16 }
         ensures same { io.new.disk.ghost_name ≡ io.old.disk.ghost_name };
@@ -87,6 +106,7 @@ pub trait Objects<D: Disk> {
         requires fits { FitsDisk (D.state io.old.disk.now).size io.old.space }
         ensures changed { (state : DatedState) → (D.state io.new.disk.now).honest → holds self.old (Has (D.state io.old.disk.now).seen io.old.space) state
             → Changes (holds self.new (Has (D.state io.new.disk.now).seen io.new.space)) (object_put number object head bonus.now keep_spill state) result }
+        ensures damaged { (D.state io.new.disk.now).honest → IfSetDamaged result (slot_damage (SparesTaken io.old.space (D.state io.old.disk.now).seen) (D.state io.old.disk.now).size self.old) }
         ensures kept { OnErr result (self.new ≡ self.old) }
         ensures works { Works 640 16 (D.state io.old.disk.now) io.old.space io.old.failed (D.state io.new.disk.now) io.new.space io.new.failed (stop_of result) }
         ensures same { io.new.disk.ghost_name ≡ io.old.disk.ghost_name };
@@ -104,6 +124,7 @@ pub trait Objects<D: Disk> {
         requires fits { FitsDisk (D.state io.old.disk.now).size io.old.space }
         ensures changed { (state : DatedState) → (D.state io.new.disk.now).honest → holds self.old (Has (D.state io.old.disk.now).seen io.old.space) state
             → Changes (holds self.new (Has (D.state io.new.disk.now).seen io.new.space)) (spill_put number object bytes.now state) result }
+        ensures damaged { (D.state io.new.disk.now).honest → IfSetDamaged result (slot_damage (SparesTaken io.old.space (D.state io.old.disk.now).seen) (D.state io.old.disk.now).size self.old) }
         ensures kept { OnErr result (self.new ≡ self.old) }
         ensures works { Works (640 + length bytes.now / 512) (length bytes.now / 512) (D.state io.old.disk.now) io.old.space io.old.failed (D.state io.new.disk.now) io.new.space io.new.failed (stop_of result) }
         ensures same { io.new.disk.ghost_name ≡ io.old.disk.ghost_name };
@@ -120,6 +141,7 @@ pub trait Objects<D: Disk> {
         requires fits { FitsDisk (D.state io.old.disk.now).size io.old.space }
         ensures changed { (state : DatedState) → (D.state io.new.disk.now).honest → holds self.old (Has (D.state io.old.disk.now).seen io.old.space) state
             → Changes (holds self.new (Has (D.state io.new.disk.now).seen io.new.space)) (objects_freed number first count state) result }
+        ensures damaged { (D.state io.new.disk.now).honest → IfSetDamaged result (slot_damage (SparesTaken io.old.space (D.state io.old.disk.now).seen) (D.state io.old.disk.now).size self.old) }
         ensures kept { OnErr result (self.new ≡ self.old) }
         ensures works { Works 1280 16 (D.state io.old.disk.now) io.old.space io.old.failed (D.state io.new.disk.now) io.new.space io.new.failed (stop_of result) }
         ensures same { io.new.disk.ghost_name ≡ io.old.disk.ghost_name };
@@ -137,6 +159,7 @@ pub trait Objects<D: Disk> {
         requires fits { FitsDisk (D.state io.old.disk.now).size io.old.space }
         ensures changed { (state : DatedState) → (D.state io.new.disk.now).honest → holds self.old (Has (D.state io.old.disk.now).seen io.old.space) state
             → Changes (holds self.new (Has (D.state io.new.disk.now).seen io.new.space)) (block_written number object index bytes.now state) result }
+        ensures damaged { (D.state io.new.disk.now).honest → IfSetDamaged result (tree_damage (SparesTaken io.old.space (D.state io.old.disk.now).seen) (D.state io.old.disk.now).size NamesNode self.old) }
         ensures kept { OnErr result (self.new ≡ self.old) }
         ensures works { Works (640 + length bytes.now / 512) (length bytes.now / 512) (D.state io.old.disk.now) io.old.space io.old.failed (D.state io.new.disk.now) io.new.space io.new.failed (stop_of result) }
         ensures same { io.new.disk.ghost_name ≡ io.old.disk.ghost_name };
@@ -154,6 +177,7 @@ pub trait Objects<D: Disk> {
         requires fits { FitsDisk (D.state io.old.disk.now).size io.old.space }
         ensures changed { (state : DatedState) → (D.state io.new.disk.now).honest → holds self.old (Has (D.state io.old.disk.now).seen io.old.space) state
             → Changes (holds self.new (Has (D.state io.new.disk.now).seen io.new.space)) (holes_made number object first count state) result }
+        ensures damaged { (D.state io.new.disk.now).honest → IfSetDamaged result (tree_damage (SparesTaken io.old.space (D.state io.old.disk.now).seen) (D.state io.old.disk.now).size (SumsUp (SparesTaken io.old.space (D.state io.old.disk.now).seen)) self.old) }
         ensures kept { OnErr result (self.new ≡ self.old) }
         ensures works { Works 1280 16 (D.state io.old.disk.now) io.old.space io.old.failed (D.state io.new.disk.now) io.new.space io.new.failed (stop_of result) }
         ensures same { io.new.disk.ghost_name ≡ io.old.disk.ghost_name };
@@ -171,19 +195,8 @@ pub trait Objects<D: Disk> {
         requires fits { FitsDisk (D.state io.old.disk.now).size io.old.space }
         ensures changed { (state : DatedState) → (D.state io.new.disk.now).honest → holds self.old (Has (D.state io.old.disk.now).seen io.old.space) state
             → Changes (holds self.new (Has (D.state io.new.disk.now).seen io.new.space)) (range_redacted number object first count state) result }
+        ensures damaged { (D.state io.new.disk.now).honest → IfSetDamaged result (tree_damage (SparesTaken io.old.space (D.state io.old.disk.now).seen) (D.state io.old.disk.now).size NamesNode self.old) }
         ensures kept { OnErr result (self.new ≡ self.old) }
         ensures works { Works 1280 16 (D.state io.old.disk.now) io.old.space io.old.failed (D.state io.new.disk.now) io.new.space io.new.failed (stop_of result) }
         ensures same { io.new.disk.ghost_name ≡ io.old.disk.ghost_name };
-
-    /// What a set holds is held as long as all blocks are there.
-    ghost grows: { (set : Self) (old : List ℕ) (space : FreeSectors) (new : List ℕ) (less : FreeSectors) (state : DatedState)
-        → KeepsBlocks old space new less → holds set (Has old space) state → holds set (Has new less) state };
-
-    /// A set holds one dated state.
-    ghost only: { (set : Self) (image : List ℕ) (space : FreeSectors) (state other : DatedState)
-        → holds set (Has image space) state → holds set (Has image space) other → state ≡ other };
-
-    /// It is a lawful one.
-    ghost lawful: { (set : Self) (image : List ℕ) (space : FreeSectors) (state : DatedState)
-        → holds set (Has image space) state → IsState state.state };
 }

@@ -1,10 +1,11 @@
 //! A slot, put at some numbers of one leaf of a set.
-ghost use Rattle.std.specs.Prelude.{◌≡◌, ◌+◌, ◌*◌, ◌/◌, ◌<◌, ◌≤◌, ◌^◌};
-ghost use Rattle.zst_block.specs.Blocks.{FitsDisk, Has};
+ghost use Rattle.std.specs.Prelude.{◌≡◌, ◌+◌, ◌*◌, ◌/◌, ◌<◌, ◌≤◌, ◌^◌, IfOk};
+ghost use Rattle.zst_block.specs.Blocks.{FitsDisk, Has, SparesTaken};
 ghost use Rattle.zst_block.specs.Working.{Works, stop_of};
 ghost use Rattle.zst_dnode.specs.Slot.{SlotFits};
 ghost use Rattle.zst_model.specs.states.Dated.{DatedState};
 ghost use Rattle.zst_tree.specs.Indices.{Delivers};
+ghost use Rattle.zst_objset.specs.Damage.{IfDamaged, IsDamagedSet, IsSetWithin};
 ghost use Rattle.zst_objset.specs.Putting.{PutsSlot};
 ghost use Rattle.zst_objset.specs.Sets.{SetHolds};
 
@@ -15,8 +16,7 @@ use zst_dnode::Slot;
 use zst_outside::Disk;
 use zst_tree::ObjSet;
 
-/// The set with this slot from one number on and below another, all of one leaf. A slot that isn't
-/// in its ranges is of no set that is held.
+/// The set with this slot from one number on and below another, all of one leaf.
 pub(crate) fn put_in_leaf<D: Disk>(
     set: ObjSet,
     io: &mut Io<'_, D>,
@@ -28,16 +28,16 @@ pub(crate) fn put_in_leaf<D: Disk>(
     requires some { first < below }
     requires bound { below ≤ 2 ^ 48 }
     requires leaf { below ≤ 16 * (first / 16) + 16 }
+    requires slot { SlotFits slot.now }
     requires fits { FitsDisk (D.state io.old.disk.now).size io.old.space }
-    ensures put { (snap after : DatedState) → (D.state io.new.disk.now).honest → SetHolds (Has (D.state io.old.disk.now).seen io.old.space) set snap → SlotFits slot.now
+    ensures put { (snap after : DatedState) → (D.state io.new.disk.now).honest → SetHolds (Has (D.state io.old.disk.now).seen io.old.space) set snap
         → PutsSlot (Has (D.state io.old.disk.now).seen io.old.space) snap after first below slot.now
         → Delivers (λ made. SetHolds (Has (D.state io.new.disk.now).seen io.new.space) made after) result }
+    ensures damaged { (D.state io.new.disk.now).honest → IfDamaged result (IsDamagedSet (SparesTaken io.old.space (D.state io.old.disk.now).seen) (D.state io.old.disk.now).size set) }
+    ensures within { (D.state io.new.disk.now).honest → IfOk result (IsSetWithin (SparesTaken io.old.space (D.state io.old.disk.now).seen) (D.state io.old.disk.now).size set (SparesTaken io.new.space (D.state io.new.disk.now).seen)) }
     ensures works { Works 240 16 (D.state io.old.disk.now) io.old.space io.old.failed (D.state io.new.disk.now) io.new.space io.new.failed (stop_of result) }
     ensures same { io.new.disk.ghost_name ≡ io.old.disk.ghost_name }
 {
-    if !slot.is_in_range() {
-        return Err(BlockFault::of_layout(&set.tree.root));
-    }
     let leaf = first / 16;
     let from = first - 16 * leaf;
     let to = below - 16 * leaf;

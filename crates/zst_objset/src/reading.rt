@@ -5,7 +5,9 @@ ghost use Rattle.zst_block.specs.Working.{Looks, stop_of};
 ghost use Rattle.zst_dnode.specs.Dnode.{DnodeFits};
 ghost use Rattle.zst_dnode.specs.Slot.{SlotFits};
 ghost use Rattle.zst_model.specs.states.Dated.{DatedState};
+ghost use Rattle.zst_tree.specs.Damage.{IsSeen};
 ghost use Rattle.zst_tree.specs.Indices.{Delivers};
+ghost use Rattle.zst_objset.specs.Damage.{IfDamaged, IsDamagedSet, SlotStands, StandsIn};
 ghost use Rattle.zst_objset.specs.Dnodes.{DnodeIs, SlotIs};
 ghost use Rattle.zst_objset.specs.Sets.{SetHolds};
 
@@ -27,6 +29,8 @@ pub(crate) fn slot_at<D: Disk>(
     ensures found { (snap : DatedState) → (D.state io.new.disk.now).honest → SetHolds (Has (D.state io.old.disk.now).seen io.old.space) set.now snap
         → Delivers (SlotIs (Has (D.state io.new.disk.now).seen io.new.space) snap object) result }
     ensures ranges { IfOk result SlotFits }
+    ensures stands { (D.state io.new.disk.now).honest → IfOk result (SlotStands (IsSeen (D.state io.old.disk.now).seen) set.now) }
+    ensures damaged { (D.state io.new.disk.now).honest → IfDamaged result (IsDamagedSet (IsSeen (D.state io.old.disk.now).seen) (D.state io.old.disk.now).size set.now) }
     ensures looks { Looks (D.state io.old.disk.now) io.old.space io.old.failed (D.state io.new.disk.now) io.new.space io.new.failed (stop_of result) }
     ensures calls { (D.state io.new.disk.now).calls ≤ (D.state io.old.disk.now).calls + 8 }
     ensures kept_fit { FitsDisk (D.state io.new.disk.now).size io.new.space }
@@ -52,6 +56,8 @@ pub(crate) fn dnode_at<D: Disk>(
         → Delivers (DnodeIs (Has (D.state io.new.disk.now).seen io.new.space) snap object) result }
     ensures ranges { IfOk result (λ found. IfSome found DnodeFits) }
     ensures bound { IfOk result (λ found. IfSome found (λ dnode. object < 2 ^ 48)) }
+    ensures stands { (D.state io.new.disk.now).honest → IfOk result (λ found. IfSome found (StandsIn (IsSeen (D.state io.old.disk.now).seen) set.now)) }
+    ensures damaged { (D.state io.new.disk.now).honest → IfDamaged result (IsDamagedSet (IsSeen (D.state io.old.disk.now).seen) (D.state io.old.disk.now).size set.now) }
     ensures looks { Looks (D.state io.old.disk.now) io.old.space io.old.failed (D.state io.new.disk.now) io.new.space io.new.failed (stop_of result) }
     ensures calls { (D.state io.new.disk.now).calls ≤ (D.state io.old.disk.now).calls + 8 }
     ensures kept_fit { FitsDisk (D.state io.new.disk.now).size io.new.space }

@@ -1,8 +1,9 @@
 //! The sixteen slots of a leaf, in a node.
-ghost use Rattle.std.specs.Prelude.{◌≡◌, ◌⊎◌, ◌*◌, ◌<◌, ◌≤◌, ℕ, Some, length};
+ghost use Rattle.std.specs.Prelude.{◌≡◌, ◌⊎◌, ◌*◌, ◌<◌, ◌≤◌, ℕ, IfNone, OnSome, Some, length};
 ghost use Rattle.zst_bytes.specs.Bytes.{bytes_at};
 ghost use Rattle.zst_dnode.specs.Slot.{slot_bytes, SlotFits};
 ghost use Rattle.zst_dnode.specs.declared.slot.Slot.{Slot};
+ghost use Rattle.zst_objset.specs.Damage.{HasAllSlots, LacksSlot};
 ghost use Rattle.zst_objset.specs.Sets.{any_there, date_in, is_there, latest, Spells};
 
 use zst_block::Node;
@@ -53,7 +54,9 @@ impl Summary {
 
 /// What the slots of a node tell together, or none where some slot isn't one.
 pub(crate) fn summed_up(node: &Node) -> Option<Summary>
-    ensures { (slots : ℕ → Slot) → Spells node.now slots → result ≡ Some (record { number = latest slots 16; there = any_there slots 16 }) }
+    ensures none { IfNone result (LacksSlot node.now) }
+    ensures some { OnSome result (HasAllSlots node.now) }
+    ensures told { (slots : ℕ → Slot) → Spells node.now slots → result ≡ Some (record { number = latest slots 16; there = any_there slots 16 }) }
 {
     let mut all = Summary {
         number: 0,

@@ -1,14 +1,28 @@
-//! The leaf of an index of a tree.
-ghost use Rattle.std.specs.Prelude.{◌≡◌, ◌+◌, ◌^◌, ◌<◌, ◌≤◌};
+//! The tree of an object, and the leaf of an index of a tree.
+ghost use Rattle.std.specs.Prelude.{◌≡◌, ◌+◌, ◌^◌, ◌<◌, ◌≤◌, IfOk};
 ghost use Rattle.zst_block.specs.Blocks.{FitsDisk, Has};
 ghost use Rattle.zst_block.specs.Working.{Looks, stop_of};
+ghost use Rattle.zst_tree.specs.Damage.{HangsIn, IsSeen, MayHave, NamesDamage, NamesNode};
 ghost use Rattle.zst_tree.specs.Indices.{Delivers, Map, TreeIs};
+ghost use Rattle.zst_objset.specs.Dnodes.{tree_of};
 
 use std::marker::Brand;
 use std::sync::ledger::{Blank, Ledger};
 use zst_block::{BlockFault, Io, Ptr};
+use zst_dnode::Dnode;
 use zst_outside::Disk;
 use zst_tree::{Steps, Tree};
+
+/// The tree of an object's blocks.
+pub(crate) fn tree_of(dnode: &Dnode) -> Tree
+    ensures { result ≡ tree_of dnode.now }
+{
+    Tree {
+        levels: dnode.levels,
+        past: dnode.past,
+        root: dnode.root,
+    }
+}
 
 /// The leaf of an index.
 pub(crate) fn leaf_at<D: Disk>(
@@ -20,6 +34,8 @@ pub(crate) fn leaf_at<D: Disk>(
     requires index { index < 2 ^ 44 }
     requires fits { FitsDisk (D.state io.old.disk.now).size io.old.space }
     ensures shows { (map : Map) → (D.state io.new.disk.now).honest → TreeIs (Has (D.state io.old.disk.now).seen io.old.space) tree.now map → Delivers (λ ptr. ptr ≡ map index) result }
+    ensures hangs { (D.state io.new.disk.now).honest → IfOk result (HangsIn (MayHave (IsSeen (D.state io.old.disk.now).seen)) tree.now) }
+    ensures damaged { (D.state io.new.disk.now).honest → NamesDamage (IsSeen (D.state io.old.disk.now).seen) (D.state io.old.disk.now).size NamesNode tree.now.levels tree.now.root result }
     ensures looks { Looks (D.state io.old.disk.now) io.old.space io.old.failed (D.state io.new.disk.now) io.new.space io.new.failed (stop_of result) }
     ensures calls { (D.state io.new.disk.now).calls ≤ (D.state io.old.disk.now).calls + 7 }
     ensures kept_fit { FitsDisk (D.state io.new.disk.now).size io.new.space }
@@ -42,6 +58,8 @@ fn counted<D: Disk, L: Ledger>(
     requires index { index < 2 ^ 44 }
     requires fits { FitsDisk (D.state io.old.disk.now).size io.old.space }
     ensures shows { (map : Map) → (D.state io.new.disk.now).honest → TreeIs (Has (D.state io.old.disk.now).seen io.old.space) tree.now map → Delivers (λ ptr. ptr ≡ map index) result }
+    ensures hangs { (D.state io.new.disk.now).honest → IfOk result (HangsIn (MayHave (IsSeen (D.state io.old.disk.now).seen)) tree.now) }
+    ensures damaged { (D.state io.new.disk.now).honest → NamesDamage (IsSeen (D.state io.old.disk.now).seen) (D.state io.old.disk.now).size NamesNode tree.now.levels tree.now.root result }
     ensures looks { Looks (D.state io.old.disk.now) io.old.space io.old.failed (D.state io.new.disk.now) io.new.space io.new.failed (stop_of result) }
     ensures calls { (D.state io.new.disk.now).calls ≤ (D.state io.old.disk.now).calls + 7 }
     ensures kept_fit { FitsDisk (D.state io.new.disk.now).size io.new.space }

@@ -1,13 +1,12 @@
 -- How a commit follows on what was written before it, and what an image then reads as.
 use Rattle.std.specs.Prelude.{Result, Ok, Err, Option, Bool, IsTrue}
-use Rattle.std.proofs.Common.{◌≡◌, ◌⊎◌, inl, inr, ⊎_elim, ℕ, ◌+◌, List, [], length, refl, sym, ◌∙◌, ap, subst, arith}
+use Rattle.std.proofs.Common.{◌≡◌, ◌⊎◌, inl, inr, ⊎_elim, ℕ, ◌+◌, ◌≤◌, List, length, refl, sym, ◌∙◌, ap, subst, arith}
 use Rattle.zst_outside.specs.Images.{DiskState, Leaves, WritesIn, IsSynced, Leaves-weaker, Leaves-then}
 use Rattle.zst_outside.specs.Ranges.{Torn}
 use Rattle.zst_space.specs.FreeSectors.{FreeSectors, IsFree}
 use Rattle.zst_space.proofs.FreeSectorsLaws.{Rise-end}
-use Rattle.zst_space.specs.declared.space.Extent.{Extent}
 use Rattle.zst_block.specs.Blocks.{Has, IsTaken, FitsDisk, FillsFree, SparesTaken, Spared}
-use Rattle.zst_block.proofs.BlocksLaws.{Has-spared, Has-head, SparesTaken-fewer, FillsFree-then, KeepsBlocks-fills}
+use Rattle.zst_block.proofs.BlocksLaws.{Has-fewer, Has-spared, Has-head, SparesTaken-fewer, FillsFree-then, KeepsBlocks-fills}
 use Rattle.zst_block.specs.declared.ptr.Ptr.{Ptr}
 use Rattle.zst_block.specs.Ptr.{is_lawful, hole_of}
 use Rattle.zst_uber.specs.Body.{UberFits, InRange}
@@ -17,13 +16,15 @@ use Rattle.zst_uber.specs.declared.uber.Uber.{Uber}
 use Rattle.zst_uber.specs.declared.fault.UberFault.{UberFault}
 use Rattle.zst_uber.specs.declared.fault.UberFault.TheVariants as ubers
 use Rattle.zst_model.specs.pools.Pool.{Pool}
+use Rattle.zst_tree.specs.Indices.{Blocks}
 use Rattle.zst_dir.specs.Rows.{Rows}
 use Rattle.zst_pool.specs.Faults.{WriteFault, of_uber}
-use Rattle.zst_pool.specs.Reads.{Describes, IsDirRun, ReadsAs, Reads, Rests, free_by}
+use Rattle.zst_pool.specs.Reads.{Describes, DirStands, HasDir, ReadsAs, Reads, Rests, free_by}
 use Rattle.zst_pool.specs.Work.{Ready, Works, NextIs, Stays, KeepsImage, OldOrNext, CommitAnswer, Commits, CommitsOver}
 use Rattle.zst_pool.specs.declared.fault.PoolFault.{PoolFault}
 use Rattle.zst_pool.specs.declared.fault.PoolFault.TheVariants.{Plan, CannotApply, Redacted, Full, Damaged, NoPool, BadVersion, DiskFault, Failed, OutOfMemory}
 use Rattle.zst_pool.specs.declared.kept.Kept.{Kept}
+use Rattle.zst_pool.proofs.Directories.{DirStands-lawful}
 use Rattle.zst_pool.proofs.Growing.{Describes-grows, RowsAre-grows}
 use Rattle.zst_pool.proofs.Working.{latest-spared}
 
@@ -115,44 +116,36 @@ commit-moments old mid new space less next rows pool head fills prepared leaves 
     both : (c : List ℕ) → HasOldOrNew next mid c → OldOrNext space old pool c
     both c is = ⊎_elim (past c) (λ new. inr (next, rows, prepared-reads next rows pool mid.seen c prepared new.1 new.0)) is
 
-abbrev space_of : ℕ → ℕ → List Extent → FreeSectors
-space_of end sectors free = record { end = end; sectors = sectors; free = free }
-
--- the free sectors by a body are those of a space without extents
-pub free_by-same : (space : FreeSectors) (uber : Uber) → uber.end ≡ space.end → uber.sectors ≡ space.sectors → space.free ≡ [] → space ≡ free_by uber
-free_by-same space uber end sectors none =
-    ap (λ (e : ℕ). space_of e space.sectors space.free) (sym end) ∙ ap (λ (s : ℕ). space_of uber.end s space.free) (sym sectors) ∙ ap (λ (l : List Extent). space_of uber.end uber.sectors l) none
-
-is_lawful-data : (ptr : Ptr) → ptr.kind ≡ 1 → IsTrue (is_lawful ptr)
-is_lawful-data ptr kind = rw kind refl
+-- where a body has the end of a space, no more sectors are free by it
+pub free_by-fewer : (space : FreeSectors) (uber : Uber) → uber.end ≡ space.end → AreFewer (free_by uber) space
+free_by-fewer space uber end = λ sector free. ⊎_elim (λ none. absurd none) (λ past. inr (omega (arith, past, end))) free
 
 -- a body with this directory, and with the end of a space that fits the disk, is in its ranges
-pub InRange-next : (size : ℕ) (body next : Uber) (space : FreeSectors) → InRange size body → FitsDisk size space → space ≡ free_by next
-    → next.version ≡ body.version → next.id ≡ body.id → next.dir_levels ≡ 0 → next.free_levels ≡ 0 → next.dir_root.kind ≡ 1 → next.free_root ≡ hole_of 0 → InRange size next
-InRange-next size body next space is fits same version id dir_levels free_levels kind hole =
-    let next_fits : FitsDisk size (free_by next) = subst (FitsDisk size) same fits in
+InRange-next : (size : ℕ) (body next : Uber) (space : FreeSectors) → InRange size body → FitsDisk size space → next.end ≡ space.end → next.sectors ≡ space.sectors
+    → next.version ≡ body.version → next.id ≡ body.id → next.dir_levels ≤ 7 → next.free_levels ≡ 0 → IsTrue (is_lawful next.dir_root) → next.free_root ≡ hole_of 0 → InRange size next
+InRange-next size body next space is fits end sectors version id dir_levels free_levels lawful hole =
+    let behind = Rise-end 8 space.end space.free fits.extents.extents in
     record {
       version = version ∙ is.version;
       id = rw id is.id;
-      end = (Rise-end 8 next.end [] next_fits.extents.extents, next_fits.extents.end);
-      sectors = next_fits.sectors;
+      end = (omega (arith, behind, end), omega (arith, fits.extents.end, end, sectors));
+      sectors = omega (arith, fits.sectors, sectors);
       levels = (omega arith, omega arith);
-      dir_root = is_lawful-data next.dir_root kind;
+      dir_root = lawful;
       free_root = rw hole refl;
     }
 
--- the rows and the run of the directory describe the next pool
-pub Describes-next : (old mid : DiskState) (space less : FreeSectors) (body next : Uber) (guids : ℕ) (rows : Rows) (pool : Pool) → FillsFree old space mid less → less ≡ free_by next
-    → next.id ≡ body.id → next.number ≡ body.number + 1 → next.guids ≡ guids → next.free_count ≡ 0 → next.dir_levels ≡ 0 → next.dir_root.kind ≡ 1
-    → (bytes : List ℕ) → Has mid.seen less next.dir_root bytes → IsDirRun rows next.dir_bytes bytes
+-- the rows and the blocks of the directory describe the next pool
+pub Describes-next : (old mid : DiskState) (space less : FreeSectors) (body next : Uber) (guids : ℕ) (rows : Rows) (pool : Pool) → FillsFree old space mid less → AreFewer (free_by next) less
+    → next.id ≡ body.id → next.number ≡ body.number + 1 → next.guids ≡ guids → next.free_count ≡ 0 → HasDir (Has mid.seen less) next rows
     → NextIs (Has old.seen space) body guids rows pool → Describes next rows pool (Has mid.seen (free_by next))
-Describes-next old mid space less body next guids rows pool fills same id number guid_counter extents levels kind bytes there run is =
-    subst (λ (by : FreeSectors). Describes next rows pool (Has mid.seen by)) same (record {
+Describes-next old mid space less body next guids rows pool fills fewer id number guid_counter extents directory is =
+    Describes-grows next rows pool (Has mid.seen less) (Has mid.seen (free_by next)) (λ ptr bytes has. Has-fewer mid.seen less (free_by next) ptr bytes fewer has) (record {
       id = is.id ∙ sym id;
       number = is.number ∙ sym number;
       guids = is.guid_counter ∙ sym guid_counter;
       extents = extents;
-      directory = record { levels = levels; kind = kind; bytes = bytes; there = there; run = run };
+      directory = directory;
       rows_are = RowsAre-grows (Has old.seen space) (Has mid.seen less) (KeepsBlocks-fills old mid space less fills) rows pool is.rows_are;
       lawful = is.lawful;
     })
@@ -204,25 +197,32 @@ Commits-over start old new space less uber rows pool next result rests fills ove
     both : (c : List ℕ) → OldOrNext space old next c → Reads pool c ⊎ Reads next c
     both c is = ⊎_elim (λ keeps. inl (past c keeps)) (λ new. inr new) is
 
+-- the body of the next commit is in its ranges
+pub next_in_range : (has : Blocks) (size : ℕ) (body next : Uber) (less : FreeSectors) (guids end levels count : ℕ) (root : Ptr) (rows : Rows)
+    → next ≡ record body { number = body.number + 1; guids = guids; end = end; dir_levels = levels; dir_bytes = count; dir_root = root; free_count = 0; free_levels = 0; free_root = hole_of 0 }
+    → end ≡ less.end → less.sectors ≡ body.sectors → InRange size body → FitsDisk size less → DirStands has levels root count rows → InRange size next
+next_in_range has size body next less guids end levels count root rows is end_is sectors in_range fits stands =
+    let few : next.dir_levels ≡ levels = ap (λ (u : Uber). u.dir_levels) is in
+    let root_is : next.dir_root ≡ root = ap (λ (u : Uber). u.dir_root) is in
+    InRange-next size body next less in_range fits (ap (λ (u : Uber). u.end) is ∙ end_is) (ap (λ (u : Uber). u.sectors) is ∙ sym sectors) (ap (λ (u : Uber). u.version) is) (ap (λ (u : Uber). u.id) is)
+    (omega (arith, few, stands.leaves.least.few)) (ap (λ (u : Uber). u.free_levels) is) (subst (λ (p : Ptr). IsTrue (is_lawful p)) (sym root_is) (DirStands-lawful has levels root count rows stands)) (ap (λ (u : Uber). u.free_root) is)
+
 -- what is written before the body of the next commit is what it describes
-pub prepared : (old mid : DiskState) (space less : FreeSectors) (body next : Uber) (guids end count : ℕ) (root : Ptr) (rows : Rows) (pool : Pool)
-    → next ≡ record body { number = body.number + 1; guids = guids; end = end; dir_levels = 0; dir_bytes = count; dir_root = root; free_count = 0; free_levels = 0; free_root = hole_of 0 }
-    → end ≡ less.end → less.sectors ≡ space.sectors → space.sectors ≡ body.sectors → less.free ≡ []
+pub prepared : (old mid : DiskState) (space less : FreeSectors) (body next : Uber) (guids end levels count : ℕ) (root : Ptr) (rows : Rows) (pool : Pool)
+    → next ≡ record body { number = body.number + 1; guids = guids; end = end; dir_levels = levels; dir_bytes = count; dir_root = root; free_count = 0; free_levels = 0; free_root = hole_of 0 }
+    → end ≡ less.end → less.sectors ≡ space.sectors → space.sectors ≡ body.sectors
     → InRange old.size body → FillsFree old space mid less → FitsDisk mid.size less → length mid.seen ≡ mid.size → UberFits next
-    → root.kind ≡ 1 → (bytes : List ℕ) × Has mid.seen less root bytes × IsDirRun rows count bytes
+    → DirStands (Has mid.seen less) levels root count rows
     → NextIs (Has old.seen space) body guids rows pool → IsPrepared next rows pool mid.seen
-prepared old mid space less body next guids end count root rows pool next_is end_is sectors same_sectors none in_range fills fits long next_fits kind run is =
-    let same : less ≡ free_by next = free_by-same less next (ap (λ (u : Uber). u.end) next_is ∙ end_is) (ap (λ (u : Uber). u.sectors) next_is ∙ sym same_sectors ∙ sym sectors) none in
-    let kind_is : next.dir_root.kind ≡ 1 = ap (λ (u : Uber). u.dir_root.kind) next_is ∙ kind in
-    let levels : next.dir_levels ≡ 0 = ap (λ (u : Uber). u.dir_levels) next_is in
+prepared old mid space less body next guids end levels count root rows pool next_is end_is sectors same_sectors in_range fills fits long next_fits stands is =
+    let same_end : next.end ≡ less.end = ap (λ (u : Uber). u.end) next_is ∙ end_is in
+    let directory : HasDir (Has mid.seen less) next rows = subst (λ (u : Uber). HasDir (Has mid.seen less) u rows) (sym next_is) stands in
     record {
       fits = next_fits;
       in_range = subst (λ (size : ℕ). InRange size next) (sym long)
-          (InRange-next mid.size body next less (subst (λ (size : ℕ). InRange size body) (sym fills.size) in_range) fits same (ap (λ (u : Uber). u.version) next_is) (ap (λ (u : Uber). u.id) next_is)
-          levels (ap (λ (u : Uber). u.free_levels) next_is) kind_is (ap (λ (u : Uber). u.free_root) next_is));
-      described = Describes-next old mid space less body next guids rows pool fills same (ap (λ (u : Uber). u.id) next_is) (ap (λ (u : Uber). u.number) next_is) (ap (λ (u : Uber). u.guids) next_is)
-          (ap (λ (u : Uber). u.free_count) next_is) levels kind_is run.0 (subst (λ (ptr : Ptr). Has mid.seen less ptr run.0) (sym (ap (λ (u : Uber). u.dir_root) next_is)) run.1)
-          (subst (λ (n : ℕ). IsDirRun rows n run.0) (sym (ap (λ (u : Uber). u.dir_bytes) next_is)) run.2) is;
+          (next_in_range (Has mid.seen less) mid.size body next less guids end levels count root rows next_is end_is (sectors ∙ same_sectors) (subst (λ (size : ℕ). InRange size body) (sym fills.size) in_range) fits stands);
+      described = Describes-next old mid space less body next guids rows pool fills (free_by-fewer less next same_end) (ap (λ (u : Uber). u.id) next_is) (ap (λ (u : Uber). u.number) next_is) (ap (λ (u : Uber). u.guids) next_is)
+          (ap (λ (u : Uber). u.free_count) next_is) directory is;
     }
 
 -- what is answered where free sectors alone were written

@@ -1,8 +1,7 @@
 -- What making a pool leaves.
 use Rattle.std.specs.Prelude.{Option, None, Result, Ok, Err, IfOk, IfErr}
-use Rattle.std.proofs.Common.{◌≡◌, ◌⊎◌, inl, inr, ⊎_elim, ℕ, ◌-◌, ◌*◌, ◌<◌, ◌≤◌, ◌^◌, List, [], refl, sym, ◌∙◌, ap, subst, arith}
+use Rattle.std.proofs.Common.{◌≡◌, ◌⊎◌, inl, inr, ⊎_elim, ℕ, ◌-◌, ◌*◌, ◌<◌, ◌≤◌, ◌^◌, List, [], length, refl, sym, ◌∙◌, ap, subst, arith}
 use Rattle.std.proofs.lemmas.List.Elements.{All-nil}
-use Rattle.std.proofs.lemmas.Result.{IfErr-at_err}
 use Rattle.zst_outside.specs.Images.{DiskState, Leaves, OnlyReads, Leaves-weaker, Leaves-then}
 use Rattle.zst_space.specs.FreeSectors.{FreeSectors, largest_of}
 use Rattle.zst_uber.specs.Slots.{latest}
@@ -10,15 +9,17 @@ use Rattle.zst_uber.specs.declared.uber.Uber.{Uber}
 use Rattle.zst_model.specs.pools.Limits.{last_number, last_guid}
 use Rattle.zst_model.specs.pools.Pool.{Pool, IsPool}
 use Rattle.zst_dir.specs.Rows.{Rows, no_rows}
-use Rattle.zst_flat.specs.Meaning.{Blocks}
+use Rattle.zst_dir.specs.Spelling.{dir_bytes}
+use Rattle.zst_tree.specs.Indices.{Blocks}
 use Rattle.zst_pool.specs.Faults.{WriteFault}
 use Rattle.zst_pool.specs.Making.{CreateAnswers, RefusedLeaves}
 use Rattle.zst_pool.specs.Reads.{Reads, RowsAre, dir_sectors, new_pool}
+use Rattle.zst_pool.specs.Room.{IsDirFull}
 use Rattle.zst_pool.specs.Work.{NextIs, OldOrNext, CommitAnswer, Stays}
 use Rattle.zst_pool.specs.declared.fault.PoolFault.{PoolFault}
 use Rattle.zst_pool.specs.declared.fault.PoolFault.TheVariants.{Plan, CannotApply, Redacted, Full, Damaged, NoPool, BadVersion, DiskFault, Failed, OutOfMemory}
 use Rattle.zst_pool.specs.declared.kept.Kept.{Kept}
-use Rattle.zst_pool.proofs.DirRuns.{dir_sectors-none}
+use Rattle.zst_pool.proofs.Directories.{dir_sectors-none}
 
 IsPool-new : (id : ℕ) → (0 < id) × (id < 2 ^ 31) → IsPool (new_pool id)
 unfolding last_number last_guid
@@ -73,15 +74,14 @@ CreateAnswers-commit size body sectors after before (Err Failed) none room never
 CreateAnswers-commit size body sectors after before (Err OutOfMemory) none room never is = (none, room)
 
 -- the directory without rows has room behind sectors 0 to 7 of at least 128
-pub never-full : (space : FreeSectors) (sectors : ℕ) (rows : Rows) (result : Result Kept PoolFault) → space ≡ record { end = 8; sectors = sectors; free = [] } → rows ≡ no_rows → 128 ≤ sectors
-    → ((need largest : ℕ) → result ≡ Err (Full need largest) → (need ≡ dir_sectors rows) × (largest ≡ largest_of space)) → IfErr result WriteFault
+pub never-full : (space less : FreeSectors) (sectors : ℕ) (rows : Rows) (result : Result Kept PoolFault) → space ≡ record { end = 8; sectors = sectors; free = [] } → rows ≡ no_rows → 128 ≤ sectors
+    → ((need largest : ℕ) → result ≡ Err (Full need largest) → IsDirFull space less rows need largest)
     → (need largest : ℕ) → ¬ (result ≡ Err (Full need largest))
-never-full space sectors rows result same none many full write need largest is =
-    let sizes = full need largest is in
-    let less : largest < need = IfErr-at_err WriteFault is write in
-    let sixteen : dir_sectors rows ≡ 16 = ap dir_sectors none ∙ dir_sectors-none in
+never-full space less sectors rows result same none many full need largest is =
+    let before = (full need largest is).before in
+    let most : dir_sectors (length (dir_bytes rows)) ≡ 64 = ap (λ (r : Rows). dir_sectors (length (dir_bytes r))) none ∙ dir_sectors-none in
     let left : largest_of space ≡ sectors - 8 = ap largest_of same in
-    omega (arith, many, less, sizes.0, sizes.1, sixteen, left)
+    omega (arith, many, before, most, left)
 
 -- what stands where it only read
 pub RefusedLeaves-reads : (old new : DiskState) (fault : PoolFault) → OnlyReads old new → RefusedLeaves old new fault

@@ -11,7 +11,7 @@ use Rattle.zst_model.specs.declared.refusals.refusal.Refusal.{Refusal}
 use Rattle.zst_model.specs.pools.Pool.{Pool}
 use Rattle.zst_model.specs.pools.Step.{Stepped}
 use Rattle.zst_dir.specs.Rows.{Rows}
-use Rattle.zst_pool.specs.Faults.{StepFault, WriteFault, ReadFault}
+use Rattle.zst_pool.specs.Faults.{StepFault, WriteFault}
 use Rattle.zst_pool.specs.Reads.{ReadsAs, Reads, Rests, BeforeOrAfter, free_by}
 use Rattle.zst_pool.specs.Work.{Commits, Did, Stays}
 use Rattle.zst_pool.specs.declared.fault.PoolFault.{PoolFault}
@@ -33,31 +33,6 @@ ReadsAs-spared uber rows pool d c head spares reads = record {
   described = Describes-grows uber rows pool (Has d (free_by uber)) (Has c (free_by uber)) (λ ptr bytes has. Has-spared (free_by uber) d c ptr bytes spares has) reads.described;
 }
 
--- a fault of a read is one of a command, and so is one of a write
-pub read_fault : (definition : Result Stepped Refusal) (fault : PoolFault) → ReadFault fault → StepFault (Unit {0}) definition fault
-read_fault definition (Plan fault) is = absurd is
-read_fault definition (CannotApply fault) is = absurd is
-read_fault definition (Redacted object block) is = absurd is
-read_fault definition (Full need largest) is = absurd is
-read_fault definition (Damaged sector stated found) is = absurd is
-read_fault definition NoPool is = absurd is
-read_fault definition (BadVersion number) is = absurd is
-read_fault definition DiskFault is = tt
-read_fault definition Failed is = absurd is
-read_fault definition OutOfMemory is = tt
-
-pub write_fault : (definition : Result Stepped Refusal) (fault : PoolFault) → WriteFault fault → StepFault (Unit {0}) definition fault
-write_fault definition (Plan fault) is = absurd is
-write_fault definition (CannotApply fault) is = absurd is
-write_fault definition (Redacted object block) is = absurd is
-write_fault definition (Full need largest) is = (is, tt)
-write_fault definition (Damaged sector stated found) is = absurd is
-write_fault definition NoPool is = absurd is
-write_fault definition (BadVersion number) is = absurd is
-write_fault definition DiskFault is = tt
-write_fault definition Failed is = absurd is
-write_fault definition OutOfMemory is = tt
-
 -- where the pool still stands, it does after each fault
 keeps : (before : Type 0) (definition : Result Stepped Refusal) → before → (fault : PoolFault) → StepFault (Unit {0}) definition fault → StepFault before definition fault
 keeps before definition still (Plan fault) is = (is.0, still)
@@ -71,19 +46,7 @@ keeps before definition still DiskFault is = tt
 keeps before definition still Failed is = is
 keeps before definition still OutOfMemory is = still
 
--- and so it does where a write fell
-stays : (before : Type 0) → before → (fault : PoolFault) → Stays before fault
-stays before still (Plan fault) = still
-stays before still (CannotApply fault) = still
-stays before still (Redacted object block) = still
-stays before still (Full need largest) = still
-stays before still (Damaged sector stated found) = still
-stays before still NoPool = still
-stays before still (BadVersion number) = still
-stays before still DiskFault = tt
-stays before still Failed = still
-stays before still OutOfMemory = still
-
+-- and so it does after each fault of a commit
 commit_fault : (before : Type 0) (definition : Result Stepped Refusal) (fault : PoolFault) → WriteFault fault → Stays before fault → StepFault before definition fault
 commit_fault before definition (Plan fault) is still = absurd is
 commit_fault before definition (CannotApply fault) is still = absurd is
@@ -113,13 +76,6 @@ module _ (start now : DiskState) (space : FreeSectors) (uber : Uber) (rows : Row
   fell definition fault is = record {
     moments = Leaves-weaker start now (Reads pool) (BeforeOrAfter pool definition) since (λ c reads. inl reads);
     answer = keeps (Rests now uber rows pool) definition still fault is;
-  }
-
-  -- a commit that fell before it began
-  pub fell_before : (next : Pool) (fault : PoolFault) → WriteFault fault → Commits start now uber rows pool next (Err fault)
-  fell_before next fault is = record {
-    moments = Leaves-weaker start now (Reads pool) (λ c. Reads pool c ⊎ Reads next c) since (λ c reads. inl reads);
-    answer = (is, stays (Rests now uber rows pool) still fault);
   }
 
 -- a command that committed what its definition makes

@@ -17,7 +17,7 @@ use Rattle.zst_model.specs.pools.Step.{Stepped, limited, committed, count_datase
 use Rattle.zst_pool.specs.Checks.{next_of, with_new, if_new_snapshot, if_guid_left}
 use Rattle.zst_dir.specs.Rows.{Rows, HasDataset, HasSnapshot}
 use Rattle.zst_pool.specs.Reads.{RowsAre, DatasetIs, SnapshotIs, PartialIs}
-use Rattle.zst_flat.specs.Meaning.{Blocks}
+use Rattle.zst_tree.specs.Indices.{Blocks}
 use Rattle.zst_dir.specs.declared.rows.Dataset.{Dataset}
 use Rattle.zst_dir.specs.declared.rows.Partial.{Partial}
 use Rattle.zst_dir.specs.declared.rows.Snapshot.{Snapshot}

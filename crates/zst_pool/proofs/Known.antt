@@ -1,23 +1,11 @@
--- The faults of reads and writes are among those that a command may answer.
+-- The faults of writes are among those that a command may answer.
 use Rattle.std.specs.Prelude.{Result, IfErr}
 use Rattle.std.proofs.lemmas.Result.{IfErr-weaker}
-use Rattle.zst_pool.specs.Faults.{IsStepFault, LoadFault, WriteFault}
+use Rattle.zst_pool.specs.Faults.{IsStepFault, WriteFault}
 use Rattle.zst_pool.specs.declared.fault.PoolFault.{PoolFault}
 use Rattle.zst_pool.specs.declared.fault.PoolFault.TheVariants.{Plan, CannotApply, Redacted, Full, Damaged, NoPool, BadVersion, DiskFault, Failed, OutOfMemory}
 
-pub known_load : (fault : PoolFault) → LoadFault fault → IsStepFault fault
-known_load (Plan fault) is = tt
-known_load (CannotApply fault) is = tt
-known_load (Redacted object block) is = tt
-known_load (Full need largest) is = absurd is
-known_load (Damaged sector stated found) is = tt
-known_load NoPool is = is
-known_load (BadVersion number) is = is
-known_load DiskFault is = tt
-known_load Failed is = is
-known_load OutOfMemory is = tt
-
-pub known_write : (fault : PoolFault) → WriteFault fault → IsStepFault fault
+known_write : (fault : PoolFault) → WriteFault fault → IsStepFault fault
 known_write (Plan fault) is = tt
 known_write (CannotApply fault) is = tt
 known_write (Redacted object block) is = tt
@@ -30,8 +18,5 @@ known_write Failed is = is
 known_write OutOfMemory is = tt
 
 -- the same of what a part answers
-pub if_known_load : {T : Type 0} (result : Result T PoolFault) → IfErr result LoadFault → IfErr result IsStepFault
-if_known_load result is = IfErr-weaker result LoadFault IsStepFault known_load is
-
 pub if_known_write : {T : Type 0} (result : Result T PoolFault) → IfErr result WriteFault → IfErr result IsStepFault
 if_known_write result is = IfErr-weaker result WriteFault IsStepFault known_write is

@@ -15,7 +15,7 @@ use Rattle.zst_laws.specs.Stepping.{StepsKeepPools}
 use Rattle.zst_model.specs.declared.pools.command.Command.TheVariants as commands
 use Rattle.zst_model.specs.declared.states.attr.ObjectHead.{ObjectHead}
 use Rattle.zst_model.specs.states.Dated.{DatedState}
-use Rattle.zst_model.specs.pools.Pool.{Pool, IsPool, is_before, snapshot_is_before, inserted, untouched}
+use Rattle.zst_model.specs.pools.Pool.{Pool, IsPool, is_before, snapshot_is_before, inserted}
 use Rattle.zst_model.specs.pools.Pool as plain
 use Rattle.zst_model.specs.pools.Step.{Stepped, stepped, IsCommand, on_head, punched, written, with_dataset, new_dataset, with_head_at, with_snapshot, snapshot_of}
 use Rattle.zst_tree.specs.Sets as sets
@@ -23,24 +23,15 @@ use Rattle.zst_tree.specs.declared.tree.ObjSet.{ObjSet}
 use Rattle.zst_pool.specs.Checks.{freed, next_of, put_in, with_head_of, with_new, with_taken}
 use Rattle.zst_dir.specs.Rows.{Rows, HasDataset, HasSnapshot, IsPartialRow}
 use Rattle.zst_dir.specs.Rows as dir_rows
-use Rattle.zst_pool.specs.Reads.{Describes, DatasetIs, SnapshotIs, HeadIs}
-use Rattle.zst_flat.specs.Meaning.{Blocks, SetIs}
-use Rattle.zst_flat.specs.Rows.{no_lists}
+use Rattle.zst_pool.specs.Reads.{Describes, DatasetIs, SnapshotIs}
+use Rattle.zst_tree.specs.Indices.{Blocks}
+use Rattle.zst_objset.specs.Sets.{SetHolds}
+use Rattle.zst_objset.proofs.SetLaws.{empty}
 use Rattle.zst_pool.specs.Work.{NextIs}
 use Rattle.zst_dir.specs.declared.rows.Dataset.{Dataset}
 use Rattle.zst_dir.specs.declared.rows.Partial.{Partial}
 use Rattle.zst_dir.specs.declared.rows.Snapshot.{Snapshot}
 use Rattle.zst_pool.proofs.Matching.{inserted-Match, filter_rest, map-Match}
-
--- no rows stand for a state that nothing touched
-no_lists_are_untouched : (has : Blocks) → SetIs has no_lists untouched
-no_lists_are_untouched has = record {
-  lawful = record { zero = refl; bounded = λ k low. refl; objects = λ k. tt };
-  attrs = λ k. tt;
-  blocks = λ k i object there. absurd (cc);
-  number_dates = λ k. refl;
-  index_dates = λ k i. refl;
-}
 
 -- the row of a new dataset
 abbrev pub new_row : ℕ → List ℕ → Dataset
@@ -51,7 +42,7 @@ new_row_is_new has kind name = record {
   name = refl;
   kind = refl;
   origin = refl;
-  head = record { levels = refl; past = refl; root = inl (refl, no_lists_are_untouched has) };
+  head = empty has;
   redact = refl;
 }
 
@@ -152,7 +143,7 @@ pub no_snapshot_stays : (rows dir : Rows) (name : List ℕ) → dir.snapshots �
 no_snapshot_stays rows dir name same none has = none (has.0, subst (λ (xs : List Snapshot). Contains xs has.0) same has.1, has.2)
 
 -- a row with another head stands for the dataset with another head
-head_at_is : (has : Blocks) (name : List ℕ) (set : ObjSet) (head : DatedState) (x : Dataset) (y : plain.Dataset) → HeadIs has set head → DatasetIs has x y
+head_at_is : (has : Blocks) (name : List ℕ) (set : ObjSet) (head : DatedState) (x : Dataset) (y : plain.Dataset) → SetHolds has set head → DatasetIs has x y
     → DatasetIs has (dir_rows.with_head_at name set x) (with_head_at name head y)
 head_at_is has name set head x y is_head is =
     subst (λ (n : List ℕ). DatasetIs has (dir_rows.with_head_at name set x) (if bytes_eq n name then record y { head = head } else y)) (sym is.name) (go (bytes_eq x.name name))
@@ -162,7 +153,7 @@ head_at_is has name set head x y is_head is =
     go false = is
 
 -- a directory with another head of a dataset
-pub head_is_next : (has : Blocks) (uber : Uber) (rows dir : Rows) (pool : Pool) (name : List ℕ) (set : ObjSet) (head : DatedState) → Describes uber rows pool has → HeadIs has set head
+pub head_is_next : (has : Blocks) (uber : Uber) (rows dir : Rows) (pool : Pool) (name : List ℕ) (set : ObjSet) (head : DatedState) → Describes uber rows pool has → SetHolds has set head
     → dir ≡ record rows { datasets = dir_rows.with_head name set rows.datasets } → IsPool (next_of (with_head_of name head pool)).pool
     → NextIs has uber uber.guids dir (next_of (with_head_of name head pool)).pool
 head_is_next has uber rows dir pool name set head is is_head same lawful = record {

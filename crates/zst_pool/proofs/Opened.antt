@@ -1,11 +1,9 @@
 -- What opening a pool answers, from what its body and its directory are.
 use Rattle.std.specs.Prelude.{Option, Some, None, Err}
-use Rattle.std.proofs.Common.{◌≡◌, ◌≢◌, inl, inr, ⊎_elim, List, ℕ, ◌+◌, ◌-◌, ◌*◌, ◌/◌, ◌<◌, ◌≤◌, length, refl, sym, ◌∙◌, ap, subst, arith}
-use Rattle.std.proofs.lemmas.Bool.{cases_lt}
+use Rattle.std.proofs.Common.{◌≡◌, ◌≢◌, List, ℕ, length, refl, sym, ◌∙◌, ap, subst}
 use Rattle.zst_bytes.specs.Bytes.{number_at}
 use Rattle.zst_outside.specs.Images.{DiskState}
-use Rattle.zst_outside.specs.Ranges.{length-bytes_at}
-use Rattle.zst_block.specs.Blocks.{Has, IsBlock, IsTaken}
+use Rattle.zst_block.specs.Blocks.{Has}
 use Rattle.zst_uber.specs.Body.{IsBody, InRange, body_bytes, uber_at}
 use Rattle.zst_uber.proofs.BodyLaws.{uber_at-body_bytes, version-back}
 use Rattle.zst_uber.specs.Opening.{Answers, Opens, IsLatest}
@@ -18,10 +16,9 @@ use Rattle.zst_model.specs.pools.Pool.{Pool}
 use Rattle.zst_dir.specs.Rows.{Rows}
 use Rattle.zst_pool.specs.Faults.{ReadFault, LoadFault, of_uber}
 use Rattle.zst_pool.specs.Making.{OpenAnswers, GivesPool, IsDamagedPool}
-use Rattle.zst_pool.specs.Reads.{ReadsAs, HasDir, IsDirRun, NamesDir, free_by}
+use Rattle.zst_pool.specs.Reads.{ReadsAs, HasDir, free_by}
 use Rattle.zst_pool.specs.declared.fault.PoolFault.{PoolFault}
 use Rattle.zst_pool.specs.declared.fault.PoolFault.TheVariants.{Plan, CannotApply, Redacted, Full, Damaged, NoPool, BadVersion, DiskFault, Failed, OutOfMemory}
-use Rattle.zst_pool.proofs.DirRuns.{IsDirRun-some}
 
 -- the body by which an image reads as a pool is its latest
 pub IsLatest-reads : (size : ℕ) (uber : Uber) (rows : Rows) (pool : Pool) (image : List ℕ) → length image ≡ size → ReadsAs uber rows pool image → IsLatest size uber image
@@ -105,39 +102,3 @@ module _ (disk : DiskState) where
   OpenAnswers-body ubers.NoPool is = no_body (latest disk.seen) is
   OpenAnswers-body (ubers.BadVersion version) is = bad_version version (latest disk.seen) is
   OpenAnswers-body ubers.DiskFault is = tt
-
--- what stands behind sectors 0 to 7 and before the end isn't free
-before-end : (uber : Uber) → NamesDir uber → IsTaken (free_by uber) (512 * uber.dir_root.sector) uber.dir_root.length
-before-end uber names = λ byte starts ends free. ⊎_elim (λ none. absurd none) (λ past. omega (arith, ends, past, names.inside)) free
-
--- a directory that was read is there
-pub HasDir-read : (image : List ℕ) (uber : Uber) (rows : Rows) (bytes : List ℕ) → NamesDir uber → IsBlock image uber.dir_root bytes → IsDirRun rows uber.dir_bytes bytes → HasDir (Has image (free_by uber)) uber rows
-HasDir-read image uber rows bytes names block run = record {
-  levels = names.levels;
-  kind = names.kind;
-  bytes = bytes;
-  there = record { block = block; behind = names.behind; taken = before-end uber names };
-  run = run;
-}
-
--- a run of some bytes that is there ends before the body's end
-run-inside : (image : List ℕ) (uber : Uber) (bytes : List ℕ) → Has image (free_by uber) uber.dir_root bytes → 0 < length bytes → 512 * uber.dir_root.sector + uber.dir_root.length ≤ 512 * uber.end
-run-inside image uber bytes has some =
-    let place = 512 * uber.dir_root.sector in
-    let count = uber.dir_root.length in
-    let long : length bytes ≡ count = ap length (sym has.block.bytes_are) ∙ length-bytes_at image place count has.block.placed.inside in
-    let last = place + count - 1 in
-    elim (cases_lt (last / 512) uber.end) [
-      | inl below ↦ omega arith
-      | inr past ↦ absurd (has.taken last (omega arith) (omega arith) (inr past))
-    ]
-
--- a directory that is there is named as version 0 does
-pub NamesDir-there : (image : List ℕ) (uber : Uber) (rows : Rows) → uber.free_count ≡ 0 → HasDir (Has image (free_by uber)) uber rows → NamesDir uber
-NamesDir-there image uber rows none has = record {
-  extents = none;
-  levels = has.levels;
-  kind = has.kind;
-  behind = has.there.behind;
-  inside = run-inside image uber has.bytes has.there (IsDirRun-some rows uber.dir_bytes has.bytes has.run);
-}

@@ -1,5 +1,5 @@
 -- How the parts of a command follow one another.
-use Rattle.std.specs.Prelude.{Result, Ok, Err, IsErrAnd, OnErr}
+use Rattle.std.specs.Prelude.{Result, Ok, Err}
 use Rattle.std.proofs.Common.{◌≡◌, ℕ, ◌+◌, Bool, true, false, ◌||◌, refl, sym, ap, ◌∙◌, subst, length, arith}
 use Rattle.std.proofs.lemmas.Bool.{true≢false}
 use Rattle.zst_outside.specs.Causes.{Rose-earlier}
@@ -10,19 +10,15 @@ use Rattle.zst_block.proofs.BlocksLaws.{IsTaken-head, FillsFree-reads, FillsFree
 use Rattle.zst_uber.specs.Body.{InRange}
 use Rattle.zst_uber.specs.Slots.{IsNext}
 use Rattle.zst_uber.specs.declared.uber.Uber.{Uber}
-use Rattle.zst_model.specs.declared.refusals.refusal.Refusal.{Refusal}
 use Rattle.zst_model.specs.pools.Pool.{Pool}
-use Rattle.zst_model.specs.pools.Step.{Stepped}
-use Rattle.zst_pool.specs.declared.kept.Kept.{Kept}
 use Rattle.zst_dir.specs.Rows.{Rows}
-use Rattle.zst_pool.specs.Faults.{HasDiskCause, StepFault, is_disk_fault}
+use Rattle.zst_pool.specs.Faults.{HasDiskCause, is_disk_fault}
 use Rattle.zst_pool.specs.Reads.{Describes, Rests, free_by}
-use Rattle.zst_pool.specs.Work.{Did, Ready, Works}
+use Rattle.zst_pool.specs.Work.{Ready, Works}
 use Rattle.zst_pool.specs.declared.fault.PoolFault.{PoolFault}
 use Rattle.zst_pool.specs.declared.fault.PoolFault.TheVariants.{Plan, CannotApply, Redacted, Full, Damaged, NoPool, BadVersion, DiskFault, Failed, OutOfMemory}
 use Rattle.zst_pool.proofs.Doing.{fell, free_by_fits}
 use Rattle.zst_pool.proofs.Growing.{Describes-grows}
-use Rattle.zst_pool.proofs.Judging.{err_is}
 
 -- a fault is the disk's whatever the part would have given
 pub disk_fault_same : (T U : Type 0) (fault : PoolFault) → is_disk_fault {T = T} (Err fault) ≡ is_disk_fault {T = U} (Err fault)
@@ -96,10 +92,6 @@ ready_works old space failed new less now r uber ready works = record {
   head = λ told. works.head (ready.head (works.fills.honest told));
 }
 
-pub on_err : {T F : Type 0} (r : Result T F) (P : Type 0) → P → OnErr r P
-on_err (Ok value) P is = tt
-on_err (Err fault) P is = is
-
 -- where an image reads as a pool, sectors 0 to 7 aren't free
 pub taken : (start : DiskState) (uber : Uber) (rows : Rows) (pool : Pool) → Rests start uber rows pool → IsTaken (free_by uber) 0 4096
 taken start uber rows pool rests = IsTaken-head (length start.seen) (free_by uber) (free_by_fits (length start.seen) uber rests.reads.in_range)
@@ -117,9 +109,3 @@ described_in old space uber rows pool free rests = subst (λ (s : FreeSectors). 
 -- and before its first part it wrote nothing
 pub fills_none : (old : DiskState) (space : FreeSectors) (uber : Uber) → space ≡ free_by uber → FillsFree old (free_by uber) old space
 fills_none old space uber free = subst (λ (s : FreeSectors). FillsFree old s old space) free (FillsFree-reads old old space (OnlyReads-none old))
-
--- a command that fell once it had written into free sectors alone
-pub did_fall : (old new : DiskState) (space : FreeSectors) (uber : Uber) (rows : Rows) (pool : Pool) (definition : Result Stepped Refusal) (fault : PoolFault) (answer : Result Kept PoolFault)
-    → IsErrAnd answer (λ e. e ≡ fault) → Rests old uber rows pool → FillsFree old (free_by uber) new space → StepFault (Unit {0}) definition fault → Did old new uber rows pool definition answer
-did_fall old new space uber rows pool definition fault answer is rests fills refused =
-    subst (Did old new uber rows pool definition) (sym (err_is answer fault is)) (fell old new space uber rows pool (taken old uber rows pool rests) rests fills definition fault refused)

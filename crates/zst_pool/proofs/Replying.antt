@@ -1,6 +1,6 @@
 -- An accepted command that is built answers the number of its commit.
 use Rattle.std.specs.Prelude.{Result, Ok, Err, IfOk}
-use Rattle.std.proofs.Common.{◌≡◌, ℕ, ◌+◌, ◌≤◌, ◌<◌, ◌^◌, Bool, true, false, List, [], ◌∷◌, Option, Some, None, is_some, length, not, nat_lt, refl, ap, arith}
+use Rattle.std.proofs.Common.{◌≡◌, ℕ, ◌+◌, ◌≤◌, ◌<◌, ◌^◌, Bool, true, false, List, [], ◌∷◌, Option, Some, None, is_some, length, nat_lt, refl, ap, arith}
 use Rattle.std.proofs.lemmas.Bool.Decides.{nat_tests}
 use Rattle.std.proofs.lemmas.Result.{IfOk-at_ok}
 use Rattle.zst_model.specs.declared.pools.command.Command.{Command}
@@ -90,8 +90,3 @@ of_step now (commands.ListObjects name) pool built = absurd (cc)
 
 pub step_reply : (now : ℕ) (command : Command) (pool : Pool) (done : Stepped) → is_built command ≡ true → stepped [] now command pool ≡ Ok done → IsReply pool.number done
 step_reply now command pool done built made = IfOk-at_ok (IsReply pool.number) made (of_step now command pool built)
-
--- a command that isn't unbuilt is built
-pub is_built_from : (b : Bool) → not b ≡ false → b ≡ true
-is_built_from true h = refl
-is_built_from false h = absurd (cc)

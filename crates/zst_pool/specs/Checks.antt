@@ -16,12 +16,11 @@ use Rattle.zst_model.specs.pools.Pool.{Pool, is_before, snapshot_is_before, inse
 use Rattle.zst_model.specs.pools.Pool as plain
 use Rattle.zst_model.specs.refusals.Refusal.{refusal_of}
 use Rattle.zst_model.specs.pools.Step.{Stepped, exists_already, limited, last_guid, most_snapshots, on_dataset, on_head, committed, with_head, new_dataset, snapshot_of, with_snapshot, applied, in_numbers}
-use Rattle.zst_pool.specs.Faults.{StepFault}
-use Rattle.zst_pool.specs.Reads.{DatasetIs}
-use Rattle.zst_flat.specs.Meaning.{Blocks, SetIs}
-use Rattle.zst_flat.specs.Rows.{Lists}
+use Rattle.zst_tree.specs.Indices.{Blocks}
+use Rattle.zst_tree.specs.declared.tree.ObjSet.{ObjSet}
+use Rattle.zst_objset.specs.Sets.{SetHolds}
 use Rattle.zst_dir.specs.declared.rows.Dataset.{Dataset}
-use Rattle.zst_pool.specs.declared.fault.PoolFault.{PoolFault}
+use Rattle.zst_pool.specs.Reads.{DatasetIs}
 
 -- a check that passes leaves what comes next of the definition, and one that refuses gives the definition's refusal
 abbrev pub Judges : {T : Type 0} → Result Stepped Refusal → Result Stepped Refusal → Result T PlanFault → Type 0
@@ -66,12 +65,12 @@ JudgesSnapshot has now name pool (Ok row) =
     (dataset : plain.Dataset) × DatasetIs has row.now dataset × (with_snapshot now name pool ≡ Ok (next_of (with_taken now name dataset pool)))
 JudgesSnapshot has now name pool (Err fault) = with_snapshot now name pool ≡ Err (refusal_of fault)
 
--- the rows of a head that can be changed, or what each change of it is refused for
-abbrev pub FindsHead : Blocks → List ℕ → Pool → Result Lists PoolFault → Type 0
-FindsHead has name pool (Ok lists) =
-    (head : DatedState) × SetIs has lists head
+-- the set of a head that can be changed, or what each change of it is refused for
+abbrev pub FindsHead : Blocks → List ℕ → Pool → Result ObjSet PlanFault → Type 0
+FindsHead has name pool (Ok set) =
+    (head : DatedState) × SetHolds has set head
     × ((change : DatedState → Result DatedState Refusal) → on_head name pool change ≡ (change head >>= λ after. committed (with_head_of name after pool)))
-FindsHead has name pool (Err fault) = (change : DatedState → Result DatedState Refusal) → StepFault (Unit {0}) (on_head name pool change) fault
+FindsHead has name pool (Err fault) = (change : DatedState → Result DatedState Refusal) → on_head name pool change ≡ Err (refusal_of fault)
 
 -- what free and object make of a head
 abbrev pub freed : Pool → ℕ → ℕ → DatedState → Result DatedState Refusal
@@ -79,17 +78,3 @@ freed pool first count head = in_numbers (first + count) (applied pool (FreeObje
 
 abbrev pub put_in : Pool → ℕ → ObjectHead → List ℕ → Option (List ℕ) → DatedState → Result DatedState Refusal
 put_in pool k head bonus spill old = in_numbers (k + 1) (applied pool (map (At k) (Put head bonus false 0 ∷ spill_change spill)) old)
-
--- a change of a head that can be made and committed, or what the command is refused for
-abbrev pub PlansHead : {T : Type 0} → (T → DatedState → Type 0) → List ℕ → Pool → Result DatedState Refusal → Result T PoolFault → Type 0
-PlansHead Makes name pool change (Ok value) =
-    (after : DatedState) × (change ≡ Ok after) × Makes value after
-    × (committed (with_head_of name after pool) ≡ Ok (next_of (with_head_of name after pool)))
-PlansHead Makes name pool change (Err fault) = StepFault (Unit {0}) (change >>= λ after. committed (with_head_of name after pool)) fault
-
--- the rows of a changed head in a pool that can be committed, or what the command is refused for
-abbrev pub ChangesHead : {T : Type 0} → Blocks → List ℕ → Pool → Result DatedState Refusal → Lists → Result T PoolFault → Type 0
-ChangesHead has name pool change lists (Ok value) =
-    (after : DatedState) × (change ≡ Ok after) × SetIs has lists after
-    × (committed (with_head_of name after pool) ≡ Ok (next_of (with_head_of name after pool)))
-ChangesHead has name pool change lists (Err fault) = StepFault (Unit {0}) (change >>= λ after. committed (with_head_of name after pool)) fault

@@ -9,6 +9,11 @@ use Rattle.zst_model.specs.declared.refusals.refusal.Refusal.{Refusal}
 use Rattle.zst_model.specs.declared.refusals.refusal.Refusal.TheVariants as refusals
 use Rattle.zst_model.specs.refusals.Refusal.{refusal_of}
 use Rattle.zst_model.specs.pools.Step.{Stepped}
+use Rattle.zst_model.specs.declared.refusals.plan_fault.PlanFault.TheVariants as plans
+use Rattle.zst_tree.specs.declared.leaves.LeavesFault.{LeavesFault}
+use Rattle.zst_tree.specs.declared.leaves.LeavesFault.TheVariants as leaves
+use Rattle.zst_objset.specs.declared.fault.ObjFault.{ObjFault}
+use Rattle.zst_objset.specs.declared.fault.ObjFault.TheVariants as sets
 use Rattle.zst_pool.specs.declared.fault.PoolFault.{PoolFault}
 use Rattle.zst_pool.specs.declared.fault.PoolFault.TheVariants as faults
 
@@ -30,6 +35,23 @@ abbrev pub of_block : BlockFault → PoolFault
 of_block (blocks.Full need largest) = faults.Full need largest
 of_block (blocks.Damaged sector stated found) = faults.Damaged sector stated found
 of_block blocks.DiskFault = faults.DiskFault
+
+-- an object set's fault as a pool's
+abbrev pub of_set : ObjFault → PoolFault
+of_set (sets.CannotApply fault) = faults.CannotApply fault
+of_set (sets.Redacted object block) = faults.Redacted object block
+of_set (sets.Limit which number) = faults.Plan (plans.Limit which number)
+of_set (sets.Block fault) = of_block fault
+
+-- a fault of a text in leaves as a pool's
+abbrev pub of_leaves : LeavesFault → PoolFault
+of_leaves (leaves.Block fault) = of_block fault
+of_leaves leaves.Memory = faults.OutOfMemory
+
+-- what a call of an object set answers, as a pool's answer
+abbrev pub of_call : Result (Unit {0}) ObjFault → Result (Unit {0}) PoolFault
+of_call (Ok done) = Ok done
+of_call (Err fault) = Err (of_set fault)
 
 -- an opening's fault as a pool's
 abbrev pub of_uber : UberFault → PoolFault

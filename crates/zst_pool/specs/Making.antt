@@ -58,13 +58,13 @@ RefusedLeaves old new (Full need largest) = latest new.seen ≡ latest old.seen
 RefusedLeaves old new OutOfMemory = latest new.seen ≡ latest old.seen
 RefusedLeaves old new fault = Unit {0}
 
--- this body and a directory of version 0's layout are there, the directory with these rows
+-- this body and a directory of the layout are there, the directory with these rows
 pub record IsOpened (disk : DiskState) (body : List ℕ) (uber : Uber) (rows : Rows) : Type 0 where
   pub is_body : IsBody disk.size uber body
   pub extents : uber.free_count ≡ 0
   pub directory : HasDir (Has disk.seen (free_by uber)) uber rows
 
--- the latest body is of this version, but it and what it names aren't of version 0's layout
+-- the latest body is of this version, but it and what it names aren't of the layout
 pub record IsDamagedPool (disk : DiskState) : Type 0 where
   pub body : List ℕ
   pub there : latest disk.seen ≡ Some body

@@ -1,28 +1,25 @@
 -- What an image reads as: the pool that its latest body, its directory and its object sets describe.
-use Rattle.std.specs.Prelude.{◌≡◌, ◌⊎◌, ◌+◌, ◌*◌, ◌/◌, ◌≤◌, ℕ, List, [], ◌∷◌, ◌++◌, length, take, filter, Result, Ok}
+use Rattle.std.specs.Prelude.{◌≡◌, ◌⊎◌, ◌+◌, ◌*◌, ◌/◌, ℕ, List, [], ◌∷◌, length, filter, Result, Ok}
 use Rattle.zst_outside.specs.Images.{DiskState}
 use Rattle.zst_space.specs.FreeSectors.{FreeSectors}
 use Rattle.zst_block.specs.Blocks.{Has}
 use Rattle.zst_block.specs.declared.ptr.Ptr.{Ptr}
-use Rattle.zst_bytes.specs.Fields.{zeros}
 use Rattle.zst_uber.specs.Body.{UberFits, InRange}
 use Rattle.zst_uber.specs.Slots.{Stands}
 use Rattle.zst_uber.specs.declared.uber.Uber.{Uber}
 use Rattle.zst_model.specs.declared.refusals.refusal.Refusal.{Refusal}
-use Rattle.zst_model.specs.states.Dated.{DatedState}
 use Rattle.zst_model.specs.pools.Pool.{Pool, IsPool}
 use Rattle.zst_model.specs.pools.Pool as plain
 use Rattle.zst_model.specs.pools.Step.{Stepped}
-use Rattle.zst_tree.specs.declared.tree.ObjSet.{ObjSet}
+use Rattle.zst_tree.specs.Indices.{Blocks}
+use Rattle.zst_tree.specs.Leaves.{HasLeaves, leaves_for}
 use Rattle.zst_dir.specs.Rows.{Rows}
 use Rattle.zst_dir.specs.Spelling.{IsDir, dir_bytes}
 use Rattle.zst_dir.specs.declared.rows.Dataset.{Dataset}
 use Rattle.zst_dir.specs.declared.rows.Snapshot.{Snapshot}
 use Rattle.zst_dir.specs.declared.rows.Bookmark.{Bookmark}
 use Rattle.zst_dir.specs.declared.rows.Partial.{Partial}
-use Rattle.zst_flat.specs.Rows.{Lists, no_lists}
-use Rattle.zst_flat.specs.Meaning.{Blocks, SetIs}
-use Rattle.zst_flat.specs.Spelling.{IsRun}
+use Rattle.zst_objset.specs.Sets.{SetHolds}
 
 -- each element of a list matches the one at its place in the other, and there are as many
 abbrev pub Match : {A B : Type 0} → (A → B → Type 0) → List A → List B → Type 0
@@ -31,24 +28,12 @@ Match Is [] (y ∷ ys) = ⊥
 Match Is (x ∷ xs) [] = ⊥
 Match Is (x ∷ xs) (y ∷ ys) = Is x y × Match Is xs ys
 
--- what the root of an object set stands for: a set without rows, or the one whose rows are in the run that it names
-abbrev pub RootIs : Blocks → Ptr → DatedState → Type 0
-RootIs has root snap =
-    ((root.kind ≡ 0) × SetIs has no_lists snap)
-    ⊎ ((root.kind ≡ 1) × ((bytes : List ℕ) × (lists : Lists) × has root bytes × IsRun lists bytes × SetIs has lists snap))
-
--- an object set of version 0 has no levels, and stands for what its root does
-pub record HeadIs (has : Blocks) (set : ObjSet) (snap : DatedState) : Type 0 where
-  pub levels : set.tree.levels ≡ 0
-  pub past : set.tree.past ≡ 0
-  pub root : RootIs has set.tree.root snap
-
 -- a dataset's row stands for this dataset
 pub record DatasetIs (has : Blocks) (row : Dataset) (dataset : plain.Dataset) : Type 0 where
   pub name : dataset.name ≡ row.name
   pub kind : dataset.kind ≡ row.kind
   pub origin : dataset.origin ≡ row.origin
-  pub head : HeadIs has row.head dataset.head
+  pub head : SetHolds has row.head dataset.head
   pub redact : dataset.redact ≡ row.redact
 
 -- a snapshot's row stands for this snapshot
@@ -57,7 +42,7 @@ pub record SnapshotIs (has : Blocks) (row : Snapshot) (snapshot : plain.Snapshot
   pub guid : snapshot.guid ≡ row.guid
   pub time : snapshot.time ≡ row.time
   pub number : snapshot.number ≡ row.number
-  pub objects : HeadIs has row.objects snapshot.objects
+  pub objects : SetHolds has row.objects snapshot.objects
   pub redact : snapshot.redact ≡ row.redact
 
 -- a bookmark's row stands for this bookmark; none has a list as long as lists aren't built
@@ -77,7 +62,7 @@ pub record PartialIs (has : Blocks) (row : Partial) (partial : plain.Partial) : 
   pub keep : partial.keep ≡ row.keep
   pub header : partial.header ≡ row.header
   pub base : partial.base ≡ row.base
-  pub objects : HeadIs has row.objects partial.objects
+  pub objects : SetHolds has row.objects partial.objects
   pub point : partial.point ≡ row.point
 
 -- the rows stand for what the pool lists; partial states that aren't kept are no part of it
@@ -87,32 +72,19 @@ pub record RowsAre (has : Blocks) (rows : Rows) (pool : Pool) : Type 0 where
   pub bookmarks : Match BookmarkIs rows.bookmarks pool.bookmarks
   pub partials : Match (PartialIs has) (filter (λ row. row.keep) rows.partials) pool.partials
 
--- these bytes are the run of blocks with a directory of so many bytes: its rows, and zeros behind them
-pub record IsDirRun (rows : Rows) (count : ℕ) (bytes : List ℕ) : Type 0 where
-  pub directory : IsDir rows (take count bytes)
-  pub inside : count ≤ length bytes
-  pub fill : ℕ
-  pub filled : bytes ≡ dir_bytes rows ++ zeros fill
+-- so many sectors a directory of so many bytes takes at most: 16 for each leaf, and for each of the nodes above
+abbrev pub dir_sectors : ℕ → ℕ
+dir_sectors count = 16 * (leaves_for count + leaves_for count / 128 + 3)
 
--- how many sectors the run of a directory has: it is filled up to a multiple of 8,192 bytes
-abbrev pub dir_sectors : Rows → ℕ
-dir_sectors rows = (length (dir_bytes rows) + 8191) / 8192 * 16
+-- a directory of so many bytes with these rows stands in the leaves of a tree
+pub record DirStands (has : Blocks) (levels : ℕ) (root : Ptr) (count : ℕ) (rows : Rows) : Type 0 where
+  pub directory : IsDir rows (dir_bytes rows)
+  pub count_is : count ≡ length (dir_bytes rows)
+  pub leaves : HasLeaves has levels root (dir_bytes rows)
 
--- a body has no free extents, and names its directory as one run, behind sectors 0 to 7 and before its end
-pub record NamesDir (uber : Uber) : Type 0 where
-  pub extents : uber.free_count ≡ 0
-  pub levels : uber.dir_levels ≡ 0
-  pub kind : uber.dir_root.kind ≡ 1
-  pub behind : 8 ≤ uber.dir_root.sector
-  pub inside : 512 * uber.dir_root.sector + uber.dir_root.length ≤ 512 * uber.end
-
--- the body's root names the run with the directory of these rows
-pub record HasDir (has : Blocks) (uber : Uber) (rows : Rows) : Type 0 where
-  pub levels : uber.dir_levels ≡ 0
-  pub kind : uber.dir_root.kind ≡ 1
-  pub bytes : List ℕ
-  pub there : has uber.dir_root bytes
-  pub run : IsDirRun rows uber.dir_bytes bytes
+-- the tree that the body names has the directory with these rows
+abbrev pub HasDir : Blocks → Uber → Rows → Type 0
+HasDir has uber rows = DirStands has uber.dir_levels uber.dir_root uber.dir_bytes rows
 
 -- the body, the rows of the directory and the blocks describe this pool; as long as no sector is freed there are no free extents
 pub record Describes (uber : Uber) (rows : Rows) (pool : Pool) (has : Blocks) : Type 0 where

@@ -1,32 +1,48 @@
 -- Where a command finds no room.
-use Rattle.std.specs.Prelude.{◌≡◌, ◌⊎◌, ◌+◌, ◌-◌, ◌/◌, ◌<◌, ◌≤◌, ℕ, length, Contains}
+use Rattle.std.specs.Prelude.{◌≡◌, ◌+◌, ◌-◌, ◌/◌, ◌<◌, ℕ, List, length, Option, Some, None}
 use Rattle.zst_space.specs.FreeSectors.{FreeSectors, largest_of}
-use Rattle.zst_block.specs.declared.ptr.Ptr.{Ptr}
 use Rattle.zst_uber.specs.declared.uber.Uber.{Uber}
-use Rattle.zst_flat.specs.Rows.{Lists}
-use Rattle.zst_flat.specs.Spelling.{lists_bytes}
+use Rattle.zst_model.specs.declared.pools.command.Command.{Command}
+use Rattle.zst_model.specs.declared.pools.command.Command.TheVariants as commands
 use Rattle.zst_dir.specs.Rows.{Rows}
 use Rattle.zst_dir.specs.Spelling.{dir_bytes}
-use Rattle.zst_dir.specs.declared.rows.Dataset.{Dataset}
+use Rattle.zst_pool.specs.Reads.{dir_sectors}
 use Rattle.zst_pool.specs.declared.fault.PoolFault.{PoolFault}
 use Rattle.zst_pool.specs.declared.fault.PoolFault.TheVariants.{Full}
 use Rattle.zst_pool.specs.declared.kept.Kept.{Kept}
 
--- the sectors of the block that a pointer names
-abbrev pub sectors_of : Ptr → ℕ
-sectors_of ptr = ptr.length / 512
+-- so many sectors an object takes at most: for the trees of its set, and then, where it has a spill block, for that and for the trees again
+abbrev pub object_sectors : Option (List ℕ) → ℕ
+object_sectors None = 640
+object_sectors (Some spill) = 640 + (640 + length spill / 512)
 
--- so many sectors has the run of one of the heads, or none
-abbrev pub IsHeadRun : Rows → ℕ → Type 0
-IsHeadRun rows count = (count ≡ 0) ⊎ ((row : Dataset) × Contains rows.datasets row × (count ≡ sectors_of row.head.tree.root))
+-- so many sectors a command takes at most for the object set of a head; a block of data has 256 at most
+abbrev pub most_sectors : Command → ℕ
+most_sectors (commands.Fs dataset) = 0
+most_sectors (commands.Volume dataset) = 0
+most_sectors (commands.Object dataset k head bonus spill) = object_sectors spill
+most_sectors (commands.Write dataset k i bytes) = 640 + 256
+most_sectors (commands.Punch dataset k first count) = 1280
+most_sectors (commands.Free dataset first count) = 1280
+most_sectors (commands.Snapshot name) = 0
+most_sectors (commands.Read name k i) = 0
+most_sectors commands.List = 0
+most_sectors (commands.ListObjects name) = 0
 
--- E24: a block of `need` sectors is longer than what is left of the free sectors, and by the latest body fewer are free than a
--- command may take: 256 for a block of data, and for the rows of a head and for the directory 24 more than they have now
-pub record HasNoRoom (uber : Uber) (rows : Rows) (need largest : ℕ) : Type 0 where
+-- E24: what is to be written is longer than what is left of the free sectors, and by the latest body fewer are free than so many for an object set, and what the directory takes with 1,024 bytes more than it has
+pub record HasNoRoom (most : ℕ) (uber : Uber) (rows : Rows) (need largest : ℕ) : Type 0 where
   pub shorter : largest < need
-  pub head : ℕ
-  pub of : IsHeadRun rows head
-  pub room : uber.sectors - uber.end < 256 + (head + 24) + (sectors_of uber.dir_root + 24)
+  pub room : uber.sectors - uber.end < most + dir_sectors (length (dir_bytes rows) + 1024)
+
+-- E24 of a directory's block: 16 sectors are longer than what is free then, and before the directory no run of so many was free
+pub record IsLeafFull (most : ℕ) (old new : FreeSectors) (need largest : ℕ) : Type 0 where
+  pub needed : need ≡ 16
+  pub is_longest : largest ≡ largest_of new
+  pub before : largest_of old < most
+
+-- and so many sectors are what a directory with these rows takes at most
+abbrev pub IsDirFull : FreeSectors → FreeSectors → Rows → ℕ → ℕ → Type 0
+IsDirFull old new rows need largest = IsLeafFull (dir_sectors (length (dir_bytes rows))) old new need largest
 
 -- a fault that isn't E24
 abbrev pub NotFull : PoolFault → Type 0
@@ -36,16 +52,6 @@ NotFull fault = (need largest : ℕ) → ¬ (fault ≡ Full need largest)
 abbrev pub FullBelow : FreeSectors → ℕ → PoolFault → Type 0
 FullBelow space count fault = (need largest : ℕ) → fault ≡ Full need largest → largest_of space < count
 
--- so many sectors has the run with these rows at most: zeros fill it up to a multiple of 8,192 bytes
-abbrev pub set_sectors : Lists → ℕ
-set_sectors lists = (length (lists_bytes lists) + 8191) / 512
-
--- the rows of one of the heads, as long as its run at most; without a run they have 16 bytes
-abbrev pub AreHeadRows : Rows → Lists → Type 0
-AreHeadRows rows lists = (row : Dataset) × Contains rows.datasets row × (length (lists_bytes lists) ≤ row.head.tree.root.length + 16)
-
--- E24 comes only where a command finds no room, as long as the directory is no longer than its run
-abbrev pub FindsNoRoom : Kept → PoolFault → Type 0
-FindsNoRoom kept fault =
-    length (dir_bytes kept.dir) ≤ kept.body.dir_root.length
-    → (need largest : ℕ) → fault ≡ Full need largest → HasNoRoom kept.body kept.dir need largest
+-- E24 comes only where a command finds no room
+abbrev pub FindsNoRoom : ℕ → Kept → PoolFault → Type 0
+FindsNoRoom most kept fault = (need largest : ℕ) → fault ≡ Full need largest → HasNoRoom most kept.body kept.dir need largest

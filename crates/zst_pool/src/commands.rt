@@ -1,15 +1,13 @@
 // The commands that commit, each over the Io of a pool that hasn't failed.
-ghost use Rattle.std.specs.Prelude.{◌≡◌, ◌⊎◌, ◌+◌, ◌*◌, ◌<◌, ◌≤◌, ◌^◌, ◌||◌, false, [], None, bytes_eq, filter, length, not, IfErr, IfOk, OnErr};
+ghost use Rattle.std.specs.Prelude.{◌≡◌, ◌⊎◌, ◌+◌, ◌*◌, ◌<◌, ◌≤◌, ◌^◌, [], None, bytes_eq, filter, length, not, IfOk};
 ghost use Rattle.zst_names.specs.Names.{dataset_of};
-ghost use Rattle.zst_model.specs.pools.Pool.{Pool, inserted};
+ghost use Rattle.zst_model.specs.pools.Pool.{inserted};
 ghost use Rattle.zst_model.specs.pools.Step.{with_dataset, with_snapshot};
 ghost use Rattle.zst_tree.specs.Sets.{no_objects};
 ghost use Rattle.zst_dir.specs.Rows.{HasDataset, HasSnapshot, IsDatasetRow, IsLawful, IsSnapshotRow, snapshot_is_before};
 ghost use Rattle.zst_dir.specs.Spelling.{dir_bytes};
-ghost use Rattle.zst_pool.specs.Faults.{HasDiskCause, IsStepFault, is_disk_fault};
-ghost use Rattle.zst_pool.specs.Reads.{Rests, free_by};
-ghost use Rattle.zst_pool.specs.Room.{FindsNoRoom};
-ghost use Rattle.zst_pool.specs.Work.{Ready, Did};
+ghost use Rattle.zst_pool.specs.Reads.{free_by};
+ghost use Rattle.zst_pool.specs.Work.{Ready, Runs};
 
 use crate::checks::{check_new_dataset, check_number, plan_snapshot};
 use crate::committing::commit_dir;
@@ -51,15 +49,7 @@ pub fn make_dataset<D: Disk>(
     requires kind { (kind ≡ 2) ⊎ (kind ≡ 3) }
     requires space { io.old.space ≡ free_by kept.now.body }
     requires ready { Ready (D.state io.old.disk.now) kept.now.body }
-    ensures did { (pool : Pool) → (D.state io.new.disk.now).honest → Rests (D.state io.old.disk.now) kept.now.body kept.now.dir pool
-        → Did (D.state io.old.disk.now) (D.state io.new.disk.now) kept.now.body kept.now.dir pool (with_dataset kind name.now pool) result }
-    ensures known { IfErr result IsStepFault }
-    ensures full { IfErr result (FindsNoRoom kept.now) }
-    ensures ready { IfOk result (λ kept. Ready (D.state io.new.disk.now) kept.body) }
-    ensures stays { io.new.failed ≡ false → OnErr result (Ready (D.state io.new.disk.now) kept.now.body) }
-    ensures failed { io.new.failed ≡ (io.old.failed || is_disk_fault result) }
-    ensures cause { HasDiskCause (D.state io.old.disk.now).faults (D.state io.new.disk.now).faults result }
-    ensures honest { (D.state io.new.disk.now).honest → (D.state io.old.disk.now).honest }
+    ensures runs { Runs (λ pool. with_dataset kind name.now pool) 0 kept.now (D.state io.old.disk.now) io.old.failed (D.state io.new.disk.now) io.new.failed result }
     ensures same { io.new.disk.ghost_name ≡ io.old.disk.ghost_name }
 {
     check_new_dataset(&kept.dir, name)?;
@@ -115,15 +105,7 @@ pub fn take_snapshot<D: Disk>(
 ) -> Result<Kept, PoolFault>
     requires space { io.old.space ≡ free_by kept.now.body }
     requires ready { Ready (D.state io.old.disk.now) kept.now.body }
-    ensures did { (pool : Pool) → (D.state io.new.disk.now).honest → Rests (D.state io.old.disk.now) kept.now.body kept.now.dir pool
-        → Did (D.state io.old.disk.now) (D.state io.new.disk.now) kept.now.body kept.now.dir pool (with_snapshot now name.now pool) result }
-    ensures known { IfErr result IsStepFault }
-    ensures full { IfErr result (FindsNoRoom kept.now) }
-    ensures ready { IfOk result (λ kept. Ready (D.state io.new.disk.now) kept.body) }
-    ensures stays { io.new.failed ≡ false → OnErr result (Ready (D.state io.new.disk.now) kept.now.body) }
-    ensures failed { io.new.failed ≡ (io.old.failed || is_disk_fault result) }
-    ensures cause { HasDiskCause (D.state io.old.disk.now).faults (D.state io.new.disk.now).faults result }
-    ensures honest { (D.state io.new.disk.now).honest → (D.state io.old.disk.now).honest }
+    ensures runs { Runs (λ pool. with_snapshot now name.now pool) 0 kept.now (D.state io.old.disk.now) io.old.failed (D.state io.new.disk.now) io.new.failed result }
     ensures same { io.new.disk.ghost_name ≡ io.old.disk.ghost_name }
 {
     let dataset = plan_snapshot(kept, name)?;

@@ -1,24 +1,27 @@
 // The commit of a directory: the one commit of an event.
-ghost use Rattle.std.specs.Prelude.{◌≡◌, ◌+◌, ◌<◌, ◌^◌, ◌||◌, false, [], ℕ, List, IfOk, IfErr, OnOk, OnErr};
-ghost use Rattle.zst_space.specs.FreeSectors.{largest_of};
+ghost use Rattle.std.specs.Prelude.{◌≡◌, ◌+◌, ◌<◌, ◌^◌, ◌||◌, false, ℕ, List, length, IfOk, IfErr, OnOk, OnErr};
 ghost use Rattle.zst_block.specs.Blocks.{FitsDisk, FillsFree, Has};
 ghost use Rattle.zst_block.specs.Ptr.{hole_of};
 ghost use Rattle.zst_uber.specs.Slots.{latest};
 ghost use Rattle.zst_model.specs.pools.Pool.{Pool};
 ghost use Rattle.zst_dir.specs.Rows.{Rows};
+ghost use Rattle.zst_tree.specs.Leaves.{HasLeaves};
 ghost use Rattle.zst_pool.specs.Faults.{HasDiskCause, WriteFault, is_disk_fault};
-ghost use Rattle.zst_pool.specs.Reads.{IsDirRun, Rests, dir_sectors, free_by};
+ghost use Rattle.zst_pool.specs.Reads.{DirStands, Rests, dir_sectors, free_by};
+ghost use Rattle.zst_pool.specs.Room.{IsDirFull, IsLeafFull};
 ghost use Rattle.zst_pool.specs.Work.{Ready, Works, NextIs, Stays, Commits, CommitsOver};
 
 use crate::fault::PoolFault;
 use crate::kept::Kept;
-use crate::sets::write_run;
 use std::alloc::Global;
 use zst_block::{Io, Ptr};
-use zst_bytes::fill_up;
 use zst_dir::Dir;
 use zst_outside::Disk;
+use zst_tree::{Tree, write_leaves};
 use zst_uber::{Uber, commit_event};
+
+// So many bytes have room below a tree of 2 levels.
+const MOST: usize = 134217728;
 
 /// Writes a directory and makes it the pool's, with the next number and this guid counter.
 ///
@@ -33,7 +36,6 @@ pub fn commit_dir<D: Disk>(
 ) -> Result<Kept, PoolFault>
     requires fits { FitsDisk (D.state io.old.disk.now).size io.old.space }
     requires sectors { io.old.space.sectors ≡ body.now.sectors }
-    requires extents { io.old.space.free ≡ [] }
     requires ready { Ready (D.state io.old.disk.now) body.now }
     requires number { body.now.number < 2 ^ 63 }
     ensures commits { (start : D) (rows : Rows) (pool next : Pool) → (D.state io.new.disk.now).honest → Rests (D.state start) body.now rows pool
@@ -45,7 +47,7 @@ pub fn commit_dir<D: Disk>(
         → CommitsOver (D.state io.old.disk.now) io.old.space (D.state io.new.disk.now) io.new.space next result }
     ensures number { IfOk result (λ kept. kept.body.number ≡ body.now.number + 1) }
     ensures fault { IfErr result WriteFault }
-    ensures full { (need largest : ℕ) → result ≡ Err (PoolFault.Full need largest) → (need ≡ dir_sectors dir) × (largest ≡ largest_of io.old.space) }
+    ensures full { (need largest : ℕ) → result ≡ Err (PoolFault.Full need largest) → IsDirFull io.old.space io.new.space dir need largest }
     // After a refusal that isn't the disk's the latest body is the one from before.
     ensures refused { IfErr result (Stays (latest (D.state io.new.disk.now).seen ≡ latest (D.state io.old.disk.now).seen)) }
     ensures ready { IfOk result (λ kept. Ready (D.state io.new.disk.now) kept.body) }
@@ -56,52 +58,68 @@ pub fn commit_dir<D: Disk>(
     ensures honest { (D.state io.new.disk.now).honest → (D.state io.old.disk.now).honest }
     ensures same { io.new.disk.ghost_name ≡ io.old.disk.ghost_name }
 {
-    let (root, length) = write_dir(io, alloc, &dir, body.number + 1)?;
-    let next = next_body(body, guids, io.space.end(), root, length);
+    let (tree, length) = write_dir(io, alloc, &dir, body.number + 1)?;
+    let next = next_body(body, guids, io.space.end(), &tree, length);
     match commit_event(io, &next) {
         Ok(()) => Ok(Kept { body: next, dir }),
         Err(fault) => Err(PoolFault::from(fault)),
     }
 }
 
-// Writes a directory as one run of blocks, with zeros up to a multiple of 8,192 bytes. Gives the
-// pointer to it, and the length of the directory in bytes.
+// Writes a directory into the leaves of a tree. Gives the tree, and the length of the directory in
+// bytes.
 fn write_dir<D: Disk>(
     io: &mut Io<'_, D>,
     alloc: Global,
     dir: &Dir,
     number: u64,
-) -> Result<(Ptr, u64), PoolFault>
+) -> Result<(Tree, u64), PoolFault>
     requires fits { FitsDisk (D.state io.old.disk.now).size io.old.space }
-    requires extents { io.old.space.free ≡ [] }
-    ensures there { IfOk result (λ run. (bytes : List ℕ) × Has (D.state io.new.disk.now).seen io.new.space run.0 bytes × IsDirRun dir.now run.1 bytes) }
-    ensures kind { IfOk result (λ run. run.0.kind ≡ 1) }
+    ensures there { IfOk result (λ written. DirStands (Has (D.state io.new.disk.now).seen io.new.space) written.0.levels written.0.root written.1 dir.now) }
     ensures sectors { OnOk result (io.new.space.sectors ≡ io.old.space.sectors) }
-    ensures extents { OnOk result (io.new.space.free ≡ []) }
     ensures fault { IfErr result WriteFault }
-    ensures full { (need largest : ℕ) → result ≡ Err (PoolFault.Full need largest) → (need ≡ dir_sectors dir.now) × (largest ≡ largest_of io.old.space) }
+    ensures full { (need largest : ℕ) → result ≡ Err (PoolFault.Full need largest) → IsDirFull io.old.space io.new.space dir.now need largest }
     ensures works { Works (D.state io.old.disk.now) io.old.space io.old.failed (D.state io.new.disk.now) io.new.space io.new.failed result }
     ensures same { io.new.disk.ghost_name ≡ io.old.disk.ghost_name }
 {
-    let mut bytes = dir.encode(alloc)?;
-    let length = bytes.len() as u64;
-    fill_up(&mut bytes, 8192)?;
-    let root = write_run(io, &bytes, number)?;
-    Ok((root, length))
+    let bytes = dir.encode(alloc)?;
+    let tree = write_bytes(io, &bytes, number)?;
+    Ok((tree, bytes.len() as u64))
 }
 
-// The body of the next commit, whose directory is the run that this pointer names.
-fn next_body(body: &Uber, guids: u64, end: u64, root: Ptr, length: u64) -> Uber
+// Writes the bytes of a directory into the leaves of a tree. Those that are too many for a tree of
+// 2 levels find no memory.
+fn write_bytes<D: Disk>(io: &mut Io<'_, D>, bytes: &[u8], number: u64) -> Result<Tree, PoolFault>
+    requires fits { FitsDisk (D.state io.old.disk.now).size io.old.space }
+    requires some { 0 < length bytes.now }
+    ensures there { IfOk result (λ tree. HasLeaves (Has (D.state io.new.disk.now).seen io.new.space) tree.levels tree.root bytes.now) }
+    ensures sectors { OnOk result (io.new.space.sectors ≡ io.old.space.sectors) }
+    ensures fault { IfErr result WriteFault }
+    ensures full { (need largest : ℕ) → result ≡ Err (PoolFault.Full need largest) → IsLeafFull (dir_sectors (length bytes.now)) io.old.space io.new.space need largest }
+    ensures works { Works (D.state io.old.disk.now) io.old.space io.old.failed (D.state io.new.disk.now) io.new.space io.new.failed result }
+    ensures same { io.new.disk.ghost_name ≡ io.old.disk.ghost_name }
+{
+    if bytes.len() > MOST {
+        return Err(PoolFault::OutOfMemory);
+    }
+    match write_leaves(io, bytes, number) {
+        Ok(tree) => Ok(tree),
+        Err(fault) => Err(PoolFault::from(fault)),
+    }
+}
+
+// The body of the next commit, whose directory of so many bytes stands in this tree.
+fn next_body(body: &Uber, guids: u64, end: u64, tree: &Tree, length: u64) -> Uber
     requires { body.now.number < 2 ^ 63 }
-    ensures { result ≡ record body.now { number = body.now.number + 1; guids = guids; end = end; dir_levels = 0; dir_bytes = length; dir_root = root; free_count = 0; free_levels = 0; free_root = hole_of 0 } }
+    ensures { result ≡ record body.now { number = body.now.number + 1; guids = guids; end = end; dir_levels = tree.now.levels; dir_bytes = length; dir_root = tree.now.root; free_count = 0; free_levels = 0; free_root = hole_of 0 } }
 {
     Uber {
         number: body.number + 1,
         guids,
         end,
-        dir_levels: 0,
+        dir_levels: u64::from(tree.levels),
         dir_bytes: length,
-        dir_root: root,
+        dir_root: tree.root,
         free_count: 0,
         free_levels: 0,
         free_root: Ptr::hole(0),

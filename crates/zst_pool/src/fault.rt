@@ -1,6 +1,8 @@
 use std::alloc::AllocError;
 use zst_block::{BlockFault, Ptr};
 use zst_model::{ApplyFault, PlanFault, Refusal};
+use zst_objset::ObjFault;
+use zst_tree::LeavesFault;
 use zst_uber::UberFault;
 
 /// Why a pool isn't made, opened or stepped.
@@ -96,6 +98,38 @@ impl From<BlockFault> for PoolFault {
                 found,
             },
             BlockFault::DiskFault => PoolFault::DiskFault,
+        }
+    }
+}
+
+impl From<LeavesFault> for PoolFault {
+    ghost use Rattle.std.specs.Prelude.{◌≡◌};
+    ghost use Rattle.zst_pool.specs.Faults.{of_leaves};
+
+    ghost from_gives = { λ leaves fault. fault ≡ of_leaves leaves };
+
+    fn from(fault: LeavesFault) -> Self {
+        match fault {
+            LeavesFault::Block(fault) => PoolFault::from(fault),
+            LeavesFault::Memory => PoolFault::OutOfMemory,
+        }
+    }
+}
+
+impl From<ObjFault> for PoolFault {
+    ghost use Rattle.std.specs.Prelude.{◌≡◌};
+    ghost use Rattle.zst_pool.specs.Faults.{of_set};
+
+    ghost from_gives = { λ set fault. fault ≡ of_set set };
+
+    fn from(fault: ObjFault) -> Self {
+        match fault {
+            ObjFault::CannotApply(fault) => PoolFault::CannotApply(fault),
+            ObjFault::Redacted { object, block } => PoolFault::Redacted { object, block },
+            ObjFault::Limit { which, number } => {
+                PoolFault::Plan(PlanFault::Limit { which, number })
+            }
+            ObjFault::Block(fault) => PoolFault::from(fault),
         }
     }
 }

@@ -1,85 +1,112 @@
 // The commands on a dataset's head, each over the Io of a pool that hasn't failed.
-ghost use Rattle.std.specs.Prelude.{◌≡◌, ◌||◌, ◌+◌, ◌<◌, ◌≤◌, ◌^◌, false, true, [], length, IfErr, IfOk, IfSome, OnOk, OnErr};
-ghost use Rattle.zst_block.specs.Blocks.{FitsDisk, FillsFree, Has};
+ghost use Rattle.std.specs.Prelude.{◌≡◌, ◌⊎◌, ◌+◌, ◌<◌, ◌≤◌, ◌^◌, ℕ, Bool, List, Result, length, IfErr, IfSome, OnErr, OnOk};
+ghost use Rattle.zst_space.specs.FreeSectors.{FreeSectors};
+ghost use Rattle.zst_fletcher.specs.WeightSum.{parts_of};
+ghost use Rattle.zst_block.specs.Blocks.{FitsDisk, Has};
 ghost use Rattle.zst_names.specs.Names.{IsDataset};
+ghost use Rattle.zst_model.specs.declared.refusals.refusal.Refusal.{Refusal};
 ghost use Rattle.zst_model.specs.states.State.{IsHead, IsBonus, IsSpill};
 ghost use Rattle.zst_model.specs.states.Dated.{DatedState};
-ghost use Rattle.zst_model.specs.pools.Pool.{Pool, IsPool};
+ghost use Rattle.zst_model.specs.pools.Pool.{Pool};
 ghost use Rattle.zst_model.specs.pools.Step.{on_head, punched, written};
-ghost use Rattle.zst_pool.specs.Checks.{FindsHead, freed, next_of, put_in, with_head_of};
-ghost use Rattle.zst_pool.specs.Faults.{HasDiskCause, IsStepFault, WriteFault, is_disk_fault};
-ghost use Rattle.zst_pool.specs.Reads.{Rests, RowsAre, dir_sectors, free_by};
-ghost use Rattle.zst_pool.specs.Room.{AreHeadRows, FindsNoRoom, FullBelow, NotFull, set_sectors};
-ghost use Rattle.zst_flat.specs.Meaning.{SetIs};
-ghost use Rattle.zst_pool.specs.Work.{Commits, Did, Ready, Works};
+ghost use Rattle.zst_tree.specs.Sets.{SetFits};
+ghost use Rattle.zst_tree.specs.declared.tree.ObjSet.{ObjSet as Set};
+ghost use Rattle.zst_pool.specs.Checks.{FindsHead, freed, put_in};
+ghost use Rattle.zst_pool.specs.Faults.{is_disk_fault};
+ghost use Rattle.zst_pool.specs.Heads.{ChangedHead, ChangesHead, IsPlan, JudgesHead, is_accepted};
+ghost use Rattle.zst_pool.specs.Reads.{RowsAre, free_by};
+ghost use Rattle.zst_pool.specs.Room.{object_sectors};
+ghost use Rattle.zst_pool.specs.Work.{Ready, Runs};
 
 use crate::changes::{change_block, change_holes, change_numbers, change_object};
-use crate::checks::open_dataset;
+use crate::checks::{check_number, open_dataset};
 use crate::committing::commit_dir;
 use crate::fault::PoolFault;
 use crate::kept::Kept;
-use crate::sets::{load, store};
 use std::alloc::Global;
 use zst_block::Io;
-use zst_flat::Flat;
+use zst_dir::Dir;
 use zst_laws::steps_keep_pools;
-use zst_model::{Bytes, ObjectHead};
+use zst_model::{Bytes, ObjectHead, PlanFault};
 use zst_names::DatasetName;
 use zst_outside::Disk;
+use zst_tree::ObjSet;
+use zst_uber::Uber;
 
-/// Reads the rows of the head of a dataset that has no partial state.
-fn load_head<D: Disk>(
-    io: &mut Io<'_, D>,
-    alloc: Global,
-    kept: &Kept,
-    name: &DatasetName,
-) -> Result<Flat, PoolFault>
-    requires fits { FitsDisk (D.state io.old.disk.now).size io.old.space }
+// The object set of the head of a dataset that has no partial state.
+fn open_head(dir: &Dir, name: &DatasetName) -> Result<ObjSet, PlanFault>
     ensures named { OnOk result (IsDataset name.now) }
-    ensures found { (pool : Pool) → (D.state io.new.disk.now).honest → RowsAre (Has (D.state io.old.disk.now).seen io.old.space) kept.now.dir pool
-        → FindsHead (Has (D.state io.old.disk.now).seen io.old.space) name.now pool result }
-    ensures known { IfErr result IsStepFault }
-    ensures short { IfOk result (AreHeadRows kept.now.dir) }
-    ensures never_full { IfErr result NotFull }
-    ensures works { Works (D.state io.old.disk.now) io.old.space io.old.failed (D.state io.new.disk.now) io.new.space io.new.failed result }
-    ensures space { io.new.space ≡ io.old.space }
-    ensures same { io.new.disk.ghost_name ≡ io.old.disk.ghost_name }
+    ensures found { (image : List ℕ) (space : FreeSectors) (pool : Pool) → RowsAre (Has image space) dir.now pool → FindsHead (Has image space) name.now pool result }
 {
-    match open_dataset(&kept.dir, name) {
-        Ok(dataset) => load(io, alloc, &dataset.head),
-        Err(fault) => Err(PoolFault::Plan(fault)),
+    match open_dataset(dir, name) {
+        Ok(dataset) => Ok(dataset.head),
+        Err(fault) => Err(fault),
     }
 }
 
-/// Makes these rows the head of a dataset, and commits.
+// The number of the next commit. Past the last number there is none, and any will do.
+fn next_number(body: &Uber) -> u64
+    ensures { body.now.number ≤ 2 ^ 63 → result ≡ body.now.number + 1 }
+{
+    body.number.saturating_add(1)
+}
+
+// Whether the definition accepts a change with this answer: also where no room was found.
+fn is_accepted(changed: &Result<(), PoolFault>) -> bool
+    ensures { result ≡ is_accepted changed.now }
+{
+    matches!(changed, Ok(()) | Err(PoolFault::Full { .. }))
+}
+
+// What a command answers whose change was answered so: E23 of the commit's number comes before E24.
+fn judge(number: u64, changed: Result<(), PoolFault>) -> Result<(), PoolFault>
+    ensures judged { (image : List ℕ) (space : FreeSectors) (set : Set) (name : List ℕ) (pool : Pool) (change : Result DatedState Refusal) → pool.number ≡ number
+        → ChangesHead (Has image space) set change changed → JudgesHead (Has image space) set name pool change result }
+    ensures below { OnOk result (number < 2 ^ 63) }
+    ensures refused { IfErr result (λ fault. (changed ≡ Err fault) ⊎ IsPlan fault) }
+    ensures disk { is_disk_fault result ≡ is_disk_fault changed }
+{
+    if !is_accepted(&changed) {
+        return changed;
+    }
+    check_number(number)?;
+    changed
+}
+
+// An object set of more than 7 levels isn't of its layout.
+fn check_levels(set: ObjSet) -> Result<(), PoolFault>
+    ensures fits { OnOk result (SetFits set) }
+    ensures deep { OnErr result (7 < set.tree.levels) }
+    ensures damaged { IfErr result (λ fault. fault ≡ PoolFault.Damaged set.tree.root.sector (parts_of set.tree.root.sum) (parts_of set.tree.root.sum)) }
+{
+    if set.tree.levels > 7 {
+        return Err(PoolFault::of_layout(&set.tree.root));
+    }
+    Ok(())
+}
+
+// Ends a command that changed the object set of a dataset's head, or couldn't: commits the head, or
+// tells why it is refused.
 fn commit_head<D: Disk>(
     io: &mut Io<'_, D>,
     alloc: Global,
     kept: &Kept,
     name: &DatasetName,
-    flat: &Flat,
+    set: ObjSet,
+    changed: Result<(), PoolFault>,
 ) -> Result<Kept, PoolFault>
     requires fits { FitsDisk (D.state io.old.disk.now).size io.old.space }
     requires sectors { io.old.space.sectors ≡ kept.now.body.sectors }
-    requires extents { io.old.space.free ≡ [] }
     requires ready { Ready (D.state io.old.disk.now) kept.now.body }
-    requires number { kept.now.body.number < 2 ^ 63 }
-    ensures commits { (start : D) (pool : Pool) (head : DatedState) → (D.state io.new.disk.now).honest → Rests (D.state start) kept.now.body kept.now.dir pool
-        → FillsFree (D.state start) (free_by kept.now.body) (D.state io.old.disk.now) io.old.space
-        → SetIs (Has (D.state io.old.disk.now).seen io.old.space) flat.now head → IsPool (next_of (with_head_of name.now head pool)).pool
-        → Commits (D.state start) (D.state io.new.disk.now) kept.now.body kept.now.dir pool (next_of (with_head_of name.now head pool)).pool result }
-    ensures fault { IfErr result WriteFault }
-    ensures full { IfErr result (FullBelow io.old.space (set_sectors flat.now + dir_sectors kept.now.dir)) }
-    ensures ready { IfOk result (λ kept. Ready (D.state io.new.disk.now) kept.body) }
-    ensures stays { io.new.failed ≡ false → OnErr result (Ready (D.state io.new.disk.now) kept.now.body) }
-    ensures failed { io.new.failed ≡ (io.old.failed || is_disk_fault result) }
-    ensures cause { HasDiskCause (D.state io.old.disk.now).faults (D.state io.new.disk.now).faults result }
-    ensures honest { (D.state io.new.disk.now).honest → (D.state io.old.disk.now).honest }
+    ensures runs { (start : D) (start_failed : Bool) (make : Pool → DatedState → Result DatedState Refusal) (most : ℕ)
+        → ChangedHead kept.now name.now make most (D.state start) start_failed (D.state io.old.disk.now) io.old.space io.old.failed set changed
+        → Runs (λ pool. on_head name.now pool (make pool)) most kept.now (D.state start) start_failed (D.state io.new.disk.now) io.new.failed result }
     ensures same { io.new.disk.ghost_name ≡ io.old.disk.ghost_name }
 {
-    let head = store(io, alloc, flat, kept.body.number + 1)?;
+    judge(kept.body.number, changed)?;
+    check_levels(set)?;
     let mut dir = kept.dir.copy(alloc)?;
-    dir.set_head(name, head);
+    dir.set_head(name, set);
     commit_dir(io, alloc, &kept.body, kept.body.guids, dir)
 }
 
@@ -100,21 +127,14 @@ pub fn put_object<D: Disk>(
     requires spill { IfSome spill IsSpill }
     requires space { io.old.space ≡ free_by kept.now.body }
     requires ready { Ready (D.state io.old.disk.now) kept.now.body }
-    ensures did { (pool : Pool) → (D.state io.new.disk.now).honest → Rests (D.state io.old.disk.now) kept.now.body kept.now.dir pool
-        → Did (D.state io.old.disk.now) (D.state io.new.disk.now) kept.now.body kept.now.dir pool (on_head name.now pool (put_in pool object head bonus spill)) result }
-    ensures known { IfErr result IsStepFault }
-    ensures full { IfErr result (FindsNoRoom kept.now) }
-    ensures ready { IfOk result (λ kept. Ready (D.state io.new.disk.now) kept.body) }
-    ensures stays { io.new.failed ≡ false → OnErr result (Ready (D.state io.new.disk.now) kept.now.body) }
-    ensures failed { io.new.failed ≡ (io.old.failed || is_disk_fault result) }
-    ensures cause { HasDiskCause (D.state io.old.disk.now).faults (D.state io.new.disk.now).faults result }
-    ensures honest { (D.state io.new.disk.now).honest → (D.state io.old.disk.now).honest }
+    ensures runs { Runs (λ pool. on_head name.now pool (put_in pool object head bonus spill)) (object_sectors spill) kept.now (D.state io.old.disk.now) io.old.failed (D.state io.new.disk.now) io.new.failed result }
     ensures same { io.new.disk.ghost_name ≡ io.old.disk.ghost_name }
 {
-    let mut flat = load_head(io, alloc, kept, name)?;
-    change_object(io, &mut flat, kept.body.number, object, head, bonus, spill)?;
+    let mut set = open_head(&kept.dir, name)?;
+    let number = next_number(&kept.body);
+    let changed = change_object(io, &mut set, number, object, head, bonus, spill);
     steps_keep_pools();
-    commit_head(io, alloc, kept, name, &flat)
+    commit_head(io, alloc, kept, name, set, changed)
 }
 
 /// Writes one block of an object; zeros fill it up.
@@ -132,21 +152,14 @@ pub fn write_block<D: Disk>(
     requires small { length bytes.now ≤ 2 ^ 20 }
     requires space { io.old.space ≡ free_by kept.now.body }
     requires ready { Ready (D.state io.old.disk.now) kept.now.body }
-    ensures did { (pool : Pool) → (D.state io.new.disk.now).honest → Rests (D.state io.old.disk.now) kept.now.body kept.now.dir pool
-        → Did (D.state io.old.disk.now) (D.state io.new.disk.now) kept.now.body kept.now.dir pool (on_head name.now pool (written pool object index bytes.now)) result }
-    ensures known { IfErr result IsStepFault }
-    ensures full { IfErr result (FindsNoRoom kept.now) }
-    ensures ready { IfOk result (λ kept. Ready (D.state io.new.disk.now) kept.body) }
-    ensures stays { io.new.failed ≡ false → OnErr result (Ready (D.state io.new.disk.now) kept.now.body) }
-    ensures failed { io.new.failed ≡ (io.old.failed || is_disk_fault result) }
-    ensures cause { HasDiskCause (D.state io.old.disk.now).faults (D.state io.new.disk.now).faults result }
-    ensures honest { (D.state io.new.disk.now).honest → (D.state io.old.disk.now).honest }
+    ensures runs { Runs (λ pool. on_head name.now pool (written pool object index bytes.now)) (640 + 256) kept.now (D.state io.old.disk.now) io.old.failed (D.state io.new.disk.now) io.new.failed result }
     ensures same { io.new.disk.ghost_name ≡ io.old.disk.ghost_name }
 {
-    let mut flat = load_head(io, alloc, kept, name)?;
-    change_block(io, alloc, &mut flat, kept.body.number, object, index, bytes)?;
+    let mut set = open_head(&kept.dir, name)?;
+    let number = next_number(&kept.body);
+    let changed = change_block(io, alloc, &mut set, number, object, index, bytes);
     steps_keep_pools();
-    commit_head(io, alloc, kept, name, &flat)
+    commit_head(io, alloc, kept, name, set, changed)
 }
 
 /// Makes holes of `count` blocks of an object.
@@ -163,21 +176,14 @@ pub fn punch<D: Disk>(
     requires some { 0 < count }
     requires space { io.old.space ≡ free_by kept.now.body }
     requires ready { Ready (D.state io.old.disk.now) kept.now.body }
-    ensures did { (pool : Pool) → (D.state io.new.disk.now).honest → Rests (D.state io.old.disk.now) kept.now.body kept.now.dir pool
-        → Did (D.state io.old.disk.now) (D.state io.new.disk.now) kept.now.body kept.now.dir pool (on_head name.now pool (punched pool object first count)) result }
-    ensures known { IfErr result IsStepFault }
-    ensures full { IfErr result (FindsNoRoom kept.now) }
-    ensures ready { IfOk result (λ kept. Ready (D.state io.new.disk.now) kept.body) }
-    ensures stays { io.new.failed ≡ false → OnErr result (Ready (D.state io.new.disk.now) kept.now.body) }
-    ensures failed { io.new.failed ≡ (io.old.failed || is_disk_fault result) }
-    ensures cause { HasDiskCause (D.state io.old.disk.now).faults (D.state io.new.disk.now).faults result }
-    ensures honest { (D.state io.new.disk.now).honest → (D.state io.old.disk.now).honest }
+    ensures runs { Runs (λ pool. on_head name.now pool (punched pool object first count)) 1280 kept.now (D.state io.old.disk.now) io.old.failed (D.state io.new.disk.now) io.new.failed result }
     ensures same { io.new.disk.ghost_name ≡ io.old.disk.ghost_name }
 {
-    let mut flat = load_head(io, alloc, kept, name)?;
-    change_holes(&mut flat, kept.body.number, object, first, count)?;
+    let mut set = open_head(&kept.dir, name)?;
+    let number = next_number(&kept.body);
+    let changed = change_holes(io, &mut set, number, object, first, count);
     steps_keep_pools();
-    commit_head(io, alloc, kept, name, &flat)
+    commit_head(io, alloc, kept, name, set, changed)
 }
 
 /// Frees `count` object numbers.
@@ -193,19 +199,12 @@ pub fn free_objects<D: Disk>(
     requires some { 0 < count }
     requires space { io.old.space ≡ free_by kept.now.body }
     requires ready { Ready (D.state io.old.disk.now) kept.now.body }
-    ensures did { (pool : Pool) → (D.state io.new.disk.now).honest → Rests (D.state io.old.disk.now) kept.now.body kept.now.dir pool
-        → Did (D.state io.old.disk.now) (D.state io.new.disk.now) kept.now.body kept.now.dir pool (on_head name.now pool (freed pool first count)) result }
-    ensures known { IfErr result IsStepFault }
-    ensures full { IfErr result (FindsNoRoom kept.now) }
-    ensures ready { IfOk result (λ kept. Ready (D.state io.new.disk.now) kept.body) }
-    ensures stays { io.new.failed ≡ false → OnErr result (Ready (D.state io.new.disk.now) kept.now.body) }
-    ensures failed { io.new.failed ≡ (io.old.failed || is_disk_fault result) }
-    ensures cause { HasDiskCause (D.state io.old.disk.now).faults (D.state io.new.disk.now).faults result }
-    ensures honest { (D.state io.new.disk.now).honest → (D.state io.old.disk.now).honest }
+    ensures runs { Runs (λ pool. on_head name.now pool (freed pool first count)) 1280 kept.now (D.state io.old.disk.now) io.old.failed (D.state io.new.disk.now) io.new.failed result }
     ensures same { io.new.disk.ghost_name ≡ io.old.disk.ghost_name }
 {
-    let mut flat = load_head(io, alloc, kept, name)?;
-    change_numbers(&mut flat, kept.body.number, first, count)?;
+    let mut set = open_head(&kept.dir, name)?;
+    let number = next_number(&kept.body);
+    let changed = change_numbers(io, &mut set, number, first, count);
     steps_keep_pools();
-    commit_head(io, alloc, kept, name, &flat)
+    commit_head(io, alloc, kept, name, set, changed)
 }

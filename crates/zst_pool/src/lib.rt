@@ -1,4 +1,4 @@
-//! A pool in an image of version 0: how it is made, opened and stepped, and what its image reads as.
+//! A pool in an image: how it is made, opened and stepped, and what its image reads as.
 #![tactic(auto)]
 
 mod changes;
@@ -10,7 +10,6 @@ mod heads;
 mod kept;
 mod making;
 mod pool;
-mod sets;
 #[cfg(test)]
 mod tests;
 

@@ -1,7 +1,7 @@
 // How a pool is made in an image, and how one is opened.
-ghost use Rattle.std.specs.Prelude.{◌≡◌, ◌⊎◌, ◌↔◌, ◌+◌, ◌*◌, ◌<◌, ◌≤◌, ◌^◌, ℕ, List, None, Some, IsTrue, All, OnOk, IfOk, IfErr, IfSome, Err};
+ghost use Rattle.std.specs.Prelude.{◌≡◌, ◌⊎◌, ◌<◌, ◌≤◌, ◌^◌, ℕ, List, length, OnOk, IfOk, IfErr, Err};
 ghost use Rattle.zst_outside.specs.Images.{IsSynced, Leaves, OnlyReads};
-ghost use Rattle.zst_block.specs.Blocks.{Has, IsBlock};
+ghost use Rattle.zst_block.specs.Blocks.{Has};
 ghost use Rattle.zst_block.specs.Ptr.{hole_of};
 ghost use Rattle.zst_model.specs.pools.Pool.{Pool};
 ghost use Rattle.zst_uber.specs.Body.{InRange};
@@ -9,21 +9,22 @@ ghost use Rattle.zst_uber.specs.Commit.{HeadSettled};
 ghost use Rattle.zst_uber.specs.Slots.{latest as latest_of};
 ghost use Rattle.zst_uber.specs.declared.uber.Uber.{Uber};
 ghost use Rattle.zst_dir.specs.Rows.{Rows};
+ghost use Rattle.zst_tree.specs.Leaves.{HasLeaves};
 ghost use Rattle.zst_pool.specs.Faults.{HasDiskCause, LoadFault};
 ghost use Rattle.zst_pool.specs.Making.{NoneAnswers, CreateAnswers, RefusedLeaves, OpenAnswers, GivesPool};
-ghost use Rattle.zst_pool.specs.Reads.{HasDir, IsDirRun, NamesDir, Reads, ReadsAs, Rests, free_by, new_pool};
+ghost use Rattle.zst_pool.specs.Reads.{HasDir, Reads, ReadsAs, Rests, free_by, new_pool};
 ghost use Rattle.zst_pool.specs.Work.{ReadAnswer, Ready};
 
 use crate::committing::commit_dir;
 use crate::fault::PoolFault;
 use crate::kept::Kept;
-use crate::sets::read_run;
-use std::alloc::{AllocError, Global};
+use std::alloc::Global;
 use zst_block::{Io, Node, Ptr};
 use zst_dir::Dir;
 use zst_model::{PlanFault, Present, Quantity};
 use zst_outside::Disk;
 use zst_space::Space;
+use zst_tree::read_leaves;
 use zst_uber::{Uber, UberFault, VERSION, latest};
 
 impl Kept {
@@ -135,21 +136,23 @@ fn read_dir<D: Disk>(alloc: Global, disk: &mut D, body: &Uber) -> Result<Dir, Po
     ensures reads { OnlyReads (D.state disk.old) (D.state disk.new) }
     ensures cause { HasDiskCause (D.state disk.old).faults (D.state disk.new).faults result }
 {
-    if !names_dir(body) {
+    if body.free_count != 0 {
         return Err(PoolFault::of_layout(&body.dir_root));
     }
-    let run = read_root(alloc, disk, body)?;
-    match decode_dir(alloc, &run, body.dir_bytes)? {
+    let bytes = read_bytes(alloc, disk, body)?;
+    match Dir::decode(alloc, &bytes)? {
         Some(dir) => Ok(dir),
         None => Err(PoolFault::of_layout(&body.dir_root)),
     }
 }
 
-// Reads the run that a body names as its directory's.
-fn read_root<D: Disk>(alloc: Global, disk: &mut D, body: &Uber) -> Result<Vec<u8>, PoolFault>
+// Reads the bytes of the directory that a body names.
+fn read_bytes<D: Disk>(alloc: Global, disk: &mut D, body: &Uber) -> Result<Vec<u8>, PoolFault>
     requires { InRange (D.state disk.old).size body.now }
-    ensures there { (bytes : List ℕ) → (D.state disk.new).honest → Has (D.state disk.old).seen (free_by body.now) body.now.dir_root bytes → ReadAnswer (λ run. run.items ≡ bytes) result }
-    ensures block { (D.state disk.new).honest → IfOk result (λ run. IsBlock (D.state disk.old).seen body.now.dir_root run.items) }
+    ensures there { (text : List ℕ) → (D.state disk.new).honest → HasLeaves (Has (D.state disk.old).seen (free_by body.now)) body.now.dir_levels body.now.dir_root text → length text ≡ body.now.dir_bytes
+        → ReadAnswer (λ bytes. bytes.items ≡ text) result }
+    ensures only { (D.state disk.new).honest → IfOk result (λ bytes. HasLeaves (Has (D.state disk.old).seen (free_by body.now)) body.now.dir_levels body.now.dir_root bytes.items) }
+    ensures length { IfOk result (λ bytes. length bytes.items ≡ body.now.dir_bytes) }
     ensures fault { IfErr result LoadFault }
     ensures reads { OnlyReads (D.state disk.old) (D.state disk.new) }
     ensures cause { HasDiskCause (D.state disk.old).faults (D.state disk.new).faults result }
@@ -161,48 +164,11 @@ fn read_root<D: Disk>(alloc: Global, disk: &mut D, body: &Uber) -> Result<Vec<u8
         failed: false,
         node: Node::new(),
     };
-    let run = read_run(&mut io, alloc, body.dir_root);
+    let levels = body.dir_levels as u8;
+    let read = read_leaves(&mut io, alloc, levels, body.dir_root, body.dir_bytes);
     io.into_disk();
-    run
-}
-
-// Whether a body has no free extents, and names its directory as version 0 does: as one run, in
-// sectors where blocks stand.
-fn names_dir(body: &Uber) -> bool
-    ensures { IsTrue result ↔ NamesDir body.now }
-{
-    body.free_count == 0
-        && body.dir_levels == 0
-        && body.dir_root.kind == 1
-        && is_between(&body.dir_root, 8, body.end)
-}
-
-// Whether the run that a pointer names stands from this sector on, and before that one.
-fn is_between(ptr: &Ptr, first: u64, end: u64) -> bool
-    ensures { IsTrue result ↔ ((first ≤ ptr.now.sector) × (512 * ptr.now.sector + ptr.now.length ≤ 512 * end)) }
-{
-    let count = u64::from(ptr.length).div_ceil(512);
-    first <= ptr.sector && ptr.sector <= end && count <= end - ptr.sector
-}
-
-// The directory of so many bytes at the front of a run, where zeros alone stand behind it.
-fn decode_dir(alloc: Global, run: &[u8], length: u64) -> Result<Option<Dir>, AllocError>
-    ensures only { IfOk result (λ dir. IfSome dir (λ rows. IsDirRun rows length run.now)) }
-    ensures found { (rows : Rows) → IsDirRun rows length run.now → IfOk result (λ dir. dir ≡ Some rows) }
-{
-    if length > run.len() as u64 {
-        return Ok(None);
+    match read {
+        Ok(bytes) => Ok(bytes),
+        Err(fault) => Err(PoolFault::from(fault)),
     }
-    let (front, rest) = run.split_at(length as usize);
-    if are_zeros(rest) {
-        Dir::decode(alloc, front)
-    } else {
-        Ok(None)
-    }
-}
-
-fn are_zeros(bytes: &[u8]) -> bool
-    ensures { IsTrue result ↔ All (λ byte. byte ≡ 0) bytes.now }
-{
-    bytes.iter().all(|byte| *byte == 0)
 }

@@ -1,4 +1,4 @@
-ghost use Rattle.std.specs.Prelude.{◌≡◌, ◌∷◌, ◌||◌, [], ℕ, false, true, not, IfErr, IfOk, OnErr, Ok, Err};
+ghost use Rattle.std.specs.Prelude.{◌≡◌, ◌∷◌, ◌||◌, [], ℕ, false, true, not, IfErr, IfOk, Ok, Err};
 ghost use Rattle.zst_outside.specs.Images.{Leaves};
 ghost use Rattle.zst_model.specs.pools.Lines.{ok_line};
 ghost use Rattle.zst_model.specs.pools.Pool.{Pool as Plain};
@@ -6,9 +6,9 @@ ghost use Rattle.zst_model.specs.pools.Sound.{Sound};
 ghost use Rattle.zst_model.specs.pools.Step.{Stepped, stepped, IsCommand};
 ghost use Rattle.zst_pool.specs.Faults.{HasDiskCause, IsStepFault, is_disk_fault};
 ghost use Rattle.zst_pool.specs.Reads.{Rests, BeforeOrAfter, free_by};
-ghost use Rattle.zst_pool.specs.Room.{FindsNoRoom, HasNoRoom};
+ghost use Rattle.zst_pool.specs.Room.{HasNoRoom, most_sectors};
 ghost use Rattle.zst_pool.specs.Stepping.{is_built, StepAnswer};
-ghost use Rattle.zst_pool.specs.Work.{Did, Ready};
+ghost use Rattle.zst_pool.specs.Work.{Ready, Runs};
 
 use crate::commands::{make_dataset, take_snapshot};
 use crate::fault::PoolFault;
@@ -76,7 +76,7 @@ impl<'d, D: Disk> Pool<'d, D> {
         ensures known { self.old.io.failed ≡ false → IfErr result IsStepFault }
         // E24 comes only where fewer sectors are free than the command may take.
         ensures full { (pool : Plain) (need largest : ℕ) → Rests (D.state self.old.io.disk.now) self.old.kept.body self.old.kept.dir pool
-            → result ≡ Err (PoolFault.Full need largest) → HasNoRoom self.old.kept.body self.old.kept.dir need largest }
+            → result ≡ Err (PoolFault.Full need largest) → HasNoRoom (most_sectors command) self.old.kept.body self.old.kept.dir need largest }
         // What later states haven't dated since stays as it was in each snapshot.
         ensures sound { (pool : Plain) (done : Stepped) → Rests (D.state self.old.io.disk.now) self.old.kept.body self.old.kept.dir pool → Sound pool
             → stepped [] now command pool ≡ Ok done → Sound done.pool }
@@ -138,17 +138,10 @@ fn run<D: Disk>(
     command: Command,
 ) -> Result<Kept, PoolFault>
     requires command { IsCommand command }
+    requires built { is_built command ≡ true }
     requires space { io.old.space ≡ free_by kept.now.body }
     requires ready { Ready (D.state io.old.disk.now) kept.now.body }
-    ensures did { (pool : Plain) → (D.state io.new.disk.now).honest → is_built command ≡ true → Rests (D.state io.old.disk.now) kept.now.body kept.now.dir pool
-        → Did (D.state io.old.disk.now) (D.state io.new.disk.now) kept.now.body kept.now.dir pool (stepped [] now command pool) result }
-    ensures known { IfErr result IsStepFault }
-    ensures full { IfErr result (FindsNoRoom kept.now) }
-    ensures ready { IfOk result (λ kept. Ready (D.state io.new.disk.now) kept.body) }
-    ensures stays { io.new.failed ≡ false → OnErr result (Ready (D.state io.new.disk.now) kept.now.body) }
-    ensures failed { io.new.failed ≡ (io.old.failed || is_disk_fault result) }
-    ensures cause { HasDiskCause (D.state io.old.disk.now).faults (D.state io.new.disk.now).faults result }
-    ensures honest { (D.state io.new.disk.now).honest → (D.state io.old.disk.now).honest }
+    ensures runs { Runs (λ pool. stepped [] now command pool) (most_sectors command) kept.now (D.state io.old.disk.now) io.old.failed (D.state io.new.disk.now) io.new.failed result }
     ensures same { io.new.disk.ghost_name ≡ io.old.disk.ghost_name }
 {
     match command {
@@ -179,8 +172,6 @@ fn run<D: Disk>(
             count,
         } => free_objects(io, alloc, kept, &dataset, first, count),
         Command::Snapshot { name } => take_snapshot(io, alloc, kept, now, &name),
-        Command::Read { .. } | Command::List | Command::ListObjects { .. } => Err(PoolFault::Plan(
-            PlanFault::Unsupported(Lack::NotBuilt),
-        )),
+        Command::Read { .. } | Command::List | Command::ListObjects { .. } => unreachable!(),
     }
 }

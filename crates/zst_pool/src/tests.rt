@@ -212,13 +212,13 @@ fn refusals_leave_the_pool(rt: HostRuntime) -> Result<(), PoolFault> {
     Ok(())
 }
 
-// Whether 16 sectors were wanted, and 2 were free.
+// Whether 16 sectors were wanted, and 4 were free.
 fn is_full(answer: &Result<Reply, PoolFault>) -> bool {
     matches!(
         answer,
         Err(PoolFault::Full {
             need: 16,
-            largest: 2
+            largest: 4
         })
     )
 }
@@ -227,17 +227,39 @@ fn is_full(answer: &Result<Reply, PoolFault>) -> bool {
 fn what_a_refused_write_took_is_free_again(rt: HostRuntime) -> Result<(), PoolFault> {
     let alloc = rt.alloc();
     let mut disk = with_small(alloc, 4)?;
-    // 135 sectors are left. A write takes one for its block, and 16 each for the object set and the
-    // directory.
-    for index in 0..4 {
+    // 135 sectors are left. A write takes one for its block, and 16 each for the leaf of the object
+    // set and for the directory. At index 1 the object's tree grows by a level: a block of pointers
+    // for what it had, and one with both blocks. Index 2 takes one such block, and finds 4 sectors
+    // for the directory.
+    for index in 0..2 {
         step_on(alloc, &mut disk, write(alloc, "tank/a", 1, index)?)?;
     }
     let kept = Kept::open(alloc, &mut disk)?;
     let mut pool = Pool::new(alloc, &mut disk, kept);
-    let first = pool.step(alloc, NOW, write(alloc, "tank/a", 1, 4)?);
+    let first = pool.step(alloc, NOW, write(alloc, "tank/a", 1, 2)?);
     assert!(rt; is_full(&first));
-    let second = pool.step(alloc, NOW, write(alloc, "tank/a", 1, 4)?);
+    let second = pool.step(alloc, NOW, write(alloc, "tank/a", 1, 2)?);
     assert!(rt; is_full(&second));
+    Ok(())
+}
+
+#[test]
+fn a_directory_of_two_leaves_is_opened_again(rt: HostRuntime) -> Result<(), PoolFault> {
+    let alloc = rt.alloc();
+    let bytes = vec![in alloc; 0; 4_194_304]?;
+    let mut disk = MemDisk::new(bytes, Vec::new(alloc), None);
+    Kept::create(alloc, &mut disk, 8_192, 1)?;
+    for number in 0..40 {
+        let name = format!(in alloc; "tank/d{number}")?;
+        step_on(alloc, &mut disk, file_system(name.as_str())?)?;
+        let name = format!(in alloc; "tank/d{number}@s")?;
+        step_on(alloc, &mut disk, snapshot(name.as_str())?)?;
+    }
+    let kept = Kept::open(alloc, &mut disk)?;
+    assert_eq!(rt; (kept.body.number, kept.body.dir_levels), (81, 1));
+    assert!(rt; kept.body.dir_bytes > 8192);
+    assert_eq!(rt; kept.dir.datasets().len(), 40);
+    assert_eq!(rt; kept.dir.snapshots().len(), 40);
     Ok(())
 }
 
@@ -393,7 +415,7 @@ fn is_damaged(alloc: Global, disk: &mut MemDisk, ptr: &Ptr, at: u64) -> Result<b
     }
 }
 
-// Checks every seventh byte of the run that a pointer names.
+// Checks every thirty-first byte of the run that a pointer names.
 fn check_run(
     rt: &impl Abort,
     alloc: Global,
@@ -402,8 +424,8 @@ fn check_run(
 ) -> Result<(), PoolFault> {
     assert!(rt; ptr.sector < 256);
     assert_eq!(rt; ptr.length, 8192);
-    for seventh in 0..1171 {
-        let at = 512 * ptr.sector + 7 * seventh;
+    for step in 0..265 {
+        let at = 512 * ptr.sector + 31 * step;
         assert!(rt; is_damaged(alloc, disk, ptr, at)?, "at {at}");
     }
     Ok(())

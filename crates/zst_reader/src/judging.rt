@@ -1,6 +1,7 @@
 ghost use Rattle.std.specs.Prelude.{◌≡◌, ◌+◌, ◌%◌, ◌^◌, ◌<◌, ◌≤◌, ◌++◌, List, ℕ, Option, Some, None, Ok, length, take};
 ghost use Rattle.zst_fletcher.specs.WeightSum.{weight_sum};
 ghost use Rattle.zst_record.specs.Heads.{payload_len};
+ghost use Rattle.zst_record.specs.Laws.{longest_payload};
 ghost use Rattle.zst_record.specs.declared.head.Head.TheVariants.{End};
 ghost use Rattle.zst_stream.specs.Reading.{sum_fault, closing, cover, rule_by, judged, ruling};
 ghost use Rattle.zst_reader.specs.Place.{IsPlaceAfter};
@@ -57,7 +58,7 @@ fn not_built(at: u64) -> StreamFault
 #[tactic(auto, unfolding(zst_stream::specs::Reading::cover, zst_stream::specs::Reading::sealed_next, zst_stream::specs::Reading::opened))]
 fn judge_cover(held: &[u8], place: &Place, head: Head) -> Verdict
     requires words { payload_len head % 4 ≡ 0 }
-    requires short { payload_len head ≤ 131072 }
+    requires short { payload_len head ≤ longest_payload }
     requires later { closing head ≡ None }
     requires fits { place.now.at + length held.now ≤ 2 ^ 62 }
     ensures rules { (before : List ℕ) → IsPlaceAfter before place.now → ruled result ≡ cover before held.now head }
@@ -106,7 +107,7 @@ fn judge_end(held: &[u8], place: &Place, sums: [u64; 4], to: u64) -> Verdict
 fn judge_head(held: &[u8], place: &Place, head: Head) -> Verdict
     requires there { 312 ≤ length held.now }
     requires words { payload_len head % 4 ≡ 0 }
-    requires short { payload_len head ≤ 131072 }
+    requires short { payload_len head ≤ longest_payload }
     requires fits { place.now.at + length held.now ≤ 2 ^ 62 }
     ensures rules { (before : List ℕ) → IsPlaceAfter before place.now → ruled result ≡ judged before held.now (Ok head) }
     ensures sums { (before : List ℕ) → IsPlaceAfter before place.now → SumsUp before held.now result }

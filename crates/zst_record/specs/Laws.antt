@@ -20,9 +20,13 @@ RecordIsDecoded =
     (at features : ℕ) (head : Head) (sums : List ℕ) → 0 < at → IsLater head → Fits features head
     → decoded at features (sealed_bytes head sums) ≡ Ok head
 
--- a payload of whole words, no longer than a block of 131,072 bytes
+-- the bytes of the longest payload: a block's, or a spill block's
+abbrev pub longest_payload : ℕ
+longest_payload = 131072
+
+-- a payload of whole words, no longer than the longest
 abbrev pub IsBounded : Head → Type 0
-IsBounded head = (payload_len head % 4 ≡ 0) × (payload_len head ≤ 131072)
+IsBounded head = (payload_len head % 4 ≡ 0) × (payload_len head ≤ longest_payload)
 
 -- so is that of each record that passes its checks
 abbrev pub PayloadIsBounded : Type 0

@@ -5,7 +5,7 @@ use Rattle.std.proofs.lemmas.Bool.{cases_lt, false≢true}
 use Rattle.zst_block.specs.Ptr.{is_present}
 use Rattle.zst_block.specs.declared.ptr.Ptr.{Ptr}
 use Rattle.zst_tree.specs.Earlier.{Empty, IsLast, HasPresent, ReachesEarlier}
-use Rattle.zst_tree.specs.Indices.{Blocks, Map, Subtree, IsNode, child, any_present, kind_over, span}
+use Rattle.zst_tree.specs.Indices.{Blocks, Map, Subtree, child, any_present, kind_over, span}
 use Rattle.zst_tree.specs.Changes.{Parts}
 use Rattle.zst_tree.specs.Reaching.{nearer_of}
 use Rattle.zst_tree.specs.declared.reach.Beside.{Beside}
@@ -49,6 +49,10 @@ unfolding any_present
 all_absent bytes zero each = refl
 all_absent bytes (suc count) each = neither (is_present (child bytes count)) (any_present bytes count) (each count (omega arith)) (all_absent bytes count (λ k less. each k (omega arith)))
 
+-- a node with something present has a child with something present
+pub some_present : (ptr : Ptr) (bytes : List ℕ) → ptr.kind ≡ kind_over bytes → is_present ptr ≡ true → ((k : ℕ) → k < 128 → is_present (child bytes k) ≡ false) → ⊥
+some_present ptr bytes is present absent = false≢true (sym (all_absent bytes 128 absent) ∙ sym (present_over ptr bytes is) ∙ present)
+
 module _ (map : Map) where
   at_absent : (i : ℕ) (ptr : Ptr) → map i ≡ ptr → is_present ptr ≡ false → is_present (map i) ≡ false
   at_absent i ptr is absent = subst (λ (p : Ptr). is_present p ≡ false) (sym is) absent
@@ -80,10 +84,6 @@ module _ (map : Map) where
     pub children_empty : (level base a b : ℕ) (bytes : List ℕ) → 0 < level → b ≤ 128 → Parts has (level - 1) bytes base map → ((k : ℕ) → a ≤ k → k < b → is_present (child bytes k) ≡ false)
         → Empty map (base + a * span (level - 1)) (base + b * span (level - 1))
     children_empty level base a b bytes some le parts absent = empty_parts (level - 1) base a b (λ j u less. empty_below (level - 1) (child bytes j) (base + j * span (level - 1)) (absent j u less) (parts.below j (omega arith)))
-
-    -- a node with something present has a child with it
-    pub some_present : (level : ℕ) (ptr : Ptr) (bytes : List ℕ) → IsNode has level ptr bytes → is_present ptr ≡ true → ((k : ℕ) → k < 128 → is_present (child bytes k) ≡ false) → ⊥
-    some_present level ptr bytes node present absent = false≢true (sym (all_absent bytes 128 absent) ∙ sym (present_over ptr bytes node.kind_is) ∙ present)
 
     pub earlier_none : (level base below : ℕ) (bytes : List ℕ) → 0 < level → below ≤ 128 → Parts has (level - 1) bytes base map → ((k : ℕ) → k < below → is_present (child bytes k) ≡ false)
         → Empty map base (base + below * span (level - 1))

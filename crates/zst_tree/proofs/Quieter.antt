@@ -4,7 +4,7 @@ use Rattle.std.proofs.Math.Nat.{mul-le-mul_right}
 use Rattle.std.proofs.lemmas.Bool.{cases_lt, ne_eqb}
 use Rattle.zst_block.specs.Ptr.{is_flat}
 use Rattle.zst_block.specs.declared.ptr.Ptr.{Ptr}
-use Rattle.zst_tree.specs.Indices.{Blocks, Map, Subtree, IsNode, child, greatest, span}
+use Rattle.zst_tree.specs.Indices.{Blocks, Map, Subtree, child, greatest, span}
 use Rattle.zst_tree.specs.Later.{Quiet, IsFirst, HasLater, ReachesLater}
 use Rattle.zst_tree.specs.Changes.{Parts}
 use Rattle.zst_tree.specs.Reaching.{nearer_of, stands_throughout}
@@ -29,6 +29,10 @@ pub greatest-least : (bytes : List ℕ) (count number : ℕ) → ((k : ℕ) → 
 unfolding greatest
 greatest-least bytes zero number each = omega arith
 greatest-least bytes (suc count) number each = omega (arith, each count (omega arith), greatest-least bytes count number (λ k less. each k (omega arith)))
+
+-- a node with a late number has a child with one
+pub some_late : (number : ℕ) (ptr : Ptr) (bytes : List ℕ) → ptr.number ≡ greatest bytes 128 → number < ptr.number → ((k : ℕ) → 0 ≤ k → k < 128 → (child bytes k).number ≤ number) → ⊥
+some_late number ptr bytes is late early = omega (arith, is, greatest-least bytes 128 number (λ k less. early k (omega arith) less))
 
 pub quiet_join : (map : Map) (from middle below number : ℕ) → Quiet map from middle number → Quiet map middle below number → Quiet map from below number
 quiet_join map from middle below number first second = record { early = λ i u l. ⊎_elim (λ h. first.early i u h) (λ h. second.early i h l) (cases_lt i middle) }
@@ -104,10 +108,6 @@ module _ (map : Map) (number : ℕ) where
         let front : Quiet map base (base + k * span (level - 1)) number = record { early = λ i u l. before.early i (omega arith) l } in
         let most : (k + 1) * span (level - 1) ≤ 128 * span (level - 1) = mul-le-mul_right (span (level - 1)) (omega arith) in
         record { from_on = omega (arith, first.from_on); under = omega (arith, first.under, span-over level some); late = first.late; quiet = quiet_join map base (base + k * span (level - 1)) found number front first.quiet }
-
-    -- a node with a late number has a child with one
-    pub some_late : (level : ℕ) (ptr : Ptr) (bytes : List ℕ) → IsNode has level ptr bytes → number < ptr.number → ((k : ℕ) → 0 ≤ k → k < 128 → (child bytes k).number ≤ number) → ⊥
-    some_late level ptr bytes node late early = omega (arith, node.number_is, greatest-least bytes 128 number (λ k less. early k (omega arith) less))
 
     pub later_none : (level base from : ℕ) (bytes : List ℕ) → 0 < level → Parts has (level - 1) bytes base map → ((k : ℕ) → from ≤ k → k < 128 → (child bytes k).number ≤ number)
         → Quiet map (base + from * span (level - 1)) (base + span level) number

@@ -1,5 +1,6 @@
 -- What a call delivered, carried over.
 use Rattle.std.proofs.Common.{◌≡◌, Result, Ok, Err, List, ℕ}
+use Rattle.std.specs.Prelude.{IfOk}
 use Rattle.zst_block.specs.Reading.{GivesBlock}
 use Rattle.zst_block.specs.declared.fault.BlockFault.{BlockFault}
 use Rattle.zst_block.specs.declared.fault.BlockFault.TheVariants.{Full, Damaged, DiskFault}
@@ -15,3 +16,8 @@ delivers_block P bytes loaded (Ok done) is more = more is
 delivers_block P bytes loaded (Err (Full need largest)) is more = absurd is
 delivers_block P bytes loaded (Err (Damaged sector stated found)) is more = absurd is
 delivers_block P bytes loaded (Err DiskFault) is more = is
+
+-- two facts of a result give a third
+pub IfOk-both : {T : Type 0} (P Q R : T → Type 0) (result : Result T BlockFault) → ((value : T) → P value → Q value → R value) → IfOk result P → IfOk result Q → IfOk result R
+IfOk-both P Q R (Ok value) more one two = more value one two
+IfOk-both P Q R (Err fault) more one two = tt

@@ -1,7 +1,10 @@
 -- How the nodes of a tree are changed, and what that costs.
-use Rattle.std.specs.Prelude.{◌≡◌, ◌≢◌, ℕ, ◌+◌, ◌-◌, ◌*◌, ◌<◌, ◌≤◌, ◌==◌, ◌&&◌, ◌||◌, if◌then◌else◌, List, length}
+use Rattle.std.specs.Prelude.{◌≡◌, ◌≢◌, ◌⊎◌, ℕ, ◌+◌, ◌-◌, ◌*◌, ◌<◌, ◌≤◌, ◌==◌, ◌&&◌, ◌||◌, if◌then◌else◌, List, length, true}
+use Rattle.zst_block.specs.Ptr.{is_flat}
 use Rattle.zst_block.specs.declared.ptr.Ptr.{Ptr}
+use Rattle.zst_tree.specs.Damage.{NamesNode}
 use Rattle.zst_tree.specs.Indices.{Blocks, Map, HasPointers, IsSpelled, Subtree, child, span}
+use Rattle.zst_tree.specs.declared.tree.Tree.{Tree}
 
 -- at this place the block has this pointer
 pub record HasChild (bytes : List ℕ) (k : ℕ) (ptr : Ptr) : Type 0 where
@@ -35,3 +38,11 @@ unfoldable pub most : ℕ → ℕ → ℕ → ℕ
 most level first below = if (first == 0) && (below == span level) then 0
     else if ((first == 0) || (below == span level)) || (below == first + 1) then level
     else 2 * level - 1
+
+-- what stands in place of a pointer where a range below it gets this leaf: the leaf, where it stands for all, or a node
+abbrev pub IsPutRoot : ℕ → Ptr → Ptr → Type 0
+IsPutRoot level leaf made = ((made ≡ leaf) × ((level ≡ 0) ⊎ (is_flat leaf ≡ true))) ⊎ ((0 < level) × NamesNode level made)
+
+-- a tree has the root and the levels that it had, or such a one
+abbrev pub PutsRoot : Tree → Ptr → Tree → Type 0
+PutsRoot old leaf new = ((new.levels ≡ old.levels) × (new.root ≡ old.root)) ⊎ IsPutRoot new.levels leaf new.root

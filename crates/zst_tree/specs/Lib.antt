@@ -1,7 +1,9 @@
-pub mod Sets
-pub mod Indices
 pub mod Changes
-pub mod Finding
-pub mod Reaching
-pub mod Later
+pub mod Damage
 pub mod Earlier
+pub mod Finding
+pub mod Indices
+pub mod Later
+pub mod Leaves
+pub mod Reaching
+pub mod Sets

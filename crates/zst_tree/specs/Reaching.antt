@@ -1,8 +1,8 @@
 -- What a path down to an index shows beside it.
-use Rattle.std.specs.Prelude.{◌≡◌, ℕ, ◌+◌, ◌<◌, ◌≤◌, ◌==◌, ◌||◌, Bool, Option, None, Some}
+use Rattle.std.specs.Prelude.{◌≡◌, ℕ, ◌+◌, ◌<◌, ◌≤◌, ◌==◌, ◌||◌, Bool, List, Option, None, Some}
 use Rattle.zst_block.specs.Ptr.{is_flat}
 use Rattle.zst_block.specs.declared.ptr.Ptr.{Ptr}
-use Rattle.zst_tree.specs.Indices.{span}
+use Rattle.zst_tree.specs.Indices.{child, span}
 use Rattle.zst_tree.specs.declared.reach.Beside.{Beside}
 use Rattle.zst_tree.specs.declared.reach.Reach.{Reach}
 use Rattle.zst_tree.specs.declared.reach.Reach.TheVariants.{Nothing, Here, There}
@@ -22,6 +22,19 @@ pub record IsChild (level from below : ℕ) (beside : Beside) : Type 0 where
   pub level_is : beside.level ≡ level
   pub from_on : from ≤ beside.base
   pub under : beside.base + span beside.level ≤ below
+
+-- the subtree hangs on one of the pointers of a block, at this level
+pub record HangsOn (bytes : List ℕ) (level : ℕ) (beside : Beside) : Type 0 where
+  pub level_is : beside.level ≡ level
+  pub place : ℕ
+  pub under : place < 128
+  pub ptr_is : beside.ptr ≡ child bytes place
+
+-- a subtree that is shown is so
+abbrev pub IfThere : (Beside → Type 0) → Reach → Type 0
+IfThere P Nothing = Unit {0}
+IfThere P (Here index) = Unit {0}
+IfThere P (There beside) = P beside
 
 -- what the path shows, or else the subtree beside it
 abbrev pub nearer_of : Reach → Option Beside → Reach

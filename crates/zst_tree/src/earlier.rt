@@ -4,10 +4,11 @@ ghost use Rattle.zst_space.specs.FreeSectors.{FreeSectors};
 ghost use Rattle.zst_block.specs.Blocks.{FitsDisk, Has};
 ghost use Rattle.zst_block.specs.Ptr.{is_present};
 ghost use Rattle.zst_block.specs.Working.{Looks, stop_of};
+ghost use Rattle.zst_tree.specs.Damage.{IsBelow, IsSeen, NamesDamage, SumsUp};
 ghost use Rattle.zst_tree.specs.Earlier.{Empty, HasPresent, IsLast, ReachesEarlier};
 ghost use Rattle.zst_tree.specs.Changes.{Parts};
 ghost use Rattle.zst_tree.specs.Indices.{Delivers, Map, Subtree, child, span};
-ghost use Rattle.zst_tree.specs.Reaching.{IsChild, IsInside};
+ghost use Rattle.zst_tree.specs.Reaching.{HangsOn, IfThere, IsChild, IsInside};
 
 use crate::nodes::{child_at, load_node};
 use crate::reach::{Beside, Reach, nearer, stands_throughout};
@@ -41,6 +42,8 @@ fn earlier_from(node: &Node, level: u8, base: u64, below: usize) -> Option<Besid
         MatchOption result (Empty map base (base + below * span (level - 1)))
         (HasPresent (Has image space) map (level - 1) base (base + below * span (level - 1))) }
     ensures inside { IfSome result (IsChild (level - 1) base (base + below * span (level - 1))) }
+    ensures present { IfSome result (λ beside. is_present beside.ptr ≡ true) }
+    ensures hangs { IfSome result (HangsOn node.now (level - 1)) }
 {
     match last_child(node, below) {
         None => None,
@@ -67,6 +70,9 @@ pub(crate) fn back_along<D: Disk>(
     ensures reaches { (map : Map) → (D.state io.new.disk.now).honest → Subtree (Has (D.state io.old.disk.now).seen io.old.space) level ptr base map →
         Delivers (ReachesEarlier (Has (D.state io.new.disk.now).seen io.new.space) map (level - 1) base (base + offset + 1)) result }
     ensures inside { IfOk result (IsInside (level - 1) base (base + offset + 1)) }
+    ensures present { IfOk result (IfThere (λ beside. is_present beside.ptr ≡ true)) }
+    ensures below { (D.state io.new.disk.now).honest → IfOk result (IfThere (λ beside. IsBelow (IsSeen (D.state io.old.disk.now).seen) (D.state io.old.disk.now).size (SumsUp (IsSeen (D.state io.old.disk.now).seen)) level ptr (IsSeen (D.state io.old.disk.now).seen) beside.level beside.ptr)) }
+    ensures damaged { (D.state io.new.disk.now).honest → NamesDamage (IsSeen (D.state io.old.disk.now).seen) (D.state io.old.disk.now).size (SumsUp (IsSeen (D.state io.old.disk.now).seen)) level ptr result }
     ensures looks { Looks (D.state io.old.disk.now) io.old.space io.old.failed (D.state io.new.disk.now) io.new.space io.new.failed (stop_of result) }
     ensures calls { (D.state io.new.disk.now).calls ≤ (D.state io.old.disk.now).calls + level }
     ensures kept_fit { FitsDisk (D.state io.new.disk.now).size io.new.space }
@@ -100,6 +106,7 @@ pub(crate) fn last_in<D: Disk>(
     ensures last { (map : Map) → (D.state io.new.disk.now).honest → is_present ptr ≡ true → Subtree (Has (D.state io.old.disk.now).seen io.old.space) level ptr base map →
         Delivers (IsLast map base (base + span level)) result }
     ensures range { IfOk result (λ found. (base ≤ found) × (found < base + span level)) }
+    ensures damaged { is_present ptr ≡ true → (D.state io.new.disk.now).honest → NamesDamage (IsSeen (D.state io.old.disk.now).seen) (D.state io.old.disk.now).size (SumsUp (IsSeen (D.state io.old.disk.now).seen)) level ptr result }
     ensures looks { Looks (D.state io.old.disk.now) io.old.space io.old.failed (D.state io.new.disk.now) io.new.space io.new.failed (stop_of result) }
     ensures calls { (D.state io.new.disk.now).calls ≤ (D.state io.old.disk.now).calls + level }
     ensures kept_fit { FitsDisk (D.state io.new.disk.now).size io.new.space }

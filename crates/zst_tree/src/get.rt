@@ -2,6 +2,7 @@
 ghost use Rattle.std.specs.Prelude.{◌≡◌, ◌+◌, ◌<◌, ◌≤◌, ℕ, IfOk};
 ghost use Rattle.zst_block.specs.Blocks.{FitsDisk, Has};
 ghost use Rattle.zst_block.specs.Working.{Looks, stop_of};
+ghost use Rattle.zst_tree.specs.Damage.{HangsBelow, IsSeen, MayHave, NamesDamage, NamesNode};
 ghost use Rattle.zst_tree.specs.Finding.{Finds};
 ghost use Rattle.zst_tree.specs.Indices.{Delivers, Map, Subtree, span};
 
@@ -26,6 +27,8 @@ pub(crate) fn find_in<D: Disk, L: Ledger>(
     ensures finds { (base : ℕ) (map : Map) → (D.state io.new.disk.now).honest → Subtree (Has (D.state io.old.disk.now).seen io.old.space) level ptr base map →
         Delivers (Finds (Has (D.state io.old.disk.now).seen io.old.space) level ptr offset) result }
     ensures range { IfOk result (λ found. (0 < found.1) × (offset + found.1 ≤ span level)) }
+    ensures hangs { (D.state io.new.disk.now).honest → IfOk result (λ found. HangsBelow (MayHave (IsSeen (D.state io.old.disk.now).seen)) level ptr found.0) }
+    ensures damaged { (D.state io.new.disk.now).honest → NamesDamage (IsSeen (D.state io.old.disk.now).seen) (D.state io.old.disk.now).size NamesNode level ptr result }
     ensures looks { Looks (D.state io.old.disk.now) io.old.space io.old.failed (D.state io.new.disk.now) io.new.space io.new.failed (stop_of result) }
     ensures steps { (steps.old ≤ steps.new) × (steps.new ≤ steps.old + level) }
     ensures calls { (D.state io.new.disk.now).calls + steps.old ≤ (D.state io.old.disk.now).calls + steps.new }

@@ -4,9 +4,10 @@ ghost use Rattle.zst_space.specs.FreeSectors.{FreeSectors};
 ghost use Rattle.zst_block.specs.Blocks.{FitsDisk, Has};
 ghost use Rattle.zst_block.specs.Working.{Looks, stop_of};
 ghost use Rattle.zst_tree.specs.Changes.{Parts};
+ghost use Rattle.zst_tree.specs.Damage.{IsBelow, IsSeen, NamesDamage, SumsUp};
 ghost use Rattle.zst_tree.specs.Indices.{Delivers, Map, Subtree, child, span};
 ghost use Rattle.zst_tree.specs.Later.{HasLater, IsFirst, Quiet, ReachesLater};
-ghost use Rattle.zst_tree.specs.Reaching.{IsChild, IsInside};
+ghost use Rattle.zst_tree.specs.Reaching.{HangsOn, IfThere, IsChild, IsInside};
 
 use crate::nodes::{child_at, load_counted};
 use crate::reach::{Beside, Reach, nearer, stands_throughout};
@@ -38,6 +39,8 @@ fn later_from(node: &Node, level: u8, base: u64, from: usize, number: u64) -> Op
         MatchOption result (Quiet map (base + from * span (level - 1)) (base + span level) number)
         (HasLater (Has image space) map (level - 1) (base + from * span (level - 1)) (base + span level) number) }
     ensures inside { IfSome result (IsChild (level - 1) (base + from * span (level - 1)) (base + span level)) }
+    ensures late { IfSome result (λ beside. number < beside.ptr.number) }
+    ensures hangs { IfSome result (HangsOn node.now (level - 1)) }
 {
     match later_child(node, from, number) {
         None => None,
@@ -66,6 +69,9 @@ pub(crate) fn along<D: Disk, L: Ledger>(
     ensures reaches { (map : Map) → (D.state io.new.disk.now).honest → Subtree (Has (D.state io.old.disk.now).seen io.old.space) level ptr base map →
         Delivers (ReachesLater (Has (D.state io.new.disk.now).seen io.new.space) map (level - 1) (base + offset) (base + span level) number) result }
     ensures inside { IfOk result (IsInside (level - 1) (base + offset) (base + span level)) }
+    ensures late { IfOk result (IfThere (λ beside. number < beside.ptr.number)) }
+    ensures below { (D.state io.new.disk.now).honest → IfOk result (IfThere (λ beside. IsBelow (IsSeen (D.state io.old.disk.now).seen) (D.state io.old.disk.now).size (SumsUp (IsSeen (D.state io.old.disk.now).seen)) level ptr (IsSeen (D.state io.old.disk.now).seen) beside.level beside.ptr)) }
+    ensures damaged { (D.state io.new.disk.now).honest → NamesDamage (IsSeen (D.state io.old.disk.now).seen) (D.state io.old.disk.now).size (SumsUp (IsSeen (D.state io.old.disk.now).seen)) level ptr result }
     ensures looks { Looks (D.state io.old.disk.now) io.old.space io.old.failed (D.state io.new.disk.now) io.new.space io.new.failed (stop_of result) }
     ensures steps { (steps.old ≤ steps.new) × (steps.new ≤ steps.old + level) }
     ensures calls { (D.state io.new.disk.now).calls + steps.old ≤ (D.state io.old.disk.now).calls + steps.new }
@@ -102,6 +108,7 @@ pub(crate) fn first_in<D: Disk, L: Ledger>(
     ensures first { (map : Map) → (D.state io.new.disk.now).honest → number < ptr.number → Subtree (Has (D.state io.old.disk.now).seen io.old.space) level ptr base map →
         Delivers (IsFirst map base (base + span level) number) result }
     ensures range { IfOk result (λ found. (base ≤ found) × (found < base + span level)) }
+    ensures damaged { number < ptr.number → (D.state io.new.disk.now).honest → NamesDamage (IsSeen (D.state io.old.disk.now).seen) (D.state io.old.disk.now).size (SumsUp (IsSeen (D.state io.old.disk.now).seen)) level ptr result }
     ensures looks { Looks (D.state io.old.disk.now) io.old.space io.old.failed (D.state io.new.disk.now) io.new.space io.new.failed (stop_of result) }
     ensures steps { (steps.old ≤ steps.new) × (steps.new ≤ steps.old + level) }
     ensures calls { (D.state io.new.disk.now).calls + steps.old ≤ (D.state io.old.disk.now).calls + steps.new }

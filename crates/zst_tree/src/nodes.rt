@@ -1,8 +1,10 @@
 // The nodes of a tree, as its walks read them.
-ghost use Rattle.std.specs.Prelude.{◌≡◌, ◌↔◌, ◌⊎◌, ◌+◌, ◌<◌, ◌≤◌, ℕ, List, IsTrue, OnOk, length};
+ghost use Rattle.std.specs.Prelude.{◌≡◌, ◌↔◌, ◌+◌, ◌<◌, ◌≤◌, ℕ, List, false, IsTrue, OnOk, length};
 ghost use Rattle.zst_block.specs.Blocks.{FitsDisk, Has, IsBlock};
+ghost use Rattle.zst_block.specs.Ptr.{is_flat};
 ghost use Rattle.zst_block.specs.Reading.{GivesBlock};
 ghost use Rattle.zst_block.specs.Working.{Looks, TellsDamage, stop_of};
+ghost use Rattle.zst_tree.specs.Damage.{IsSeen, NamesDamage, NamesNode};
 ghost use Rattle.zst_tree.specs.Indices.{IsNode, child};
 
 use crate::steps::{Steps, tick};
@@ -20,13 +22,14 @@ pub(crate) fn child_at(node: &Node, k: usize) -> Ptr
     node.child(k)
 }
 
-// Reads the node that a pointer at a level names. One whose pointer has another kind or level is
-// damaged, with both sums alike.
+// Reads the node that a pointer at a level names. One whose pointer has another kind, level or
+// length is damaged, with both sums alike.
 pub(crate) fn load_node<D: Disk>(io: &mut Io<'_, D>, level: u8, ptr: Ptr) -> Result<(), BlockFault>
     requires fits { FitsDisk (D.state io.old.disk.now).size io.old.space }
     ensures block { (D.state io.new.disk.now).honest → OnOk result (IsBlock (D.state io.old.disk.now).seen ptr io.new.node) }
     ensures there { (bytes : List ℕ) → (D.state io.new.disk.now).honest → IsNode (Has (D.state io.old.disk.now).seen io.old.space) level ptr bytes → GivesBlock bytes io.new.node result }
     ensures damaged { (D.state io.new.disk.now).honest → TellsDamage (D.state io.old.disk.now).seen (D.state io.old.disk.now).size ptr result }
+    ensures names { 0 < level → is_flat ptr ≡ false → (D.state io.new.disk.now).honest → NamesDamage (IsSeen (D.state io.old.disk.now).seen) (D.state io.old.disk.now).size NamesNode level ptr result }
     ensures long { OnOk result (length io.new.node ≡ 8192) }
     ensures looks { Looks (D.state io.old.disk.now) io.old.space io.old.failed (D.state io.new.disk.now) io.new.space io.new.failed (stop_of result) }
     ensures calls { (D.state io.new.disk.now).calls ≤ (D.state io.old.disk.now).calls + 1 }
@@ -41,9 +44,9 @@ pub(crate) fn load_node<D: Disk>(io: &mut Io<'_, D>, level: u8, ptr: Ptr) -> Res
 
 // Whether a pointer names a node of a level.
 fn is_node(level: u8, ptr: &Ptr) -> bool
-    ensures { IsTrue result ↔ (((ptr.now.kind ≡ 3) ⊎ (ptr.now.kind ≡ 4)) × (ptr.now.level ≡ level)) }
+    ensures { IsTrue result ↔ NamesNode level ptr.now }
 {
-    (ptr.kind == 3 || ptr.kind == 4) && ptr.level == level
+    (ptr.kind == 3 || ptr.kind == 4) && ptr.level == level && ptr.length == 8192
 }
 
 // Reads a node, as one step.
@@ -57,6 +60,7 @@ pub(crate) fn load_counted<D: Disk, L: Ledger>(
     ensures block { (D.state io.new.disk.now).honest → OnOk result (IsBlock (D.state io.old.disk.now).seen ptr io.new.node) }
     ensures there { (bytes : List ℕ) → (D.state io.new.disk.now).honest → IsNode (Has (D.state io.old.disk.now).seen io.old.space) level ptr bytes → GivesBlock bytes io.new.node result }
     ensures damaged { (D.state io.new.disk.now).honest → TellsDamage (D.state io.old.disk.now).seen (D.state io.old.disk.now).size ptr result }
+    ensures names { 0 < level → is_flat ptr ≡ false → (D.state io.new.disk.now).honest → NamesDamage (IsSeen (D.state io.old.disk.now).seen) (D.state io.old.disk.now).size NamesNode level ptr result }
     ensures long { OnOk result (length io.new.node ≡ 8192) }
     ensures looks { Looks (D.state io.old.disk.now) io.old.space io.old.failed (D.state io.new.disk.now) io.new.space io.new.failed (stop_of result) }
     ensures steps { steps.new ≡ steps.old + 1 }

@@ -1,10 +1,13 @@
 // A range of indices gets one leaf, on a copy of the path or of the two paths to its ends.
-ghost use Rattle.std.specs.Prelude.{◌≡◌, ◌⊎◌, ◌+◌, ◌-◌, ◌*◌, ◌<◌, ◌≤◌, ℕ, List, true, false, length};
-ghost use Rattle.zst_block.specs.Blocks.{FitsDisk, Has};
+ghost use Rattle.std.specs.Prelude.{◌≡◌, ◌⊎◌, ◌+◌, ◌-◌, ◌*◌, ◌<◌, ◌≤◌, ℕ, List, IfOk, OnOk, true, false, length};
+ghost use Rattle.zst_space.specs.FreeSectors.{FreeSectors};
+ghost use Rattle.zst_block.specs.Blocks.{FitsDisk, Has, SparesTaken};
 ghost use Rattle.zst_block.specs.Ptr.{is_flat, is_lawful};
 ghost use Rattle.zst_block.specs.Working.{Looks, Works, stop_of};
-ghost use Rattle.zst_tree.specs.Indices.{Map, span, greatest, kind_over, Same, Subtree, SameBeside, Changed, Delivers};
-ghost use Rattle.zst_tree.specs.Changes.{PutsChild, FillsChildren, Parts, most};
+ghost use Rattle.zst_block.specs.declared.ptr.Ptr.{Ptr};
+ghost use Rattle.zst_tree.specs.Damage.{HangsBelow, IsBelow, IsWithin, MayHave, NamesDamage, NamesNode};
+ghost use Rattle.zst_tree.specs.Indices.{Map, child, span, greatest, kind_over, Same, Subtree, SameBeside, Changed, Delivers};
+ghost use Rattle.zst_tree.specs.Changes.{PutsChild, FillsChildren, IsPutRoot, Parts, most};
 
 use crate::nodes::{child_at, load_node};
 use crate::spans::{place_of, span_of};
@@ -38,6 +41,9 @@ fn open<D: Disk>(io: &mut Io<'_, D>, level: u8, ptr: Ptr) -> Result<(), BlockFau
     requires inner { 0 < level }
     requires fits { FitsDisk (D.state io.old.disk.now).size io.old.space }
     ensures parts { (base : ℕ) (map : Map) → (D.state io.new.disk.now).honest → Subtree (Has (D.state io.old.disk.now).seen io.old.space) level ptr base map → Delivers (λ done. Parts (Has (D.state io.old.disk.now).seen io.old.space) (level - 1) io.new.node base map) result }
+    ensures below { (D.state io.new.disk.now).honest → OnOk result ((k : ℕ) → k < 128 → IsBelow (SparesTaken io.old.space (D.state io.old.disk.now).seen) (D.state io.old.disk.now).size NamesNode level ptr (SparesTaken io.old.space (D.state io.old.disk.now).seen) (level - 1) (child io.new.node k)) }
+    ensures hangs { (D.state io.new.disk.now).honest → OnOk result ((k : ℕ) → k < 128 → (found : Ptr) → HangsBelow (MayHave (SparesTaken io.old.space (D.state io.old.disk.now).seen)) (level - 1) (child io.new.node k) found → HangsBelow (MayHave (SparesTaken io.old.space (D.state io.old.disk.now).seen)) level ptr found) }
+    ensures damaged { (D.state io.new.disk.now).honest → NamesDamage (SparesTaken io.old.space (D.state io.old.disk.now).seen) (D.state io.old.disk.now).size NamesNode level ptr result }
     ensures looks { Looks (D.state io.old.disk.now) io.old.space io.old.failed (D.state io.new.disk.now) io.new.space io.new.failed (stop_of result) }
     ensures kept_fit { FitsDisk (D.state io.new.disk.now).size io.new.space }
     ensures same { io.new.disk.ghost_name ≡ io.old.disk.ghost_name }
@@ -79,6 +85,9 @@ pub(crate) fn close<D: Disk>(io: &mut Io<'_, D>, level: u8) -> Result<Ptr, Block
     requires inner { 0 < level }
     requires fits { FitsDisk (D.state io.old.disk.now).size io.old.space }
     ensures whole { (base : ℕ) (map : Map) → Parts (Has (D.state io.old.disk.now).seen io.old.space) (level - 1) io.old.node base map → Delivers (λ made. Subtree (Has (D.state io.new.disk.now).seen io.new.space) level made base map) result }
+    ensures wrote { IfOk result (λ made. Has (D.state io.new.disk.now).seen io.new.space made io.old.node) }
+    ensures names { IfOk result (NamesNode level) }
+    ensures never_damaged { (sector : ℕ) (stated found : List ℕ) → ¬ (result ≡ Err (BlockFault.Damaged sector stated found)) }
     ensures works { Works 16 16 (D.state io.old.disk.now) io.old.space io.old.failed (D.state io.new.disk.now) io.new.space io.new.failed (stop_of result) }
     ensures same { io.new.disk.ghost_name ≡ io.old.disk.ghost_name }
 {
@@ -105,6 +114,11 @@ fn mend_one<D: Disk>(
         → Subtree (Has (D.state io.old.disk.now).seen io.old.space) (level - 1) new (base + child * span (level - 1)) put
         → SameBeside map put base (base + child * span (level - 1)) (base + child * span (level - 1) + span (level - 1)) (base + span level)
         → Delivers (λ made. Subtree (Has (D.state io.new.disk.now).seen io.new.space) level made base put) result }
+    ensures damaged { (D.state io.new.disk.now).honest → NamesDamage (SparesTaken io.old.space (D.state io.old.disk.now).seen) (D.state io.old.disk.now).size NamesNode level ptr result }
+    ensures names { IfOk result (NamesNode level) }
+    ensures within { (leaf : Ptr) (image : List ℕ) (space : FreeSectors) → (D.state io.new.disk.now).honest → ((c : List ℕ) → SparesTaken io.old.space (D.state io.old.disk.now).seen c → SparesTaken space image c)
+        → IsWithin (SparesTaken space image) (D.state io.old.disk.now).size level ptr leaf (SparesTaken io.old.space (D.state io.old.disk.now).seen) (level - 1) new
+        → IfOk result (IsWithin (SparesTaken space image) (D.state io.old.disk.now).size level ptr leaf (SparesTaken io.new.space (D.state io.new.disk.now).seen) level) }
     ensures works { Works 16 16 (D.state io.old.disk.now) io.old.space io.old.failed (D.state io.new.disk.now) io.new.space io.new.failed (stop_of result) }
     ensures same { io.new.disk.ghost_name ≡ io.old.disk.ghost_name }
 {
@@ -142,6 +156,12 @@ fn mend_two<D: Disk>(
         → SameBeside map put base (base + mend.low * span (level - 1)) (base + mend.high * span (level - 1) + span (level - 1)) (base + span level)
         → Same put (base + mend.low * span (level - 1) + span (level - 1)) (base + mend.high * span (level - 1)) leaf
         → Delivers (λ made. Subtree (Has (D.state io.new.disk.now).seen io.new.space) level made base put) result }
+    ensures damaged { (D.state io.new.disk.now).honest → NamesDamage (SparesTaken io.old.space (D.state io.old.disk.now).seen) (D.state io.old.disk.now).size NamesNode level ptr result }
+    ensures names { IfOk result (NamesNode level) }
+    ensures within { (image : List ℕ) (space : FreeSectors) → (D.state io.new.disk.now).honest → ((c : List ℕ) → SparesTaken io.old.space (D.state io.old.disk.now).seen c → SparesTaken space image c)
+        → IsWithin (SparesTaken space image) (D.state io.old.disk.now).size level ptr leaf (SparesTaken io.old.space (D.state io.old.disk.now).seen) (level - 1) mend.new_low
+        → IsWithin (SparesTaken space image) (D.state io.old.disk.now).size level ptr leaf (SparesTaken io.old.space (D.state io.old.disk.now).seen) (level - 1) mend.new_high
+        → IfOk result (IsWithin (SparesTaken space image) (D.state io.old.disk.now).size level ptr leaf (SparesTaken io.new.space (D.state io.new.disk.now).seen) level) }
     ensures works { Works 16 16 (D.state io.old.disk.now) io.old.space io.old.failed (D.state io.new.disk.now) io.new.space io.new.failed (stop_of result) }
     ensures same { io.new.disk.ghost_name ≡ io.old.disk.ghost_name }
 {
@@ -214,6 +234,9 @@ pub(crate) fn put_in<D: Disk>(
     ensures put { (base : ℕ) (map put : Map) → (D.state io.new.disk.now).honest → Subtree (Has (D.state io.old.disk.now).seen io.old.space) level ptr base map
         → Changed map put base (base + first) (base + below) (base + span level) leaf
         → Delivers (λ made. Subtree (Has (D.state io.new.disk.now).seen io.new.space) level made base put) result }
+    ensures damaged { (D.state io.new.disk.now).honest → NamesDamage (SparesTaken io.old.space (D.state io.old.disk.now).seen) (D.state io.old.disk.now).size NamesNode level ptr result }
+    ensures root { IfOk result (IsPutRoot level leaf) }
+    ensures within { (D.state io.new.disk.now).honest → IfOk result (IsWithin (SparesTaken io.old.space (D.state io.old.disk.now).seen) (D.state io.old.disk.now).size level ptr leaf (SparesTaken io.new.space (D.state io.new.disk.now).seen) level) }
     ensures works { Works (16 * most level first below) 16 (D.state io.old.disk.now) io.old.space io.old.failed (D.state io.new.disk.now) io.new.space io.new.failed (stop_of result) }
     ensures same { io.new.disk.ghost_name ≡ io.old.disk.ghost_name }
 {

@@ -3,8 +3,7 @@ use zst_block::Ptr;
 /// A tree of pointers over indices, with the blocks of an object, or with objects, as its leaves.
 #[derive(Clone, Copy, Debug, PartialEq, Eq)]
 pub struct Tree {
-    /// The levels of pointer blocks above the leaves, at most 7. With none the root is the leaf of index 0; in an image of version 0 it
-    /// names one run of blocks with the whole.
+    /// The levels of pointer blocks above the leaves, at most 7. With none the root is the leaf of index 0.
     pub levels: u8,
     /// The date of every index past the span of the tree.
     pub past: u64,

@@ -2,6 +2,7 @@
 ghost use Rattle.std.specs.Prelude.{◌≡◌, ◌⊎◌, ◌+◌, ◌-◌, ◌*◌, ◌^◌, ◌<◌, ◌≤◌, ℕ, IfOk, IfSome, MatchOption};
 ghost use Rattle.zst_block.specs.Blocks.{FitsDisk, Has};
 ghost use Rattle.zst_block.specs.Working.{Looks, stop_of};
+ghost use Rattle.zst_tree.specs.Damage.{IsSeen, NamesDamage, SumsUp};
 ghost use Rattle.zst_tree.specs.Earlier.{FindsLast};
 ghost use Rattle.zst_tree.specs.Indices.{Delivers, Map, Subtree, span};
 ghost use Rattle.zst_tree.specs.Later.{FindsFirst};
@@ -32,6 +33,7 @@ fn first_from<D: Disk, L: Ledger>(
     ensures first { (map : Map) → (D.state io.new.disk.now).honest → Subtree (Has (D.state io.old.disk.now).seen io.old.space) levels root 0 map →
         Delivers (FindsFirst map index (span levels) number) result }
     ensures range { IfOk result (λ found. IfSome found (λ first. (index ≤ first) × (first < span levels))) }
+    ensures damaged { (D.state io.new.disk.now).honest → NamesDamage (IsSeen (D.state io.old.disk.now).seen) (D.state io.old.disk.now).size (SumsUp (IsSeen (D.state io.old.disk.now).seen)) levels root result }
     ensures looks { Looks (D.state io.old.disk.now) io.old.space io.old.failed (D.state io.new.disk.now) io.new.space io.new.failed (stop_of result) }
     ensures steps { (steps.old ≤ steps.new) × (steps.new ≤ steps.old + (2 * levels - 1)) }
     ensures calls { (D.state io.new.disk.now).calls + steps.old ≤ (D.state io.old.disk.now).calls + steps.new }
@@ -69,6 +71,7 @@ fn last_to<D: Disk>(
     ensures last { (map : Map) → (D.state io.new.disk.now).honest → Subtree (Has (D.state io.old.disk.now).seen io.old.space) levels root 0 map →
         Delivers (FindsLast map 0 (index + 1)) result }
     ensures range { IfOk result (λ found. IfSome found (λ last. last ≤ index)) }
+    ensures damaged { (D.state io.new.disk.now).honest → NamesDamage (IsSeen (D.state io.old.disk.now).seen) (D.state io.old.disk.now).size (SumsUp (IsSeen (D.state io.old.disk.now).seen)) levels root result }
     ensures looks { Looks (D.state io.old.disk.now) io.old.space io.old.failed (D.state io.new.disk.now) io.new.space io.new.failed (stop_of result) }
     ensures calls { (D.state io.new.disk.now).calls ≤ (D.state io.old.disk.now).calls + (2 * levels - 1) }
     ensures kept_fit { FitsDisk (D.state io.new.disk.now).size io.new.space }
@@ -85,6 +88,7 @@ impl Tree {
     ghost use Rattle.std.specs.Prelude.{◌≡◌, ◌+◌, ◌^◌, ◌<◌, ◌≤◌, ℕ, IfOk, IfSome};
     ghost use Rattle.zst_block.specs.Blocks.{FitsDisk, Has};
     ghost use Rattle.zst_block.specs.Working.{Looks, stop_of};
+    ghost use Rattle.zst_tree.specs.Damage.{HangsIn, IsSeen, MayHave, NamesDamage, NamesNode, SumsUp};
     ghost use Rattle.zst_tree.specs.Earlier.{FindsLast};
     ghost use Rattle.zst_tree.specs.Finding.{FindsIn, Shows};
     ghost use Rattle.zst_tree.specs.Indices.{Delivers, Map, TreeIs};
@@ -107,6 +111,10 @@ impl Tree {
         ensures shows { (map : Map) → (D.state io.new.disk.now).honest → TreeIs (Has (D.state io.old.disk.now).seen io.old.space) self.now map → Delivers (Shows map index) result }
         ensures count { (map : Map) → (D.state io.new.disk.now).honest → TreeIs (Has (D.state io.old.disk.now).seen io.old.space) self.now map → Delivers (FindsIn (Has (D.state io.old.disk.now).seen io.old.space) self.now index) result }
         ensures range { IfOk result (λ found. (0 < found.1) × (index + found.1 ≤ 2 ^ 49)) }
+
+        // What it gives hangs in the tree, and damage is told of a node below the root alone.
+        ensures hangs { (D.state io.new.disk.now).honest → IfOk result (λ found. HangsIn (MayHave (IsSeen (D.state io.old.disk.now).seen)) self.now found.0) }
+        ensures damaged { (D.state io.new.disk.now).honest → NamesDamage (IsSeen (D.state io.old.disk.now).seen) (D.state io.old.disk.now).size NamesNode self.now.levels self.now.root result }
 
         // It only reads, a block each step.
         ensures looks { Looks (D.state io.old.disk.now) io.old.space io.old.failed (D.state io.new.disk.now) io.new.space io.new.failed (stop_of result) }
@@ -138,6 +146,9 @@ impl Tree {
         ensures first { (map : Map) → (D.state io.new.disk.now).honest → TreeIs (Has (D.state io.old.disk.now).seen io.old.space) self.now map → Delivers (FindsFirst map index below number) result }
         ensures range { IfOk result (λ found. IfSome found (λ first. (index ≤ first) × (first < below))) }
 
+        // Damage is told of a node below the root alone.
+        ensures damaged { (D.state io.new.disk.now).honest → NamesDamage (IsSeen (D.state io.old.disk.now).seen) (D.state io.old.disk.now).size (SumsUp (IsSeen (D.state io.old.disk.now).seen)) self.now.levels self.now.root result }
+
         // It only reads, a block each step.
         ensures looks { Looks (D.state io.old.disk.now) io.old.space io.old.failed (D.state io.new.disk.now) io.new.space io.new.failed (stop_of result) }
         ensures steps { (steps.old ≤ steps.new) × (steps.new ≤ steps.old + 13) }
@@ -164,6 +175,9 @@ impl Tree {
         // A tree that is there has it found, and isn't damaged.
         ensures last { (map : Map) → (D.state io.new.disk.now).honest → TreeIs (Has (D.state io.old.disk.now).seen io.old.space) self.now map → Delivers (FindsLast map 0 index) result }
         ensures range { IfOk result (λ found. IfSome found (λ last. last < index)) }
+
+        // Damage is told of a node below the root alone.
+        ensures damaged { (D.state io.new.disk.now).honest → NamesDamage (IsSeen (D.state io.old.disk.now).seen) (D.state io.old.disk.now).size (SumsUp (IsSeen (D.state io.old.disk.now).seen)) self.now.levels self.now.root result }
 
         // It only reads, and little.
         ensures looks { Looks (D.state io.old.disk.now) io.old.space io.old.failed (D.state io.new.disk.now) io.new.space io.new.failed (stop_of result) }

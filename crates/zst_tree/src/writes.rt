@@ -1,11 +1,13 @@
 // What changes a tree: it grows, and a range gets one leaf. The tree is changed last, so a refusal
 // leaves it.
-ghost use Rattle.std.specs.Prelude.{◌≡◌, ◌⊎◌, ◌+◌, ◌-◌, ◌*◌, ◌^◌, ◌<◌, ◌≤◌, ℕ, true, false, OnErr, IfOk};
-ghost use Rattle.zst_block.specs.Blocks.{FitsDisk, Has};
+ghost use Rattle.std.specs.Prelude.{◌≡◌, ◌⊎◌, ◌+◌, ◌-◌, ◌*◌, ◌^◌, ◌<◌, ◌≤◌, ℕ, List, true, false, OnErr, OnOk, IfOk};
+ghost use Rattle.zst_block.specs.Blocks.{FitsDisk, Has, SparesTaken};
 ghost use Rattle.zst_block.specs.Ptr.{hole_of, redacted_of, is_flat, is_lawful};
 ghost use Rattle.zst_block.specs.Working.{Works, stop_of};
+ghost use Rattle.zst_block.specs.declared.ptr.Ptr.{Ptr};
+ghost use Rattle.zst_tree.specs.Damage.{IsWithin, NamesDamage, NamesNode};
 ghost use Rattle.zst_tree.specs.Indices.{Map, span, Subtree, Changed, Delivers, Stands, TreeIs, Puts};
-ghost use Rattle.zst_tree.specs.Changes.{most};
+ghost use Rattle.zst_tree.specs.Changes.{IsPutRoot, PutsRoot, most};
 
 use crate::put::{close, fill, put_child, put_in};
 use crate::spans::{INDEX_BOUND, span_of};
@@ -19,6 +21,9 @@ fn raise<D: Disk>(io: &mut Io<'_, D>, tree: Tree) -> Result<Tree, BlockFault>
     requires fits { FitsDisk (D.state io.old.disk.now).size io.old.space }
     ensures raised { (whole : Map) → Stands (Has (D.state io.old.disk.now).seen io.old.space) tree whole → Delivers (λ taller. Stands (Has (D.state io.new.disk.now).seen io.new.space) taller whole) result }
     ensures taller { IfOk result (λ taller. taller.levels ≡ tree.levels + 1) }
+    ensures within { (leaf : Ptr) → IfOk result (λ taller. IsWithin (SparesTaken io.old.space (D.state io.old.disk.now).seen) (D.state io.old.disk.now).size tree.levels tree.root leaf (SparesTaken io.new.space (D.state io.new.disk.now).seen) taller.levels taller.root) }
+    ensures never_damaged { (sector : ℕ) (stated found : List ℕ) → ¬ (result ≡ Err (BlockFault.Damaged sector stated found)) }
+    ensures names { IfOk result (λ taller. NamesNode taller.levels taller.root) }
     ensures works { Works 16 16 (D.state io.old.disk.now) io.old.space io.old.failed (D.state io.new.disk.now) io.new.space io.new.failed (stop_of result) }
     ensures same { io.new.disk.ghost_name ≡ io.old.disk.ghost_name }
 {
@@ -49,6 +54,9 @@ fn grow_to<D: Disk>(io: &mut Io<'_, D>, tree: Tree, need: u64) -> Result<Tree, B
     requires fits { FitsDisk (D.state io.old.disk.now).size io.old.space }
     ensures grown { (whole : Map) → Stands (Has (D.state io.old.disk.now).seen io.old.space) tree whole → Delivers (λ grown. Stands (Has (D.state io.new.disk.now).seen io.new.space) grown whole) result }
     ensures size { IfOk result (λ grown. (need ≤ span grown.levels) × (grown.levels ≤ 7) × (tree.levels ≤ grown.levels)) }
+    ensures within { (leaf : Ptr) → IfOk result (λ grown. IsWithin (SparesTaken io.old.space (D.state io.old.disk.now).seen) (D.state io.old.disk.now).size tree.levels tree.root leaf (SparesTaken io.new.space (D.state io.new.disk.now).seen) grown.levels grown.root) }
+    ensures never_damaged { (sector : ℕ) (stated found : List ℕ) → ¬ (result ≡ Err (BlockFault.Damaged sector stated found)) }
+    ensures root { IfOk result (λ grown. ((grown.levels ≡ tree.levels) × (grown.root ≡ tree.root)) ⊎ ((0 < grown.levels) × NamesNode grown.levels grown.root)) }
     ensures works { Works (16 * (7 - tree.levels)) 16 (D.state io.old.disk.now) io.old.space io.old.failed (D.state io.new.disk.now) io.new.space io.new.failed (stop_of result) }
     ensures same { io.new.disk.ghost_name ≡ io.old.disk.ghost_name }
 {
@@ -74,8 +82,11 @@ fn put_range<D: Disk>(
     requires lawful { is_lawful leaf ≡ true }
     requires fits { FitsDisk (D.state io.old.disk.now).size io.old.space }
     ensures puts { (map put : Map) → (D.state io.new.disk.now).honest → TreeIs (Has (D.state io.old.disk.now).seen io.old.space) tree.old map → Puts map put first below leaf → Delivers (λ done. TreeIs (Has (D.state io.new.disk.now).seen io.new.space) tree.new put) result }
+    ensures damaged { (D.state io.new.disk.now).honest → NamesDamage (SparesTaken io.old.space (D.state io.old.disk.now).seen) (D.state io.old.disk.now).size NamesNode tree.old.levels tree.old.root result }
     ensures kept { OnErr result (tree.new ≡ tree.old) }
     ensures levels { tree.new.levels ≤ 7 }
+    ensures root { PutsRoot tree.old leaf tree.new }
+    ensures within { (D.state io.new.disk.now).honest → OnOk result (IsWithin (SparesTaken io.old.space (D.state io.old.disk.now).seen) (D.state io.old.disk.now).size tree.old.levels tree.old.root leaf (SparesTaken io.new.space (D.state io.new.disk.now).seen) tree.new.levels tree.new.root) }
     ensures works { Works 320 16 (D.state io.old.disk.now) io.old.space io.old.failed (D.state io.new.disk.now) io.new.space io.new.failed (stop_of result) }
     ensures one { below ≡ first + 1 → Works 224 16 (D.state io.old.disk.now) io.old.space io.old.failed (D.state io.new.disk.now) io.new.space io.new.failed (stop_of result) }
     ensures same { io.new.disk.ghost_name ≡ io.old.disk.ghost_name }
@@ -97,8 +108,11 @@ fn punch_on<D: Disk>(
     requires first { first < 2 ^ 44 }
     requires fits { FitsDisk (D.state io.old.disk.now).size io.old.space }
     ensures puts { (map put : Map) → (D.state io.new.disk.now).honest → TreeIs (Has (D.state io.old.disk.now).seen io.old.space) tree.old map → Puts map put first (2 ^ 44) (hole_of number) → Delivers (λ done. TreeIs (Has (D.state io.new.disk.now).seen io.new.space) tree.new put) result }
+    ensures damaged { (D.state io.new.disk.now).honest → NamesDamage (SparesTaken io.old.space (D.state io.old.disk.now).seen) (D.state io.old.disk.now).size NamesNode tree.old.levels tree.old.root result }
     ensures kept { OnErr result (tree.new ≡ tree.old) }
     ensures levels { tree.new.levels ≤ 7 }
+    ensures root { PutsRoot tree.old (hole_of number) tree.new }
+    ensures within { (D.state io.new.disk.now).honest → OnOk result (IsWithin (SparesTaken io.old.space (D.state io.old.disk.now).seen) (D.state io.old.disk.now).size tree.old.levels tree.old.root (hole_of number) (SparesTaken io.new.space (D.state io.new.disk.now).seen) tree.new.levels tree.new.root) }
     ensures works { Works 320 16 (D.state io.old.disk.now) io.old.space io.old.failed (D.state io.new.disk.now) io.new.space io.new.failed (stop_of result) }
     ensures same { io.new.disk.ghost_name ≡ io.old.disk.ghost_name }
 {
@@ -124,6 +138,9 @@ fn punch_end<D: Disk>(
     requires first { first ≤ span levels }
     requires fits { FitsDisk (D.state io.old.disk.now).size io.old.space }
     ensures puts { (map put : Map) → (D.state io.new.disk.now).honest → Subtree (Has (D.state io.old.disk.now).seen io.old.space) levels root 0 map → Changed map put 0 first (span levels) (span levels) (hole_of number) → Delivers (λ made. Subtree (Has (D.state io.new.disk.now).seen io.new.space) levels made 0 put) result }
+    ensures damaged { (D.state io.new.disk.now).honest → NamesDamage (SparesTaken io.old.space (D.state io.old.disk.now).seen) (D.state io.old.disk.now).size NamesNode levels root result }
+    ensures root { IfOk result (λ made. (made ≡ root) ⊎ IsPutRoot levels (hole_of number) made) }
+    ensures within { (D.state io.new.disk.now).honest → IfOk result (IsWithin (SparesTaken io.old.space (D.state io.old.disk.now).seen) (D.state io.old.disk.now).size levels root (hole_of number) (SparesTaken io.new.space (D.state io.new.disk.now).seen) levels) }
     ensures works { Works (16 * most levels first (span levels)) 16 (D.state io.old.disk.now) io.old.space io.old.failed (D.state io.new.disk.now) io.new.space io.new.failed (stop_of result) }
     ensures same { io.new.disk.ghost_name ≡ io.old.disk.ghost_name }
 {
@@ -150,8 +167,12 @@ impl Tree {
         requires fits { FitsDisk (D.state io.old.disk.now).size io.old.space }
         // The tree that held a map holds each one that has the leaf at the index and is else the same.
         ensures puts { (map put : Map) → (D.state io.new.disk.now).honest → TreeIs (Has (D.state io.old.disk.now).seen io.old.space) self.old map → Puts map put index (index + 1) leaf → Delivers (λ done. TreeIs (Has (D.state io.new.disk.now).seen io.new.space) self.new put) result }
+        // Damage is told of a node below the root alone, and afterwards no more may be.
+        ensures damaged { (D.state io.new.disk.now).honest → NamesDamage (SparesTaken io.old.space (D.state io.old.disk.now).seen) (D.state io.old.disk.now).size NamesNode self.old.levels self.old.root result }
+        ensures within { (D.state io.new.disk.now).honest → OnOk result (IsWithin (SparesTaken io.old.space (D.state io.old.disk.now).seen) (D.state io.old.disk.now).size self.old.levels self.old.root leaf (SparesTaken io.new.space (D.state io.new.disk.now).seen) self.new.levels self.new.root) }
         ensures kept { OnErr result (self.new ≡ self.old) }
         ensures levels { self.new.levels ≤ 7 }
+        ensures root { PutsRoot self.old leaf self.new }
         ensures works { Works 224 16 (D.state io.old.disk.now) io.old.space io.old.failed (D.state io.new.disk.now) io.new.space io.new.failed (stop_of result) }
         ensures same { io.new.disk.ghost_name ≡ io.old.disk.ghost_name }
     {
@@ -173,8 +194,12 @@ impl Tree {
         requires fits { FitsDisk (D.state io.old.disk.now).size io.old.space }
         // The tree that held a map holds each one that has holes in the range and is else the same.
         ensures puts { (map put : Map) → (D.state io.new.disk.now).honest → TreeIs (Has (D.state io.old.disk.now).seen io.old.space) self.old map → Puts map put first (first + count) (hole_of number) → Delivers (λ done. TreeIs (Has (D.state io.new.disk.now).seen io.new.space) self.new put) result }
+        // Damage is told of a node below the root alone, and afterwards no more may be.
+        ensures damaged { (D.state io.new.disk.now).honest → NamesDamage (SparesTaken io.old.space (D.state io.old.disk.now).seen) (D.state io.old.disk.now).size NamesNode self.old.levels self.old.root result }
+        ensures within { (D.state io.new.disk.now).honest → OnOk result (IsWithin (SparesTaken io.old.space (D.state io.old.disk.now).seen) (D.state io.old.disk.now).size self.old.levels self.old.root (hole_of number) (SparesTaken io.new.space (D.state io.new.disk.now).seen) self.new.levels self.new.root) }
         ensures kept { OnErr result (self.new ≡ self.old) }
         ensures levels { self.new.levels ≤ 7 }
+        ensures root { PutsRoot self.old (hole_of number) self.new }
         ensures works { Works 320 16 (D.state io.old.disk.now) io.old.space io.old.failed (D.state io.new.disk.now) io.new.space io.new.failed (stop_of result) }
         ensures same { io.new.disk.ghost_name ≡ io.old.disk.ghost_name }
     {
@@ -202,8 +227,12 @@ impl Tree {
         requires fits { FitsDisk (D.state io.old.disk.now).size io.old.space }
         // The tree that held a map holds each one that is redacted in the range and is else the same.
         ensures puts { (map put : Map) → (D.state io.new.disk.now).honest → TreeIs (Has (D.state io.old.disk.now).seen io.old.space) self.old map → Puts map put first (first + count) (redacted_of number) → Delivers (λ done. TreeIs (Has (D.state io.new.disk.now).seen io.new.space) self.new put) result }
+        // Damage is told of a node below the root alone, and afterwards no more may be.
+        ensures damaged { (D.state io.new.disk.now).honest → NamesDamage (SparesTaken io.old.space (D.state io.old.disk.now).seen) (D.state io.old.disk.now).size NamesNode self.old.levels self.old.root result }
+        ensures within { (D.state io.new.disk.now).honest → OnOk result (IsWithin (SparesTaken io.old.space (D.state io.old.disk.now).seen) (D.state io.old.disk.now).size self.old.levels self.old.root (redacted_of number) (SparesTaken io.new.space (D.state io.new.disk.now).seen) self.new.levels self.new.root) }
         ensures kept { OnErr result (self.new ≡ self.old) }
         ensures levels { self.new.levels ≤ 7 }
+        ensures root { PutsRoot self.old (redacted_of number) self.new }
         ensures works { Works 320 16 (D.state io.old.disk.now) io.old.space io.old.failed (D.state io.new.disk.now) io.new.space io.new.failed (stop_of result) }
         ensures same { io.new.disk.ghost_name ≡ io.old.disk.ghost_name }
     {

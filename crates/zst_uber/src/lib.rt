@@ -19,4 +19,4 @@ pub use uber::Uber;
 pub const MAGIC: u64 = 0x314c_4f4f_5054_535a;
 
 /// The version of an image that is read and written.
-pub const VERSION: u32 = 0;
+pub const VERSION: u32 = 1;

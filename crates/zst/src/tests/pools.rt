@@ -205,7 +205,10 @@ fn an_odd_block_stands_alone(rt: HostRuntime) -> Result<(), Fail> {
 #[test]
 fn lines_at_the_limits_are_accepted(rt: HostRuntime) -> Result<(), Fail> {
     let alloc = rt.alloc();
-    let small = image_of(&rt, alloc, 256, &SMALL)?;
+    // A number or an index at its bound stands below seven levels of nodes.
+    let mut lines = SMALL;
+    lines[0] = "create I 1024 1";
+    let small = image_of(&rt, alloc, 1_024, &lines)?;
     for line in [
         "object I tank/a 281474976710655 19 512 0 none none",
         "write I tank/a 1 8796093022207 aa",
@@ -355,9 +358,9 @@ fn a_body_of_another_version_is_refused(rt: HostRuntime) -> Result<(), Fail> {
     let alloc = rt.alloc();
     let small = image_of(&rt, alloc, 256, &SMALL)?;
     for (place, bits, text) in [
-        (8usize, 9, "E27 bad version 9"),
-        (8, 1, "E27 bad version 1"),
-        (11, 0x80, "E27 bad version 2147483648"),
+        (8usize, 8, "E27 bad version 9"),
+        (8, 1, "E27 bad version 0"),
+        (11, 0x80, "E27 bad version 2147483649"),
     ] {
         let image = turned(alloc, &small, BODY.saturating_add(place), bits)?;
         refuse_all(&rt, alloc, &image, 8, text)?;

@@ -1,6 +1,7 @@
 -- What BEGIN says of sends.
-use Rattle.std.proofs.Common.{◌≡◌, ℕ, ◌+◌, ◌^◌, ◌<◌, Bool, true, false, List, [], Option, Some, None, IfSome, bit_and, if◌then◌else◌, refl, ap, subst, sym, arith}
+use Rattle.std.proofs.Common.{◌≡◌, ℕ, ◌+◌, ◌^◌, ◌<◌, Bool, true, false, List, [], Option, Some, None, IfSome, bit_and, length, ◌==◌, if◌then◌else◌, refl, ap, subst, sym, arith}
 use Rattle.std.specs.List.{Contains}
+use Rattle.std.proofs.lemmas.Bool.Decides.{nat_tests}
 use Rattle.std.proofs.lemmas.List.Elements.{All-nil, All-contains, All-weaker}
 use Rattle.zst_names.specs.Names.{IsSnapshot}
 use Rattle.zst_names.proofs.Fitting.{IsTextByte, snapshot_bytes, snapshot_length}
@@ -9,8 +10,9 @@ use Rattle.zst_model.specs.fields.Lists.{IsRunList}
 use Rattle.zst_model.specs.states.State.{IsState}
 use Rattle.zst_model.specs.pools.Before.{Source, OfSnapshot, OfBookmark, IsIn}
 use Rattle.zst_model.specs.pools.Pool.{Pool, Snapshot, Bookmark, IsPool, IsKind, IsGuid, IsStatedName}
-use Rattle.zst_model.specs.sends.Headers.{Sent, IsOf, clone_flag, free_records, spill_block, sa_spill, redacts, is_elsewhere, clone_part, redacted_part, flags_of, features_of, from_guid, redaction_guids, source_guids, header_of, choice_of}
-use Rattle.zst_model.specs.sends.View.{resuming, header_from}
+use Rattle.zst_model.specs.sends.Headers.{Sent, IsOf, IsRedactionOf, clone_flag, free_records, spill_block, is_elsewhere, clone_part, redacted_part, flags_of, features_of, from_guid, redaction_guids, source_guids, header_of, choice_of}
+use Rattle.zst_model.specs.sends.Features.{redacts, resuming, sa_spill}
+use Rattle.zst_model.specs.sends.View.{header_from}
 use Rattle.zst_laws.specs.HeaderExample.{FullHeader, VolumeHeader, IncrementHeaders, SourceHeader, CloneHeaders, RedactedHeader, Choices, SentItems, SentIsStated, SentHasView, PointHeaders, of_files, second_snapshot}
 use Rattle.zst_laws.specs.StepExample.{small_snapshot}
 use Rattle.zst_laws.proofs.examples.Examples.{small_items, rewritten_items}
@@ -99,13 +101,31 @@ module _ (pool : Pool) (is : IsPool pool) where
   source_are (Some (OfSnapshot s)) here = no_guids
   source_are (Some (OfBookmark b)) here = (bookmark_is b here).1
 
-  redaction_are : (redaction : Option Bookmark) → IfSome redaction (Contains pool.bookmarks) → IsGuidSet (redaction_guids redaction)
-  redaction_are None here = no_guids
-  redaction_are (Some b) here = (bookmark_is b here).1
+  redaction_are : (snapshot : Snapshot) (redaction : Option Bookmark) → IfSome redaction (IsRedactionOf pool snapshot) → IsGuidSet (redaction_guids redaction)
+  redaction_are snapshot None here = no_guids
+  redaction_are snapshot (Some b) here = (bookmark_is b here.there).1
+
+  -- a source that states guids has a guid
+  from_stated : (source : Option Source) → IfSome source (IsIn pool) → 0 < length (source_guids source) → 0 < from_guid source
+  from_stated None here some = absurd (omega (arith, some))
+  from_stated (Some (OfSnapshot s)) here some = (snapshot_is s here).0.0
+  from_stated (Some (OfBookmark b)) here some = (bookmark_is b here).0.0
 
   kind_is : (sent : Sent) → IsOf pool sent → IsKind sent.kind
   kind_is sent of =
       subst IsKind (sym of.kind) (All-contains (λ d. IsKind d.kind × IsGuidSet d.redact × IsState d.head.state) pool.datasets of.dataset is.datasets of.there).0
+
+-- REDACTED is there exactly where redaction guids are
+redacted_stated : (pool : Pool) (sent : Sent) → IfSome sent.redaction (IsRedactionOf pool sent.snapshot) → (bit_and (features_of sent) redacts == 0) ≡ (length (redaction_guids sent.redaction) == 0)
+unfolding features_of sa_spill redacts
+redacted_stated pool sent of = go sent.redaction of
+  where
+    some : (n : ℕ) → 0 < n → false ≡ (n == 0)
+    some n more = grind (arith, nat_tests)
+
+    go : (redaction : Option Bookmark) → IfSome redaction (IsRedactionOf pool sent.snapshot) → (bit_and (redacted_part redaction + sa_spill) redacts == 0) ≡ (length (redaction_guids redaction) == 0)
+    go None here = refl
+    go (Some b) here = some (length b.redact) here.guids
 
 -- a snapshot's name can be stated
 stated_name : (name : List ℕ) → IsSnapshot name → IsStatedName name
@@ -118,7 +138,7 @@ stated_name name is = record {
 pub sent_is_stated : SentIsStated
 sent_is_stated pool sent is of =
     let snapshot = snapshot_is pool is sent.snapshot of.snapshot in
-    let redact = redaction_are pool is sent.redaction of.redaction in
+    let redact = redaction_are pool is sent.snapshot sent.redaction of.redaction in
     let from_redact = source_are pool is sent.source of.source in (
       record {
         kind = kind_is pool is sent of;
@@ -131,6 +151,9 @@ sent_is_stated pool sent is of =
         from_redact = from_redact;
         name = stated_name sent.snapshot.name (snapshot_named pool is sent.snapshot of.snapshot);
         resume = refl;
+        unresumed = not_resumed sent;
+        redacted = redacted_stated pool sent of.redaction;
+        source = from_stated pool is sent.source of.source;
       },
       (refl, not_resumed sent),
     )

@@ -11,7 +11,7 @@ use Rattle.zst_model.specs.states.Dated.{DatedState, dates_number}
 use Rattle.zst_model.specs.sends.Included.{Choice, is_after, includes_pair, includes_number, is_late_pair}
 use Rattle.zst_model.specs.pools.Pool.{inserted}
 use Rattle.zst_model.specs.pools.RedSet.{is_data, is_user_block}
-use Rattle.zst_model.specs.sends.View.{resuming}
+use Rattle.zst_model.specs.sends.Features.{resuming}
 use Rattle.zst_model.specs.pools.Step.{stepped, last_number, last_guid, most_datasets, most_snapshots}
 use Rattle.zst_laws.specs.Example.{small}
 use Rattle.zst_laws.specs.Meanings.{WriteFails, WriteMakes, FreeFails, FreeMakes, SpillFails, SpillMakes, RedactFails, RedactMakes, PutMakes, PutAllocates, UserDataTypes, DatesNoNumber, DatesItsNumber, BlocksDateNoNumber, AttributesDateNumbers, SpillDatesNoIndex, RangesDateBlocks, ListsUserData, SnapshotKeepsGuids, VolumeIsMade, ListedIsIncluded, DatedIsIncluded, DatedNumberIsIncluded, EqualDatesAreLeft, DatasetsStandByName, SnapshotsStandByNumber, OtherHeadsStay, FreedAreDated, BlockSizes, Contents, HeadersFrom, ListsCanBeRedacted}

@@ -1,5 +1,5 @@
 -- What a pool is, with no place on a disk in it.
-use Rattle.std.specs.Prelude.{ℕ, ◌^◌, ◌<◌, ◌≤◌, ◌≡◌, ◌≢◌, ◌⊎◌, Bool, true, false, ◌&&◌, ◌||◌, nat_lt, List, [], ◌∷◌, ◌++◌, length, Option, None, IfSome, find, All, AllPairs, Contains, bytes_eq, if◌then◌else◌}
+use Rattle.std.specs.Prelude.{ℕ, ◌^◌, ◌<◌, ◌≤◌, ◌≡◌, ◌≢◌, ◌⊎◌, Bool, true, false, ◌&&◌, ◌||◌, ◌==◌, bit_and, nat_lt, List, [], ◌∷◌, ◌++◌, length, Option, None, IfSome, find, All, AllPairs, Contains, bytes_eq, if◌then◌else◌}
 use Rattle.std.specs.Ordering.{nat_cmp, is_lt}
 use Rattle.std.specs.Cmp.Lexicographic.{slice_cmp}
 use Rattle.zst_names.specs.Names.{IsDataset, IsSnapshot, IsBookmark, IsComponent, dataset_of}
@@ -10,6 +10,7 @@ use Rattle.zst_model.specs.states.Dated.{DatedState}
 use Rattle.zst_model.specs.states.State.{IsState, no_objects}
 use Rattle.zst_model.specs.fields.Guids.{IsGuidSet}
 use Rattle.zst_model.specs.fields.Lists.{IsRunList}
+use Rattle.zst_model.specs.sends.Features.{redacts, resuming}
 use Rattle.zst_model.specs.pools.Limits.{last_number, last_guid}
 
 -- a dataset: its name, its kind (2 a file system, 3 a volume), the name of the snapshot that it is a clone of, its head, and the head's redaction guids
@@ -138,7 +139,7 @@ pub record IsStatedName (name : List ℕ) : Type 0 where
   pub bytes : All (λ byte. byte < 2 ^ 8) name
   pub no_zero : ¬ (Contains name 0)
 
--- a header that a stream which isn't resumed can state
+-- a header that a stream which isn't resumed can state: it has redaction guids exactly where it has REDACTED, and those of a source only where it has a source
 pub record IsStated (header : Header) : Type 0 where
   pub kind : IsKind header.kind
   pub flags : header.flags < 2 ^ 32
@@ -150,6 +151,9 @@ pub record IsStated (header : Header) : Type 0 where
   pub redact : IsGuidSet header.redact
   pub from_redact : IsGuidSet header.from_redact
   pub resume : header.resume ≡ None
+  pub unresumed : bit_and header.features resuming ≡ 0
+  pub redacted : (bit_and header.features redacts == 0) ≡ (length header.redact == 0)
+  pub source : 0 < length header.from_redact → 0 < header.from
 
 -- a lawful pool: its numbers are in their ranges, its names are in order and there, its kinds are kinds, its guids are guids and their sets sets of 64 bits, its times fit 64 bits, its lists are lists, its headers can be stated, and its states are lawful
 pub record IsPool (pool : Pool) : Type 0 where

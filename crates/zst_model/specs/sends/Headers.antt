@@ -1,9 +1,10 @@
 -- What BEGIN says of a send, and what the send is asked beside its snapshot (zfs-send(8), and `drr_begin` of zfs_ioctl.h).
-use Rattle.std.specs.Prelude.{◌≡◌, ℕ, ◌+◌, ◌^◌, Bool, not, List, [], Option, Some, None, IfSome, Contains, option_map, bytes_eq, if◌then◌else◌}
+use Rattle.std.specs.Prelude.{◌≡◌, ℕ, ◌+◌, ◌^◌, ◌<◌, Bool, not, List, [], length, Option, Some, None, IfSome, Contains, option_map, bytes_eq, if◌then◌else◌}
 use Rattle.zst_model.specs.declared.sends.header.Header.{Header}
 use Rattle.zst_model.specs.fields.Lists.{has_pair}
 use Rattle.zst_model.specs.pools.Before.{Source, OfSnapshot, OfBookmark, dataset_of_source, number_of_source, IsIn}
 use Rattle.zst_model.specs.pools.Pool.{Pool, Dataset, Snapshot, Bookmark, dataset_of_snapshot}
+use Rattle.zst_model.specs.sends.Features.{redacts, sa_spill}
 use Rattle.zst_model.specs.sends.Included.{Pairs, Choice, no_pairs}
 use Rattle.zst_model.specs.sends.View.{View, view_of}
 
@@ -14,6 +15,12 @@ pub record Sent : Type 0 where
   pub source : Option Source
   pub redaction : Option Bookmark
 
+-- a redaction bookmark of a snapshot of this pool: it was made of that snapshot, for some redaction snapshots
+pub record IsRedactionOf (pool : Pool) (snapshot : Snapshot) (bookmark : Bookmark) : Type 0 where
+  pub there : Contains pool.bookmarks bookmark
+  pub guid : bookmark.guid ≡ snapshot.guid
+  pub guids : 0 < length bookmark.redact
+
 -- what is sent is of this pool: the snapshot with its dataset's kind, the source and the redaction bookmark
 pub record IsOf (pool : Pool) (sent : Sent) : Type 0 where
   pub snapshot : Contains pool.snapshots sent.snapshot
@@ -22,7 +29,7 @@ pub record IsOf (pool : Pool) (sent : Sent) : Type 0 where
   pub named : dataset.name ≡ dataset_of_snapshot sent.snapshot
   pub kind : sent.kind ≡ dataset.kind
   pub source : IfSome sent.source (IsIn pool)
-  pub redaction : IfSome sent.redaction (Contains pool.bookmarks)
+  pub redaction : IfSome sent.redaction (IsRedactionOf pool sent.snapshot)
 
 -- the flag of a stream whose source is of another dataset (DRR_FLAG_CLONE of zfs_ioctl.h)
 unfoldable pub clone_flag : ℕ
@@ -35,14 +42,6 @@ free_records = 2 ^ 2
 -- the flag of a stream that has a SPILL behind the OBJECT of each object with a spill block (DRR_FLAG_SPILL_BLOCK)
 unfoldable pub spill_block : ℕ
 spill_block = 2 ^ 3
-
--- the feature of a stream that may have SPILL records (DMU_BACKUP_FEATURE_SA_SPILL)
-unfoldable pub sa_spill : ℕ
-sa_spill = 2 ^ 2
-
--- the feature of a stream that may have REDACT records (DMU_BACKUP_FEATURE_REDACTED)
-unfoldable pub redacts : ℕ
-redacts = 2 ^ 21
 
 -- whether the source is of another dataset than the snapshot
 abbrev pub is_elsewhere : Snapshot → Source → Bool

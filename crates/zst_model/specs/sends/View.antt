@@ -1,10 +1,11 @@
 -- The view of a send: all that its bytes depend on, without dates, places, sums, or a byte of a pair to redact.
-use Rattle.std.specs.Prelude.{◌≡◌, ℕ, ◌^◌, ◌<◌, true, false, length, Option, Some, None, IfSome, bit_and, bit_or, if◌then◌else◌}
+use Rattle.std.specs.Prelude.{◌≡◌, ℕ, ◌<◌, true, false, length, Option, Some, None, IfSome, bit_and, bit_or, if◌then◌else◌}
 use Rattle.zst_model.specs.declared.states.attr.Attr.{Attr}
 use Rattle.zst_model.specs.declared.sends.header.Header.{Header}
 use Rattle.zst_model.specs.declared.sends.header.Point.{Point}
 use Rattle.zst_model.specs.states.State.{Block, Hole, Redacted, Data, Object, end_of, is_user_data, is_odd_size, is_number}
 use Rattle.zst_model.specs.states.Dated.{DatedState}
+use Rattle.zst_model.specs.sends.Features.{resuming}
 use Rattle.zst_model.specs.sends.Included.{Choice, includes_pair, includes_number}
 
 -- what a view shows of an included object: its attributes with its spill, its end, and the block of each included index below the end
@@ -46,10 +47,6 @@ view_of header snap choice = record {
   header = header;
   shown = λ k. if includes_number snap choice k then shown_object snap choice k (snap.state k) else Left;
 }
-
--- the feature flag of a stream that was asked for by a token (DMU_BACKUP_FEATURE_RESUMING of zfs_ioctl.h)
-unfoldable pub resuming : ℕ
-resuming = 2 ^ 20
 
 -- the header of a stream that isn't resumed
 abbrev pub IsUnresumed : Header → Type 0

@@ -4,6 +4,8 @@ use Rattle.zst_block.specs.Blocks.{Has}
 use Rattle.zst_block.specs.declared.ptr.Ptr.{Ptr}
 use Rattle.zst_block.proofs.Working.{Looks-then}
 use Rattle.zst_model.specs.states.State.{BlockFits, index_bound}
+use Rattle.zst_tree.specs.Indices.{TreeIs}
+use Rattle.zst_tree.specs.declared.tree.Tree.{Tree}
 use Rattle.zst_objset.specs.Changes.{found_at}
 use Rattle.zst_objset.specs.Dnodes.{BlockIs}
 use Rattle.zst_objset.specs.declared.fault.ObjFault.TheVariants as faults
@@ -28,14 +30,16 @@ returns-in-Err-leaf_at-clause-looks g c = Looks-then c.in-Ok.ensures.looks c.in-
 pub returns-in-Err-leaf_at-clause-read : goal.returns-in-Err-leaf_at-clause-read
 returns-in-Err-leaf_at-clause-read g c = λ snap honest holds long.
     let there = c.in-Ok.ensures.found snap (c.in-Err-leaf_at.ensures.looks.reads.honest honest) holds in
-    Refuses-disk (found_at c.args.object c.args.index snap) (faults.Block c.in-Err-leaf_at.fault) (disk_fault c.in-Err-leaf_at.fault (c.in-Err-leaf_at.ensures.shows there.map honest there.is.tree) c.in-Err-leaf_at.ensures.looks.never_full)
+    let tree = subst (λ (t : Tree). TreeIs (Has (g.D.Disk.state c.object_there.new.io.disk.now).seen c.object_there.new.io.space) t there.map) (sym c.tree_of.ensures) there.is.tree in
+    Refuses-disk (found_at c.args.object c.args.index snap) (faults.Block c.in-Err-leaf_at.fault) (disk_fault c.in-Err-leaf_at.fault (c.in-Err-leaf_at.ensures.shows there.map honest tree) c.in-Err-leaf_at.ensures.looks.never_full)
 
 pub returns-in-Ok-leaf_at-clause-read : goal.returns-in-Ok-leaf_at-clause-read
 unfolding index_bound
 returns-in-Ok-leaf_at-clause-read g c = λ snap honest holds long.
     let was = c.read_leaf.ensures.looks.reads.honest honest in
     let there = c.in-Ok.ensures.found snap (c.in-Ok-leaf_at.ensures.looks.reads.honest was) holds in
-    let same = c.in-Ok-leaf_at.ensures.shows there.map was there.is.tree in
+    let tree = subst (λ (t : Tree). TreeIs (Has (g.D.Disk.state c.object_there.new.io.disk.now).seen c.object_there.new.io.space) t there.map) (sym c.tree_of.ensures) there.is.tree in
+    let same = c.in-Ok-leaf_at.ensures.shows there.map was tree in
     let block = there.object.blocks c.args.index in
     let at : BlockIs (Has (g.D.Disk.state c.object_there.new.io.disk.now).seen c.object_there.new.io.space) c.in-Ok-leaf_at.ptr block =
     subst (λ (ptr : Ptr). BlockIs (Has (g.D.Disk.state c.object_there.new.io.disk.now).seen c.object_there.new.io.space) ptr block) (sym same) (there.is.blocks c.args.index (omega arith)) in

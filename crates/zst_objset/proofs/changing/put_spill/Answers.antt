@@ -2,17 +2,19 @@ use Rattle.std.proofs.Common.{◌≡◌, ℕ, List, arith, ap, subst, sym, ◌�
 use Rattle.zst_space.specs.FreeSectors.{FreeSectors}
 use Rattle.zst_block.specs.Blocks.{Has, KeepsBlocks}
 use Rattle.zst_block.specs.declared.ptr.Ptr.{Ptr}
-use Rattle.zst_block.proofs.BlocksLaws.{KeepsBlocks-fills}
+use Rattle.zst_block.proofs.BlocksLaws.{FillsFree-then, KeepsBlocks-fills}
 use Rattle.zst_block.proofs.Working.{Works-after, Works-block, Works-more, Works-then}
 use Rattle.zst_model.specs.declared.states.item.Change.TheVariants.{Spill}
 use Rattle.zst_model.specs.states.State.{is_spill_size}
-use Rattle.zst_objset.proofs.ChangePuts.{change_puts, date_to, dates_to}
+use Rattle.zst_objset.specs.Putting.{MakesDnode, date_to, dates_to}
 use Rattle.zst_objset.proofs.SpillLaws.{change_not_there, no_spill, spill_fits, spill_is, spill_makes, spill_object, spill_some, spill_whole, spill_small, spilled, stops, undamaged_write}
 use Rattle.zst_dnode.specs.Dnode.{DnodeFits}
 use Rattle.zst_dnode.specs.declared.dnode.Dnode.{Dnode}
 use Rattle.zst_objset.specs.Dnodes.{ObjectIs}
 use Rattle.zst_objset.proofs.LeafLaws.{is_number_at, look_on}
 use Rattle.zst_objset.proofs.SetGrows.{IsThere-grows, SetHolds-grows}
+use Rattle.zst_tree.proofs.Told.{fills_looks}
+use Rattle.zst_objset.proofs.DamageLaws.{set_after, set_spared}
 use Rattle.zst_objset.proofs.changing.put_spill.Goals as goal
 
 pub write-requires-clause-some : goal.write-requires-clause-some
@@ -36,15 +38,12 @@ returns-in-Err-write-clause-changed g c = λ state honest holds.
 pub returns-in-Err-write-clause-works : goal.returns-in-Err-write-clause-works
 returns-in-Err-write-clause-works g c = Works-after c.in-Ok.ensures.looks (Works-more (omega arith) c.in-Err-write.ensures.works)
 
-pub returns-in-Ok-put_in_leaf-clause-works : goal.returns-in-Ok-put_in_leaf-clause-works
-returns-in-Ok-put_in_leaf-clause-works g c = Works-after c.in-Ok.ensures.looks (Works-more (omega arith) (Works-then c.in-Ok-write.ensures.works (Works-block c.in-Ok-put_in_leaf.ensures.works)))
+pub returns-clause-works : goal.returns-clause-works
+returns-clause-works g c = Works-after c.in-Ok.ensures.looks (Works-more (omega arith) (Works-then c.in-Ok-write.ensures.works (Works-block c.put_dnode.ensures.works)))
 
-pub returns-in-Err-put_in_leaf-clause-works : goal.returns-in-Err-put_in_leaf-clause-works
-returns-in-Err-put_in_leaf-clause-works g c = Works-after c.in-Ok.ensures.looks (Works-more (omega arith) (Works-then c.in-Ok-write.ensures.works (Works-block c.in-Err-put_in_leaf.ensures.works)))
-
-pub returns-in-Ok-put_in_leaf-clause-changed : goal.returns-in-Ok-put_in_leaf-clause-changed
-returns-in-Ok-put_in_leaf-clause-changed g c = λ state honest holds.
-    let was_written = c.in-Ok-put_in_leaf.ensures.works.fills.honest honest in
+pub returns-clause-changed : goal.returns-clause-changed
+returns-clause-changed g c = λ state honest holds.
+    let was_written = c.put_dnode.ensures.works.fills.honest honest in
     let wrote = c.in-Ok-write.ensures in
     let there = c.in-Ok.ensures.found state (wrote.works.fills.honest was_written) holds in
     let old = g.D.Disk.state c.args.io.now.disk.now in
@@ -59,39 +58,29 @@ returns-in-Ok-put_in_leaf-clause-changed g c = λ state honest holds.
     let kind = ap (λ (ptr : Ptr). ptr.kind) wrote.pointer in
     let size : is_spill_size c.in-Ok-write.ptr.length ≡ true = ap (λ (ptr : Ptr). is_spill_size ptr.length) wrote.pointer ∙ c.requires.spill in
     let made = c.with_spill.ensures in
-    let fits = subst (λ (dnode : Dnode). DnodeFits dnode) (sym made.made) (spill_fits c.in-Ok.dnode c.in-Ok-write.ptr c.args.number c.in-Ok.ensures.ranges made.fits made.date kind size) in
-    let object_is = subst (λ (dnode : Dnode). ObjectIs has dnode (spilled here.object c.args.bytes.now) (date_to c.args.number c.args.object (Spill c.args.bytes.now) state) (dates_to c.args.number c.args.object (Spill c.args.bytes.now) state) here.map) (sym made.made)
-    (spill_object has c.args.number c.args.object c.args.bytes.now state c.in-Ok.dnode c.in-Ok-write.ptr here kind wrote.wrote) in
     let number = is_number_at c.args.object (omega arith) (omega (arith, c.in-Ok.ensures.bound)) in
-    let puts = change_puts c.args.number c.args.object (Spill c.args.bytes.now) state has (spilled here.object c.args.bytes.now) c.with_spill.result here.map number holds.lawful holds.bounded
-    (spill_makes c.args.bytes.now (state.state c.args.object) here.object here.there) (number, c.requires.spill) c.applied_is_state.ensures object_is in
-    let done = spill_is c.args.number c.args.object c.args.bytes.now state here.object here.there in
-    let held = c.in-Ok-put_in_leaf.ensures.put state _ honest grown fits puts in
-    (_, done, held)
+    let makes : MakesDnode has c.args.number c.args.object (Spill c.args.bytes.now) state c.with_spill.result = record {
+      object = spilled here.object c.args.bytes.now;
+      made = spill_makes c.args.bytes.now (state.state c.args.object) here.object here.there;
+      lawful = (number, c.requires.spill);
+      fits = subst (λ (dnode : Dnode). DnodeFits dnode) (sym made.made) (spill_fits c.in-Ok.dnode c.in-Ok-write.ptr c.args.number c.in-Ok.ensures.ranges made.fits made.date kind size);
+      map = here.map;
+      is = subst (λ (dnode : Dnode). ObjectIs has dnode (spilled here.object c.args.bytes.now) (date_to c.args.number c.args.object (Spill c.args.bytes.now) state) (dates_to c.args.number c.args.object (Spill c.args.bytes.now) state) here.map) (sym made.made)
+          (spill_object has c.args.number c.args.object c.args.bytes.now state c.in-Ok.dnode c.in-Ok-write.ptr here kind wrote.wrote);
+    } in
+    c.put_dnode.ensures.changed c.args.number (Spill c.args.bytes.now) state honest grown makes
 
-pub returns-in-Err-put_in_leaf-clause-changed : goal.returns-in-Err-put_in_leaf-clause-changed
-returns-in-Err-put_in_leaf-clause-changed g c = λ state honest holds.
-    let was_written = c.in-Err-put_in_leaf.ensures.works.fills.honest honest in
-    let wrote = c.in-Ok-write.ensures in
-    let there = c.in-Ok.ensures.found state (wrote.works.fills.honest was_written) holds in
-    let old = g.D.Disk.state c.args.io.now.disk.now in
-    let mid = g.D.Disk.state c.object_there.new.io.disk.now in
-    let new = g.D.Disk.state c.write.new.io.disk.now in
-    let has = Has new.seen c.write.new.io.space in
-    let writing : KeepsBlocks mid.seen c.object_there.new.io.space new.seen c.write.new.io.space = KeepsBlocks-fills _ _ _ _ wrote.works.fills in
-    let reading : KeepsBlocks old.seen c.args.io.now.space mid.seen c.object_there.new.io.space =
-    look_on (λ (seen : List ℕ) (space : FreeSectors). KeepsBlocks old.seen c.args.io.now.space seen space) _ _ _ _ _ _ _ c.in-Ok.ensures.looks (λ ptr bytes is. is) in
-    let grown = SetHolds-grows (Has old.seen c.args.io.now.space) has (λ ptr bytes is. writing ptr bytes (reading ptr bytes is)) c.args.set.now state holds in
-    let here = IsThere-grows (Has mid.seen c.object_there.new.io.space) has writing state c.args.object c.in-Ok.dnode there in
-    let kind = ap (λ (ptr : Ptr). ptr.kind) wrote.pointer in
-    let size : is_spill_size c.in-Ok-write.ptr.length ≡ true = ap (λ (ptr : Ptr). is_spill_size ptr.length) wrote.pointer ∙ c.requires.spill in
+pub put_dnode-requires-clause-dnode : goal.put_dnode-requires-clause-dnode
+put_dnode-requires-clause-dnode g c =
     let made = c.with_spill.ensures in
-    let fits = subst (λ (dnode : Dnode). DnodeFits dnode) (sym made.made) (spill_fits c.in-Ok.dnode c.in-Ok-write.ptr c.args.number c.in-Ok.ensures.ranges made.fits made.date kind size) in
-    let object_is = subst (λ (dnode : Dnode). ObjectIs has dnode (spilled here.object c.args.bytes.now) (date_to c.args.number c.args.object (Spill c.args.bytes.now) state) (dates_to c.args.number c.args.object (Spill c.args.bytes.now) state) here.map) (sym made.made)
-    (spill_object has c.args.number c.args.object c.args.bytes.now state c.in-Ok.dnode c.in-Ok-write.ptr here kind wrote.wrote) in
-    let number = is_number_at c.args.object (omega arith) (omega (arith, c.in-Ok.ensures.bound)) in
-    let puts = change_puts c.args.number c.args.object (Spill c.args.bytes.now) state has (spilled here.object c.args.bytes.now) c.with_spill.result here.map number holds.lawful holds.bounded
-    (spill_makes c.args.bytes.now (state.state c.args.object) here.object here.there) (number, c.requires.spill) c.applied_is_state.ensures object_is in
-    let done = spill_is c.args.number c.args.object c.args.bytes.now state here.object here.there in
-    let held = c.in-Err-put_in_leaf.ensures.put state _ honest grown fits puts in
-    stops _ _ c.in-Err-put_in_leaf.fault done held
+    let wrote = c.in-Ok-write.ensures in
+    let size : is_spill_size c.in-Ok-write.ptr.length ≡ true = ap (λ (ptr : Ptr). is_spill_size ptr.length) wrote.pointer ∙ c.requires.spill in
+    subst (λ (dnode : Dnode). DnodeFits dnode) (sym made.made) (spill_fits c.in-Ok.dnode c.in-Ok-write.ptr c.args.number c.in-Ok.ensures.ranges made.fits made.date (ap (λ (ptr : Ptr). ptr.kind) wrote.pointer) size)
+
+pub returns-in-Err-clause-damaged : goal.returns-in-Err-clause-damaged
+returns-in-Err-clause-damaged g c = λ honest. set_spared _ _ _ c.args.set.now Dnode (Unit {0}) c.in-Err.fault (c.in-Err.ensures.damaged honest)
+
+pub returns-clause-damaged : goal.returns-clause-damaged
+returns-clause-damaged g c = λ honest.
+    let filled = FillsFree-then _ _ _ _ _ _ (fills_looks _ _ _ _ _ _ _ c.in-Ok.ensures.looks) c.in-Ok-write.ensures.works.fills in
+    set_after _ _ _ _ filled c.args.set.now c.put_dnode.result (c.put_dnode.ensures.damaged honest)

@@ -1,6 +1,7 @@
-use Rattle.std.proofs.Common.{◌≡◌, arith, subst, sym, ℕ}
+use Rattle.std.proofs.Common.{◌≡◌, inl, arith, subst, sym, ℕ}
 use Rattle.zst_block.specs.Blocks.{Has}
 use Rattle.zst_objset.specs.Sets.{HasSlots, LeafIs}
+use Rattle.zst_objset.proofs.DamageLaws.{AreAbsent-all, AreAbsent-first}
 use Rattle.zst_objset.proofs.LeafLaws.{HasSlots-absent, HasSlots-first}
 use Rattle.zst_objset.proofs.leaves.load_slots.Goals as goal
 
@@ -17,3 +18,13 @@ pub returns-else-leaf-eq0-clause-slots : goal.returns-else-leaf-eq0-clause-slots
 returns-else-leaf-eq0-clause-slots g c = λ snap honest is.
     let there = c.put_slots.ensures in
     HasSlots-absent _ snap c.args.leaf c.args.ptr c.put_slots.new.node (omega arith) (omega arith) there.fits (omega arith) (there.long (omega arith)) there.put is
+
+pub returns-then-leaf-eq0-clause-loaded : goal.returns-then-leaf-eq0-clause-loaded
+returns-then-leaf-eq0-clause-loaded g c = λ honest.
+    let all = c.put_slots.ensures in
+    let first = c.put_slots-then-leaf-eq0.ensures in
+    inl (omega arith, AreAbsent-first c.put_slots-then-leaf-eq0.new.node c.put_slots.new.node c.args.ptr.number all.fits all.put first.put first.kept)
+
+pub returns-else-leaf-eq0-clause-loaded : goal.returns-else-leaf-eq0-clause-loaded
+returns-else-leaf-eq0-clause-loaded g c = λ honest.
+    inl (omega arith, AreAbsent-all c.put_slots.new.node c.put_slots.new.node c.args.ptr.number c.put_slots.ensures.fits c.put_slots.ensures.put)

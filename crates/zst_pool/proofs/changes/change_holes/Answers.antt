@@ -1,17 +1,21 @@
-use Rattle.std.proofs.Common.{sym, subst}
+use Rattle.std.proofs.Common.{ℕ, sym, ap, ◌∙◌, subst}
+use Rattle.std.specs.Prelude.{Result}
 use Rattle.zst_block.specs.Blocks.{Has}
-use Rattle.zst_model.specs.pools.Step.{punched}
-use Rattle.zst_pool.specs.Checks.{ChangesHead}
-use Rattle.zst_pool.proofs.Judging.{err_is}
+use Rattle.zst_model.specs.declared.refusals.refusal.Refusal.{Refusal}
+use Rattle.zst_model.specs.states.Dated.{DatedState}
+use Rattle.zst_objset.specs.Answers.{Changes}
+use Rattle.zst_objset.specs.Changes.{holes_made}
+use Rattle.zst_objset.specs.Sets.{SetHolds}
+use Rattle.zst_pool.proofs.Writing.{call_changes, call_writes}
 use Rattle.zst_pool.proofs.changes.change_holes.Goals as goal
 
 pub returns-clause-changed : goal.returns-clause-changed
-returns-clause-changed c = λ image space name pool head number is.
-    let planned = c.in_ok-plan_holes.ensures.planned image space name pool head number is in
-    (planned.0, planned.1, c.in_ok-punch.ensures.made image space head planned.0 is planned.2, planned.3)
+returns-clause-changed g c = λ pool head told number holds.
+    let has = Has (g.D.Disk.state c.punch.new.io.disk.now).seen c.punch.new.io.space in
+    let set = c.punch.new.self in
+    let same = ap (λ (n : ℕ). holes_made n c.args.object c.args.first c.args.count head) (sym number) ∙ c.changes_are_commands.ensures.punch pool c.args.object c.args.first c.args.count head in
+    let is = subst (λ (r : Result DatedState Refusal). Changes (SetHolds has set) r c.punch.result) same (c.punch.ensures.changed head told holds) in
+    call_changes c.punch.result c.answer.result c.answer.ensures c.punch.ensures.works has set _ is
 
-pub returns-in_err-plan_holes-clause-changed : goal.returns-in_err-plan_holes-clause-changed
-returns-in_err-plan_holes-clause-changed c = λ image space name pool head number is.
-    subst (ChangesHead {T = Unit {0}} (Has image space) name pool (punched pool c.args.object c.args.first c.args.count head) c.args.flat.now)
-    (sym (err_is c.from_residual.result c.in_err-plan_holes.field-0.0 c.from_residual.ensures.1))
-    (c.in_err-plan_holes.ensures.planned image space name pool head number is)
+pub returns-clause-writes : goal.returns-clause-writes
+returns-clause-writes g c = call_writes c.punch.result c.answer.result c.answer.ensures c.punch.ensures.works c.requires.fits

@@ -1,16 +1,21 @@
-use Rattle.std.proofs.Common.{sym, subst}
+use Rattle.std.proofs.Common.{ℕ, sym, ap, ◌∙◌, subst}
+use Rattle.std.specs.Prelude.{Result}
 use Rattle.zst_block.specs.Blocks.{Has}
-use Rattle.zst_pool.specs.Checks.{ChangesHead, freed}
-use Rattle.zst_pool.proofs.Judging.{err_is}
+use Rattle.zst_model.specs.declared.refusals.refusal.Refusal.{Refusal}
+use Rattle.zst_model.specs.states.Dated.{DatedState}
+use Rattle.zst_objset.specs.Answers.{Changes}
+use Rattle.zst_objset.specs.Changes.{objects_freed}
+use Rattle.zst_objset.specs.Sets.{SetHolds}
+use Rattle.zst_pool.proofs.Writing.{call_changes, call_writes}
 use Rattle.zst_pool.proofs.changes.change_numbers.Goals as goal
 
 pub returns-clause-changed : goal.returns-clause-changed
-returns-clause-changed c = λ image space name pool head number is.
-    let planned = c.in_ok-plan_numbers.ensures.planned name pool head number in
-    (planned.0, planned.1, c.in_ok-free_objects.ensures.made image space head planned.0 is planned.2, planned.3)
+returns-clause-changed g c = λ pool head told number holds.
+    let has = Has (g.D.Disk.state c.free_objects.new.io.disk.now).seen c.free_objects.new.io.space in
+    let set = c.free_objects.new.self in
+    let same = ap (λ (n : ℕ). objects_freed n c.args.first c.args.count head) (sym number) ∙ c.changes_are_commands.ensures.free pool c.args.first c.args.count head in
+    let is = subst (λ (r : Result DatedState Refusal). Changes (SetHolds has set) r c.free_objects.result) same (c.free_objects.ensures.changed head told holds) in
+    call_changes c.free_objects.result c.answer.result c.answer.ensures c.free_objects.ensures.works has set _ is
 
-pub returns-in_err-plan_numbers-clause-changed : goal.returns-in_err-plan_numbers-clause-changed
-returns-in_err-plan_numbers-clause-changed c = λ image space name pool head number is.
-    subst (ChangesHead {T = Unit {0}} (Has image space) name pool (freed pool c.args.first c.args.count head) c.args.flat.now)
-    (sym (err_is c.from_residual.result c.in_err-plan_numbers.field-0.0 c.from_residual.ensures.1))
-    (c.in_err-plan_numbers.ensures.planned name pool head number)
+pub returns-clause-writes : goal.returns-clause-writes
+returns-clause-writes g c = call_writes c.free_objects.result c.answer.result c.answer.ensures c.free_objects.ensures.works c.requires.fits

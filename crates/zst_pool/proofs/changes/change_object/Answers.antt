@@ -1,61 +1,111 @@
-use Rattle.std.specs.Prelude.{Result, Ok}
-use Rattle.std.proofs.Common.{◌≡◌, ◌∷◌, false, ℕ, ◌+◌, List, Option, map, sym, ap, ◌∙◌, subst}
+use Rattle.std.specs.Prelude.{Option, Some, None, Result, Ok, Err}
+use Rattle.std.proofs.Common.{◌≡◌, ℕ, ◌+◌, ◌≤◌, List, false, sym, ap, ◌∙◌, subst, arith}
 use Rattle.zst_block.specs.Blocks.{Has}
-use Rattle.zst_model.specs.declared.refusals.apply_fault.ApplyFault.{ApplyFault}
-use Rattle.zst_model.specs.declared.states.item.Change.TheVariants.{Put, Spill}
-use Rattle.zst_model.specs.declared.states.item.Item.TheVariants.{At}
-use Rattle.zst_model.specs.states.Apply.{◌>>=◌}
-use Rattle.zst_model.specs.states.Dated.{DatedState, apply_all_dated, apply_dated}
-use Rattle.zst_model.specs.sends.Items.{spill_change}
-use Rattle.zst_pool.specs.Checks.{ChangesHead, put_in}
-use Rattle.zst_flat.specs.Meaning.{SetIs}
-use Rattle.zst_pool.proofs.Changing.{changed_by_spill, none_left, put_first, spill_is}
+use Rattle.zst_model.specs.declared.refusals.refusal.Refusal.{Refusal}
+use Rattle.zst_model.specs.pools.Pool.{Pool}
+use Rattle.zst_model.specs.states.Dated.{DatedState}
+use Rattle.zst_objset.specs.Changes.{object_made, object_put, spill_put}
+use Rattle.zst_objset.specs.Sets.{SetHolds}
+use Rattle.zst_pool.specs.Checks.{put_in}
+use Rattle.zst_pool.specs.Heads.{ChangesHead}
+use Rattle.zst_pool.specs.Room.{object_sectors}
+use Rattle.zst_pool.specs.Work.{Writes}
+use Rattle.zst_pool.proofs.Changing.{put_fault, then_spilled}
 use Rattle.zst_pool.proofs.Judging.{err_is}
-use Rattle.zst_pool.proofs.Known.{if_known_write}
+use Rattle.zst_pool.proofs.Writing.{call_changes, call_writes, writes_err, writes_more, writes_then}
 use Rattle.zst_pool.proofs.changes.change_object.Given.{Over}
 use Rattle.zst_pool.proofs.changes.change_object.Goals as goal
-use Rattle.zst_pool.proofs.changes.change_object.Goals.{In_ok-put_object}
+use Rattle.zst_pool.proofs.changes.change_object.Goals.{After-answer}
 
-pub returns-in_err-plan_object-clause-changed : goal.returns-in_err-plan_object-clause-changed
-returns-in_err-plan_object-clause-changed g c = λ name pool old number is.
-    let disk = g.D.Disk.state c.args.io.now.disk.now in
-    subst (ChangesHead {T = Unit {0}} (Has disk.seen c.args.io.now.space) name pool (put_in pool c.args.object c.args.head c.args.bonus c.args.spill old) c.args.flat.now)
-    (sym (err_is c.from_residual.result c.in_err-plan_object.field-0.0 c.from_residual.ensures.1))
-    (c.in_err-plan_object.ensures.planned c.args.head c.args.bonus c.args.spill name pool old number)
+-- what the object alone makes of the set
+put : (g : Over) (c : After-answer g) (old : DatedState) → (g.D.Disk.state c.put_object.new.io.disk.now).honest → SetHolds (Has (g.D.Disk.state c.args.io.now.disk.now).seen c.args.io.now.space) c.args.set.now old
+    → ChangesHead (Has (g.D.Disk.state c.put_object.new.io.disk.now).seen c.put_object.new.io.space) c.put_object.new.self (object_put c.args.number c.args.object c.args.head c.as_slice.result.now false old) c.answer.result
+put g c old told holds =
+    call_changes c.put_object.result c.answer.result c.answer.ensures c.put_object.ensures.works (Has (g.D.Disk.state c.put_object.new.io.disk.now).seen c.put_object.new.io.space) c.put_object.new.self
+    (object_put c.args.number c.args.object c.args.head c.as_slice.result.now false old) (c.put_object.ensures.changed old told holds)
 
--- the object is put first, and its spill is what is left of the change
-put : (g : Over) (c : In_ok-put_object g) (old after : DatedState) → SetIs (Has (g.D.Disk.state c.args.io.now.disk.now).seen c.args.io.now.space) c.args.flat.now old
-    → apply_all_dated (c.args.number + 1) (map (At c.args.object) (Put c.args.head c.args.bonus false 0 ∷ spill_change c.args.spill)) old ≡ Ok after
-    → (mid : DatedState) × SetIs (Has (g.D.Disk.state c.args.io.now.disk.now).seen c.args.io.now.space) c.put_object.new.self mid
-    × (apply_all_dated (c.args.number + 1) (map (At c.args.object) (spill_change c.args.spill)) mid ≡ Ok after)
-put g c old after is made =
-    let k = c.args.object in
-    let n = c.args.number + 1 in
-    let one = put_first n k c.args.head c.args.bonus old in (
-      one.0,
-      c.in_ok-put_object.ensures.made 0 (g.D.Disk.state c.args.io.now.disk.now).seen c.args.io.now.space old one.0 is one.2,
-      sym (ap (λ (r : Result DatedState ApplyFault). r >>= apply_all_dated n (map (At k) (spill_change c.args.spill))) one.2) ∙ made,
-    )
+-- and takes of the free sectors
+takes : (g : Over) (c : After-answer g)
+    → Writes 640 (g.D.Disk.state c.args.io.now.disk.now) c.args.io.now.space c.args.io.now.failed (g.D.Disk.state c.put_object.new.io.disk.now) c.put_object.new.io.space c.put_object.new.io.failed c.answer.result
+takes g c = call_writes c.put_object.result c.answer.result c.answer.ensures c.put_object.ensures.works c.requires.fits
+
+-- the definition of the command
+made : (g : Over) (c : After-answer g) (pool : Pool) (old : DatedState) → pool.number + 1 ≡ c.args.number
+    → object_made c.args.number c.args.object c.args.head c.as_slice.result.now c.args.spill old ≡ put_in pool c.args.object c.args.head c.args.bonus c.args.spill old
+made g c pool old number =
+    ap (λ (n : ℕ). object_made n c.args.object c.args.head c.as_slice.result.now c.args.spill old) (sym number)
+    ∙ c.changes_are_commands.ensures.object pool c.args.object c.args.head c.as_slice.result.now c.args.spill old
+    ∙ ap (λ (b : List ℕ). put_in pool c.args.object c.args.head b c.args.spill old) c.as_slice.ensures
+
+object_more : (spill : Option (List ℕ)) → 640 ≤ object_sectors spill
+object_more None = omega arith
+object_more (Some bytes) = omega arith
+
+pub returns-in_err-answer-clause-changed : goal.returns-in_err-answer-clause-changed
+returns-in_err-answer-clause-changed g c = λ pool old told number holds.
+    let at = (goal.at.returns-in_err-answer-clause-changed g c).After-answer in
+    let has = Has (g.D.Disk.state c.put_object.new.io.disk.now).seen c.put_object.new.io.space in
+    let set = c.put_object.new.self in
+    let bonus = c.as_slice.result.now in
+    let fault = c.in_err-answer.field-0.0 in
+    let fell = subst (ChangesHead has set (object_put c.args.number c.args.object c.args.head bonus false old)) c.in_err-answer.was (put g at old told holds) in
+    subst (ChangesHead has set (put_in pool c.args.object c.args.head c.args.bonus c.args.spill old)) (sym (err_is c.from_residual.result fault c.from_residual.ensures.1))
+    (subst (λ (r : Result DatedState Refusal). ChangesHead has set r (Err fault)) (made g at pool old number) (put_fault c.args.number c.args.object c.args.head bonus c.args.spill old fault fell))
+
+pub returns-in_err-answer-clause-writes : goal.returns-in_err-answer-clause-writes
+returns-in_err-answer-clause-writes g c =
+    let at = (goal.at.returns-in_err-answer-clause-writes g c).After-answer in
+    let old = g.D.Disk.state c.args.io.now.disk.now in
+    let new = g.D.Disk.state c.put_object.new.io.disk.now in
+    let fault = c.in_err-answer.field-0.0 in
+    let fell = subst (Writes 640 old c.args.io.now.space c.args.io.now.failed new c.put_object.new.io.space c.put_object.new.io.failed) c.in_err-answer.was (takes g at) in
+    writes_more c.from_residual.result (object_more c.args.spill) (writes_err fault c.from_residual.result (err_is c.from_residual.result fault c.from_residual.ensures.1) fell)
 
 pub returns-in-None-clause-changed : goal.returns-in-None-clause-changed
-returns-in-None-clause-changed g c = λ name pool old number is.
-    let n = c.args.number + 1 in
-    let planned = c.in_ok-plan_object.ensures.planned c.args.head c.args.bonus c.args.spill name pool old number in
-    let one = put g (goal.at.returns-in-None-clause-changed g c).In_ok-put_object old planned.0 is planned.2 in
-    let none = subst (λ (s : Option (List ℕ)). apply_all_dated n (map (At c.args.object) (spill_change s)) one.0 ≡ Ok planned.0) c.in-None.is one.2 in
-    (planned.0, planned.1, subst (SetIs (Has (g.D.Disk.state c.args.io.now.disk.now).seen c.args.io.now.space) c.put_object.new.self) (none_left n one.0 planned.0 none) one.1, planned.3)
+returns-in-None-clause-changed g c = λ pool old told number holds.
+    let at = (goal.at.returns-in-None-clause-changed g c).After-answer in
+    let has = Has (g.D.Disk.state c.put_object.new.io.disk.now).seen c.put_object.new.io.space in
+    let set = c.put_object.new.self in
+    let done = Ok c.in_ok-answer.field-0 in
+    let bonus = c.as_slice.result.now in
+    let one = subst (ChangesHead has set (object_put c.args.number c.args.object c.args.head bonus false old)) c.in_ok-answer.was (put g at old told holds) in
+    let all = subst (λ (s : Option (List ℕ)). ChangesHead has set (object_made c.args.number c.args.object c.args.head bonus s old) done) (sym c.in-None.is) one in
+    subst (λ (r : Result DatedState Refusal). ChangesHead has set r done) (made g at pool old number) all
 
-pub returns-in-Some-clause-changed : goal.returns-in-Some-clause-changed
-returns-in-Some-clause-changed g c = λ name pool old number is.
-    let new = g.D.Disk.state c.change_spill.new.io.disk.now in
-    let k = c.args.object in
-    let n = c.args.number + 1 in
-    let planned = c.in_ok-plan_object.ensures.planned c.args.head c.args.bonus c.args.spill name pool old number in
-    let one = put g (goal.at.returns-in-Some-clause-changed g c).In_ok-put_object old planned.0 is planned.2 in
-    let some = subst (λ (s : Option (List ℕ)). apply_all_dated n (map (At k) (spill_change s)) one.0 ≡ Ok planned.0) c.in-Some.is one.2 in
-    let spilled = subst (λ (b : List ℕ). apply_dated n (At k (Spill b)) one.0 ≡ Ok planned.0) (sym c.as_slice.ensures) (spill_is n k c.in-Some.block one.0 planned.0 some) in
-    changed_by_spill (Has new.seen c.change_spill.new.io.space) name pool (put_in pool k c.args.head c.args.bonus c.args.spill old) c.change_spill.new.flat planned.0 c.change_spill.result planned.1 planned.3
-    (c.change_spill.ensures.changed one.0 planned.0 one.1 spilled) c.change_spill.ensures.fault
+pub returns-in-None-clause-writes : goal.returns-in-None-clause-writes
+returns-in-None-clause-writes g c =
+    let at = (goal.at.returns-in-None-clause-writes g c).After-answer in
+    let old = g.D.Disk.state c.args.io.now.disk.now in
+    let new = g.D.Disk.state c.put_object.new.io.disk.now in
+    writes_more (Ok c.in_ok-answer.field-0) (object_more c.args.spill)
+    (subst (Writes 640 old c.args.io.now.space c.args.io.now.failed new c.put_object.new.io.space c.put_object.new.io.failed) c.in_ok-answer.was (takes g at))
 
-pub returns-in-Some-clause-known : goal.returns-in-Some-clause-known
-returns-in-Some-clause-known g c = if_known_write c.change_spill.result c.change_spill.ensures.fault
+pub returns-clause-changed : goal.returns-clause-changed
+returns-clause-changed g c = λ pool old told number holds.
+    let at = (goal.at.returns-clause-changed g c).After-answer in
+    let bonus = c.as_slice.result.now in
+    let block = c.as_slice-in-Some.result.now in
+    let answered = c.answer-in-Some.result in
+    let mid = g.D.Disk.state c.put_object.new.io.disk.now in
+    let has = Has (g.D.Disk.state c.put_spill.new.io.disk.now).seen c.put_spill.new.io.space in
+    let set = c.put_spill.new.self in
+    let one = subst (ChangesHead (Has mid.seen c.put_object.new.io.space) c.put_object.new.self (object_put c.args.number c.args.object c.args.head bonus false old)) c.in_ok-answer.was
+    (put g at old (c.put_spill.ensures.works.fills.honest told) holds) in
+    let two = call_changes c.put_spill.result answered c.answer-in-Some.ensures c.put_spill.ensures.works has set (spill_put c.args.number c.args.object block one.0) (c.put_spill.ensures.changed one.0 told one.2) in
+    let both = then_spilled has set c.args.number c.args.object c.args.head bonus block old one.0 answered one.1 two in
+    let is : Some block ≡ c.args.spill = ap (λ (b : List ℕ). Some b) c.as_slice-in-Some.ensures ∙ sym c.in-Some.is in
+    let all = subst (λ (s : Option (List ℕ)). ChangesHead has set (object_made c.args.number c.args.object c.args.head bonus s old) answered) is both in
+    subst (λ (r : Result DatedState Refusal). ChangesHead has set r answered) (made g at pool old number) all
+
+pub returns-clause-writes : goal.returns-clause-writes
+returns-clause-writes g c =
+    let at = (goal.at.returns-clause-writes g c).After-answer in
+    let old = g.D.Disk.state c.args.io.now.disk.now in
+    let mid = g.D.Disk.state c.put_object.new.io.disk.now in
+    let new = g.D.Disk.state c.put_spill.new.io.disk.now in
+    let answered = c.answer-in-Some.result in
+    let first = subst (Writes 640 old c.args.io.now.space c.args.io.now.failed mid c.put_object.new.io.space c.put_object.new.io.failed) c.in_ok-answer.was (takes g at) in
+    let second = call_writes c.put_spill.result answered c.answer-in-Some.ensures c.put_spill.ensures.works first.works.fits in
+    let is : Some c.as_slice-in-Some.result.now ≡ c.args.spill = ap (λ (b : List ℕ). Some b) c.as_slice-in-Some.ensures ∙ sym c.in-Some.is in
+    subst (λ (s : Option (List ℕ)). Writes (object_sectors s) old c.args.io.now.space c.args.io.now.failed new c.put_spill.new.io.space c.put_spill.new.io.failed answered) is
+    (writes_then c.in_ok-answer.field-0 answered first second)

@@ -1,26 +1,31 @@
-use Rattle.std.proofs.Common.{ap, ◌∙◌, subst, length, arith}
+use Rattle.std.proofs.Common.{refl, ap, ◌∙◌, ◌≤◌, ◌+◌, subst, length, arith}
 use Rattle.zst_block.specs.Blocks.{Has}
 use Rattle.zst_names.specs.Names.{IsDataset}
 use Rattle.zst_model.specs.pools.Pool.{is_before, inserted}
 use Rattle.zst_model.specs.pools.Step.{with_dataset}
-use Rattle.zst_pool.specs.Checks.{next_of, with_new}
 use Rattle.zst_dir.specs.Rows.{Rows}
-use Rattle.zst_dir.specs.declared.rows.Dataset.{Dataset}
 use Rattle.zst_dir.specs.Spelling.{dir_bytes}
+use Rattle.zst_dir.specs.declared.rows.Dataset.{Dataset}
+use Rattle.zst_pool.specs.Checks.{next_of, with_new}
+use Rattle.zst_pool.specs.declared.fault.PoolFault.TheVariants.{OutOfMemory}
 use Rattle.zst_pool.proofs.Doing.{did}
-use Rattle.zst_pool.proofs.Known.{if_known_write}
+use Rattle.zst_pool.proofs.Judging.{err_is}
 use Rattle.zst_pool.proofs.NextPools.{dataset_is_next, dataset_is_lawful}
 use Rattle.zst_pool.proofs.Parts.{described_in, fills_none}
-use Rattle.zst_pool.proofs.Room.{no_room-dir}
+use Rattle.zst_pool.proofs.Running.{idle_writes, runs_committed, runs_idle}
 use Rattle.zst_pool.proofs.commands.make_dataset.Goals as goal
 
-pub returns-clause-did : goal.returns-clause-did
-returns-clause-did g c = λ pool told rests.
+pub returns-clause-runs : goal.returns-clause-runs
+returns-clause-runs g c =
     let old = g.D.Disk.state c.args.io.now.disk.now in
     let space = c.args.io.now.space in
     let kept = c.args.kept.now in
     let kind = c.args.kind in
     let name = c.args.name.now in
+    let commit = c.commit_dir.ensures in
+    let grows : length (dir_bytes c.add_dataset.new.self) ≤ length (dir_bytes kept.dir) + 1024 = omega (arith, c.in_ok-add_dataset.ensures.grows, ap (λ (d : Rows). length (dir_bytes d)) c.in_ok-dir.ensures) in
+    runs_committed (λ pool. with_dataset kind name pool) 0 kept c.add_dataset.new.self c.commit_dir.result (idle_writes kept old space c.args.io.now.failed c.requires.space c.requires.ready)
+    (λ pool told rests.
     let done = next_of (with_new kind name pool) in
     let described = described_in old space kept.body kept.dir pool c.requires.space rests in
     let made = c.in_ok-check_new_dataset.ensures.judged old.seen space kind pool described.rows_are ∙ c.in_ok-check_number.ensures.judged (with_new kind name pool) described.number in
@@ -31,13 +36,11 @@ returns-clause-did g c = λ pool told rests.
     ∙ ap (λ (row : Dataset). record kept.dir { datasets = inserted (λ (a b : Dataset). is_before a.name b.name) row kept.dir.datasets }) c.new_dataset.ensures.same in
     let next = dataset_is_next (Has old.seen space) kept.body kept.dir c.add_dataset.new.self pool kind name described dir lawful in
     did old (g.D.Disk.state c.commit_dir.new.io.disk.now) kept.body kept.dir pool (with_dataset kind name pool) done made c.commit_dir.result
-    (c.commit_dir.ensures.commits c.args.io.now.disk.now kept.dir pool done.pool told rests (fills_none old space kept.body c.requires.space) next)
+    (commit.commits c.args.io.now.disk.now kept.dir pool done.pool told rests (fills_none old space kept.body c.requires.space) next))
+    grows commit.fault commit.full commit.ready commit.stays commit.failed commit.cause commit.honest
 
-pub returns-clause-known : goal.returns-clause-known
-returns-clause-known g c = if_known_write c.commit_dir.result c.commit_dir.ensures.fault
-
-pub returns-clause-full : goal.returns-clause-full
-returns-clause-full g c =
-    let kept = c.args.kept.now in
-    no_room-dir kept c.args.io.now.space c.add_dataset.new.self c.commit_dir.result c.requires.space
-    (omega (arith, c.in_ok-add_dataset.ensures.grows, ap (λ (d : Rows). length (dir_bytes d)) c.in_ok-dir.ensures)) c.commit_dir.ensures.fault c.commit_dir.ensures.full
+pub returns-in_err-add_dataset-clause-runs : goal.returns-in_err-add_dataset-clause-runs
+returns-in_err-add_dataset-clause-runs g c =
+    let fell = c.from_residual-in_err-add_dataset in
+    runs_idle (λ pool. with_dataset c.args.kind c.args.name.now pool) 0 c.args.kept.now OutOfMemory (err_is fell.result OutOfMemory fell.ensures.1) c.requires.ready refl tt
+    (λ need largest is. absurd (cc)) (λ pool rests. tt)

@@ -1,4 +1,4 @@
-use Rattle.std.proofs.Common.{◌<◌, ◌^◌, sym, ap, ◌∙◌, subst, not}
+use Rattle.std.proofs.Common.{refl, ◌<◌, ◌^◌, sym, ap, ◌∙◌, subst, not}
 use Rattle.std.specs.List.{filter}
 use Rattle.std.specs.Str.{bytes_eq}
 use Rattle.zst_block.specs.Blocks.{Has}
@@ -6,14 +6,15 @@ use Rattle.zst_names.specs.Names.{IsSnapshot, dataset_of}
 use Rattle.zst_model.specs.pools.Pool.{inserted}
 use Rattle.zst_model.specs.pools.Step.{with_snapshot}
 use Rattle.zst_pool.specs.Checks.{next_of, with_taken}
+use Rattle.zst_pool.specs.Reads.{free_by}
 use Rattle.zst_dir.specs.Rows.{HasSnapshot, IsDatasetRow, snapshot_is_before}
 use Rattle.zst_dir.specs.declared.rows.Snapshot.{Snapshot}
-use Rattle.zst_pool.specs.declared.fault.PoolFault.TheVariants.{Plan, OutOfMemory}
+use Rattle.zst_pool.specs.declared.fault.PoolFault.TheVariants.{Plan}
 use Rattle.zst_pool.proofs.Doing.{did}
-use Rattle.zst_pool.proofs.Known.{if_known_write}
+use Rattle.zst_pool.proofs.Judging.{err_is}
 use Rattle.zst_pool.proofs.NextPools.{snapshot_is_next, snapshot_is_lawful}
-use Rattle.zst_pool.proofs.Parts.{described_in, did_fall, fills_none}
-use Rattle.zst_pool.proofs.Room.{no_room-dir}
+use Rattle.zst_pool.proofs.Parts.{described_in, fills_none}
+use Rattle.zst_pool.proofs.Running.{idle_writes, runs_committed, runs_idle}
 use Rattle.zst_pool.proofs.commands.take_snapshot.Goals as goal
 
 pub new_snapshot-snapshot-requires-clause-row : goal.new_snapshot-snapshot-requires-clause-row
@@ -30,31 +31,16 @@ dir_with_snapshot-requires-clause-dataset g c =
     let there = c.in_ok-dataset.ensures.there in
     (c.in_ok-dataset.dataset.now, there.0, there.1 ∙ ap (λ (s : Snapshot). dataset_of 64 s.name) (sym c.new_snapshot-snapshot.ensures.same))
 
-pub returns-in_err-dataset-clause-did : goal.returns-in_err-dataset-clause-did
-returns-in_err-dataset-clause-did g c = λ pool told rests.
-    let old = g.D.Disk.state c.args.io.now.disk.now in
-    let space = c.args.io.now.space in
-    let kept = c.args.kept.now in
-    let fault = c.in_err-dataset.field-0.0 in
-    let described = described_in old space kept.body kept.dir pool c.requires.space rests in
-    let judged = c.in_err-dataset.ensures.judged old.seen space c.args.now pool described.rows_are described.guids described.number in
-    did_fall old old space kept.body kept.dir pool (with_snapshot c.args.now c.args.name.now pool) (Plan fault) c.from_residual.result c.from_residual.ensures.1 rests
-    (fills_none old space kept.body c.requires.space) (judged, tt)
-
-pub returns-in_err-dir-clause-did : goal.returns-in_err-dir-clause-did
-returns-in_err-dir-clause-did g c = λ pool told rests.
-    let old = g.D.Disk.state c.args.io.now.disk.now in
-    let fell = c.from_residual-in_err-dir in
-    did_fall old old c.args.io.now.space c.args.kept.now.body c.args.kept.now.dir pool (with_snapshot c.args.now c.args.name.now pool) OutOfMemory fell.result fell.ensures.1 rests
-    (fills_none old c.args.io.now.space c.args.kept.now.body c.requires.space) tt
-
-pub returns-clause-did : goal.returns-clause-did
-returns-clause-did g c = λ pool told rests.
+pub returns-clause-runs : goal.returns-clause-runs
+returns-clause-runs g c =
     let old = g.D.Disk.state c.args.io.now.disk.now in
     let space = c.args.io.now.space in
     let kept = c.args.kept.now in
     let now = c.args.now in
     let name = c.args.name.now in
+    let commit = c.commit_dir.ensures in
+    runs_committed (λ pool. with_snapshot now name pool) 0 kept c.in_ok-dir.dir c.commit_dir.result (idle_writes kept old space c.args.io.now.failed c.requires.space c.requires.ready)
+    (λ pool told rests.
     let described = described_in old space kept.body kept.dir pool c.requires.space rests in
     let judged = c.in_ok-dataset.ensures.judged old.seen space now pool described.rows_are described.guids described.number in
     let done = next_of (with_taken now name judged.0 pool) in
@@ -66,11 +52,15 @@ returns-clause-did g c = λ pool told rests.
     ∙ ap (λ (s : Snapshot). record kept.dir { snapshots = inserted snapshot_is_before s kept.dir.snapshots; partials = filter (λ partial. not (bytes_eq partial.target (dataset_of 64 s.name))) kept.dir.partials }) same in
     let next = snapshot_is_next (Has old.seen space) kept.body kept.dir c.in_ok-dir.dir pool now name c.in_ok-dataset.dataset.now judged.0 described judged.1 c.in_ok-dataset.ensures.free dir lawful in
     did old (g.D.Disk.state c.commit_dir.new.io.disk.now) kept.body kept.dir pool (with_snapshot now name pool) done judged.2 c.commit_dir.result
-    (c.commit_dir.ensures.commits c.args.io.now.disk.now kept.dir pool done.pool told rests (fills_none old space kept.body c.requires.space) next)
+    (commit.commits c.args.io.now.disk.now kept.dir pool done.pool told rests (fills_none old space kept.body c.requires.space) next))
+    c.in_ok-dir.ensures.grows commit.fault commit.full commit.ready commit.stays commit.failed commit.cause commit.honest
 
-pub returns-clause-known : goal.returns-clause-known
-returns-clause-known g c = if_known_write c.commit_dir.result c.commit_dir.ensures.fault
-
-pub returns-clause-full : goal.returns-clause-full
-returns-clause-full g c =
-    no_room-dir c.args.kept.now c.args.io.now.space c.in_ok-dir.dir c.commit_dir.result c.requires.space c.in_ok-dir.ensures.grows c.commit_dir.ensures.fault c.commit_dir.ensures.full
+pub returns-in_err-dataset-clause-runs : goal.returns-in_err-dataset-clause-runs
+returns-in_err-dataset-clause-runs g c =
+    let kept = c.args.kept.now in
+    let fault = Plan c.in_err-dataset.field-0.0 in
+    runs_idle (λ pool. with_snapshot c.args.now c.args.name.now pool) 0 kept fault (err_is c.from_residual.result fault c.from_residual.ensures.1) c.requires.ready refl tt
+    (λ need largest is. absurd (cc))
+    (λ pool rests.
+    let described = rests.reads.described in
+    (c.in_err-dataset.ensures.judged (g.D.Disk.state c.args.io.now.disk.now).seen (free_by kept.body) c.args.now pool described.rows_are described.guids described.number, tt))

@@ -1,15 +1,16 @@
-use Rattle.std.proofs.Common.{refl, ap, ◌||◌, sym, ◌∙◌}
+use Rattle.std.proofs.Common.{ℕ, refl, ap, ◌||◌, sym, ◌∙◌, subst}
 use Rattle.std.proofs.lemmas.Result.{err_from_is_err_and}
 use Rattle.std.specs.Prelude.{Err}
 use Rattle.zst_outside.specs.Images.{Leaves}
-use Rattle.zst_block.specs.Blocks.{Has}
+use Rattle.zst_block.specs.Blocks.{FitsDisk, Has}
 use Rattle.zst_block.proofs.BlocksLaws.{IsTaken-head}
 use Rattle.zst_model.specs.pools.Pool.{Pool}
+use Rattle.zst_uber.specs.Body.{InRange}
 use Rattle.zst_pool.specs.Work.{NextIs, OldOrNext}
 use Rattle.zst_pool.specs.Faults.{of_uber, is_disk_fault}
 use Rattle.zst_pool.specs.declared.fault.PoolFault.{PoolFault}
 use Rattle.zst_pool.specs.declared.kept.Kept.{Kept}
-use Rattle.zst_pool.proofs.Committed.{IsPrepared, prepared, commit-moments, commit-rests, over-refused, disk-refused, Ready-works, Commits-over, Stays-from}
+use Rattle.zst_pool.proofs.Committed.{IsPrepared, next_in_range, prepared, commit-moments, commit-rests, over-refused, disk-refused, Ready-works, Commits-over, Stays-from}
 use Rattle.zst_pool.proofs.Parts.{failed_then}
 use Rattle.zst_pool.proofs.committing.commit_dir.Given.{Over}
 use Rattle.zst_pool.proofs.committing.commit_dir.Goals as goal
@@ -18,19 +19,19 @@ use Rattle.zst_pool.proofs.committing.commit_dir.Goals.{After-commit_event}
 pub commit_event-requires-clause-settled : goal.commit_event-requires-clause-settled
 commit_event-requires-clause-settled g c = λ told. c.write_dir.ensures.works.head (c.requires.ready.head (c.write_dir.ensures.works.fills.honest told))
 
-pub returns-in_err-root-clause-over : goal.returns-in_err-root-clause-over
-returns-in_err-root-clause-over g c = λ next told is.
+pub returns-in_err-tree-clause-over : goal.returns-in_err-tree-clause-over
+returns-in_err-tree-clause-over g c = λ next told is.
     let old = g.D.Disk.state c.args.io.now.disk.now in
     let space = c.args.io.now.space in
     let p = err_from_is_err_and c.from_residual.result c.from_residual.ensures.1 in
-    rw (p.1, p.2) (over-refused old _ space c.write_dir.new.io.space next c.in_err-root.field-0.0 (IsTaken-head old.size space c.requires.fits) c.write_dir.ensures.works.fills c.in_err-root.ensures.fault)
+    rw (p.1, p.2) (over-refused old _ space c.write_dir.new.io.space next c.in_err-tree.field-0.0 (IsTaken-head old.size space c.requires.fits) c.write_dir.ensures.works.fills c.in_err-tree.ensures.fault)
 
-pub returns-in_err-root-clause-commits : goal.returns-in_err-root-clause-commits
-returns-in_err-root-clause-commits g c = λ start rows pool next told rests fills is.
-    Commits-over (g.D.Disk.state start) _ _ _ c.write_dir.new.io.space c.args.body.now rows pool next _ rests fills (returns-in_err-root-clause-over g c next told is)
+pub returns-in_err-tree-clause-commits : goal.returns-in_err-tree-clause-commits
+returns-in_err-tree-clause-commits g c = λ start rows pool next told rests fills is.
+    Commits-over (g.D.Disk.state start) _ _ _ c.write_dir.new.io.space c.args.body.now rows pool next _ rests fills (returns-in_err-tree-clause-over g c next told is)
 
-pub returns-in_err-root-clause-stays : goal.returns-in_err-root-clause-stays
-returns-in_err-root-clause-stays g c = λ sound.
+pub returns-in_err-tree-clause-stays : goal.returns-in_err-tree-clause-stays
+returns-in_err-tree-clause-stays g c = λ sound.
     let p = err_from_is_err_and c.from_residual.result c.from_residual.ensures.1 in
     rw (p.1) (Ready-works _ _ c.args.io.now.space c.write_dir.new.io.space _ _ c.write_dir.result c.args.body.now c.write_dir.ensures.works c.requires.ready)
 
@@ -44,9 +45,9 @@ began g c next told is =
     let mid = g.D.Disk.state c.write_dir.new.io.disk.now in
     let space = c.args.io.now.space in
     let less = c.write_dir.new.io.space in
-    let ready = prepared old mid space less c.args.body.now c.next_body-next.result c.args.guids c.end.result c.in_ok-root.length c.in_ok-root.root c.args.dir next
-    c.next_body-next.ensures c.end.ensures c.in_ok-root.ensures.sectors c.requires.sectors c.in_ok-root.ensures.extents c.requires.ready.in_range c.write_dir.ensures.works.fills c.write_dir.ensures.works.fits
-    (g.met.D.Disk.seen_size c.write_dir.new.io.disk.now) c.commit_event.ensures.uber_fits c.in_ok-root.ensures.kind c.in_ok-root.ensures.there is in
+    let ready = prepared old mid space less c.args.body.now c.next_body-next.result c.args.guids c.end.result c.in_ok-tree.tree.levels c.in_ok-tree.length c.in_ok-tree.tree.root c.args.dir next
+    c.next_body-next.ensures c.end.ensures c.in_ok-tree.ensures.sectors c.requires.sectors c.requires.ready.in_range c.write_dir.ensures.works.fills c.write_dir.ensures.works.fits
+    (g.met.D.Disk.seen_size c.write_dir.new.io.disk.now) c.commit_event.ensures.uber_fits c.in_ok-tree.ensures.there is in
     (ready, commit-moments old mid _ space less c.next_body-next.result c.args.dir next (IsTaken-head old.size space c.requires.fits) c.write_dir.ensures.works.fills ready (c.commit_event.ensures.moments told))
 
 pub returns-in-Ok-clause-over : goal.returns-in-Ok-clause-over
@@ -70,15 +71,15 @@ pub returns-in-Err-clause-commits : goal.returns-in-Err-clause-commits
 returns-in-Err-clause-commits g c = λ start rows pool next told rests fills is.
     Commits-over (g.D.Disk.state start) _ _ _ c.commit_event.new.io.space c.args.body.now rows pool next _ rests fills (returns-in-Err-clause-over g c next told is)
 
-pub returns-in_err-root-clause-full : goal.returns-in_err-root-clause-full
-returns-in_err-root-clause-full g c = λ need largest is.
+pub returns-in_err-tree-clause-full : goal.returns-in_err-tree-clause-full
+returns-in_err-tree-clause-full g c = λ need largest is.
     let p = err_from_is_err_and c.from_residual.result c.from_residual.ensures.1 in
-    c.in_err-root.ensures.full need largest (cc (p.1, p.2, is))
+    c.in_err-tree.ensures.full need largest (cc (p.1, p.2, is))
 
-pub returns-in_err-root-clause-refused : goal.returns-in_err-root-clause-refused
-returns-in_err-root-clause-refused g c =
+pub returns-in_err-tree-clause-refused : goal.returns-in_err-tree-clause-refused
+returns-in_err-tree-clause-refused g c =
     let p = err_from_is_err_and c.from_residual.result c.from_residual.ensures.1 in
-    rw (p.1, p.2) (Stays-from _ c.in_err-root.field-0.0 c.write_dir.ensures.works.latest_stays)
+    rw (p.1, p.2) (Stays-from _ c.in_err-tree.field-0.0 c.write_dir.ensures.works.latest_stays)
 
 pub returns-in-Err-clause-fault : goal.returns-in-Err-clause-fault
 returns-in-Err-clause-fault g c = let refused = disk-refused (Unit {0}) c.in-Err.fault c.from.result c.from.ensures (c.in-Err.ensures.only c.in-Err.fault refl) in refused.0
@@ -93,5 +94,18 @@ pub returns-in-Err-clause-failed : goal.returns-in-Err-clause-failed
 returns-in-Err-clause-failed g c =
     let mid = c.write_dir.new.io.failed in
     let disk = c.from.ensures ∙ ap of_uber (c.in-Err.ensures.only c.in-Err.fault refl) in
-    failed_then c.args.io.now.failed mid c.commit_event.new.io.failed (is_disk_fault {T = Kept} (Err c.from.result)) c.in_ok-root.ensures.works.failed
+    failed_then c.args.io.now.failed mid c.commit_event.new.io.failed (is_disk_fault {T = Kept} (Err c.from.result)) c.in_ok-tree.ensures.works.failed
     (c.in-Err.ensures.failed ∙ ap (λ (f : PoolFault). mid || is_disk_fault {T = Kept} (Err f)) (sym disk))
+
+pub returns-in-Ok-clause-ready : goal.returns-in-Ok-clause-ready
+returns-in-Ok-clause-ready g c =
+    let new = g.D.Disk.state c.commit_event.new.io.disk.now in
+    let less = c.write_dir.new.io.space in
+    let size = c.commit_event.ensures.writes.size ∙ c.write_dir.ensures.works.fills.size in
+    let fits = subst (FitsDisk new.size) c.commit_event.ensures.space c.commit_event.ensures.kept_fit in
+    record {
+      in_range = next_in_range _ new.size c.args.body.now c.next_body-next.result less c.args.guids c.end.result c.in_ok-tree.tree.levels c.in_ok-tree.length c.in_ok-tree.tree.root c.args.dir c.next_body-next.ensures c.end.ensures
+          (c.in_ok-tree.ensures.sectors ∙ c.requires.sectors) (subst (λ (n : ℕ). InRange n c.args.body.now) (sym size) c.requires.ready.in_range) fits c.in_ok-tree.ensures.there;
+      next = λ told. c.in-Ok.ensures.following told;
+      head = λ told. c.in-Ok.ensures.head;
+    }

@@ -1,5 +1,5 @@
 use Rattle.zst_record.proofs.SizeLaws.{bounded}
 use Rattle.zst_record.proofs.laws.payload_is_bounded.Goals as goal
 
-pub returns : goal.returns
-returns c = bounded
+pub returns-clause-bounded : goal.returns-clause-bounded
+returns-clause-bounded c = bounded

@@ -2,11 +2,15 @@ use Rattle.std.proofs.Common.{rules, ◌≡◌, List, ◌+◌, ◌-◌, ℕ, tru
 use Rattle.std.proofs.lemmas.Result.{err_from_is_err_and}
 use Rattle.zst_space.specs.FreeSectors.{FreeSectors}
 use Rattle.zst_block.specs.Blocks.{Has}
+use Rattle.zst_block.specs.Ptr.{is_present}
 use Rattle.zst_tree.specs.Indices.{span}
 use Rattle.zst_tree.specs.Changes.{Parts}
+use Rattle.zst_tree.specs.Damage.{IsSeen, SumsUp}
+use Rattle.zst_tree.specs.declared.reach.Beside.{Beside}
 use Rattle.zst_tree.specs.Reaching.{stands_throughout}
 use Rattle.zst_tree.specs.Earlier.{Empty}
 use Rattle.zst_tree.proofs.Emptier.{empty_below, at_present, earlier_nearer}
+use Rattle.zst_tree.proofs.Damage.{fault_below, beside_below, IfThere-nearer, TellsNode-sums}
 use Rattle.zst_tree.proofs.Loaded.{inner_level, loaded_parts, node_fault, there_after}
 use Rattle.zst_tree.proofs.Quieter.{here}
 use Rattle.zst_tree.proofs.earlier.+back_along.Goals as goal
@@ -52,3 +56,29 @@ returns-clause-reaches g t c = λ map honest stands.
     (earlier_nearer map now c.args.level c.args.base c.place_of-place.result.child c.place_of-place.result.rest c.args.offset c.start_of-start.result c.in_ok-reach.reach c.earlier_from-before.result inner.0 c.place_of-place.ensures.child c.place_of-place.ensures.rest c.place_of-place.ensures.sum c.start_of-start.ensures.value
     (c.in_ok-reach.ensures.reaches map honest (rw (c.child_at-child.ensures.child, c.start_of-start.ensures.value) (parts.below c.place_of-place.result.child c.place_of-place.ensures.child)))
     (c.earlier_from-before.ensures.earlier _ _ map later))
+
+pub returns-in_err-load_node-clause-damaged : goal.returns-in_err-load_node-clause-damaged
+returns-in_err-load_node-clause-damaged g t c = λ honest.
+    let throughout : stands_throughout c.args.level c.args.ptr ≡ false = sym c.stands_throughout.ensures ∙ c.if-stands_throughout.false in
+    let inner = inner_level c.args.level c.args.ptr throughout in
+    let p = err_from_is_err_and c.from_residual.result c.from_residual.ensures.1 in
+    rw (p.1, p.2) (TellsNode-sums _ _ _ _ _ (c.in_err-load_node.ensures.names inner.0 inner.1 honest))
+
+pub returns-in_err-reach-clause-damaged : goal.returns-in_err-reach-clause-damaged
+returns-in_err-reach-clause-damaged g t c = λ honest.
+    let throughout : stands_throughout c.args.level c.args.ptr ≡ false = sym c.stands_throughout.ensures ∙ c.if-stands_throughout.false in
+    let inner = inner_level c.args.level c.args.ptr throughout in
+    let p = err_from_is_err_and c.from_residual-in_err-reach.result c.from_residual-in_err-reach.ensures.1 in
+    rw (p.1, p.2) (fault_below _ _ _ _ _ _ _ c.in_ok-load_node.ensures.looks (λ seen. SumsUp (IsSeen seen)) c.args.level c.args.ptr c.load_node.new.io.node c.place_of-place.result.child inner.0 inner.1
+    (c.in_ok-load_node.ensures.block (c.in_err-reach.ensures.looks.reads.honest honest)) c.place_of-place.ensures.child _ (rw c.child_at-child.ensures.child at (c.in_err-reach.ensures.damaged honest)))
+
+pub returns-clause-present : goal.returns-clause-present
+returns-clause-present g t c = rw c.nearer.ensures (IfThere-nearer (λ (beside : Beside). is_present beside.ptr ≡ true) c.in_ok-reach.reach c.earlier_from-before.result c.in_ok-reach.ensures.present c.earlier_from-before.ensures.present)
+
+pub returns-clause-below : goal.returns-clause-below
+returns-clause-below g t c = λ honest.
+    let throughout : stands_throughout c.args.level c.args.ptr ≡ false = sym c.stands_throughout.ensures ∙ c.if-stands_throughout.false in
+    let inner = inner_level c.args.level c.args.ptr throughout in
+    rw c.nearer.ensures (beside_below _ _ _ _ _ _ _ c.in_ok-load_node.ensures.looks (λ seen. SumsUp (IsSeen seen)) c.args.level c.args.ptr c.load_node.new.io.node c.place_of-place.result.child inner.0 inner.1
+    (c.in_ok-load_node.ensures.block (c.in_ok-reach.ensures.looks.reads.honest honest)) c.place_of-place.ensures.child c.in_ok-reach.reach c.earlier_from-before.result
+    (rw c.child_at-child.ensures.child at (c.in_ok-reach.ensures.below honest)) c.earlier_from-before.ensures.hangs)

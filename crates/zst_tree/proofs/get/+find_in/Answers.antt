@@ -2,9 +2,11 @@ use Rattle.std.proofs.Common.{rules, ◌+◌, ◌-◌, ◌*◌, List, ℕ, arith
 use Rattle.std.proofs.lemmas.Result.{IfOk-weaker, err_from_is_err_and}
 use Rattle.zst_space.specs.FreeSectors.{FreeSectors}
 use Rattle.zst_block.specs.Blocks.{Has}
+use Rattle.zst_tree.specs.Damage.{NamesNode}
 use Rattle.zst_tree.specs.Finding.{Finds}
 use Rattle.zst_tree.specs.Indices.{span, child}
 use Rattle.zst_tree.specs.Changes.{Parts}
+use Rattle.zst_tree.proofs.Damage.{hangs_below, hangs_flat, hangs_leaf, told_below}
 use Rattle.zst_tree.proofs.Finding.{finds_leaf, finds_flat, finds_child, left_of_child}
 use Rattle.zst_tree.proofs.Loaded.{loaded_is, node_fault, there_after, there_before}
 use Rattle.zst_tree.proofs.Results.{delivers_if}
@@ -39,3 +41,25 @@ pub returns-clause-range : goal.returns-clause-range
 returns-clause-range g t c = IfOk-weaker c.find_in.result _ _
     (λ found is. (is.0, left_of_child c.args.level c.args.offset c.place_of-place.result.child c.place_of-place.result.rest found.1 (omega arith) c.place_of-place.ensures.child c.place_of-place.ensures.sum is.1))
     c.find_in.ensures.range
+
+pub returns-in_err-load_counted-clause-damaged : goal.returns-in_err-load_counted-clause-damaged
+returns-in_err-load_counted-clause-damaged g t c = λ honest.
+    let p = err_from_is_err_and c.from_residual.result c.from_residual.ensures.1 in
+    rw (p.1, p.2) (c.in_err-load_counted.ensures.names (omega arith) (search rules) honest)
+
+pub returns-clause-damaged : goal.returns-clause-damaged
+returns-clause-damaged g t c = λ honest.
+    told_below _ _ _ _ _ _ _ c.in_ok-load_counted.ensures.looks (λ seen. NamesNode) c.args.level c.args.ptr c.load_counted.new.io.node c.place_of-place.result.child (omega arith) (search rules)
+    (c.in_ok-load_counted.ensures.block (c.find_in.ensures.looks.reads.honest honest)) c.place_of-place.ensures.child c.find_in.result (rw c.child_at-child.ensures.child at (c.find_in.ensures.damaged honest))
+
+pub returns-then-level-eq0-clause-hangs : goal.returns-then-level-eq0-clause-hangs
+returns-then-level-eq0-clause-hangs g t c = λ honest. hangs_leaf _ c.args.level c.args.ptr (search rules)
+
+pub returns-then-is_flat-clause-hangs : goal.returns-then-is_flat-clause-hangs
+returns-then-is_flat-clause-hangs g t c = λ honest. hangs_flat _ c.args.level c.args.ptr (search rules)
+
+pub returns-clause-hangs : goal.returns-clause-hangs
+returns-clause-hangs g t c = λ honest. IfOk-weaker c.find_in.result _ _
+    (λ found hangs. hangs_below _ _ _ _ _ _ _ c.in_ok-load_counted.ensures.looks (λ seen. NamesNode) c.args.level c.args.ptr c.load_counted.new.io.node c.place_of-place.result.child (omega arith) (search rules)
+    (c.in_ok-load_counted.ensures.block (c.find_in.ensures.looks.reads.honest honest)) c.place_of-place.ensures.child found.0 hangs)
+    (rw c.child_at-child.ensures.child at (c.find_in.ensures.hangs honest))

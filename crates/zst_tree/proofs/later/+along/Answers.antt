@@ -1,11 +1,14 @@
-use Rattle.std.proofs.Common.{◌≡◌, List, ◌+◌, ◌-◌, ℕ, true, false, refl, sym, ◌∙◌, arith}
+use Rattle.std.proofs.Common.{◌≡◌, List, ◌+◌, ◌-◌, ◌<◌, ℕ, true, false, refl, sym, ◌∙◌, arith}
 use Rattle.std.proofs.lemmas.Result.{err_from_is_err_and}
 use Rattle.zst_space.specs.FreeSectors.{FreeSectors}
 use Rattle.zst_block.specs.Blocks.{Has}
 use Rattle.zst_tree.specs.Indices.{span}
 use Rattle.zst_tree.specs.Changes.{Parts}
+use Rattle.zst_tree.specs.Damage.{IsSeen, SumsUp}
+use Rattle.zst_tree.specs.declared.reach.Beside.{Beside}
 use Rattle.zst_tree.specs.Reaching.{stands_throughout}
 use Rattle.zst_tree.specs.Later.{Quiet}
+use Rattle.zst_tree.proofs.Damage.{fault_below, beside_below, IfThere-nearer, TellsNode-sums}
 use Rattle.zst_tree.proofs.Loaded.{inner_level, loaded_parts, node_fault, there_after}
 use Rattle.zst_tree.proofs.Quieter.{quiet_below, at_late, here, later_nearer}
 use Rattle.zst_tree.proofs.later.+along.Goals as goal
@@ -51,3 +54,29 @@ returns-clause-reaches g t c = λ map honest stands.
     (later_nearer map c.args.number now c.args.level c.args.base c.place_of-place.result.child c.place_of-place.result.rest c.args.offset c.start_of-start.result c.in_ok-reach.reach c.later_from-behind.result inner.0 c.place_of-place.ensures.child c.place_of-place.ensures.rest c.place_of-place.ensures.sum c.start_of-start.ensures.value
     (c.in_ok-reach.ensures.reaches map honest (rw (c.child_at-child.ensures.child, c.start_of-start.ensures.value) (parts.below c.place_of-place.result.child c.place_of-place.ensures.child)))
     (c.later_from-behind.ensures.later _ _ map later (omega arith)))
+
+pub returns-in_err-load_counted-clause-damaged : goal.returns-in_err-load_counted-clause-damaged
+returns-in_err-load_counted-clause-damaged g t c = λ honest.
+    let throughout : stands_throughout c.args.level c.args.ptr ≡ false = sym c.stands_throughout.ensures ∙ c.if-stands_throughout.false in
+    let inner = inner_level c.args.level c.args.ptr throughout in
+    let p = err_from_is_err_and c.from_residual.result c.from_residual.ensures.1 in
+    rw (p.1, p.2) (TellsNode-sums _ _ _ _ _ (c.in_err-load_counted.ensures.names inner.0 inner.1 honest))
+
+pub returns-in_err-reach-clause-damaged : goal.returns-in_err-reach-clause-damaged
+returns-in_err-reach-clause-damaged g t c = λ honest.
+    let throughout : stands_throughout c.args.level c.args.ptr ≡ false = sym c.stands_throughout.ensures ∙ c.if-stands_throughout.false in
+    let inner = inner_level c.args.level c.args.ptr throughout in
+    let p = err_from_is_err_and c.from_residual-in_err-reach.result c.from_residual-in_err-reach.ensures.1 in
+    rw (p.1, p.2) (fault_below _ _ _ _ _ _ _ c.in_ok-load_counted.ensures.looks (λ seen. SumsUp (IsSeen seen)) c.args.level c.args.ptr c.load_counted.new.io.node c.place_of-place.result.child inner.0 inner.1
+    (c.in_ok-load_counted.ensures.block (c.in_err-reach.ensures.looks.reads.honest honest)) c.place_of-place.ensures.child _ (rw c.child_at-child.ensures.child at (c.in_err-reach.ensures.damaged honest)))
+
+pub returns-clause-late : goal.returns-clause-late
+returns-clause-late g t c = rw c.nearer.ensures (IfThere-nearer (λ (beside : Beside). c.args.number < beside.ptr.number) c.in_ok-reach.reach c.later_from-behind.result c.in_ok-reach.ensures.late c.later_from-behind.ensures.late)
+
+pub returns-clause-below : goal.returns-clause-below
+returns-clause-below g t c = λ honest.
+    let throughout : stands_throughout c.args.level c.args.ptr ≡ false = sym c.stands_throughout.ensures ∙ c.if-stands_throughout.false in
+    let inner = inner_level c.args.level c.args.ptr throughout in
+    rw c.nearer.ensures (beside_below _ _ _ _ _ _ _ c.in_ok-load_counted.ensures.looks (λ seen. SumsUp (IsSeen seen)) c.args.level c.args.ptr c.load_counted.new.io.node c.place_of-place.result.child inner.0 inner.1
+    (c.in_ok-load_counted.ensures.block (c.in_ok-reach.ensures.looks.reads.honest honest)) c.place_of-place.ensures.child c.in_ok-reach.reach c.later_from-behind.result
+    (rw c.child_at-child.ensures.child at (c.in_ok-reach.ensures.below honest)) c.later_from-behind.ensures.hangs)

@@ -1,11 +1,18 @@
-use Rattle.std.proofs.Common.{◌≡◌, ◌+◌, ◌-◌, ◌*◌, ◌<◌, ap, ◌∙◌, arith}
+use Rattle.std.proofs.Common.{◌≡◌, inl, inr, ⊎_elim, sym, ◌+◌, ◌-◌, ◌*◌, ◌<◌, ap, refl, ◌∙◌, arith}
 use Rattle.std.proofs.lemmas.Result.{err_from_is_err_and}
+use Rattle.zst_block.proofs.BlocksLaws.{FillsFree-then}
 use Rattle.zst_block.proofs.Working.{Works-after, Works-then, Works-more, Works-looks, Looks-none}
+use Rattle.zst_tree.specs.Damage.{NamesNode}
 use Rattle.zst_tree.specs.Indices.{span}
 use Rattle.zst_tree.proofs.IndicesLaws.{Subtree-grows}
 use Rattle.zst_tree.proofs.Below.{kept_looks, kept_works}
 use Rattle.zst_tree.proofs.Made.{child_stands}
+use Rattle.zst_tree.proofs.Most.{one_level}
 use Rattle.zst_tree.proofs.Narrow.{all_changed, one_changed, one_beside, low_changed, high_changed, two_beside, two_between}
+use Rattle.zst_tree.proofs.Told.{fills_looks, below_now, same_now, fault_after, told_after}
+use Rattle.std.proofs.lemmas.Result.{IfOk-weaker}
+use Rattle.zst_tree.proofs.Told.{spares_before}
+use Rattle.zst_tree.proofs.Within.{IsWithin-fewer, IsWithin-size, IsWithin-stands, IsWithin-then, opened_within}
 use Rattle.zst_tree.proofs.put.+put_in.Goals as goal
 
 pub returns-then-is_whole-clause-put : goal.returns-then-is_whole-clause-put
@@ -129,3 +136,81 @@ returns-clause-works g t c =
     let order : c.ends_of-ends.result.low < c.ends_of-ends.result.high = omega arith in
     let two = c.ends_of-ends.ensures.two order in
     Works-more (rw c.span_of-part.ensures (omega (arith, two))) (Works-after c.in_ok-open.ensures.looks (Works-then (Works-then c.in_ok-new_low.ensures.works c.in_ok-new_high.ensures.works) c.mend_two.ensures.works))
+
+pub returns-in_err-made-clause-damaged : goal.returns-in_err-made-clause-damaged
+returns-in_err-made-clause-damaged g t c = λ honest.
+    let lt : c.ends_of-ends.result.low < 128 = omega (arith, c.if-ends.true, c.ends_of-ends.ensures.order.1) in
+    let below = c.in_ok-open.ensures.below (c.in_err-made.ensures.works.fills.honest honest) c.ends_of-ends.result.low lt in
+    let p = err_from_is_err_and c.from_residual-in_err-made.result c.from_residual-in_err-made.ensures.1 in
+    let opened = fills_looks _ _ _ _ _ _ _ c.in_ok-open.ensures.looks in
+    rw (p.1, p.2) (fault_after _ _ _ _ opened NamesNode c.args.level c.args.ptr (c.args.level - 1) c.child_at-low.result (below_now _ _ _ _ opened NamesNode c.args.level c.args.ptr (c.args.level - 1) c.child_at-low.result (rw c.child_at-low.ensures.child below)) _ (c.in_err-made.ensures.damaged honest))
+
+pub returns-then-ends-clause-damaged : goal.returns-then-ends-clause-damaged
+returns-then-ends-clause-damaged g t c = λ honest.
+    let opened = fills_looks _ _ _ _ _ _ _ c.in_ok-open.ensures.looks in
+    let filled = FillsFree-then _ _ _ _ _ _ opened c.in_ok-made.ensures.works.fills in
+    told_after _ _ _ _ filled NamesNode c.args.level c.args.ptr c.args.level c.args.ptr (same_now _ _ _ _ filled NamesNode c.args.level c.args.ptr) c.mend_one.result (c.mend_one.ensures.damaged honest)
+
+pub returns-in_err-new_low-clause-damaged : goal.returns-in_err-new_low-clause-damaged
+returns-in_err-new_low-clause-damaged g t c = λ honest.
+    let order : c.ends_of-ends.result.low < c.ends_of-ends.result.high = omega arith in
+    let below = c.in_ok-open.ensures.below (c.in_err-new_low.ensures.works.fills.honest honest) c.ends_of-ends.result.low (omega arith) in
+    let p = err_from_is_err_and c.from_residual-in_err-new_low.result c.from_residual-in_err-new_low.ensures.1 in
+    let opened = fills_looks _ _ _ _ _ _ _ c.in_ok-open.ensures.looks in
+    rw (p.1, p.2) (fault_after _ _ _ _ opened NamesNode c.args.level c.args.ptr (c.args.level - 1) c.child_at-low.result (below_now _ _ _ _ opened NamesNode c.args.level c.args.ptr (c.args.level - 1) c.child_at-low.result (rw c.child_at-low.ensures.child below)) _ (c.in_err-new_low.ensures.damaged honest))
+
+pub returns-in_err-new_high-clause-damaged : goal.returns-in_err-new_high-clause-damaged
+returns-in_err-new_high-clause-damaged g t c = λ honest.
+    let below = c.in_ok-open.ensures.below (c.in_ok-new_low.ensures.works.fills.honest (c.in_err-new_high.ensures.works.fills.honest honest)) c.ends_of-ends.result.high c.ends_of-ends.ensures.order.1 in
+    let p = err_from_is_err_and c.from_residual-in_err-new_high.result c.from_residual-in_err-new_high.ensures.1 in
+    let filled = FillsFree-then _ _ _ _ _ _ (fills_looks _ _ _ _ _ _ _ c.in_ok-open.ensures.looks) c.in_ok-new_low.ensures.works.fills in
+    rw (p.1, p.2) (fault_after _ _ _ _ filled NamesNode c.args.level c.args.ptr (c.args.level - 1) c.child_at-high.result (below_now _ _ _ _ filled NamesNode c.args.level c.args.ptr (c.args.level - 1) c.child_at-high.result (rw c.child_at-high.ensures.child below)) _ (c.in_err-new_high.ensures.damaged honest))
+
+pub returns-clause-damaged : goal.returns-clause-damaged
+returns-clause-damaged g t c = λ honest.
+    let opened = fills_looks _ _ _ _ _ _ _ c.in_ok-open.ensures.looks in
+    let filled = FillsFree-then _ _ _ _ _ _ (FillsFree-then _ _ _ _ _ _ opened c.in_ok-new_low.ensures.works.fills) c.in_ok-new_high.ensures.works.fills in
+    told_after _ _ _ _ filled NamesNode c.args.level c.args.ptr c.args.level c.args.ptr (same_now _ _ _ _ filled NamesNode c.args.level c.args.ptr) c.mend_two.result (c.mend_two.ensures.damaged honest)
+
+pub returns-then-is_whole-clause-root : goal.returns-then-is_whole-clause-root
+returns-then-is_whole-clause-root g t c =
+    let whole = c.is_whole.ensures.whole c.if-is_whole.true in
+    inl (refl, ⊎_elim (λ flat. inr flat) (λ one. inl (one_level c.args.level (omega arith))) c.requires.leaf)
+
+pub returns-then-is_whole-clause-within : goal.returns-then-is_whole-clause-within
+returns-then-is_whole-clause-within g t c = λ honest.
+    let whole = c.is_whole.ensures.whole c.if-is_whole.true in
+    IsWithin-stands _ _ _ _ _ _ c.args.level c.args.leaf (⊎_elim (λ flat. inr flat) (λ one. inl (one_level c.args.level (omega arith))) c.requires.leaf) (inl refl)
+
+pub returns-then-ends-clause-within : goal.returns-then-ends-clause-within
+returns-then-ends-clause-within g t c = λ honest.
+    let told = c.mend_one.ensures.works.fills.honest honest in
+    let read = c.in_ok-made.ensures.works.fills.honest told in
+    let lt : c.ends_of-ends.result.low < 128 = omega (arith, c.if-ends.true, c.ends_of-ends.ensures.order.1) in
+    let opened = fills_looks _ _ _ _ _ _ _ c.in_ok-open.ensures.looks in
+    let filled = FillsFree-then _ _ _ _ _ _ opened c.in_ok-made.ensures.works.fills in
+    let low = opened_within _ _ _ (λ image spares. spares) (spares_before _ _ _ _ opened) _ c.args.level c.args.ptr c.args.leaf (c.args.level - 1) c.child_at-low.result
+    (rw c.child_at-low.ensures.child (c.in_ok-open.ensures.below read c.ends_of-ends.result.low lt)) (rw c.child_at-low.ensures.child (c.in_ok-open.ensures.hangs read c.ends_of-ends.result.low lt)) in
+    let made = IsWithin-then _ _ _ _ _ _ _ _ low _ _ _ (IsWithin-size _ _ _ _ _ _ opened.size _ _ _ (c.in_ok-made.ensures.within told)) in
+    IfOk-weaker c.mend_one.result _ _ (λ done within. IsWithin-size _ _ _ _ _ _ filled.size _ _ _ within)
+    (c.mend_one.ensures.within c.args.leaf _ _ honest (spares_before _ _ _ _ filled) (IsWithin-size _ _ _ _ _ _ (sym filled.size) _ _ _ made))
+
+pub returns-clause-within : goal.returns-clause-within
+returns-clause-within g t c = λ honest.
+    let order : c.ends_of-ends.result.low < c.ends_of-ends.result.high = omega arith in
+    let told_high = c.mend_two.ensures.works.fills.honest honest in
+    let told_low = c.in_ok-new_high.ensures.works.fills.honest told_high in
+    let read = c.in_ok-new_low.ensures.works.fills.honest told_low in
+    let opened = fills_looks _ _ _ _ _ _ _ c.in_ok-open.ensures.looks in
+    let one = FillsFree-then _ _ _ _ _ _ opened c.in_ok-new_low.ensures.works.fills in
+    let two = FillsFree-then _ _ _ _ _ _ one c.in_ok-new_high.ensures.works.fills in
+    let low = opened_within _ _ _ (λ image spares. spares) (spares_before _ _ _ _ opened) _ c.args.level c.args.ptr c.args.leaf (c.args.level - 1) c.child_at-low.result
+    (rw c.child_at-low.ensures.child (c.in_ok-open.ensures.below read c.ends_of-ends.result.low (omega arith))) (rw c.child_at-low.ensures.child (c.in_ok-open.ensures.hangs read c.ends_of-ends.result.low (omega arith))) in
+    let high = opened_within _ _ _ (λ image spares. spares) (spares_before _ _ _ _ one) _ c.args.level c.args.ptr c.args.leaf (c.args.level - 1) c.child_at-high.result
+    (rw c.child_at-high.ensures.child (c.in_ok-open.ensures.below read c.ends_of-ends.result.high c.ends_of-ends.ensures.order.1)) (rw c.child_at-high.ensures.child (c.in_ok-open.ensures.hangs read c.ends_of-ends.result.high c.ends_of-ends.ensures.order.1)) in
+    let made_low = IsWithin-then _ _ _ _ _ _ _ _ low _ _ _ (IsWithin-size _ _ _ _ _ _ opened.size _ _ _ (c.in_ok-new_low.ensures.within told_low)) in
+    let made_high = IsWithin-then _ _ _ _ _ _ _ _ high _ _ _ (IsWithin-size _ _ _ _ _ _ one.size _ _ _ (c.in_ok-new_high.ensures.within told_high)) in
+    IfOk-weaker c.mend_two.result _ _ (λ done within. IsWithin-size _ _ _ _ _ _ two.size _ _ _ within)
+    (c.mend_two.ensures.within _ _ honest (spares_before _ _ _ _ two)
+    (IsWithin-size _ _ _ _ _ _ (sym two.size) _ _ _ (IsWithin-fewer _ _ _ _ _ _ _ (spares_before _ _ _ _ c.in_ok-new_high.ensures.works.fills) _ _ made_low))
+    (IsWithin-size _ _ _ _ _ _ (sym two.size) _ _ _ made_high))

@@ -1,9 +1,12 @@
 use Rattle.std.proofs.Common.{zero-add, arith}
 use Rattle.std.proofs.lemmas.Result.{err_from_is_err_and}
 use Rattle.zst_block.proofs.Working.{Works-then, Works-more}
+use Rattle.zst_tree.specs.Damage.{NamesNode}
 use Rattle.zst_tree.specs.Indices.{span}
 use Rattle.zst_tree.proofs.Most.{most_two, most-single}
+use Rattle.zst_tree.proofs.Told.{NamesDamage-never, fault_after}
 use Rattle.zst_tree.proofs.Whole.{over, over_changed, range_holds}
+use Rattle.zst_tree.proofs.Within.{IsWithin-size, IsWithin-then}
 use Rattle.zst_tree.proofs.writes.put_range.Goals as goal
 
 pub returns-in_err-root-clause-puts : goal.returns-in_err-root-clause-puts
@@ -41,3 +44,16 @@ pub returns-clause-one : goal.returns-clause-one
 returns-clause-one g c = λ single.
     let one = most-single c.in_ok-grown.grown.levels c.args.first c.args.below single in
     Works-more (omega (arith, one, c.in_ok-grown.ensures.size.1, c.in_ok-grown.ensures.size.2)) (Works-then c.in_ok-grown.ensures.works c.in_ok-root.ensures.works)
+
+pub returns-in_err-grown-clause-damaged : goal.returns-in_err-grown-clause-damaged
+returns-in_err-grown-clause-damaged g c = λ honest.
+    let p = err_from_is_err_and c.from_residual.result c.from_residual.ensures.1 in
+    rw (p.1, p.2) (NamesDamage-never _ _ NamesNode c.args.tree.now.levels c.args.tree.now.root _ c.in_err-grown.ensures.never_damaged)
+
+pub returns-in_err-root-clause-damaged : goal.returns-in_err-root-clause-damaged
+returns-in_err-root-clause-damaged g c = λ honest.
+    let p = err_from_is_err_and c.from_residual-in_err-root.result c.from_residual-in_err-root.ensures.1 in
+    rw (p.1, p.2) (fault_after _ _ _ _ c.in_ok-grown.ensures.works.fills NamesNode c.args.tree.now.levels c.args.tree.now.root c.in_ok-grown.grown.levels c.in_ok-grown.grown.root (c.in_ok-grown.ensures.within c.args.leaf).below _ (c.in_err-root.ensures.damaged honest))
+
+pub returns-clause-within : goal.returns-clause-within
+returns-clause-within g c = λ honest. IsWithin-then _ _ _ _ _ _ _ _ (c.in_ok-grown.ensures.within c.args.leaf) _ _ _ (IsWithin-size _ _ _ _ _ _ c.in_ok-grown.ensures.works.fills.size _ _ _ (c.in_ok-root.ensures.within honest))

@@ -1,5 +1,8 @@
 use Rattle.std.proofs.lemmas.Result.{err_from_is_err_and}
+use Rattle.std.proofs.Common.{◌≡◌, ◌+◌, ◌-◌, ◌∙◌, arith}
+use Rattle.zst_tree.proofs.Told.{spares_before}
 use Rattle.zst_tree.proofs.Whole.{grown_parts, taller_stands}
+use Rattle.zst_tree.proofs.Within.{IsWithin-fewer, IsWithin-self, node_within, raised_within}
 use Rattle.zst_tree.proofs.writes.raise.Goals as goal
 
 pub returns-in_err-root-clause-raised : goal.returns-in_err-root-clause-raised
@@ -11,3 +14,16 @@ pub returns-clause-raised : goal.returns-clause-raised
 returns-clause-raised g c = λ whole stands.
     taller_stands _ c.args.tree whole c.in_ok-root.root stands.past
     (c.in_ok-root.ensures.whole 0 whole (grown_parts _ c.args.tree whole _ _ _ _ c.hole.ensures c.fill.ensures.fills c.put_child.ensures.puts stands))
+
+pub returns-clause-within : goal.returns-clause-within
+returns-clause-within g c = λ leaf.
+    let fills = c.in_ok-root.ensures.works.fills in
+    let same : (c.args.tree.levels + 1) - 1 ≡ c.args.tree.levels = omega arith in
+    let old = IsWithin-fewer _ _ _ _ _ _ _ (spares_before _ _ _ _ fills) _ _ (IsWithin-self _ _ c.args.tree.levels c.args.tree.root leaf) in
+    node_within _ _ _ (g.met.D.Disk.seen_size c.close.new.io.disk.now ∙ fills.size) c.in_ok-root.root _ c.in_ok-root.ensures.wrote _ c.args.tree.levels c.args.tree.root leaf (c.args.tree.levels + 1) (omega arith) c.in_ok-root.ensures.names
+    (rw same (raised_within _ _ _ _ _ _ _ _ _ _ _ c.args.tree.past c.args.tree.root c.hole.ensures c.fill.ensures.fills c.put_child.ensures.puts old))
+
+pub returns-in_err-root-clause-never_damaged : goal.returns-in_err-root-clause-never_damaged
+returns-in_err-root-clause-never_damaged g c = λ sector stated found is.
+    let p = err_from_is_err_and c.from_residual.result c.from_residual.ensures.1 in
+    c.in_err-root.ensures.never_damaged sector stated found (cc)

@@ -16,7 +16,7 @@ returns-clause-answer g c = λ told.
     let none : latest old.seen ≡ None = c.in_ok-find_none.ensures.answer (c.commit_dir-made.ensures.honest here) in
     let start : FreeSectors = record { end = 8; sectors = c.args.sectors; free = [] } in
     let space : c.new-space.result ≡ start = rw (c.new-space.ensures, c.new.ensures.items) refl in
-    let never = never-full c.new-space.result c.args.sectors c.new-3.result c.commit_dir-made.result space c.new-3.ensures c.requires.sectors.0 c.commit_dir-made.ensures.full c.commit_dir-made.ensures.fault in
+    let never = never-full c.new-space.result c.commit_dir-made.new.io.space c.args.sectors c.new-3.result c.commit_dir-made.result space c.new-3.ensures c.requires.sectors.0 c.commit_dir-made.ensures.full in
     CreateAnswers-commit old.size (latest old.seen) c.args.sectors _ _ c.commit_dir-made.result none (λ few. omega (arith, few, c.if-bytes-sectors.false, c.bytes.ensures, c.find_none.ensures.reads.size)) never over.answer
 
 pub returns-clause-made : goal.returns-clause-made

@@ -3,21 +3,18 @@ use Rattle.zst_model.specs.pools.Lines.{ok_line}
 use Rattle.zst_model.specs.pools.Step.{stepped}
 use Rattle.zst_pool.specs.Stepping.{StepAnswer}
 use Rattle.zst_pool.specs.declared.fault.PoolFault.TheVariants.{OutOfMemory, Full}
-use Rattle.zst_pool.specs.Reads.{free_by}
 use Rattle.zst_pool.proofs.Judging.{err_is}
-use Rattle.zst_pool.proofs.Replying.{step_reply, is_built_from}
-use Rattle.zst_pool.proofs.Room.{dir-short}
+use Rattle.zst_pool.proofs.Replying.{step_reply}
 use Rattle.zst_pool.proofs.pool.Pool.step.Goals as goal
 
 pub returns-clause-moments : goal.returns-clause-moments
 returns-clause-moments g c = λ pool told rests.
-    let built = is_built_from _ (sym c.is_not_built.ensures ∙ c.if-is_not_built.false) in
-    let did = c.in_ok-kept.ensures.did pool told built rests in
+    let did = c.in_ok-kept.ensures.runs.did pool told rests in
     did.moments
 
 pub returns-clause-answer : goal.returns-clause-answer
 returns-clause-answer g c = λ pool told built standing rests.
-    let did = c.in_ok-kept.ensures.did pool told built rests in
+    let did = c.in_ok-kept.ensures.runs.did pool told rests in
     let answer = did.answer in
     let is = step_reply c.args.now c.args.command pool answer.0 built answer.1 in
     let number : c.saturating_add.result ≡ pool.number + 1 = omega (arith, is.below, rests.reads.described.number, c.saturating_add.ensures) in
@@ -28,13 +25,12 @@ returns-clause-sound g c = λ pool done rests sound made. c.steps_keep_sound.ens
 
 pub returns-in_err-kept-clause-moments : goal.returns-in_err-kept-clause-moments
 returns-in_err-kept-clause-moments g c = λ pool told rests.
-    let built = is_built_from _ (sym c.is_not_built.ensures ∙ c.if-is_not_built.false) in
-    let did = c.in_err-kept.ensures.did pool told built rests in
+    let did = c.in_err-kept.ensures.runs.did pool told rests in
     did.moments
 
 pub returns-in_err-kept-clause-answer : goal.returns-in_err-kept-clause-answer
 returns-in_err-kept-clause-answer g c = λ pool told built standing rests.
-    let did = c.in_err-kept.ensures.did pool told built rests in
+    let did = c.in_err-kept.ensures.runs.did pool told rests in
     subst (StepAnswer (g.D.Disk.state c.run.new.io.disk.now) c.args.self.now.kept.body c.args.self.now.kept.dir pool (stepped [] c.args.now c.args.command pool))
     (sym (err_is c.from_residual-in_err-kept.result c.in_err-kept.field-0.0 c.from_residual-in_err-kept.ensures.1)) did.answer
 
@@ -57,9 +53,7 @@ returns-then-is_not_built-clause-sound g c = λ pool done rests sound made. c.st
 
 pub returns-in_err-kept-clause-full : goal.returns-in_err-kept-clause-full
 returns-in_err-kept-clause-full g c = λ pool need largest rests is.
-    let kept = c.args.self.now.kept in
     let fault = c.in_err-kept.field-0.0 in
     let answered = err_is c.from_residual-in_err-kept.result fault c.from_residual-in_err-kept.ensures.1 in
     let same : fault ≡ Full need largest = cc (answered, is) in
-    let short = dir-short (g.D.Disk.state c.args.self.now.io.disk.now).seen (free_by kept.body) kept.body kept.dir rests.reads.described.directory in
-    c.in_err-kept.ensures.full short need largest same
+    c.in_err-kept.ensures.runs.full need largest same

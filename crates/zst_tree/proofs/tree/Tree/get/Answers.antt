@@ -1,4 +1,4 @@
-use Rattle.std.proofs.Common.{arith}
+use Rattle.std.proofs.Common.{arith, inl}
 use Rattle.std.proofs.lemmas.Result.{IfOk-weaker}
 use Rattle.zst_tree.proofs.Finding.{shows_in}
 use Rattle.zst_tree.proofs.Results.{delivers_if}
@@ -13,3 +13,6 @@ returns-clause-shows g c = λ map honest is.
 
 pub returns-clause-range : goal.returns-clause-range
 returns-clause-range g c = IfOk-weaker c.find_in.result _ _ (λ found is. (is.0, omega (arith, is.1, span_limit c.args.self.now.levels c.requires.levels))) c.find_in.ensures.range
+
+pub returns-clause-hangs : goal.returns-clause-hangs
+returns-clause-hangs g c = λ honest. IfOk-weaker c.find_in.result _ _ (λ found hangs. inl hangs) (c.find_in.ensures.hangs honest)

@@ -1,0 +1,315 @@
+-- What the write of a block is refused for, and what it makes of an object.
+use Rattle.std.proofs.Common.{◌≡◌, ◌⊎◌, inl, inr, ℕ, zero, suc, ◌+◌, ◌*◌, ◌%◌, ◌^◌, ◌<◌, ◌≤◌, ◌==◌, ◌&&◌, nat_lt, not, max, Bool, true, false, List, length, refl, sym, ◌∙◌, ap, subst, arith, if◌then◌else◌, Option, Some, None, Result, Ok, Err, eq-eqb, mul-le-mul_right}
+use Rattle.std.proofs.Math.Nat.{mul-mod_left}
+use Rattle.std.proofs.lemmas.Bool.{cases_lt, cases_order}
+use Rattle.std.proofs.lemmas.Bool.Decides.{nat_tests}
+use Rattle.zst_space.specs.FreeSectors.{FreeSectors}
+use Rattle.zst_block.specs.Blocks.{Has, KeepsBlocks}
+use Rattle.zst_block.specs.Ptr.{PtrFits, is_lawful}
+use Rattle.zst_block.specs.declared.ptr.Ptr.{Ptr}
+use Rattle.zst_block.proofs.BlocksLaws.{IsBlock-length}
+use Rattle.zst_dnode.specs.Dnode.{DnodeFits, is_root}
+use Rattle.zst_dnode.specs.declared.dnode.Dnode.{Dnode}
+use Rattle.zst_model.specs.declared.refusals.apply_fault.ApplyFault.{ApplyFault}
+use Rattle.zst_model.specs.declared.refusals.apply_fault.ApplyFault.TheVariants.{NoObject, SizeDiffers, OddBlock, Unaligned}
+use Rattle.zst_model.specs.declared.refusals.faults.Quantity.TheVariants as quantities
+use Rattle.zst_model.specs.declared.refusals.refusal.Refusal.TheVariants as refusals
+use Rattle.zst_model.specs.declared.states.item.Change.{Change}
+use Rattle.zst_model.specs.declared.states.item.Change.TheVariants.{Write}
+use Rattle.zst_model.specs.declared.states.item.Item.TheVariants.{At}
+use Rattle.zst_model.specs.states.Apply.{apply, apply_change, is_unaligned, unless}
+use Rattle.zst_model.specs.states.Dated.{DatedState, size_at}
+use Rattle.zst_model.specs.states.State.{Block, Hole, Redacted, Data, BlockFits, IsObject, IsState, Object, end_of, index_bound, is_block_size, is_hole, is_number, is_odd_size, past_last}
+use Rattle.zst_model.specs.pools.Step.{in_indices, of_applying}
+use Rattle.zst_tree.specs.Indices.{Blocks, Map, Subtree, TreeIs, any_present}
+use Rattle.zst_tree.specs.declared.tree.Tree.{Tree}
+use Rattle.zst_objset.specs.Answers.{FindsThere, Refuses}
+use Rattle.zst_objset.specs.Changes.{block_written, changed, indices_changed}
+use Rattle.zst_objset.specs.Dnodes.{BlockIs, IsThere, ObjectIs}
+use Rattle.zst_objset.specs.Putting.{MakesDnode, dates_to}
+use Rattle.zst_objset.specs.Writing.{PutsData, write_judged}
+use Rattle.zst_objset.specs.declared.fault.ObjFault.{ObjFault}
+use Rattle.zst_objset.specs.declared.fault.ObjFault.TheVariants as faults
+use Rattle.zst_objset.proofs.AnswerLaws.{none_refused, in_indices_far, in_indices_ok, object_of}
+use Rattle.zst_objset.proofs.ChangePuts.{changed_is, changed_to}
+use Rattle.zst_objset.proofs.SetGrows.{ObjectIs-grows}
+use Rattle.zst_objset.proofs.SetOnly.{under_bound}
+
+past_step : (hole : Bool) (bound rest : ℕ) → rest ≤ bound → (if hole then rest else suc bound) ≤ suc bound
+past_step true bound rest le = omega arith
+past_step false bound rest le = omega arith
+
+past_bounded : (blocks : ℕ → Block) (bound : ℕ) → past_last blocks bound ≤ bound
+unfolding past_last
+past_bounded blocks zero = omega arith
+past_bounded blocks (suc bound) = past_step (is_hole (blocks bound)) bound (past_last blocks bound) (past_bounded blocks bound)
+
+past_more : (hole : Bool) (i bound before after : ℕ) → i < bound → after ≡ max before (i + 1) → (if hole then after else suc bound) ≡ max (if hole then before else suc bound) (i + 1)
+past_more true i bound before after less is = is
+past_more false i bound before after less is = omega arith
+
+-- the end of blocks of which one is no hole, and those past it are as they were
+pub past_last-put : (old new : ℕ → Block) (i : ℕ) → is_hole (new i) ≡ false → ((j : ℕ) → i < j → new j ≡ old j) → (bound : ℕ) → i < bound → past_last new bound ≡ max (past_last old bound) (i + 1)
+unfolding past_last
+past_last-put old new i there same zero less = absurd (omega arith)
+past_last-put old new i there same (suc bound) less = go (past_last-put old new i there same bound) (cases_lt i bound)
+  where
+    go : (i < bound → past_last new bound ≡ max (past_last old bound) (i + 1)) → (i < bound) ⊎ (bound ≤ i)
+        → (if is_hole (new bound) then past_last new bound else suc bound) ≡ max (if is_hole (old bound) then past_last old bound else suc bound) (i + 1)
+    go below (inl lower) = rw (same bound lower) (past_more (is_hole (old bound)) i bound (past_last old bound) (past_last new bound) lower (below lower))
+    go below (inr over) =
+        let here : i ≡ bound = omega arith in
+        let top : is_hole (new bound) ≡ false = subst (λ (n : ℕ). is_hole (new n) ≡ false) here there in
+        let le = past_step (is_hole (old bound)) bound (past_last old bound) (past_bounded old bound) in
+        rw top (omega (arith, le))
+
+-- the place of an index
+same_place : (size i j : ℕ) → 0 < size → (j * size == i * size) ≡ (j == i)
+same_place size i j some = go (cases_order j i)
+  where
+    go : (j ≡ i) ⊎ ((j < i) ⊎ (i < j)) → (j * size == i * size) ≡ (j == i)
+    go (inl same) = eq-eqb _ _ (ap (λ (n : ℕ). n * size) same) ∙ sym (eq-eqb _ _ same)
+    go (inr (inl lower)) = let more : suc j * size ≤ i * size = mul-le-mul_right size lower in grind (arith, nat_tests, more)
+    go (inr (inr higher)) = let more : suc i * size ≤ j * size = mul-le-mul_right size higher in grind (arith, nat_tests, more)
+
+some_place : (size i : ℕ) → 0 < size → nat_lt 0 (i * size) ≡ nat_lt 0 i
+some_place size zero some = grind (arith, nat_tests)
+some_place size (suc i) some = let more : suc 0 * size ≤ suc i * size = mul-le-mul_right size (omega arith) in grind (arith, nat_tests, more)
+
+-- the write of a whole block at an index of what stands at a number
+abbrev pub write_at : ℕ → List ℕ → Option Object → Change
+write_at i bytes there = Write (i * size_at there) 0 bytes
+
+-- an object with a block
+abbrev pub written_to : ℕ → List ℕ → Object → Object
+written_to i bytes object = record { attr = object.attr; blocks = λ j. if j * object.attr.block_size == i * object.attr.block_size then Data bytes else object.blocks j }
+
+passed : {A E : Type 0} → (test : Bool) (fault : E) (rest : Result A E) → test ≡ false → unless test fault rest ≡ rest
+passed test fault rest is = rw is refl
+
+-- what it makes of an object, or its refusals in their order
+write_some : (i : ℕ) (bytes : List ℕ) (object : Object) → 0 < object.attr.block_size
+    → apply_change (write_at i bytes (Some object)) (Some object)
+    ≡ unless (not (length bytes == object.attr.block_size)) SizeDiffers (unless (is_odd_size object.attr.block_size && nat_lt 0 i) OddBlock (Ok (Some (written_to i bytes object))))
+unfolding apply_change
+write_some i bytes object some =
+    let size = object.attr.block_size in
+    ap (unless (not (length bytes == size)) SizeDiffers)
+    (passed (is_unaligned size (i * size)) Unaligned _ (ap (λ (n : ℕ). not (n == 0)) (mul-mod_left i size))
+    ∙ ap (λ (b : Bool). unless (is_odd_size size && b) OddBlock (Ok (Some (written_to i bytes object)))) (some_place size i some))
+
+write_is : (i : ℕ) (bytes : List ℕ) (there : Option Object) (object : Object) → there ≡ Some object → 0 < object.attr.block_size
+    → apply_change (write_at i bytes there) there
+    ≡ unless (not (length bytes == object.attr.block_size)) SizeDiffers (unless (is_odd_size object.attr.block_size && nat_lt 0 i) OddBlock (Ok (Some (written_to i bytes object))))
+write_is i bytes there object is some = rw is (write_some i bytes object some)
+
+-- what an object may be written
+pub record IsWritable (size i count : ℕ) : Type 0 where
+  pub whole : count ≡ size
+  pub alone : is_odd_size size ≡ true → i ≡ 0
+  pub inside : i < 2 ^ 43
+
+pub judged : (size i count : ℕ) → Ok (tt {0}) ≡ write_judged size i count → IsWritable size i count
+unfolding index_bound
+judged size i count is = go (not (count == size)) (is_odd_size size && nat_lt 0 i) (nat_lt index_bound (i + 1)) refl refl refl is
+  where
+    go : (long odd far : Bool) → not (count == size) ≡ long → (is_odd_size size && nat_lt 0 i) ≡ odd → nat_lt index_bound (i + 1) ≡ far
+        → Ok (tt {0}) ≡ unless long (faults.CannotApply SizeDiffers) (unless odd (faults.CannotApply OddBlock) (unless far (faults.Limit quantities.Block index_bound) (Ok (tt {0}))))
+        → IsWritable size i count
+    go true odd far e0 e1 e2 e = absurd (cc)
+    go false true far e0 e1 e2 e = absurd (cc)
+    go false false true e0 e1 e2 e = absurd (cc)
+    go false false false e0 e1 e2 e = record { whole = grind (arith, nat_tests); alone = λ is. grind (arith, nat_tests); inside = grind (arith, nat_tests) }
+
+-- the write of an object that isn't there
+write_none : (number k i : ℕ) (bytes : List ℕ) (snap : DatedState) → snap.state k ≡ None → block_written number k i bytes snap ≡ Err (refusals.CannotApply 0 NoObject)
+unfolding apply apply_change
+write_none number k i bytes snap is = rw is refl
+
+pub write_not_there : (has : Blocks) (number k i : ℕ) (bytes : List ℕ) (snap : DatedState) (fault : ObjFault) → FindsThere has snap k (Err fault) → Refuses (block_written number k i bytes snap) fault
+write_not_there has number k i bytes snap fault is = none_refused (block_written number k i bytes snap) has snap k fault (write_none number k i bytes snap) is
+
+-- a block size, as a count of bytes
+pub block_some : (size : ℕ) → is_block_size size ≡ true → 0 < size
+unfolding is_block_size
+block_some size is = grind (arith, nat_tests)
+
+pub block_whole : (size : ℕ) → is_block_size size ≡ true → size % 512 ≡ 0
+unfolding is_block_size
+block_whole size is = grind (arith, nat_tests)
+
+-- the write of one that is there
+module _ (has : Blocks) (number k i : ℕ) (bytes : List ℕ) (snap : DatedState) (dnode : Dnode) (there : IsThere has snap k dnode) (lawful : IsState snap.state) where
+  is_object : IsObject there.object
+  is_object = object_of (snap.state k) there.object there.there (lawful.objects k)
+
+  some_size : 0 < there.object.attr.block_size
+  some_size = block_some there.object.attr.block_size is_object.attr.head.size
+
+  makes_write : apply_change (write_at i bytes (snap.state k)) (snap.state k)
+      ≡ unless (not (length bytes == dnode.block_size)) SizeDiffers (unless (is_odd_size dnode.block_size && nat_lt 0 i) OddBlock (Ok (Some (written_to i bytes there.object))))
+  makes_write = rw (there.is.size_is) (write_is i bytes (snap.state k) there.object there.there some_size)
+
+  write_err : (fault : ApplyFault) → apply_change (write_at i bytes (snap.state k)) (snap.state k) ≡ Err fault → block_written number k i bytes snap ≡ Err (refusals.CannotApply 0 fault)
+  unfolding apply
+  write_err fault is = rw is refl
+
+  -- the state after it
+  abbrev pub after_write : DatedState
+  after_write = changed_to number k (write_at i bytes (snap.state k)) snap (written_to i bytes there.object)
+
+  write_ok : apply_change (write_at i bytes (snap.state k)) (snap.state k) ≡ Ok (Some (written_to i bytes there.object))
+      → (changed number (At k (write_at i bytes (snap.state k))) snap ≡ Ok after_write) × (block_written number k i bytes snap ≡ in_indices (i + 1) (Ok after_write))
+  write_ok made =
+      let is = ap of_applying (changed_is number k (write_at i bytes (snap.state k)) snap (written_to i bytes there.object) made) in
+      (is, ap (indices_changed (i + 1)) is)
+
+  pub is_refused : (fault : ObjFault) → Err fault ≡ write_judged dnode.block_size i (length bytes) → Refuses (block_written number k i bytes snap) fault
+  unfolding index_bound
+  is_refused fault is = go (not (length bytes == dnode.block_size)) (is_odd_size dnode.block_size && nat_lt 0 i) (nat_lt index_bound (i + 1)) refl makes_write is
+    where
+      go : (long odd far : Bool) → nat_lt index_bound (i + 1) ≡ far
+          → apply_change (write_at i bytes (snap.state k)) (snap.state k) ≡ unless long SizeDiffers (unless odd OddBlock (Ok (Some (written_to i bytes there.object))))
+          → Err fault ≡ unless long (faults.CannotApply SizeDiffers) (unless odd (faults.CannotApply OddBlock) (unless far (faults.Limit quantities.Block index_bound) (Ok (tt {0}))))
+          → Refuses (block_written number k i bytes snap) fault
+      go true odd far far_is made e = let same : faults.CannotApply SizeDiffers ≡ fault = cc in subst (Refuses (block_written number k i bytes snap)) same (write_err SizeDiffers made)
+      go false true far far_is made e = let same : faults.CannotApply OddBlock ≡ fault = cc in subst (Refuses (block_written number k i bytes snap)) same (write_err OddBlock made)
+      go false false true far_is made e =
+          let same : faults.Limit quantities.Block index_bound ≡ fault = cc in
+          subst (Refuses (block_written number k i bytes snap)) same ((write_ok made).1 ∙ in_indices_far i after_write (grind (arith, nat_tests)))
+      go false false false far_is made e = absurd (cc)
+
+  module _ (may : IsWritable dnode.block_size i (length bytes)) where
+    is_made : apply_change (write_at i bytes (snap.state k)) (snap.state k) ≡ Ok (Some (written_to i bytes there.object))
+    is_made =
+        let whole : not (length bytes == dnode.block_size) ≡ false = grind (arith, nat_tests, may.whole) in
+        makes_write ∙ rw (whole, alone (is_odd_size dnode.block_size) may.alone) refl
+      where
+        alone : (odd : Bool) → (odd ≡ true → i ≡ 0) → (odd && nat_lt 0 i) ≡ false
+        alone true first = let zero_is : i ≡ 0 = first refl in rw zero_is refl
+        alone false first = refl
+
+    pub is_accepted : block_written number k i bytes snap ≡ Ok after_write
+    is_accepted = (write_ok is_made).1 ∙ in_indices_ok i after_write may.inside
+
+    pub is_change : block_written number k i bytes snap ≡ changed number (At k (write_at i bytes (snap.state k))) snap
+    is_change = is_accepted ∙ sym (write_ok is_made).0
+
+-- the root of a tree, of which index 0 has this block, is one that a dnode may have
+data_root : (image : List ℕ) (space : FreeSectors) (ptr : Ptr) (size : ℕ) (block : Block) → BlockIs (Has image space) ptr block → BlockFits size block → is_root 0 size ptr ≡ true
+data_root image space ptr size Hole is fits = rw is refl
+data_root image space ptr size Redacted is fits = rw is refl
+data_root image space ptr size (Data bytes) is fits = let long = IsBlock-length image ptr bytes is.1.block in grind (arith, nat_tests, is.0)
+
+node_root : (levels size : ℕ) (ptr : Ptr) (test : Bool) → ptr.kind ≡ (if test then 3 else 4) → (is_lawful ptr ≡ true) × (is_root (suc levels) size ptr ≡ true)
+node_root levels size ptr true is = let over : (suc levels == 0) ≡ false = grind (arith, nat_tests) in (rw is refl, rw (over, is) refl)
+node_root levels size ptr false is = let over : (suc levels == 0) ≡ false = grind (arith, nat_tests) in (rw is refl, rw (over, is) refl)
+
+root_at : (image : List ℕ) (space : FreeSectors) (levels size : ℕ) (root : Ptr) (whole : Map) (block : Block) → Subtree (Has image space) levels root 0 whole → BlockIs (Has image space) (whole 0) block → BlockFits size block
+    → (is_lawful root ≡ true) × (is_root levels size root ≡ true)
+unfolding Subtree
+root_at image space zero size root whole block (lawful, is) at fits = (lawful, data_root image space root size block (subst (λ (ptr : Ptr). BlockIs (Has image space) ptr block) is at) fits)
+root_at image space (suc levels) size root whole block (inl (lawful, flat, same)) at fits = (lawful, rw flat refl)
+root_at image space (suc levels) size root whole block (inr (bytes, node, below)) at fits = node_root levels size root (any_present bytes 128) node.kind_is
+
+pub tree_root : (image : List ℕ) (space : FreeSectors) (tree : Tree) (size : ℕ) (map : Map) (block : Block) → TreeIs (Has image space) tree map → BlockIs (Has image space) (map 0) block → BlockFits size block
+    → (is_lawful tree.root ≡ true) × (is_root tree.levels size tree.root ≡ true)
+tree_root image space tree size map block is at fits =
+    root_at image space tree.levels size tree.root is.whole block is.stands.below (subst (λ (ptr : Ptr). BlockIs (Has image space) ptr block) (is.agrees 0 (omega arith)) at) fits
+
+-- a dnode with another tree and another end
+abbrev pub with_tree : Dnode → Tree → ℕ → Dnode
+with_tree dnode tree end = record dnode { levels = tree.levels; past = tree.past; end = end; root = tree.root }
+
+-- an object with a block, whose tree was put
+module _ (old_image : List ℕ) (old_space : FreeSectors) (image : List ℕ) (space : FreeSectors) (keeps : KeepsBlocks old_image old_space image space) (number k i : ℕ) (bytes : List ℕ) (snap : DatedState) (dnode : Dnode)
+    (there : IsThere (Has old_image old_space) snap k dnode) (lawful : IsState snap.state) (may : IsWritable dnode.block_size i (length bytes)) (tree : Tree) (put : PutsData (Has image space) there.map i bytes number tree) where
+  size_is : size_at (snap.state k) ≡ there.object.attr.block_size
+  size_is = ap size_at there.there
+
+  size_over : 0 < there.object.attr.block_size
+  size_over = some_size (Has old_image old_space) number k i bytes snap dnode there lawful
+
+  is_now : ObjectIs (Has image space) dnode there.object (snap.number_date k) (snap.index_date k) there.map
+  is_now = ObjectIs-grows (Has old_image old_space) (Has image space) keeps dnode there.object (snap.number_date k) (snap.index_date k) there.map there.is
+
+  here : (j : ℕ) → (j == i) ≡ true → put.map j ≡ put.block
+  here j test = let same : j ≡ i = grind (arith, nat_tests) in put.puts.inside.is j (omega arith) (omega arith)
+
+  beside : (j : ℕ) → j < 2 ^ 44 → (j == i) ≡ false → put.map j ≡ there.map j
+  beside j less test = go (cases_lt j i)
+    where
+      go : (j < i) ⊎ (i ≤ j) → put.map j ≡ there.map j
+      go (inl lower) = put.puts.beside.before j (omega arith) lower
+      go (inr over) = let more : i + 1 ≤ j = grind (arith, nat_tests) in put.puts.beside.behind j more less
+
+  block_at : (j : ℕ) → j < index_bound → BlockIs (Has image space) (put.map j) ((written_to i bytes there.object).blocks j)
+  block_at j less = rw (same_place there.object.attr.block_size i j size_over) (go (j == i) refl)
+    where
+      go : (same : Bool) → (j == i) ≡ same → BlockIs (Has image space) (put.map j) (if same then Data bytes else there.object.blocks j)
+      go true test = rw (here j test) put.is
+      go false test = rw (beside j (under_bound j less) test) (is_now.blocks j less)
+
+  date_at : (j : ℕ) → j < index_bound → (put.map j).number ≡ dates_to number k (write_at i bytes (snap.state k)) snap j
+  date_at j less = rw (size_is) (rw (same_place there.object.attr.block_size i j size_over) (go (j == i) refl))
+    where
+      go : (same : Bool) → (j == i) ≡ same → (put.map j).number ≡ (if same then number else snap.index_date k j)
+      go true test = rw (here j test) put.date
+      go false test = rw (beside j (under_bound j less) test) (is_now.index_dates j less)
+
+  end_at : max dnode.end (i + 1) ≡ end_of (written_to i bytes there.object)
+  unfolding index_bound
+  end_at = ap (λ (n : ℕ). max n (i + 1)) is_now.end_is ∙ sym (past_last-put there.object.blocks (written_to i bytes there.object).blocks i full same index_bound may.inside)
+    where
+      full : is_hole ((written_to i bytes there.object).blocks i) ≡ false
+      full = let is : (i * there.object.attr.block_size == i * there.object.attr.block_size) ≡ true = eq-eqb _ _ refl in rw is refl
+
+      same : (j : ℕ) → i < j → (written_to i bytes there.object).blocks j ≡ there.object.blocks j
+      same j more = let is : (j == i) ≡ false = grind (arith, nat_tests) in rw (same_place there.object.attr.block_size i j size_over, is) refl
+
+  -- its dnode
+  pub writes_dnode : is_number k ≡ true → DnodeFits dnode → tree.levels ≤ 7 → tree.past < 2 ^ 64 → PtrFits tree.root → MakesDnode (Has image space) number k (write_at i bytes (snap.state k)) snap (with_tree dnode tree (max dnode.end (i + 1)))
+  unfolding index_bound
+  writes_dnode number_is fits levels past root_fits = record {
+    object = written_to i bytes there.object;
+    made = is_made (Has old_image old_space) number k i bytes snap dnode there lawful may;
+    lawful = (number_is, λ j over. rw (size_is) (let is : (j == i) ≡ false = grind (arith, nat_tests, may.inside) in rw (same_place there.object.attr.block_size i j size_over, is) refl));
+    fits = record {
+      head = fits.head;
+      bonus = fits.bonus;
+      date = fits.date;
+      levels = levels;
+      past = past;
+      end = omega (arith, fits.end, may.inside);
+      odd = λ is. omega (arith, fits.odd is, may.alone is);
+      root_fits = root_fits;
+      root_lawful = root.0;
+      root = root.1;
+      spill_fits = fits.spill_fits;
+      spill_lawful = fits.spill_lawful;
+      spill = fits.spill;
+    };
+    map = put.map;
+    is = record {
+      type_is = is_now.type_is;
+      bonus_type_is = is_now.bonus_type_is;
+      size_is = is_now.size_is;
+      bonus_is = is_now.bonus_is;
+      date_is = is_now.date_is;
+      end_is = end_at;
+      spill_is = is_now.spill_is;
+      tree = put.tree_is;
+      blocks = block_at;
+      index_dates = date_at;
+    };
+  }
+    where
+      block_fits : (j : ℕ) → BlockFits dnode.block_size ((written_to i bytes there.object).blocks j)
+      block_fits j = go (j * there.object.attr.block_size == i * there.object.attr.block_size)
+        where
+          go : (same : Bool) → BlockFits dnode.block_size (if same then Data bytes else there.object.blocks j)
+          go true = may.whole
+          go false = rw is_now.size_is ((is_object (Has old_image old_space) number k i bytes snap dnode there lawful).fits j)
+
+      root : (is_lawful tree.root ≡ true) × (is_root tree.levels dnode.block_size tree.root ≡ true)
+      root = tree_root image space tree dnode.block_size put.map ((written_to i bytes there.object).blocks 0) put.tree_is (block_at 0 (omega arith)) (block_fits 0)

@@ -1,0 +1,82 @@
+use Rattle.std.proofs.Common.{ℕ, ◌+◌, List, arith}
+use Rattle.std.proofs.lemmas.Result.{err_from_is_err_and}
+use Rattle.zst_space.specs.FreeSectors.{FreeSectors}
+use Rattle.zst_block.specs.Blocks.{Has, KeepsBlocks}
+use Rattle.zst_block.proofs.BlocksLaws.{FillsFree-then, KeepsBlocks-fills}
+use Rattle.zst_block.proofs.Working.{Works-after, Works-more, Works-then}
+use Rattle.zst_objset.specs.Ranges.{free_of}
+use Rattle.zst_objset.proofs.IndicesChanged.{Changes-indices, in_range, indices_not_there, past_indices}
+use Rattle.zst_objset.proofs.LeafLaws.{is_number_at, look_on}
+use Rattle.zst_objset.proofs.RangeLaws.{free_is, no_free}
+use Rattle.zst_objset.proofs.SetGrows.{SetHolds-grows}
+use Rattle.zst_objset.proofs.SpillLaws.{stops}
+use Rattle.std.proofs.Common.{Err}
+use Rattle.zst_block.specs.Blocks.{SparesTaken}
+use Rattle.zst_dnode.specs.declared.dnode.Dnode.{Dnode}
+use Rattle.zst_tree.specs.Damage.{SumsUp}
+use Rattle.zst_tree.proofs.Told.{fills_looks}
+use Rattle.zst_objset.proofs.DamageLaws.{told_before, object_told, set_after, set_spared, tree_told}
+use Rattle.zst_objset.proofs.ranges.punch.Goals as goal
+
+pub returns-in_err-dnode-clause-changed : goal.returns-in_err-dnode-clause-changed
+returns-in_err-dnode-clause-changed g c = λ state honest holds.
+    let p = err_from_is_err_and c.from_residual.result c.from_residual.ensures.1 in
+    rw (p.1, p.2) (indices_not_there c.args.number c.args.object (c.args.first + c.args.count) (free_of c.args.first c.args.count (state.state c.args.object)) state (Has (g.D.Disk.state c.object_there.new.io.disk.now).seen c.object_there.new.io.space) _ (no_free _ _) (c.in_err-dnode.ensures.found state honest holds))
+
+pub returns-in_err-check_range-clause-changed : goal.returns-in_err-check_range-clause-changed
+returns-in_err-check_range-clause-changed g c = λ state honest holds.
+    let p = err_from_is_err_and c.from_residual-in_err-check_range.result c.from_residual-in_err-check_range.ensures.1 in
+    let past = c.in_err-check_range.ensures.past in
+    let there = c.in_ok-dnode.ensures.found state honest holds in
+    rw (p.1, p.2, past.0) (past_indices (c.args.first + c.args.count) _ _ past.1 (free_is _ c.args.number c.args.object c.args.first c.args.count state c.in_ok-dnode.dnode holds.lawful there))
+
+pub returns-in_err-made-clause-changed : goal.returns-in_err-made-clause-changed
+returns-in_err-made-clause-changed g c = λ state honest holds.
+    let p = err_from_is_err_and c.from_residual-in_err-made.result c.from_residual-in_err-made.ensures.1 in
+    let there = c.in_ok-dnode.ensures.found state (c.in_err-made.ensures.works.fills.honest honest) holds in
+    let number = is_number_at c.args.object (omega arith) (omega (arith, c.in_ok-dnode.ensures.bound)) in
+    let is = free_is _ c.args.number c.args.object c.args.first c.args.count state c.in_ok-dnode.dnode holds.lawful there in
+    rw (p.1, p.2) (stops _ _ _ (in_range (c.args.first + c.args.count) _ _ c.in_ok-check_range.ensures.inside is) (c.in_err-made.ensures.made c.args.object state honest number holds.lawful there))
+
+pub returns-in_err-made-clause-works : goal.returns-in_err-made-clause-works
+returns-in_err-made-clause-works g c =
+    let p = err_from_is_err_and c.from_residual-in_err-made.result c.from_residual-in_err-made.ensures.1 in
+    rw (p.1, p.2) (Works-after c.in_ok-dnode.ensures.looks (Works-more (omega arith) c.in_err-made.ensures.works))
+
+pub returns-clause-works : goal.returns-clause-works
+returns-clause-works g c = Works-after c.in_ok-dnode.ensures.looks (Works-more (omega arith) (Works-then c.in_ok-made.ensures.works c.put_dnode.ensures.works))
+
+pub returns-clause-changed : goal.returns-clause-changed
+returns-clause-changed g c = λ state honest holds.
+    let old = g.D.Disk.state c.args.io.now.disk.now in
+    let mid = g.D.Disk.state c.object_there.new.io.disk.now in
+    let new = g.D.Disk.state c.punched.new.io.disk.now in
+    let made = c.in_ok-made.ensures in
+    let was_made = c.put_dnode.ensures.works.fills.honest honest in
+    let there = c.in_ok-dnode.ensures.found state (made.works.fills.honest was_made) holds in
+    let number = is_number_at c.args.object (omega arith) (omega (arith, c.in_ok-dnode.ensures.bound)) in
+    let reading : KeepsBlocks old.seen c.args.io.now.space mid.seen c.object_there.new.io.space =
+    look_on (λ (seen : List ℕ) (space : FreeSectors). KeepsBlocks old.seen c.args.io.now.space seen space) _ _ _ _ _ _ _ c.in_ok-dnode.ensures.looks (λ ptr bytes is. is) in
+    let writing : KeepsBlocks mid.seen c.object_there.new.io.space new.seen c.punched.new.io.space = KeepsBlocks-fills _ _ _ _ made.works.fills in
+    let grown = SetHolds-grows (Has old.seen c.args.io.now.space) (Has new.seen c.punched.new.io.space) (λ ptr bytes is. writing ptr bytes (reading ptr bytes is)) c.args.set.now state holds in
+    Changes-indices (c.args.first + c.args.count) _ _ _ c.in_ok-check_range.ensures.inside
+    (c.put_dnode.ensures.changed c.args.number (free_of c.args.first c.args.count (state.state c.args.object)) state honest grown (made.made c.args.object state was_made number holds.lawful there))
+
+pub returns-in_err-dnode-clause-damaged : goal.returns-in_err-dnode-clause-damaged
+returns-in_err-dnode-clause-damaged g c = λ honest.
+    let p = err_from_is_err_and c.from_residual.result c.from_residual.ensures.1 in
+    rw (p.1, p.2) (object_told _ _ _ c.args.set.now {T = Unit {0}} (Err _) (set_spared _ _ _ c.args.set.now Dnode (Unit {0}) _ (c.in_err-dnode.ensures.damaged honest)))
+
+pub returns-in_err-made-clause-damaged : goal.returns-in_err-made-clause-damaged
+returns-in_err-made-clause-damaged g c = λ honest.
+    let p = err_from_is_err_and c.from_residual-in_err-made.result c.from_residual-in_err-made.ensures.1 in
+    let old = g.D.Disk.state c.args.io.now.disk.now in
+    let stands = c.in_ok-dnode.ensures.stands (c.in_err-made.ensures.works.fills.honest honest) in
+    rw (p.1, p.2) (tree_told old c.args.io.now.space c.args.set.now (SumsUp (SparesTaken c.args.io.now.space old.seen)) c.in_ok-dnode.dnode stands _
+    (told_before (λ space seen. SumsUp (SparesTaken space seen)) c.in_ok-dnode.dnode.levels c.in_ok-dnode.dnode.root _ _ _ _ _ _ _ c.in_ok-dnode.ensures.looks _
+    (c.in_err-made.ensures.damaged honest)))
+
+pub returns-clause-damaged : goal.returns-clause-damaged
+returns-clause-damaged g c = λ honest.
+    let filled = FillsFree-then _ _ _ _ _ _ (fills_looks _ _ _ _ _ _ _ c.in_ok-dnode.ensures.looks) c.in_ok-made.ensures.works.fills in
+    object_told _ _ _ c.args.set.now c.put_dnode.result (set_after _ _ _ _ filled c.args.set.now c.put_dnode.result (c.put_dnode.ensures.damaged honest))

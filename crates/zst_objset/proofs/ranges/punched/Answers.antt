@@ -1,0 +1,92 @@
+use Rattle.std.proofs.Common.{ℕ, List, ap, sym, subst, if◌then◌else◌, Bool}
+use Rattle.std.proofs.lemmas.Result.{err_from_is_err_and}
+use Rattle.zst_block.specs.Blocks.{Has, KeepsBlocks}
+use Rattle.zst_block.specs.Ptr.{hole_of}
+use Rattle.zst_block.proofs.BlocksLaws.{IsBlock-length, KeepsBlocks-fills}
+use Rattle.zst_block.proofs.Working.{Works-after}
+use Rattle.zst_dnode.specs.declared.dnode.Dnode.{Dnode}
+use Rattle.zst_model.specs.states.State.{Hole}
+use Rattle.zst_space.specs.FreeSectors.{FreeSectors}
+use Rattle.zst_tree.specs.Indices.{TreeIs}
+use Rattle.zst_objset.specs.Putting.{MakesDnode}
+use Rattle.zst_objset.specs.Ranges.{free_of, put_range}
+use Rattle.zst_objset.proofs.AnswerLaws.{object_of}
+use Rattle.zst_objset.proofs.LeafLaws.{look_on}
+use Rattle.zst_objset.proofs.RangeLaws.{Fills-free, makes_range, tree_is}
+use Rattle.zst_objset.proofs.SetGrows.{ObjectIs-grows}
+use Rattle.zst_objset.proofs.Within.{Puts-range}
+use Rattle.std.proofs.Common.{arith}
+use Rattle.zst_block.specs.Blocks.{SparesTaken}
+use Rattle.zst_dnode.specs.Dnode.{DnodeFits}
+use Rattle.zst_objset.specs.Dnodes.{tree_of}
+use Rattle.zst_tree.specs.Damage.{NamesNode}
+use Rattle.zst_tree.proofs.Damage.{TellsNode-sums}
+use Rattle.zst_objset.proofs.DamageLaws.{told_before, sums_spared}
+use Rattle.zst_objset.proofs.TreeFits.{dnode_root, hole_fits, root_fits, with_tree_fits}
+use Rattle.zst_objset.proofs.ranges.punched.Goals as goal
+
+pub returns-in_err-end-clause-made : goal.returns-in_err-end-clause-made
+returns-in_err-end-clause-made g c = λ k state honest number lawful there.
+    let p = err_from_is_err_and c.from_residual.result c.from_residual.ensures.1 in
+    rw (p.1, p.2) (c.in_err-end.ensures.end there.object (state.number_date k) (state.index_date k) there.map honest there.is)
+
+pub returns-in_err-punch-clause-made : goal.returns-in_err-punch-clause-made
+returns-in_err-punch-clause-made g c = λ k state honest number lawful there.
+    let p = err_from_is_err_and c.from_residual-in_err-punch.result c.from_residual-in_err-punch.ensures.1 in
+    let had : TreeIs (Has (g.D.Disk.state c.args.io.now.disk.now).seen c.args.io.now.space) c.tree_of-tree.result there.map = tree_is _ c.args.dnode _ there.map c.tree_of-tree.ensures there.is.tree in
+    let tree = look_on (λ (seen : List ℕ) (space : FreeSectors). TreeIs (Has seen space) c.tree_of-tree.result there.map) _ _ _ _ _ _ _ c.in_ok-end.ensures.looks had in
+    rw (p.1, p.2) (c.in_err-punch.ensures.puts there.map _ honest tree (Puts-range c.args.first c.count_in_tree.result (hole_of c.args.number) there.map))
+
+pub returns-in_err-punch-clause-works : goal.returns-in_err-punch-clause-works
+returns-in_err-punch-clause-works g c =
+    let p = err_from_is_err_and c.from_residual-in_err-punch.result c.from_residual-in_err-punch.ensures.1 in
+    rw (p.1, p.2) (Works-after c.in_ok-end.ensures.looks c.in_err-punch.ensures.works)
+
+pub returns-clause-made : goal.returns-clause-made
+returns-clause-made g c = λ k state honest number lawful there.
+    let old = g.D.Disk.state c.args.io.now.disk.now in
+    let mid = g.D.Disk.state c.end_punched.new.io.disk.now in
+    let new = g.D.Disk.state c.punch.new.io.disk.now in
+    let had : TreeIs (Has old.seen c.args.io.now.space) c.tree_of-tree.result there.map = tree_is _ c.args.dnode _ there.map c.tree_of-tree.ensures there.is.tree in
+    let tree = look_on (λ (seen : List ℕ) (space : FreeSectors). TreeIs (Has seen space) c.tree_of-tree.result there.map) _ _ _ _ _ _ _ c.in_ok-end.ensures.looks had in
+    let reading : KeepsBlocks old.seen c.args.io.now.space mid.seen c.end_punched.new.io.space =
+    look_on (λ (seen : List ℕ) (space : FreeSectors). KeepsBlocks old.seen c.args.io.now.space seen space) _ _ _ _ _ _ _ c.in_ok-end.ensures.looks (λ ptr bytes is. is) in
+    let writing : KeepsBlocks mid.seen c.end_punched.new.io.space new.seen c.punch.new.io.space = KeepsBlocks-fills _ _ _ _ c.in_ok-punch.ensures.works.fills in
+    let has = Has new.seen c.punch.new.io.space in
+    let is = ObjectIs-grows (Has old.seen c.args.io.now.space) has (λ ptr bytes is. writing ptr bytes (reading ptr bytes is)) c.args.dnode there.object (state.number_date k) (state.index_date k) there.map there.is in
+    let object = object_of (state.state k) there.object there.there (lawful.objects k) in
+    let put = put_range c.args.first c.count_in_tree.result (hole_of c.args.number) there.map in
+    subst (λ (dnode : Dnode). MakesDnode has c.args.number k (free_of c.args.first c.args.count (state.state k)) state dnode) (sym c.with_tree.ensures.made)
+    (makes_range has c.args.number k c.args.first c.args.count (free_of c.args.first c.args.count (state.state k)) Hole (hole_of c.args.number) state c.args.dnode c.punch.new.self c.in_ok-end.end put there.object there.map is
+    (Fills-free has c.args.number k c.args.first c.args.count state there.object there.there object number)
+    (record {
+      holds = c.in_ok-punch.ensures.puts there.map put honest tree (Puts-range c.args.first c.count_in_tree.result (hole_of c.args.number) there.map);
+      puts = λ i less. ap (λ (b : Bool). if b then hole_of c.args.number else there.map i) (c.count_in_tree.ensures.same i less);
+      levels = c.in_ok-punch.ensures.levels;
+      root = c.with_tree.ensures.root;
+      past = c.with_tree.ensures.past;
+    })
+    (c.in_ok-end.ensures.end there.object (state.number_date k) (state.index_date k) there.map (c.in_ok-punch.ensures.works.fills.honest honest) there.is)
+    (λ ptr bytes is. IsBlock-length new.seen ptr bytes is.block) c.applied_is_state.ensures lawful c.requires.dnode)
+
+pub returns-clause-fits : goal.returns-clause-fits
+returns-clause-fits g c =
+    let fits = c.requires.dnode in
+    let end = c.in_ok-end.ensures.range in
+    let root = root_fits c.args.dnode.block_size (tree_of c.args.dnode) c.punch.new.self (hole_of c.args.number) (dnode_root c.args.dnode fits) (hole_fits c.args.dnode.block_size c.args.number) (rw c.tree_of-tree.ensures at c.in_ok-punch.ensures.root) in
+    subst (λ (dnode : Dnode). DnodeFits dnode) (sym c.with_tree.ensures.made)
+    (with_tree_fits c.args.dnode c.punch.new.self c.in_ok-end.end fits c.in_ok-punch.ensures.levels c.with_tree.ensures.root c.with_tree.ensures.past root
+    (omega (arith, end, fits.end)) (λ odd. omega (arith, end, fits.odd odd)))
+
+pub returns-in_err-end-clause-damaged : goal.returns-in_err-end-clause-damaged
+returns-in_err-end-clause-damaged g c = λ honest.
+    let p = err_from_is_err_and c.from_residual.result c.from_residual.ensures.1 in
+    rw (p.1, p.2) (sums_spared c.args.io.now.space _ _ _ _ _ (c.in_err-end.ensures.damaged honest))
+
+pub returns-in_err-punch-clause-damaged : goal.returns-in_err-punch-clause-damaged
+returns-in_err-punch-clause-damaged g c = λ honest.
+    let p = err_from_is_err_and c.from_residual-in_err-punch.result c.from_residual-in_err-punch.ensures.1 in
+    let old = g.D.Disk.state c.args.io.now.disk.now in
+    rw (p.1, p.2) (TellsNode-sums (SparesTaken c.args.io.now.space old.seen) old.size c.args.dnode.levels c.args.dnode.root _
+    (told_before (λ space seen. NamesNode) c.args.dnode.levels c.args.dnode.root _ _ _ _ _ _ _ c.in_ok-end.ensures.looks _
+    (rw c.tree_of-tree.ensures at (c.in_err-punch.ensures.damaged honest))))

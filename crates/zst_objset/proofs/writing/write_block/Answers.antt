@@ -1,0 +1,104 @@
+use Rattle.std.proofs.Common.{◌∙◌, ℕ, ◌+◌, max, Err, List, arith, ap, subst, sym, Result}
+use Rattle.zst_space.specs.FreeSectors.{FreeSectors}
+use Rattle.zst_block.specs.Blocks.{Has, KeepsBlocks}
+use Rattle.zst_block.proofs.BlocksLaws.{FillsFree-then, KeepsBlocks-fills}
+use Rattle.zst_block.proofs.Working.{Works-after, Works-block, Works-more, Works-then}
+use Rattle.zst_model.specs.declared.refusals.refusal.Refusal.{Refusal}
+use Rattle.zst_model.specs.states.Dated.{DatedState}
+use Rattle.zst_tree.specs.Indices.{TreeIs}
+use Rattle.zst_tree.specs.declared.tree.Tree.{Tree}
+use Rattle.zst_objset.specs.Answers.{Changes}
+use Rattle.zst_objset.specs.Dnodes.{tree_of}
+use Rattle.zst_objset.specs.Putting.{MakesDnode}
+use Rattle.zst_objset.specs.Sets.{SetHolds}
+use Rattle.zst_objset.proofs.LeafLaws.{is_number_at, look_on}
+use Rattle.zst_objset.proofs.SetGrows.{SetHolds-grows}
+use Rattle.zst_objset.proofs.SpillLaws.{stops}
+use Rattle.zst_objset.proofs.WriteLaws.{block_some, block_whole, is_accepted, is_change, is_refused, judged, with_tree, write_at, write_not_there, writes_dnode}
+use Rattle.zst_dnode.specs.Dnode.{DnodeFits}
+use Rattle.zst_dnode.specs.declared.dnode.Dnode.{Dnode}
+use Rattle.zst_model.specs.states.State.{index_bound}
+use Rattle.zst_tree.specs.Damage.{NamesNode}
+use Rattle.zst_tree.proofs.Told.{fills_looks}
+use Rattle.zst_objset.proofs.DamageLaws.{told_before, object_told, set_after, set_spared, tree_told}
+use Rattle.zst_objset.proofs.TreeFits.{data_fits, dnode_root, root_fits, with_tree_fits}
+use Rattle.zst_objset.proofs.writing.write_block.Goals as goal
+
+pub returns-in-Err-clause-changed : goal.returns-in-Err-clause-changed
+returns-in-Err-clause-changed g c = λ state honest holds.
+    write_not_there (Has (g.D.Disk.state c.object_there.new.io.disk.now).seen c.object_there.new.io.space) c.args.number c.args.object c.args.index c.args.bytes.now state c.in-Err.fault (c.in-Err.ensures.found state honest holds)
+
+pub returns-in-Err-judge_write-clause-changed : goal.returns-in-Err-judge_write-clause-changed
+returns-in-Err-judge_write-clause-changed g c = λ state honest holds.
+    is_refused (Has (g.D.Disk.state c.object_there.new.io.disk.now).seen c.object_there.new.io.space) c.args.number c.args.object c.args.index c.args.bytes.now state c.in-Ok.dnode (c.in-Ok.ensures.found state honest holds) holds.lawful
+    c.in-Err-judge_write.fault c.in-Err-judge_write.ensures.judged
+
+pub put_data-requires-clause-some : goal.put_data-requires-clause-some
+put_data-requires-clause-some g c = rw (judged _ _ _ c.in_default.ensures.judged).whole (block_some _ c.in-Ok.ensures.ranges.head.size)
+
+pub put_data-requires-clause-whole : goal.put_data-requires-clause-whole
+put_data-requires-clause-whole g c = rw (judged _ _ _ c.in_default.ensures.judged).whole (block_whole _ c.in-Ok.ensures.ranges.head.size)
+
+pub returns-in-Err-put_data-clause-changed : goal.returns-in-Err-put_data-clause-changed
+returns-in-Err-put_data-clause-changed g c = λ state honest holds.
+    let has = Has (g.D.Disk.state c.object_there.new.io.disk.now).seen c.object_there.new.io.space in
+    let there = c.in-Ok.ensures.found state (c.in-Err-put_data.ensures.works.fills.honest honest) holds in
+    let may = judged _ _ _ c.in_default.ensures.judged in
+    stops _ _ c.in-Err-put_data.fault (is_accepted has c.args.number c.args.object c.args.index c.args.bytes.now state c.in-Ok.dnode there holds.lawful may)
+    (c.in-Err-put_data.ensures.puts there.map honest (subst (λ (tree : Tree). TreeIs has tree there.map) (sym c.tree_of.ensures) there.is.tree))
+
+pub returns-in-Err-put_data-clause-works : goal.returns-in-Err-put_data-clause-works
+returns-in-Err-put_data-clause-works g c = Works-after c.in-Ok.ensures.looks (Works-more (omega arith) c.in-Err-put_data.ensures.works)
+
+pub returns-clause-changed : goal.returns-clause-changed
+returns-clause-changed g c = λ state honest holds.
+    let old = g.D.Disk.state c.args.io.now.disk.now in
+    let mid = g.D.Disk.state c.object_there.new.io.disk.now in
+    let new = g.D.Disk.state c.put_data.new.io.disk.now in
+    let was_put = c.put_dnode.ensures.works.fills.honest honest in
+    let there = c.in-Ok.ensures.found state (c.in-Ok-put_data.ensures.works.fills.honest was_put) holds in
+    let may = judged _ _ _ c.in_default.ensures.judged in
+    let put = c.in-Ok-put_data.ensures.puts there.map was_put (subst (λ (tree : Tree). TreeIs (Has mid.seen c.object_there.new.io.space) tree there.map) (sym c.tree_of.ensures) there.is.tree) in
+    let putting : KeepsBlocks mid.seen c.object_there.new.io.space new.seen c.put_data.new.io.space = KeepsBlocks-fills _ _ _ _ c.in-Ok-put_data.ensures.works.fills in
+    let reading : KeepsBlocks old.seen c.args.io.now.space mid.seen c.object_there.new.io.space =
+    look_on (λ (seen : List ℕ) (space : FreeSectors). KeepsBlocks old.seen c.args.io.now.space seen space) _ _ _ _ _ _ _ c.in-Ok.ensures.looks (λ ptr bytes is. is) in
+    let grown = SetHolds-grows (Has old.seen c.args.io.now.space) (Has new.seen c.put_data.new.io.space) (λ ptr bytes is. putting ptr bytes (reading ptr bytes is)) c.args.set.now state holds in
+    let change = write_at c.args.index c.args.bytes.now (state.state c.args.object) in
+    let makes = subst (MakesDnode (Has new.seen c.put_data.new.io.space) c.args.number c.args.object change state) (sym (c.with_tree.ensures.made ∙ ap (with_tree c.in-Ok.dnode c.in-Ok-put_data.tree) c.max-end.ensures))
+    (writes_dnode mid.seen c.object_there.new.io.space new.seen c.put_data.new.io.space putting c.args.number c.args.object c.args.index c.args.bytes.now state c.in-Ok.dnode there holds.lawful may c.in-Ok-put_data.tree put
+    (is_number_at c.args.object c.requires.object c.in-Ok.ensures.bound) c.in-Ok.ensures.ranges c.in-Ok-put_data.ensures.levels c.with_tree.ensures.past c.with_tree.ensures.root) in
+    let last = g.D.Disk.state c.put_dnode.new.io.disk.now in
+    subst (λ (definition : Result DatedState Refusal). Changes (SetHolds (Has last.seen c.put_dnode.new.io.space) c.put_dnode.new.set) definition c.put_dnode.result)
+    (sym (is_change (Has mid.seen c.object_there.new.io.space) c.args.number c.args.object c.args.index c.args.bytes.now state c.in-Ok.dnode there holds.lawful may))
+    (c.put_dnode.ensures.changed c.args.number change state honest grown makes)
+
+pub returns-clause-works : goal.returns-clause-works
+returns-clause-works g c = Works-after c.in-Ok.ensures.looks (Works-more (omega arith) (Works-then c.in-Ok-put_data.ensures.works (Works-block c.put_dnode.ensures.works)))
+
+pub put_dnode-requires-clause-dnode : goal.put_dnode-requires-clause-dnode
+unfolding index_bound
+put_dnode-requires-clause-dnode g c =
+    let may = judged _ _ _ c.in_default.ensures.judged in
+    let fits = c.in-Ok.ensures.ranges in
+    let put = c.in-Ok-put_data.ensures.root in
+    let root = root_fits c.in-Ok.dnode.block_size (tree_of c.in-Ok.dnode) c.in-Ok-put_data.tree put.block (dnode_root c.in-Ok.dnode fits) (data_fits c.in-Ok.dnode.block_size put.block put.kind (put.length_is ∙ may.whole)) (rw c.tree_of.ensures at put.root) in
+    subst (λ (dnode : Dnode). DnodeFits dnode) (sym (c.with_tree.ensures.made ∙ ap (with_tree c.in-Ok.dnode c.in-Ok-put_data.tree) c.max-end.ensures))
+    (with_tree_fits c.in-Ok.dnode c.in-Ok-put_data.tree (max c.in-Ok.dnode.end (c.args.index + 1)) fits c.in-Ok-put_data.ensures.levels c.with_tree.ensures.root c.with_tree.ensures.past root
+    (omega (arith, fits.end, may.inside)) (λ odd. omega (arith, fits.odd odd, may.alone odd)))
+
+pub returns-in-Err-clause-damaged : goal.returns-in-Err-clause-damaged
+returns-in-Err-clause-damaged g c = λ honest.
+    object_told _ _ NamesNode c.args.set.now {T = Unit {0}} (Err c.in-Err.fault) (set_spared _ _ _ c.args.set.now Dnode (Unit {0}) c.in-Err.fault (c.in-Err.ensures.damaged honest))
+
+pub returns-in-Err-put_data-clause-damaged : goal.returns-in-Err-put_data-clause-damaged
+returns-in-Err-put_data-clause-damaged g c = λ honest.
+    let old = g.D.Disk.state c.args.io.now.disk.now in
+    let stands = c.in-Ok.ensures.stands (c.in-Err-put_data.ensures.works.fills.honest honest) in
+    tree_told old c.args.io.now.space c.args.set.now NamesNode c.in-Ok.dnode stands c.in-Err-put_data.fault
+    (told_before (λ space seen. NamesNode) c.in-Ok.dnode.levels c.in-Ok.dnode.root _ _ _ _ _ _ _ c.in-Ok.ensures.looks _
+    (rw c.tree_of.ensures at (c.in-Err-put_data.ensures.damaged honest)))
+
+pub returns-clause-damaged : goal.returns-clause-damaged
+returns-clause-damaged g c = λ honest.
+    let filled = FillsFree-then _ _ _ _ _ _ (fills_looks _ _ _ _ _ _ _ c.in-Ok.ensures.looks) c.in-Ok-put_data.ensures.works.fills in
+    object_told _ _ NamesNode c.args.set.now c.put_dnode.result (set_after _ _ _ _ filled c.args.set.now c.put_dnode.result (c.put_dnode.ensures.damaged honest))

@@ -1,0 +1,33 @@
+-- What a change of a range of indices makes of an object, and what it is refused for.
+use Rattle.std.specs.Prelude.{ℕ, ◌+◌, ◌*◌, not, Option, Result, Ok, if◌then◌else◌, nat_lt, ◌==◌, ◌||◌, ◌&&◌}
+use Rattle.zst_dnode.specs.declared.dnode.Dnode.{Dnode}
+use Rattle.zst_model.specs.declared.refusals.apply_fault.ApplyFault.{ApplyFault}
+use Rattle.zst_model.specs.declared.refusals.apply_fault.ApplyFault.TheVariants.{OddBlock, NotUserData}
+use Rattle.zst_model.specs.declared.states.item.Change.{Change}
+use Rattle.zst_model.specs.declared.states.item.Change.TheVariants.{Free, Redact}
+use Rattle.zst_model.specs.states.Apply.{unless, within}
+use Rattle.zst_model.specs.states.Dated.{size_at}
+use Rattle.zst_model.specs.states.State.{Block, Object, is_odd_size}
+
+-- a FREE of a range of indices of what stands at a number: an index stands at the byte place `i * block size`
+abbrev pub free_of : ℕ → ℕ → Option Object → Change
+free_of first count object = Free (first * size_at object) (count * size_at object)
+
+-- a REDACT of one
+abbrev pub redact_of : ℕ → ℕ → Option Object → Change
+redact_of first count object = Redact (first * size_at object) (count * size_at object)
+
+-- what it was, but for this at each index of a range
+abbrev pub put_range : {X : Type 0} → ℕ → ℕ → X → (ℕ → X) → ℕ → X
+put_range first count x f i = if within first count i then x else f i
+
+-- an object with this block at each index of a range
+abbrev pub with_range : ℕ → ℕ → Block → Object → Object
+with_range first count block object = record { attr = object.attr; blocks = put_range first count block object.blocks }
+
+-- what a redaction of a range of an object's indices is refused for: it isn't user data, or its block size is odd and the range has an index over 0
+abbrev pub redaction_check : Dnode → ℕ → ℕ → Result (Unit {0}) ApplyFault
+redaction_check dnode first count =
+    unless (not (dnode.type_ == 19 || dnode.type_ == 23)) NotUserData
+    (unless (is_odd_size dnode.block_size && (nat_lt 0 count && nat_lt 1 (first + count))) OddBlock
+    (Ok tt))

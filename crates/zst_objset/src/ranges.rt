@@ -1,0 +1,216 @@
+//! The calls that change a range of an object's indices.
+ghost use Rattle.std.specs.Prelude.{◌≡◌, ◌⊎◌, ◌+◌, ◌<◌, ◌≤◌, ◌^◌, ℕ, true, max, IfErr, IfOk, Ok, OnErr, OnOk};
+ghost use Rattle.zst_block.specs.Blocks.{FitsDisk, Has, SparesTaken};
+ghost use Rattle.zst_block.specs.Working.{Looks, Works, stop_of as block_stop};
+ghost use Rattle.zst_dnode.specs.Dnode.{DnodeFits};
+ghost use Rattle.zst_model.specs.declared.refusals.faults.Quantity.TheVariants.{Block};
+ghost use Rattle.zst_model.specs.states.Apply.{within};
+ghost use Rattle.zst_model.specs.states.Dated.{DatedState};
+ghost use Rattle.zst_model.specs.states.State.{Object, Hole, Redacted, IsState, end_of, index_bound, is_number};
+ghost use Rattle.zst_tree.specs.Damage.{IsSeen, NamesDamage, NamesNode, SumsUp};
+ghost use Rattle.zst_tree.specs.Indices.{Delivers, Map};
+ghost use Rattle.zst_objset.specs.Answers.{Changes, stop_of};
+ghost use Rattle.zst_objset.specs.Changes.{holes_made, range_redacted};
+ghost use Rattle.zst_objset.specs.Damage.{IfSetDamaged, IsDamagedObject};
+ghost use Rattle.zst_objset.specs.Dnodes.{IsThere, ObjectIs};
+ghost use Rattle.zst_objset.specs.Putting.{MakesDnode};
+ghost use Rattle.zst_objset.specs.Ranges.{free_of, redact_of, redaction_check, with_range};
+ghost use Rattle.zst_objset.specs.Sets.{SetHolds};
+ghost use Rattle.zst_objset.specs.declared.fault.ObjFault.TheVariants as faults;
+
+use crate::answers::object_there;
+use crate::changing::{put_dnode, with_tree};
+use crate::fault::ObjFault;
+use crate::trees::tree_of;
+use zst_block::{BlockFault, Io};
+use zst_dnode::Dnode;
+use zst_laws::applied_is_state;
+use zst_model::limits::INDEX_BOUND;
+use zst_model::{ApplyFault, Quantity};
+use zst_outside::Disk;
+use zst_tree::ObjSet;
+
+// E23 where a range ends past the last index. The sum may be past 64 bits.
+#[tactic(auto, unfolding(zst_model::specs::states::State::index_bound))]
+fn check_range(first: u64, count: u64) -> Result<(), ObjFault>
+    ensures inside { OnOk result (first + count ≤ index_bound) }
+    ensures past { IfErr result (λ fault. (fault ≡ faults.Limit Block index_bound) × (index_bound < first + count)) }
+{
+    if first.saturating_add(count) > INDEX_BOUND {
+        return Err(ObjFault::Limit {
+            which: Quantity::Block,
+            number: INDEX_BOUND,
+        });
+    }
+    Ok(())
+}
+
+// Whether a range of an object's indices may be redacted.
+fn check_redaction(dnode: &Dnode, first: u64, count: u64) -> Result<(), ApplyFault>
+    ensures { result ≡ redaction_check dnode.now first count }
+{
+    if dnode.type_ != 19 && dnode.type_ != 23 {
+        return Err(ApplyFault::NotUserData);
+    }
+    if !dnode.block_size.is_power_of_two() && count > 0 && first.saturating_add(count) > 1 {
+        return Err(ApplyFault::OddBlock);
+    }
+    Ok(())
+}
+
+// How many indices of a tree are to be punched. Where the object's end, all that the tree has past
+// them is punched too, so that it needs no nodes for them.
+#[tactic(auto, unfolding(zst_model::specs::states::State::index_bound))]
+fn count_in_tree(first: u64, count: u64) -> u64
+    requires { first + count ≤ index_bound }
+    ensures same { (i : ℕ) → i < index_bound → within first result i ≡ within first count i }
+    ensures range { first + result ≤ 2 ^ 44 }
+{
+    if first + count == INDEX_BOUND {
+        zst_tree::INDEX_BOUND - first
+    } else {
+        count
+    }
+}
+
+// The end of an object with holes in a range.
+#[tactic(auto, unfolding(zst_model::specs::states::State::index_bound))]
+fn end_punched<D: Disk>(
+    io: &mut Io<'_, D>,
+    dnode: &Dnode,
+    first: u64,
+    count: u64,
+) -> Result<u64, BlockFault>
+    requires levels { dnode.now.levels ≤ 7 }
+    requires range { first + count ≤ index_bound }
+    requires fits { FitsDisk (D.state io.old.disk.now).size io.old.space }
+    ensures end { (object : Object) (date : ℕ) (dates : ℕ → ℕ) (map : Map) → (D.state io.new.disk.now).honest → ObjectIs (Has (D.state io.old.disk.now).seen io.old.space) dnode.now object date dates map
+        → Delivers (λ end. end ≡ end_of (with_range first count Hole object)) result }
+    ensures range { IfOk result (λ end. end ≤ dnode.now.end) }
+    ensures damaged { (D.state io.new.disk.now).honest → NamesDamage (IsSeen (D.state io.old.disk.now).seen) (D.state io.old.disk.now).size (SumsUp (IsSeen (D.state io.old.disk.now).seen)) dnode.now.levels dnode.now.root result }
+    ensures looks { Looks (D.state io.old.disk.now) io.old.space io.old.failed (D.state io.new.disk.now) io.new.space io.new.failed (block_stop result) }
+    ensures kept_fit { FitsDisk (D.state io.new.disk.now).size io.new.space }
+    ensures same { io.new.disk.ghost_name ≡ io.old.disk.ghost_name }
+{
+    if dnode.end <= first || first + count < dnode.end {
+        return Ok(dnode.end);
+    }
+    match tree_of(dnode).last_below(io, first)? {
+        Some(last) => Ok(last + 1),
+        None => Ok(0),
+    }
+}
+
+// The end of an object with redacted blocks in a range.
+#[tactic(auto, unfolding(zst_model::specs::states::State::index_bound))]
+fn end_redacted(end: u64, first: u64, count: u64) -> u64
+    requires { first + count ≤ index_bound }
+    ensures range { (result ≡ end) ⊎ ((0 < count) × (result ≡ max end (first + count))) }
+    ensures end { (object : Object) → end ≡ end_of object → result ≡ end_of (with_range first count Redacted object) }
+{
+    if count == 0 {
+        end
+    } else {
+        end.max(first + count)
+    }
+}
+
+// The dnode of an object with holes in a range.
+fn punched<D: Disk>(
+    io: &mut Io<'_, D>,
+    dnode: Dnode,
+    first: u64,
+    count: u64,
+    number: u64,
+) -> Result<Dnode, BlockFault>
+    requires dnode { DnodeFits dnode }
+    requires range { first + count ≤ index_bound }
+    requires fits { FitsDisk (D.state io.old.disk.now).size io.old.space }
+    ensures made { (k : ℕ) (state : DatedState) → (D.state io.new.disk.now).honest → is_number k ≡ true → IsState state.state → IsThere (Has (D.state io.old.disk.now).seen io.old.space) state k dnode
+        → Delivers (MakesDnode (Has (D.state io.new.disk.now).seen io.new.space) number k (free_of first count (state.state k)) state) result }
+    ensures fits { IfOk result DnodeFits }
+    ensures damaged { (D.state io.new.disk.now).honest → NamesDamage (SparesTaken io.old.space (D.state io.old.disk.now).seen) (D.state io.old.disk.now).size (SumsUp (SparesTaken io.old.space (D.state io.old.disk.now).seen)) dnode.levels dnode.root result }
+    ensures works { Works 320 16 (D.state io.old.disk.now) io.old.space io.old.failed (D.state io.new.disk.now) io.new.space io.new.failed (block_stop result) }
+    ensures same { io.new.disk.ghost_name ≡ io.old.disk.ghost_name }
+{
+    applied_is_state();
+    let end = end_punched(io, &dnode, first, count)?;
+    let mut tree = tree_of(&dnode);
+    tree.punch(io, first, count_in_tree(first, count), number)?;
+    Ok(with_tree(dnode, tree, end))
+}
+
+// The dnode of an object with redacted blocks in a range.
+#[tactic(auto, unfolding(zst_model::specs::states::State::index_bound))]
+fn redacted<D: Disk>(
+    io: &mut Io<'_, D>,
+    dnode: Dnode,
+    first: u64,
+    count: u64,
+    number: u64,
+) -> Result<Dnode, BlockFault>
+    requires dnode { DnodeFits dnode }
+    requires checked { redaction_check dnode first count ≡ Ok tt }
+    requires range { first + count ≤ index_bound }
+    requires fits { FitsDisk (D.state io.old.disk.now).size io.old.space }
+    ensures made { (k : ℕ) (state : DatedState) → (D.state io.new.disk.now).honest → is_number k ≡ true → IsState state.state → IsThere (Has (D.state io.old.disk.now).seen io.old.space) state k dnode
+        → Delivers (MakesDnode (Has (D.state io.new.disk.now).seen io.new.space) number k (redact_of first count (state.state k)) state) result }
+    ensures fits { IfOk result DnodeFits }
+    ensures damaged { (D.state io.new.disk.now).honest → NamesDamage (SparesTaken io.old.space (D.state io.old.disk.now).seen) (D.state io.old.disk.now).size NamesNode dnode.levels dnode.root result }
+    ensures works { Works 320 16 (D.state io.old.disk.now) io.old.space io.old.failed (D.state io.new.disk.now) io.new.space io.new.failed (block_stop result) }
+    ensures same { io.new.disk.ghost_name ≡ io.old.disk.ghost_name }
+{
+    applied_is_state();
+    let mut tree = tree_of(&dnode);
+    tree.redact(io, first, count, number)?;
+    Ok(with_tree(dnode, tree, end_redacted(dnode.end, first, count)))
+}
+
+/// Makes holes of `count` indices.
+pub(crate) fn punch<D: Disk>(
+    set: &mut ObjSet,
+    io: &mut Io<'_, D>,
+    object: u64,
+    first: u64,
+    count: u64,
+    number: u64,
+) -> Result<(), ObjFault>
+    requires object { 0 < object }
+    requires fits { FitsDisk (D.state io.old.disk.now).size io.old.space }
+    ensures changed { (state : DatedState) → (D.state io.new.disk.now).honest → SetHolds (Has (D.state io.old.disk.now).seen io.old.space) set.old state
+        → Changes (SetHolds (Has (D.state io.new.disk.now).seen io.new.space) set.new) (holes_made number object first count state) result }
+    ensures damaged { (D.state io.new.disk.now).honest → IfSetDamaged result (IsDamagedObject (SparesTaken io.old.space (D.state io.old.disk.now).seen) (D.state io.old.disk.now).size (SumsUp (SparesTaken io.old.space (D.state io.old.disk.now).seen)) set.old) }
+    ensures kept { OnErr result (set.new ≡ set.old) }
+    ensures works { Works 1280 16 (D.state io.old.disk.now) io.old.space io.old.failed (D.state io.new.disk.now) io.new.space io.new.failed (stop_of result) }
+    ensures same { io.new.disk.ghost_name ≡ io.old.disk.ghost_name }
+{
+    let dnode = object_there(set, io, object)?;
+    check_range(first, count)?;
+    let made = punched(io, dnode, first, count, number)?;
+    put_dnode(set, io, object, made)
+}
+
+/// Redacts `count` indices.
+pub(crate) fn redact_range<D: Disk>(
+    set: &mut ObjSet,
+    io: &mut Io<'_, D>,
+    object: u64,
+    first: u64,
+    count: u64,
+    number: u64,
+) -> Result<(), ObjFault>
+    requires object { 0 < object }
+    requires fits { FitsDisk (D.state io.old.disk.now).size io.old.space }
+    ensures changed { (state : DatedState) → (D.state io.new.disk.now).honest → SetHolds (Has (D.state io.old.disk.now).seen io.old.space) set.old state
+        → Changes (SetHolds (Has (D.state io.new.disk.now).seen io.new.space) set.new) (range_redacted number object first count state) result }
+    ensures damaged { (D.state io.new.disk.now).honest → IfSetDamaged result (IsDamagedObject (SparesTaken io.old.space (D.state io.old.disk.now).seen) (D.state io.old.disk.now).size NamesNode set.old) }
+    ensures kept { OnErr result (set.new ≡ set.old) }
+    ensures works { Works 1280 16 (D.state io.old.disk.now) io.old.space io.old.failed (D.state io.new.disk.now) io.new.space io.new.failed (stop_of result) }
+    ensures same { io.new.disk.ghost_name ≡ io.old.disk.ghost_name }
+{
+    let dnode = object_there(set, io, object)?;
+    check_redaction(&dnode, first, count)?;
+    check_range(first, count)?;
+    let made = redacted(io, dnode, first, count, number)?;
+    put_dnode(set, io, object, made)
+}
