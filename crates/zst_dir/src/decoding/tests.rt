@@ -42,22 +42,23 @@ fn push_bookmark(out: &mut Vec<u8>, name: &str) -> Result<(), AllocError> {
     push_ptr(out, &Ptr::hole(5))
 }
 
-// Spells a partial state of an increment from a snapshot.
+// Spells a partial state: its features, the source's guid, and both sets of guids are given.
 fn push_partial(
     out: &mut Vec<u8>,
-    target: &str,
-    component: &str,
-    base: &str,
+    (target, component, base): (&str, &str, &str),
+    (features, from): (u64, u64),
+    redact: &[u64],
+    from_redact: &[u64],
 ) -> Result<(), AllocError> {
     push_text(out, target.as_bytes())?;
     push_text(out, component.as_bytes())?;
     push_word(out, 1)?;
-    for number in [3, 0x4, 0x14, 1_700_000_001, 101, 100] {
+    for number in [3, 0x4, features, 1_700_000_001, 101, from] {
         push_word(out, number)?;
     }
     push_text(out, b"a/b@\xff")?;
-    push_words(out, &[])?;
-    push_words(out, &[9])?;
+    push_words(out, redact)?;
+    push_words(out, from_redact)?;
     push_text(out, base.as_bytes())?;
     push_set(out, &ObjSet::empty())?;
     push_word(out, 1 << 47)?;
@@ -73,7 +74,7 @@ fn sample(alloc: Global) -> Result<Vec<u8>, AllocError> {
     push_word(&mut out, 1)?;
     push_bookmark(&mut out, "t#b")?;
     push_word(&mut out, 1)?;
-    push_partial(&mut out, "t", "c", "t@a")?;
+    push_partial(&mut out, ("t", "c", "t@a"), (0x14, 100), &[], &[9])?;
     Ok(out)
 }
 
@@ -178,14 +179,12 @@ fn a_guid_of_0_or_a_header_that_no_stream_states_is_none(rt: HostRuntime) -> Res
         (93, 0, false),
         (119, 1, true),
         (119, 0, false),
-        // The source's guid of a full stream is 0.
-        (120, 0, true),
         // The kind, the flags and the features of the partial state.
         (115, 2, true),
         (115, 4, false),
         (116, (1 << 32) - 1, true),
         (116, 1 << 32, false),
-        (117, (1 << 30) - 1, true),
+        (117, (1 << 30) - 1 - (3 << 20), true),
         (117, 1 << 30, false),
         // Its name, whole and with a zero byte in it.
         (122, 0x0000_00fe_4062_2f61, true),
@@ -193,6 +192,47 @@ fn a_guid_of_0_or_a_header_that_no_stream_states_is_none(rt: HostRuntime) -> Res
     ] {
         let bytes = sample_with(rt.alloc(), place, number)?;
         assert_eq!(rt; is_dir(rt.alloc(), &bytes)?, lawful, "{number} at {place}");
+    }
+    Ok(())
+}
+
+// The bytes of one dataset and a full or incremental stream received into another.
+fn receiving(
+    alloc: Global,
+    fields: (u64, u64),
+    redact: &[u64],
+    from_redact: &[u64],
+) -> Result<Vec<u8>, AllocError> {
+    let mut out = Vec::new(alloc);
+    push_word(&mut out, 0)?;
+    push_word(&mut out, 0)?;
+    push_word(&mut out, 1)?;
+    push_partial(&mut out, ("t", "c", ""), fields, redact, from_redact)?;
+    Ok(out)
+}
+
+#[test]
+fn guids_stand_only_beside_their_feature_and_their_source(rt: HostRuntime) -> Result<(), Fail> {
+    const RESUMING: u64 = 1 << 20;
+    const REDACTED: u64 = 1 << 21;
+    let none: &[u64] = &[];
+    let one: &[u64] = &[9];
+    for (fields, redact, from_redact, lawful) in [
+        // The source's guid of a full stream is 0, and it has no redaction guids then.
+        ((4, 0), none, none, true),
+        ((4, 0), none, one, false),
+        ((4, 8), none, none, true),
+        ((4, 8), none, one, true),
+        // Redaction guids stand exactly where the stream has REDACTED.
+        ((4, 0), one, none, false),
+        ((4 | REDACTED, 0), one, none, true),
+        ((4 | REDACTED, 0), none, none, false),
+        ((4 | REDACTED, 8), one, one, true),
+        // A stream that was asked for by a token is kept with the header of the first.
+        ((4 | RESUMING, 0), none, none, false),
+    ] {
+        let bytes = receiving(rt.alloc(), fields, redact, from_redact)?;
+        assert_eq!(rt; is_dir(rt.alloc(), &bytes)?, lawful, "{fields:?} {redact:?} {from_redact:?}");
     }
     Ok(())
 }
@@ -252,7 +292,7 @@ fn names_that_are_not_there_are_none(rt: HostRuntime) -> Result<(), Fail> {
         push_dataset(&mut out, "t", "", one)?;
         push_word(&mut out, 0)?;
         push_word(&mut out, 1)?;
-        push_partial(&mut out, "t", component, base)?;
+        push_partial(&mut out, ("t", component, base), (0x14, 100), &[], &[9])?;
         assert_eq!(rt; is_dir(alloc, &out)?, lawful, "{component} on {base}");
     }
     Ok(())
