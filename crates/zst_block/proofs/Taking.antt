@@ -1,5 +1,5 @@
 -- What a block that is written takes.
-use Rattle.std.proofs.Common.{◌≡◌, ℕ, ◌+◌, ◌-◌, ◌<◌, ◌≤◌, ◌==◌, max, nat_le, nat_lt, Bool, true, false, if◌then◌else◌, List, [], ◌∷◌, ◌++◌, refl, sym, ap, subst, arith}
+use Rattle.std.proofs.Common.{◌≡◌, ℕ, ◌+◌, ◌-◌, ◌<◌, ◌≤◌, ◌==◌, max, nat_le, nat_lt, Bool, true, false, if◌then◌else◌, List, [], ◌∷◌, ◌++◌, refl, sym, ◌∙◌, ap, subst, arith}
 use Rattle.std.proofs.lemmas.Bool.Decides.{nat_tests}
 use Rattle.zst_space.specs.FreeSectors.{FreeSectors, greatest, largest_of, room}
 use Rattle.zst_space.specs.Taking.{shortened, extents_without, end_without, without}
@@ -34,7 +34,17 @@ takes old new count after untouched left = go (nat_lt (largest_of old) count) re
     go : (b : Bool) → nat_lt (largest_of old) count ≡ b → TakesAtMost count old new
     go true test =
         let same = untouched (grind (arith, nat_tests)) in
-        record { sectors = ap (λ (s : FreeSectors). s.sectors) same; left = left; longest = subst (λ (s : FreeSectors). largest_of old ≤ largest_of s + count) (sym same) (omega arith) }
+        record {
+          sectors = ap (λ (s : FreeSectors). s.sectors) same;
+          left = left;
+          longest = subst (λ (s : FreeSectors). largest_of old ≤ largest_of s + count) (sym same) (omega arith);
+          unbroken = λ none. ap (λ (s : FreeSectors). s.free) same ∙ none;
+        }
     go false test =
         let same = after (grind (arith, nat_tests)) in
-        record { sectors = ap (λ (s : FreeSectors). s.sectors) same; left = left; longest = subst (λ (s : FreeSectors). largest_of old ≤ largest_of s + count) (sym same) (greatest-without old.free old.end old.sectors count) }
+        record {
+          sectors = ap (λ (s : FreeSectors). s.sectors) same;
+          left = left;
+          longest = subst (λ (s : FreeSectors). largest_of old ≤ largest_of s + count) (sym same) (greatest-without old.free old.end old.sectors count);
+          unbroken = λ none. ap (λ (s : FreeSectors). s.free) same ∙ ap (λ (extents : List Extent). extents_without extents count) none;
+        }

@@ -33,6 +33,7 @@ Works-then {most} {more} {block} {old} {old_space} {old_failed} {mid} {less} {mi
     sectors = second.takes.sectors ∙ first.takes.sectors;
     left = omega (arith, first.takes.left, second.takes.left);
     longest = omega (arith, first.takes.longest, second.takes.longest);
+    unbroken = λ none. second.takes.unbroken (first.takes.unbroken none);
   };
   full = λ need largest is.
       let full = second.full need largest is in
@@ -62,7 +63,7 @@ module _ {most block : ℕ} {old : DiskState} {space : FreeSectors} {old_failed 
   Works-looks fits looks = record {
     fills = subst (λ (s : FreeSectors). FillsFree old space new s) (sym looks.space) (FillsFree-reads old new space looks.reads);
     fits = subst (λ (s : FreeSectors). FitsDisk new.size s) (sym looks.space) (subst (λ (n : ℕ). FitsDisk n space) (sym looks.reads.size) fits);
-    takes = subst (λ (s : FreeSectors). TakesAtMost most space s) (sym looks.space) (record { sectors = refl; left = omega arith; longest = omega arith });
+    takes = subst (λ (s : FreeSectors). TakesAtMost most space s) (sym looks.space) (record { sectors = refl; left = omega arith; longest = omega arith; unbroken = λ none. none });
     full = λ need largest is. absurd (looks.never_full need largest is);
     failed = looks.failed;
     cause = looks.cause;
@@ -73,7 +74,7 @@ module _ {most block : ℕ} {old : DiskState} {space : FreeSectors} {old_failed 
   Works-more le works = record {
     fills = works.fills;
     fits = works.fits;
-    takes = record { sectors = works.takes.sectors; left = omega (arith, works.takes.left, le); longest = omega (arith, works.takes.longest, le) };
+    takes = record { sectors = works.takes.sectors; left = omega (arith, works.takes.left, le); longest = omega (arith, works.takes.longest, le); unbroken = works.takes.unbroken };
     full = λ need largest is. let full = works.full need largest is in record { shorter = full.shorter; is_longest = full.is_longest; needed = full.needed; before = omega (arith, full.before, le) };
     failed = works.failed;
     cause = works.cause;

@@ -1,5 +1,5 @@
 -- What a call does to the Io: it reads, or it writes blocks into free sectors. Said over the fault at which it stopped, or none, so that one record serves each layer.
-use Rattle.std.specs.Prelude.{◌≡◌, ◌⊎◌, ℕ, ◌+◌, ◌<◌, ◌≤◌, ◌||◌, Bool, true, false, List, Option, Some, None, Result, Ok, Err}
+use Rattle.std.specs.Prelude.{◌≡◌, ◌⊎◌, ℕ, ◌+◌, ◌<◌, ◌≤◌, ◌||◌, Bool, true, false, List, [], Option, Some, None, Result, Ok, Err}
 use Rattle.zst_outside.specs.Causes.{Rose}
 use Rattle.zst_outside.specs.Images.{DiskState, OnlyReads}
 use Rattle.zst_fletcher.specs.WeightSum.{parts_of}
@@ -27,11 +27,12 @@ pub record HasCause (before now : ℕ) (stop : Option BlockFault) : Type 0 where
   pub later : before ≤ now
   pub fault : stop ≡ Some DiskFault → Rose before now
 
--- so many sectors at most were taken, of all that are free and of the longest run alike
+-- so many sectors at most were taken, of all that are free and of the longest run alike; where no extents were free below the end, none are
 pub record TakesAtMost (count : ℕ) (old new : FreeSectors) : Type 0 where
   pub sectors : new.sectors ≡ old.sectors
   pub left : room old ≤ room new + count
   pub longest : largest_of old ≤ largest_of new + count
+  pub unbroken : old.free ≡ [] → new.free ≡ []
 
 -- What was to be written is a block of a tree, of 16 sectors, or one of so many: no run that is free now has as many, and before the call none had all that the call may take.
 pub record IsFull (most block : ℕ) (old new : FreeSectors) (need largest : ℕ) : Type 0 where
