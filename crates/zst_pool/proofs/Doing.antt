@@ -13,7 +13,8 @@ use Rattle.zst_model.specs.pools.Step.{Stepped}
 use Rattle.zst_dir.specs.Rows.{Rows}
 use Rattle.zst_pool.specs.Faults.{StepFault, WriteFault}
 use Rattle.zst_pool.specs.Reads.{ReadsAs, Reads, Rests, BeforeOrAfter, free_by}
-use Rattle.zst_pool.specs.Work.{Commits, Did, Stays}
+use Rattle.zst_pool.specs.Runs.{Did}
+use Rattle.zst_pool.specs.Work.{Commits, Stays}
 use Rattle.zst_pool.specs.declared.fault.PoolFault.{PoolFault}
 use Rattle.zst_pool.specs.declared.fault.PoolFault.TheVariants.{Plan, CannotApply, Redacted, Full, Damaged, NoPool, BadVersion, DiskFault, Failed, OutOfMemory}
 use Rattle.zst_pool.specs.declared.kept.Kept.{Kept}
@@ -46,18 +47,18 @@ keeps before definition still DiskFault is = tt
 keeps before definition still Failed is = is
 keeps before definition still OutOfMemory is = still
 
--- and so it does after each fault of a commit
-commit_fault : (before : Type 0) (definition : Result Stepped Refusal) (fault : PoolFault) → WriteFault fault → Stays before fault → StepFault before definition fault
-commit_fault before definition (Plan fault) is still = absurd is
-commit_fault before definition (CannotApply fault) is still = absurd is
-commit_fault before definition (Redacted object block) is still = absurd is
-commit_fault before definition (Full need largest) is still = (is, still)
-commit_fault before definition (Damaged sector stated found) is still = absurd is
-commit_fault before definition NoPool is still = absurd is
-commit_fault before definition (BadVersion number) is still = absurd is
-commit_fault before definition DiskFault is still = tt
-commit_fault before definition Failed is still = absurd is
-commit_fault before definition OutOfMemory is still = still
+-- and so it does after each fault of a commit, which comes only where the definition accepts
+commit_fault : (before : Type 0) (definition : Result Stepped Refusal) (done : Stepped) → definition ≡ Ok done → (fault : PoolFault) → WriteFault fault → Stays before fault → StepFault before definition fault
+commit_fault before definition done made (Plan fault) is still = absurd is
+commit_fault before definition done made (CannotApply fault) is still = absurd is
+commit_fault before definition done made (Redacted object block) is still = absurd is
+commit_fault before definition done made (Full need largest) is still = ((done, made), still)
+commit_fault before definition done made (Damaged sector stated found) is still = absurd is
+commit_fault before definition done made NoPool is still = absurd is
+commit_fault before definition done made (BadVersion number) is still = absurd is
+commit_fault before definition done made DiskFault is still = tt
+commit_fault before definition done made Failed is still = absurd is
+commit_fault before definition done made OutOfMemory is still = still
 
 module _ (start now : DiskState) (space : FreeSectors) (uber : Uber) (rows : Rows) (pool : Pool) (head : IsTaken (free_by uber) 0 4096)
     (rests : Rests start uber rows pool) (fills : FillsFree start (free_by uber) now space) where
@@ -87,4 +88,4 @@ module _ (start now : DiskState) (uber : Uber) (rows : Rows) (pool : Pool) (defi
 
   pub did : (result : Result Kept PoolFault) → Commits start now uber rows pool done.pool result → Did start now uber rows pool definition result
   did (Ok kept) commits = record { moments = moments_of (Ok kept) commits; answer = (done, is, commits.answer) }
-  did (Err fault) commits = record { moments = moments_of (Err fault) commits; answer = commit_fault (Rests now uber rows pool) definition fault commits.answer.0 commits.answer.1 }
+  did (Err fault) commits = record { moments = moments_of (Err fault) commits; answer = commit_fault (Rests now uber rows pool) definition done is fault commits.answer.0 commits.answer.1 }

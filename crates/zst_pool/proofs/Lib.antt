@@ -1,10 +1,13 @@
 pub mod Causes
 pub mod Changing
 pub mod Committed
+pub mod Costing
 pub mod Created
+pub mod Damaged
 pub mod Directories
 pub mod Doing
 pub mod Growing
+pub mod Judged
 pub mod Judging
 pub mod Known
 pub mod Matching
@@ -14,5 +17,7 @@ pub mod Parts
 pub mod Replying
 pub mod Room
 pub mod Running
+pub mod Stepped
+pub mod Taking
 pub mod Working
 pub mod Writing

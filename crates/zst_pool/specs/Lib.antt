@@ -1,8 +1,11 @@
 pub mod Checks
+pub mod Cost
+pub mod Damage
 pub mod Faults
 pub mod Heads
 pub mod Making
 pub mod Reads
 pub mod Room
+pub mod Runs
 pub mod Stepping
 pub mod Work

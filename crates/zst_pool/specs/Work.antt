@@ -1,20 +1,17 @@
 -- What the parts of a command do: they read, they write blocks into free sectors, and one commits.
-use Rattle.std.specs.Prelude.{◌≡◌, ◌⊎◌, ◌+◌, ◌||◌, ◌≤◌, ℕ, Bool, false, List, length, Result, Ok, Err, IfErr, IfOk, OnErr}
+use Rattle.std.specs.Prelude.{◌≡◌, ◌⊎◌, ◌+◌, ◌||◌, ℕ, Bool, List, length, Result, Ok, Err}
 use Rattle.zst_outside.specs.Images.{DiskState, Leaves}
-use Rattle.zst_space.specs.FreeSectors.{FreeSectors, IsFree, largest_of}
+use Rattle.zst_space.specs.FreeSectors.{FreeSectors, IsFree}
 use Rattle.zst_block.specs.Blocks.{FitsDisk, FillsFree, KeepsBlocks}
 use Rattle.zst_uber.specs.Body.{InRange}
 use Rattle.zst_uber.specs.Commit.{HeadSettled}
 use Rattle.zst_uber.specs.Slots.{latest, IsNext}
 use Rattle.zst_uber.specs.declared.uber.Uber.{Uber}
-use Rattle.zst_model.specs.declared.refusals.refusal.Refusal.{Refusal}
 use Rattle.zst_model.specs.pools.Pool.{Pool, IsPool}
-use Rattle.zst_model.specs.pools.Step.{Stepped}
 use Rattle.zst_dir.specs.Rows.{Rows}
 use Rattle.zst_tree.specs.Indices.{Blocks}
-use Rattle.zst_pool.specs.Faults.{HasDiskCause, is_disk_fault, IsStepFault, ReadFault, WriteFault, StepFault}
-use Rattle.zst_pool.specs.Reads.{Reads, RowsAre, Rests, BeforeOrAfter}
-use Rattle.zst_pool.specs.Room.{FindsNoRoom, FullBelow}
+use Rattle.zst_pool.specs.Faults.{HasDiskCause, is_disk_fault, ReadFault, WriteFault}
+use Rattle.zst_pool.specs.Reads.{Reads, RowsAre, Rests}
 use Rattle.zst_pool.specs.declared.fault.PoolFault.{PoolFault}
 use Rattle.zst_pool.specs.declared.fault.PoolFault.TheVariants.{Plan, CannotApply, Redacted, Full, Damaged, NoPool, BadVersion, DiskFault, Failed, OutOfMemory}
 use Rattle.zst_pool.specs.declared.kept.Kept.{Kept}
@@ -33,14 +30,6 @@ pub record Works {T : Type 0} (old : DiskState) (old_space : FreeSectors) (old_f
   pub latest_stays : latest new.seen ≡ latest old.seen
   pub failed : new_failed ≡ (old_failed || is_disk_fault result)
   pub cause : HasDiskCause old.faults new.faults result
-
--- a part that takes so many sectors at most, and is full only where fewer are free
-pub record Writes {T : Type 0} (most : ℕ) (old : DiskState) (old_space : FreeSectors) (old_failed : Bool) (new : DiskState) (new_space : FreeSectors) (new_failed : Bool) (result : Result T PoolFault) : Type 0 where
-  pub works : Works old old_space old_failed new new_space new_failed result
-  pub sectors : new_space.sectors ≡ old_space.sectors
-  pub took : largest_of old_space ≤ largest_of new_space + most
-  pub known : IfErr result IsStepFault
-  pub full : IfErr result (FullBelow old_space most)
 
 -- a read of what is there gives it, or the disk or the memory failed
 abbrev pub ReadAnswer : {T : Type 0} → (T → Type 0) → Result T PoolFault → Type 0
@@ -92,24 +81,3 @@ pub record CommitsOver (old : DiskState) (old_space : FreeSectors) (new : DiskSt
 pub record Commits (start now : DiskState) (uber : Uber) (rows : Rows) (pool next : Pool) (result : Result Kept PoolFault) : Type 0 where
   pub moments : Leaves start now (λ c. Reads pool c ⊎ Reads next c)
   pub answer : CommitAnswer (λ kept. Rests now kept.body kept.dir next) (Rests now uber rows pool) result
-
--- what stands after a command's answer: what the definition makes of the pool, or the pool as it was
-abbrev pub DidAnswer : (Kept → Pool → Type 0) → Type 0 → Result Stepped Refusal → Result Kept PoolFault → Type 0
-DidAnswer after before definition (Ok kept) = (done : Stepped) × (definition ≡ Ok done) × after kept done.pool
-DidAnswer after before definition (Err fault) = StepFault before definition fault
-
--- a command that commits: inside it each image reads as the pool before or as what the definition makes of it, and then by its answer
-pub record Did (start now : DiskState) (uber : Uber) (rows : Rows) (pool : Pool) (definition : Result Stepped Refusal) (result : Result Kept PoolFault) : Type 0 where
-  pub moments : Leaves start now (BeforeOrAfter pool definition)
-  pub answer : DidAnswer (λ kept next. Rests now kept.body kept.dir next) (Rests now uber rows pool) definition result
-
--- what running a command did, where it takes so many sectors at most for an object set: by its definition where the image read as a pool, and what stands then whatever the image was
-pub record Runs (definition : Pool → Result Stepped Refusal) (most : ℕ) (kept : Kept) (old : DiskState) (old_failed : Bool) (new : DiskState) (new_failed : Bool) (result : Result Kept PoolFault) : Type 0 where
-  pub did : (pool : Pool) → new.honest → Rests old kept.body kept.dir pool → Did old new kept.body kept.dir pool (definition pool) result
-  pub known : IfErr result IsStepFault
-  pub full : IfErr result (FindsNoRoom most kept)
-  pub ready : IfOk result (λ kept. Ready new kept.body)
-  pub stays : new_failed ≡ false → OnErr result (Ready new kept.body)
-  pub failed : new_failed ≡ (old_failed || is_disk_fault result)
-  pub cause : HasDiskCause old.faults new.faults result
-  pub honest : new.honest → old.honest

@@ -1,7 +1,9 @@
 // The commit of a directory: the one commit of an event.
-ghost use Rattle.std.specs.Prelude.{◌≡◌, ◌+◌, ◌<◌, ◌^◌, ◌||◌, false, ℕ, List, length, IfOk, IfErr, OnOk, OnErr};
+ghost use Rattle.std.specs.Prelude.{◌≡◌, ◌+◌, ◌<◌, ◌^◌, ◌||◌, false, ℕ, List, length, IfOk, IfErr, OnOk, OnErr, Err};
 ghost use Rattle.zst_block.specs.Blocks.{FitsDisk, FillsFree, Has};
 ghost use Rattle.zst_block.specs.Ptr.{hole_of};
+ghost use Rattle.zst_block.specs.Working.{TakesAtMost};
+ghost use Rattle.zst_dir.specs.Spelling.{dir_bytes};
 ghost use Rattle.zst_uber.specs.Slots.{latest};
 ghost use Rattle.zst_model.specs.pools.Pool.{Pool};
 ghost use Rattle.zst_dir.specs.Rows.{Rows};
@@ -48,6 +50,10 @@ pub fn commit_dir<D: Disk>(
     ensures number { IfOk result (λ kept. kept.body.number ≡ body.now.number + 1) }
     ensures fault { IfErr result WriteFault }
     ensures full { (need largest : ℕ) → result ≡ Err (PoolFault.Full need largest) → IsDirFull io.old.space io.new.space dir need largest }
+    // So many sectors at most are taken, and the body ends where those that are left begin.
+    ensures takes { TakesAtMost (dir_sectors (length (dir_bytes dir))) io.old.space io.new.space }
+    ensures ends { IfOk result (λ kept. (kept.body.end ≡ io.new.space.end) × (kept.body.sectors ≡ body.now.sectors)) }
+    ensures fills { ¬ (result ≡ Err PoolFault.DiskFault) → OnErr result (FillsFree (D.state io.old.disk.now) io.old.space (D.state io.new.disk.now) io.new.space) }
     // After a refusal that isn't the disk's the latest body is the one from before.
     ensures refused { IfErr result (Stays (latest (D.state io.new.disk.now).seen ≡ latest (D.state io.old.disk.now).seen)) }
     ensures ready { IfOk result (λ kept. Ready (D.state io.new.disk.now) kept.body) }
@@ -78,6 +84,7 @@ fn write_dir<D: Disk>(
     ensures there { IfOk result (λ written. DirStands (Has (D.state io.new.disk.now).seen io.new.space) written.0.levels written.0.root written.1 dir.now) }
     ensures sectors { OnOk result (io.new.space.sectors ≡ io.old.space.sectors) }
     ensures fault { IfErr result WriteFault }
+    ensures takes { TakesAtMost (dir_sectors (length (dir_bytes dir.now))) io.old.space io.new.space }
     ensures full { (need largest : ℕ) → result ≡ Err (PoolFault.Full need largest) → IsDirFull io.old.space io.new.space dir.now need largest }
     ensures works { Works (D.state io.old.disk.now) io.old.space io.old.failed (D.state io.new.disk.now) io.new.space io.new.failed result }
     ensures same { io.new.disk.ghost_name ≡ io.old.disk.ghost_name }
@@ -95,6 +102,7 @@ fn write_bytes<D: Disk>(io: &mut Io<'_, D>, bytes: &[u8], number: u64) -> Result
     ensures there { IfOk result (λ tree. HasLeaves (Has (D.state io.new.disk.now).seen io.new.space) tree.levels tree.root bytes.now) }
     ensures sectors { OnOk result (io.new.space.sectors ≡ io.old.space.sectors) }
     ensures fault { IfErr result WriteFault }
+    ensures takes { TakesAtMost (dir_sectors (length bytes.now)) io.old.space io.new.space }
     ensures full { (need largest : ℕ) → result ≡ Err (PoolFault.Full need largest) → IsLeafFull (dir_sectors (length bytes.now)) io.old.space io.new.space need largest }
     ensures works { Works (D.state io.old.disk.now) io.old.space io.old.failed (D.state io.new.disk.now) io.new.space io.new.failed result }
     ensures same { io.new.disk.ghost_name ≡ io.old.disk.ghost_name }

@@ -1,3 +1,4 @@
+use crate::head_fault::HeadFault;
 use std::alloc::AllocError;
 use zst_block::{BlockFault, Ptr};
 use zst_model::{ApplyFault, PlanFault, Refusal};
@@ -130,6 +131,20 @@ impl From<ObjFault> for PoolFault {
                 PoolFault::Plan(PlanFault::Limit { which, number })
             }
             ObjFault::Block(fault) => PoolFault::from(fault),
+        }
+    }
+}
+
+impl From<HeadFault> for PoolFault {
+    ghost use Rattle.std.specs.Prelude.{◌≡◌};
+    ghost use Rattle.zst_pool.specs.Heads.{of_head};
+
+    ghost from_gives = { λ head fault. fault ≡ of_head head };
+
+    fn from(fault: HeadFault) -> Self {
+        match fault {
+            HeadFault::Set(fault) => PoolFault::from(fault),
+            HeadFault::Memory => PoolFault::OutOfMemory,
         }
     }
 }

@@ -6,6 +6,7 @@ mod checks;
 mod commands;
 mod committing;
 mod fault;
+mod head_fault;
 mod heads;
 mod kept;
 mod making;

@@ -1,3 +1,4 @@
+use Rattle.std.specs.Prelude.{None}
 use Rattle.std.proofs.Common.{refl, ap, ◌∙◌, ◌≤◌, ◌+◌, subst, length, arith}
 use Rattle.zst_block.specs.Blocks.{Has}
 use Rattle.zst_names.specs.Names.{IsDataset}
@@ -8,11 +9,13 @@ use Rattle.zst_dir.specs.Spelling.{dir_bytes}
 use Rattle.zst_dir.specs.declared.rows.Dataset.{Dataset}
 use Rattle.zst_pool.specs.Checks.{next_of, with_new}
 use Rattle.zst_pool.specs.declared.fault.PoolFault.TheVariants.{OutOfMemory}
+use Rattle.zst_pool.specs.Cost.{cells_only}
 use Rattle.zst_pool.proofs.Doing.{did}
 use Rattle.zst_pool.proofs.Judging.{err_is}
+use Rattle.zst_pool.proofs.Judged.{memory_stops}
 use Rattle.zst_pool.proofs.NextPools.{dataset_is_next, dataset_is_lawful}
 use Rattle.zst_pool.proofs.Parts.{described_in, fills_none}
-use Rattle.zst_pool.proofs.Running.{idle_writes, runs_committed, runs_idle}
+use Rattle.zst_pool.proofs.Running.{idle_wrote, runs_committed, runs_idle}
 use Rattle.zst_pool.proofs.commands.make_dataset.Goals as goal
 
 pub returns-clause-runs : goal.returns-clause-runs
@@ -24,7 +27,7 @@ returns-clause-runs g c =
     let name = c.args.name.now in
     let commit = c.commit_dir.ensures in
     let grows : length (dir_bytes c.add_dataset.new.self) ≤ length (dir_bytes kept.dir) + 1024 = omega (arith, c.in_ok-add_dataset.ensures.grows, ap (λ (d : Rows). length (dir_bytes d)) c.in_ok-dir.ensures) in
-    runs_committed (λ pool. with_dataset kind name pool) 0 kept c.add_dataset.new.self c.commit_dir.result (idle_writes kept old space c.args.io.now.failed c.requires.space c.requires.ready)
+    runs_committed (λ pool. with_dataset kind name pool) (cells_only 0) kept c.add_dataset.new.self c.commit_dir.result c.requires.ready (idle_wrote kept (cells_only 0) old space c.args.io.now.failed None refl c.requires.space c.requires.ready)
     (λ pool told rests.
     let done = next_of (with_new kind name pool) in
     let described = described_in old space kept.body kept.dir pool c.requires.space rests in
@@ -37,10 +40,9 @@ returns-clause-runs g c =
     let next = dataset_is_next (Has old.seen space) kept.body kept.dir c.add_dataset.new.self pool kind name described dir lawful in
     did old (g.D.Disk.state c.commit_dir.new.io.disk.now) kept.body kept.dir pool (with_dataset kind name pool) done made c.commit_dir.result
     (commit.commits c.args.io.now.disk.now kept.dir pool done.pool told rests (fills_none old space kept.body c.requires.space) next))
-    grows commit.fault commit.full commit.ready commit.stays commit.failed commit.cause commit.honest
+    grows commit.fault commit.full commit.takes commit.ends commit.fills commit.ready commit.stays commit.failed commit.cause commit.honest
 
 pub returns-in_err-add_dataset-clause-runs : goal.returns-in_err-add_dataset-clause-runs
 returns-in_err-add_dataset-clause-runs g c =
     let fell = c.from_residual-in_err-add_dataset in
-    runs_idle (λ pool. with_dataset c.args.kind c.args.name.now pool) 0 c.args.kept.now OutOfMemory (err_is fell.result OutOfMemory fell.ensures.1) c.requires.ready refl tt
-    (λ need largest is. absurd (cc)) (λ pool rests. tt)
+    runs_idle (λ pool. with_dataset c.args.kind c.args.name.now pool) (cells_only 0) c.args.kept.now OutOfMemory (err_is fell.result OutOfMemory fell.ensures.1) c.requires.space c.requires.ready (memory_stops None refl) (λ pool rests. tt)

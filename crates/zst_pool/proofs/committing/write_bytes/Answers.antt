@@ -21,3 +21,9 @@ returns-in-Err-clause-full g c = λ need largest is. written_full c.in-Err.fault
 
 pub returns-in-Err-clause-works : goal.returns-in-Err-clause-works
 returns-in-Err-clause-works g c = written_works c.in-Err.fault c.from.result c.from.ensures c.in-Err.ensures.works _ c.requires.fits
+
+pub returns-in-Ok-clause-takes : goal.returns-in-Ok-clause-takes
+returns-in-Ok-clause-takes g c = (c.in-Ok.ensures.two_levels (omega arith)).takes
+
+pub returns-in-Err-clause-takes : goal.returns-in-Err-clause-takes
+returns-in-Err-clause-takes g c = (c.in-Err.ensures.two_levels (omega arith)).takes

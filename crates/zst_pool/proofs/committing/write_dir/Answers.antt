@@ -1,5 +1,6 @@
 use Rattle.std.proofs.Common.{rules, ◌≡◌, ◌<◌, ℕ, ◌∙◌, length, List, sym, subst}
 use Rattle.std.proofs.lemmas.Result.{err_from_is_err_and}
+use Rattle.zst_block.specs.Working.{TakesAtMost}
 use Rattle.zst_tree.specs.declared.tree.Tree.{Tree}
 use Rattle.zst_pool.specs.Reads.{dir_sectors}
 use Rattle.zst_pool.specs.Room.{IsLeafFull}
@@ -28,3 +29,11 @@ returns-in_err-tree-clause-works g c =
     let fault = c.in_err-tree.field-0.0 in
     works_err Tree (Tree × ℕ) _ c.args.io.now.space c.args.io.now.failed _ c.write_bytes.new.io.space c.write_bytes.new.io.failed fault c.from_residual-in_err-tree.result
     (err_is c.from_residual-in_err-tree.result fault c.from_residual-in_err-tree.ensures.1) c.in_err-tree.ensures.works
+
+pub returns-clause-takes : goal.returns-clause-takes
+returns-clause-takes g c =
+    subst (λ (l : List ℕ). TakesAtMost (dir_sectors (length l)) c.args.io.now.space c.write_bytes.new.io.space) (c.deref.ensures.value ∙ c.in_ok-bytes.ensures.spelled) c.in_ok-tree.ensures.takes
+
+pub returns-in_err-tree-clause-takes : goal.returns-in_err-tree-clause-takes
+returns-in_err-tree-clause-takes g c =
+    subst (λ (l : List ℕ). TakesAtMost (dir_sectors (length l)) c.args.io.now.space c.write_bytes.new.io.space) (c.deref.ensures.value ∙ c.in_ok-bytes.ensures.spelled) c.in_err-tree.ensures.takes
