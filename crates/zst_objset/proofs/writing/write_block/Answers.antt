@@ -1,10 +1,11 @@
-use Rattle.std.proofs.Common.{◌∙◌, ℕ, Err, List, arith, ap, subst, sym, Result}
+use Rattle.std.proofs.Common.{◌∙◌, ◌+◌, ℕ, Err, List, arith, ap, subst, sym, Result}
 use Rattle.zst_space.specs.FreeSectors.{FreeSectors}
 use Rattle.zst_block.specs.Blocks.{Has, KeepsBlocks}
 use Rattle.zst_block.proofs.BlocksLaws.{FillsFree-then, KeepsBlocks-fills}
 use Rattle.zst_block.proofs.Working.{Works-after, Works-block, Works-more, Works-then}
 use Rattle.zst_model.specs.declared.refusals.refusal.Refusal.{Refusal}
 use Rattle.zst_model.specs.states.Dated.{DatedState}
+use Rattle.zst_model.specs.states.State.{index_bound}
 use Rattle.zst_tree.specs.Indices.{TreeIs}
 use Rattle.zst_tree.specs.declared.tree.Tree.{Tree}
 use Rattle.zst_objset.specs.Answers.{Changes}
