@@ -1,4 +1,4 @@
-ghost use Rattle.std.specs.Prelude.{◌≡◌, ◌/◌, ◌+◌, ◌<◌, ◌≤◌, ℕ, List, length, IfErr, IfOk, IfSome, OnErr, Some};
+ghost use Rattle.std.specs.Prelude.{◌≡◌, ◌/◌, ◌+◌, ◌<◌, ◌≤◌, ℕ, List, length, IfErr, IfOk, IfSome, OnErr, OnOk, Some};
 ghost use Rattle.zst_space.specs.FreeSectors.{FreeSectors};
 ghost use Rattle.zst_block.specs.Blocks.{FitsDisk, Has, SparesTaken};
 ghost use Rattle.zst_block.specs.Working.{Looks, Works};
@@ -7,10 +7,11 @@ ghost use Rattle.zst_dnode.specs.Dnode.{DnodeFits};
 ghost use Rattle.zst_dnode.specs.Slot.{SlotFits};
 ghost use Rattle.zst_model.specs.pools.Pool.{untouched};
 ghost use Rattle.zst_model.specs.states.Dated.{DatedState};
-ghost use Rattle.zst_model.specs.states.State.{Object, IsBonus, IsHead, IsSpill, number_bound};
+ghost use Rattle.zst_model.specs.declared.refusals.faults.Quantity.TheVariants as quantities;
+ghost use Rattle.zst_model.specs.states.State.{Object, IsBonus, IsHead, IsSpill, index_bound, number_bound};
 ghost use Rattle.zst_tree.specs.Damage.{IsSeen, NamesNode, SumsUp};
 ghost use Rattle.zst_tree.specs.Indices.{Blocks};
-ghost use Rattle.zst_objset.specs.Answers.{Changes, FindsObject, FindsSlot, IsOfBlock, ReadsBlock, stop_of};
+ghost use Rattle.zst_objset.specs.Answers.{Changes, FindsObject, FindsSlot, IsOfBlock, LimitOnly, NotLimit, ReadsBlock, stop_of};
 ghost use Rattle.zst_objset.specs.Changes.{block_written, found_at, holes_made, object_put, objects_freed, range_redacted, spill_put};
 ghost use Rattle.zst_objset.specs.Damage.{DamageFact, IfSetDamaged};
 
@@ -31,6 +32,9 @@ pub trait Objects<D: Disk> {
     /// is held are clauses of `sets_hold_states`.
     ghost holds: { Self → Blocks → DatedState → Type 0 };
 
+    /// The set fits the bytes in which it is named: its levels aren't too many.
+    ghost fits: { Self → Type 0 };
+
     /// A damage may be told by a call that looks at the slots of a set, where these images may stand
     /// on a disk of so many bytes.
     ghost slot_damage: { (List ℕ → Type 0) → ℕ → Self → DamageFact };
@@ -44,7 +48,8 @@ pub trait Objects<D: Disk> {
 
     /// The set of no objects, which nothing touched.
     fn empty() -> Self
-        ensures { (image : List ℕ) (space : FreeSectors) → holds result (Has image space) untouched };
+        ensures held { (image : List ℕ) (space : FreeSectors) → holds result (Has image space) untouched }
+        ensures levels { fits result };
 
     /// The dnode of an object.
     fn attr(&self, io: &mut Io<'_, D>, object: u64) -> Result<Option<Dnode>, ObjFault>
@@ -106,8 +111,12 @@ pub trait Objects<D: Disk> {
         requires fits { FitsDisk (D.state io.old.disk.now).size io.old.space }
         ensures changed { (state : DatedState) → (D.state io.new.disk.now).honest → holds self.old (Has (D.state io.old.disk.now).seen io.old.space) state
             → Changes (holds self.new (Has (D.state io.new.disk.now).seen io.new.space)) (object_put number object head bonus.now keep_spill state) result }
+        ensures limits { IfErr result (LimitOnly quantities.Object number_bound (object + 1)) }
         ensures damaged { (D.state io.new.disk.now).honest → IfSetDamaged result (slot_damage (SparesTaken io.old.space (D.state io.old.disk.now).seen) (D.state io.old.disk.now).size self.old) }
+        ensures within { (D.state io.new.disk.now).honest → OnOk result ((sector : ℕ) (stated found : List ℕ) → slot_damage (SparesTaken io.new.space (D.state io.new.disk.now).seen) (D.state io.old.disk.now).size self.new sector stated found
+            → slot_damage (SparesTaken io.old.space (D.state io.old.disk.now).seen) (D.state io.old.disk.now).size self.old sector stated found) }
         ensures kept { OnErr result (self.new ≡ self.old) }
+        ensures levels { OnOk result (fits self.new) }
         ensures works { Works 640 16 (D.state io.old.disk.now) io.old.space io.old.failed (D.state io.new.disk.now) io.new.space io.new.failed (stop_of result) }
         ensures same { io.new.disk.ghost_name ≡ io.old.disk.ghost_name };
 
@@ -124,8 +133,10 @@ pub trait Objects<D: Disk> {
         requires fits { FitsDisk (D.state io.old.disk.now).size io.old.space }
         ensures changed { (state : DatedState) → (D.state io.new.disk.now).honest → holds self.old (Has (D.state io.old.disk.now).seen io.old.space) state
             → Changes (holds self.new (Has (D.state io.new.disk.now).seen io.new.space)) (spill_put number object bytes.now state) result }
+        ensures limits { IfErr result NotLimit }
         ensures damaged { (D.state io.new.disk.now).honest → IfSetDamaged result (slot_damage (SparesTaken io.old.space (D.state io.old.disk.now).seen) (D.state io.old.disk.now).size self.old) }
         ensures kept { OnErr result (self.new ≡ self.old) }
+        ensures levels { OnOk result (fits self.new) }
         ensures works { Works (640 + length bytes.now / 512) (length bytes.now / 512) (D.state io.old.disk.now) io.old.space io.old.failed (D.state io.new.disk.now) io.new.space io.new.failed (stop_of result) }
         ensures same { io.new.disk.ghost_name ≡ io.old.disk.ghost_name };
 
@@ -141,8 +152,10 @@ pub trait Objects<D: Disk> {
         requires fits { FitsDisk (D.state io.old.disk.now).size io.old.space }
         ensures changed { (state : DatedState) → (D.state io.new.disk.now).honest → holds self.old (Has (D.state io.old.disk.now).seen io.old.space) state
             → Changes (holds self.new (Has (D.state io.new.disk.now).seen io.new.space)) (objects_freed number first count state) result }
+        ensures limits { IfErr result (LimitOnly quantities.Object number_bound (first + count)) }
         ensures damaged { (D.state io.new.disk.now).honest → IfSetDamaged result (slot_damage (SparesTaken io.old.space (D.state io.old.disk.now).seen) (D.state io.old.disk.now).size self.old) }
         ensures kept { OnErr result (self.new ≡ self.old) }
+        ensures levels { fits self.old → fits self.new }
         ensures works { Works 1280 16 (D.state io.old.disk.now) io.old.space io.old.failed (D.state io.new.disk.now) io.new.space io.new.failed (stop_of result) }
         ensures same { io.new.disk.ghost_name ≡ io.old.disk.ghost_name };
 
@@ -159,8 +172,10 @@ pub trait Objects<D: Disk> {
         requires fits { FitsDisk (D.state io.old.disk.now).size io.old.space }
         ensures changed { (state : DatedState) → (D.state io.new.disk.now).honest → holds self.old (Has (D.state io.old.disk.now).seen io.old.space) state
             → Changes (holds self.new (Has (D.state io.new.disk.now).seen io.new.space)) (block_written number object index bytes.now state) result }
+        ensures limits { IfErr result (LimitOnly quantities.Block index_bound (index + 1)) }
         ensures damaged { (D.state io.new.disk.now).honest → IfSetDamaged result (tree_damage (SparesTaken io.old.space (D.state io.old.disk.now).seen) (D.state io.old.disk.now).size NamesNode self.old) }
         ensures kept { OnErr result (self.new ≡ self.old) }
+        ensures levels { OnOk result (fits self.new) }
         ensures works { Works (640 + length bytes.now / 512) (length bytes.now / 512) (D.state io.old.disk.now) io.old.space io.old.failed (D.state io.new.disk.now) io.new.space io.new.failed (stop_of result) }
         ensures same { io.new.disk.ghost_name ≡ io.old.disk.ghost_name };
 
@@ -177,8 +192,10 @@ pub trait Objects<D: Disk> {
         requires fits { FitsDisk (D.state io.old.disk.now).size io.old.space }
         ensures changed { (state : DatedState) → (D.state io.new.disk.now).honest → holds self.old (Has (D.state io.old.disk.now).seen io.old.space) state
             → Changes (holds self.new (Has (D.state io.new.disk.now).seen io.new.space)) (holes_made number object first count state) result }
+        ensures limits { IfErr result (LimitOnly quantities.Block index_bound (first + count)) }
         ensures damaged { (D.state io.new.disk.now).honest → IfSetDamaged result (tree_damage (SparesTaken io.old.space (D.state io.old.disk.now).seen) (D.state io.old.disk.now).size (SumsUp (SparesTaken io.old.space (D.state io.old.disk.now).seen)) self.old) }
         ensures kept { OnErr result (self.new ≡ self.old) }
+        ensures levels { OnOk result (fits self.new) }
         ensures works { Works 1280 16 (D.state io.old.disk.now) io.old.space io.old.failed (D.state io.new.disk.now) io.new.space io.new.failed (stop_of result) }
         ensures same { io.new.disk.ghost_name ≡ io.old.disk.ghost_name };
 
@@ -195,8 +212,10 @@ pub trait Objects<D: Disk> {
         requires fits { FitsDisk (D.state io.old.disk.now).size io.old.space }
         ensures changed { (state : DatedState) → (D.state io.new.disk.now).honest → holds self.old (Has (D.state io.old.disk.now).seen io.old.space) state
             → Changes (holds self.new (Has (D.state io.new.disk.now).seen io.new.space)) (range_redacted number object first count state) result }
+        ensures limits { IfErr result (LimitOnly quantities.Block index_bound (first + count)) }
         ensures damaged { (D.state io.new.disk.now).honest → IfSetDamaged result (tree_damage (SparesTaken io.old.space (D.state io.old.disk.now).seen) (D.state io.old.disk.now).size NamesNode self.old) }
         ensures kept { OnErr result (self.new ≡ self.old) }
+        ensures levels { OnOk result (fits self.new) }
         ensures works { Works 1280 16 (D.state io.old.disk.now) io.old.space io.old.failed (D.state io.new.disk.now) io.new.space io.new.failed (stop_of result) }
         ensures same { io.new.disk.ghost_name ≡ io.old.disk.ghost_name };
 }
