@@ -12,11 +12,11 @@ use Rattle.zst_uber.specs.declared.uber.Uber.{Uber}
 use Rattle.zst_model.specs.pools.Pool.{Pool}
 use Rattle.zst_dir.specs.Rows.{Rows}
 use Rattle.zst_pool.specs.Faults.{HasDiskCause, is_disk_fault}
-use Rattle.zst_pool.specs.Reads.{Describes, Rests, free_by}
-use Rattle.zst_pool.specs.Work.{Ready, Works}
+use Rattle.zst_image.specs.Reads.{Describes, Rests, free_by}
+use Rattle.zst_image.specs.Committing.{Ready}
 use Rattle.zst_pool.specs.declared.fault.PoolFault.{PoolFault}
-use Rattle.zst_pool.specs.declared.fault.PoolFault.TheVariants.{Plan, CannotApply, Redacted, Full, Damaged, NoPool, BadVersion, DiskFault, Failed, OutOfMemory}
-use Rattle.zst_pool.proofs.Doing.{fell, free_by_fits}
+use Rattle.zst_pool.specs.declared.fault.PoolFault.TheVariants.{Plan, CannotApply, Redacted, Full, Damaged, DiskFault, Failed, OutOfMemory}
+use Rattle.zst_pool.proofs.Doing.{free_by_fits}
 use Rattle.zst_pool.proofs.Growing.{Describes-grows}
 use Rattle.zst_pool.proofs.Working.{HeadSettled-fills, latest-spared}
 
@@ -27,8 +27,6 @@ disk_fault_same T U (CannotApply fault) = refl
 disk_fault_same T U (Redacted object block) = refl
 disk_fault_same T U (Full need largest) = refl
 disk_fault_same T U (Damaged sector stated found) = refl
-disk_fault_same T U NoPool = refl
-disk_fault_same T U (BadVersion number) = refl
 disk_fault_same T U DiskFault = refl
 disk_fault_same T U Failed = refl
 disk_fault_same T U OutOfMemory = refl
@@ -39,20 +37,6 @@ or_false false = refl
 
 pub failed_then : (first mid last disk : Bool) → mid ≡ (first || false) → last ≡ (mid || disk) → last ≡ (first || disk)
 failed_then first mid last disk one two = two ∙ ap (λ b. b || disk) (one ∙ sym (or_false first))
-
--- a part that fell is one of a command that fell so
-pub works_err : (T U : Type 0) (old : DiskState) (space : FreeSectors) (failed : Bool) (new : DiskState) (less : FreeSectors) (now : Bool) (fault : PoolFault) (r : Result U PoolFault)
-    → r ≡ Err fault → Works {T = T} old space failed new less now (Err fault) → Works old space failed new less now r
-works_err T U old space failed new less now fault r same works =
-    let fell : Works {T = U} old space failed new less now (Err fault) = record {
-      fills = works.fills;
-      fits = works.fits;
-      head = works.head;
-      latest_stays = works.latest_stays;
-      failed = works.failed ∙ ap (λ b. failed || b) (disk_fault_same T U fault);
-      cause = record { later = works.cause.later; fault = λ is. let disk : fault ≡ DiskFault = cc in works.cause.fault (ap (λ f. Err f) disk) };
-    } in
-    subst (λ (x : Result U PoolFault). Works old space failed new less now x) (sym same) fell
 
 -- from a disk that is ready, the next commit can be made after a part that wrote into free sectors alone
 pub ready_fills : (old : DiskState) (space : FreeSectors) (new : DiskState) (less : FreeSectors) (uber : Uber) → FitsDisk old.size space → FillsFree old space new less → Ready old uber → Ready new uber

@@ -12,14 +12,13 @@ use Rattle.zst_model.specs.states.State.{is_block_size, largest_block}
 use Rattle.zst_dir.specs.Rows.{Rows}
 use Rattle.zst_dir.specs.Spelling.{dir_bytes}
 use Rattle.zst_pool.specs.Cost.{FindsNoRoom, Grows, HasNoRoom, Spends, most_sectors}
-use Rattle.zst_pool.specs.Faults.{WriteFault}
 use Rattle.zst_pool.specs.Heads.{Stops, Works}
-use Rattle.zst_pool.specs.Reads.{dir_sectors, free_by}
-use Rattle.zst_pool.specs.Room.{IsDirFull}
+use Rattle.zst_image.specs.Reads.{dir_sectors, free_by}
+use Rattle.zst_image.specs.Committing.{IsDirFull}
 use Rattle.zst_pool.specs.Runs.{as_kept}
 use Rattle.zst_pool.specs.declared.fault.PoolFault.{PoolFault}
 use Rattle.zst_pool.specs.declared.fault.PoolFault.TheVariants.{Full}
-use Rattle.zst_pool.specs.declared.kept.Kept.{Kept}
+use Rattle.zst_image.specs.declared.kept.Kept.{Kept}
 use Rattle.zst_pool.proofs.Taking.{ends_later, takes_then, was_free}
 
 -- a block of data has 256 sectors at most
@@ -46,13 +45,11 @@ module _ (kept : Kept) (cells block : ℕ) {old : DiskState} {old_failed : Bool}
   -- what a command spends that came to its commit
   module _ {least : FreeSectors} (dir : Rows) (works : Works cells block old (free_by kept.body) old_failed new less new_failed None)
       (takes : TakesAtMost (dir_sectors (length (dir_bytes dir))) less least) (grows : length (dir_bytes dir) ≤ length (dir_bytes kept.dir) + 1024) where
-    pub spends_full : {last : DiskState} (fault : PoolFault) → FillsFree new less last least → ((need largest : ℕ) → fault ≡ Full need largest → IsDirFull less least dir need largest) → WriteFault fault → FindsNoRoom cells block kept least fault
-    spends_full fault fills full known = λ need largest same.
-        let told = full need largest same in
-        let shorter : largest < need = subst WriteFault same known in
+    pub spends_full : {last : DiskState} (need largest : ℕ) → FillsFree new less last least → IsDirFull less least dir need largest → HasNoRoom cells block kept.body kept.dir least need largest
+    spends_full need largest fills told =
         let more = dir-more (length (dir_bytes dir)) (length (dir_bytes kept.dir) + 1024) grows in
         let was = was_free kept.body least (takes_then (free_by kept.body) less least works.takes takes) (λ sector free. works.fills.fewer sector (fills.fewer sector free)) in
-        record { shorter = shorter; needed = inl told.needed; is_longest = told.is_longest; was_free = omega (arith, told.is_longest, was); room = omega (arith, told.before, works.takes.longest, more) }
+        record { shorter = told.shorter; needed = inl told.needed; is_longest = told.is_longest; was_free = omega (arith, told.is_longest, was); room = omega (arith, told.before, works.takes.longest, more) }
 
     pub spends_grows : (next : Kept) → kept.body.end ≤ kept.body.sectors → next.body.end ≤ next.body.sectors → next.body.end ≡ least.end → next.body.sectors ≡ kept.body.sectors
         → Grows (most_sectors cells block kept.dir) kept.body next.body

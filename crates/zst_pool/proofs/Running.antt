@@ -19,19 +19,23 @@ use Rattle.zst_objset.specs.Sets.{SetHolds}
 use Rattle.zst_dir.specs.Rows.{Rows}
 use Rattle.zst_dir.specs.Spelling.{dir_bytes}
 use Rattle.zst_pool.specs.Checks.{FindsHead, with_head_of}
-use Rattle.zst_pool.specs.Cost.{Cost, Spends}
-use Rattle.zst_pool.specs.Faults.{HasDiskCause, StepFault, WriteFault, is_disk_fault}
+use Rattle.zst_pool.specs.Cost.{Cost, HasNoRoom, Spends}
+use Rattle.zst_pool.specs.Faults.{StepFault, is_disk_fault, of_committed}
 use Rattle.zst_pool.specs.Heads.{ChangedHead, ChangesHead, Stops, Works, stop_of}
-use Rattle.zst_pool.specs.Reads.{Rests, RowsAre, dir_sectors, free_by}
-use Rattle.zst_pool.specs.Room.{IsDirFull}
+use Rattle.zst_image.specs.Reads.{Rests, RowsAre, dir_sectors, free_by}
+use Rattle.zst_image.specs.Committing.{IsDirFull}
 use Rattle.zst_pool.specs.Runs.{Did, Runs, as_kept}
-use Rattle.zst_pool.specs.Work.{Ready}
+use Rattle.zst_image.specs.Committing.{Ready}
 use Rattle.zst_pool.specs.declared.fault.PoolFault.{PoolFault}
-use Rattle.zst_pool.specs.declared.fault.PoolFault.TheVariants.{DiskFault, Full}
+use Rattle.zst_pool.specs.declared.fault.PoolFault.TheVariants.{DiskFault}
 use Rattle.zst_pool.specs.declared.head_fault.HeadFault.{HeadFault}
-use Rattle.zst_pool.specs.declared.kept.Kept.{Kept}
+use Rattle.zst_image.specs.Faults as images
+use Rattle.zst_image.specs.Faults.{stop_of_commit}
+use Rattle.zst_image.specs.declared.commit_fault.CommitFault.{CommitFault}
+use Rattle.zst_image.specs.declared.commit_fault.CommitFault.TheVariants as commits
+use Rattle.zst_image.specs.declared.kept.Kept.{Kept}
 use Rattle.zst_pool.proofs.Doing.{fell, free_by_fits}
-use Rattle.zst_pool.proofs.Known.{write_known}
+use Rattle.zst_pool.proofs.Committed.{committed_cause, committed_err, committed_fails, committed_ok, committed_open}
 use Rattle.zst_pool.proofs.Parts.{described_in, disk_fault_same, failed_then, taken}
 use Rattle.zst_pool.proofs.Room.{spends_fell, spends_full, spends_grows}
 use Rattle.zst_pool.proofs.Taking.{works_none}
@@ -65,46 +69,58 @@ module _ (definition : Pool → Result Stepped Refusal) (cost : Cost) (kept : Ke
       subst (Runs definition cost kept old old_failed new less new_failed) (sym same) fell_so
 
   -- one that came to its commit
-  pub runs_committed : {old : DiskState} {old_failed : Bool} {new : DiskState} {less : FreeSectors} {new_failed : Bool} {last : DiskState} {least : FreeSectors} {last_failed : Bool} (dir : Rows) (answer : Result Kept PoolFault)
+  pub runs_committed : {old : DiskState} {old_failed : Bool} {new : DiskState} {less : FreeSectors} {new_failed : Bool} {last : DiskState} {least : FreeSectors} {last_failed : Bool} (dir : Rows) (made : Result Kept CommitFault) {answer : Result Kept PoolFault} → answer ≡ of_committed made
       → Ready new kept.body → Wrote kept cost old old_failed new less new_failed None
-      → ((pool : Pool) → last.honest → Rests old kept.body kept.dir pool → Did old last kept.body kept.dir pool (definition pool) answer)
-      → length (dir_bytes dir) ≤ length (dir_bytes kept.dir) + 1024 → IfErr answer WriteFault
-      → ((need largest : ℕ) → answer ≡ Err (Full need largest) → IsDirFull less least dir need largest)
-      → TakesAtMost (dir_sectors (length (dir_bytes dir))) less least → IfOk answer (λ next. (next.body.end ≡ least.end) × (next.body.sectors ≡ kept.body.sectors))
-      → (¬ (answer ≡ Err DiskFault) → OnErr answer (FillsFree new less last least))
-      → IfOk answer (λ kept. Ready last kept.body) → (last_failed ≡ false → OnErr answer (Ready last kept.body))
-      → last_failed ≡ (new_failed || is_disk_fault answer) → HasDiskCause new.faults last.faults answer → (last.honest → new.honest) → Runs definition cost kept old old_failed last least last_failed answer
-  runs_committed {old = old} {old_failed = old_failed} {new = new} {less = less} {new_failed = new_failed} {last = last} {least = least} {last_failed = last_failed} dir answer old_ready wrote did grows fault full takes ends fills ready stays failed cause falls =
+      → ((pool : Pool) → last.honest → Rests old kept.body kept.dir pool → Did old last kept.body kept.dir pool (definition pool) (of_committed made))
+      → length (dir_bytes dir) ≤ length (dir_bytes kept.dir) + 1024
+      → ((need largest : ℕ) → made ≡ Err (commits.Full need largest) → IsDirFull less least dir need largest)
+      → TakesAtMost (dir_sectors (length (dir_bytes dir))) less least → IfOk made (λ next. (next.body.end ≡ least.end) × (next.body.sectors ≡ kept.body.sectors))
+      → (¬ (made ≡ Err commits.DiskFault) → OnErr made (FillsFree new less last least))
+      → IfOk made (λ kept. Ready last kept.body) → (last_failed ≡ false → OnErr made (Ready last kept.body))
+      → last_failed ≡ (new_failed || blocks.fails (stop_of_commit made)) → images.HasDiskCause commits.DiskFault new.faults last.faults made → (last.honest → new.honest) → Runs definition cost kept old old_failed last least last_failed answer
+  runs_committed {old = old} {old_failed = old_failed} {new = new} {less = less} {new_failed = new_failed} {last = last} {least = least} {last_failed = last_failed} dir made same old_ready wrote did grows full takes ends fills ready stays failed cause falls =
       let one = wrote.0 in
       let works = one.2 in
-      record {
+      let answer = of_committed made in
+      let disk = committed_cause new.faults last.faults made cause in
+      let runs : Runs definition cost kept old old_failed last least last_failed answer = record {
         did = did;
-        open_still = write_known answer fault;
-        spends = (one.0, one.1, spends answer fault full ends fills ready one.0 works);
-        exact = λ pool told rests. spends answer fault full ends fills ready (cost.block pool) (wrote.1 pool (falls told) rests);
-        spares = λ apart. spares answer works.fills (fills apart);
-        ready = ready;
-        stays = stays;
-        failed = failed_then old_failed new_failed last_failed (is_disk_fault answer) works.failed failed;
-        cause = record { later = omega (arith, works.cause.later, cause.later); fault = λ is. Rose-earlier old.faults new.faults last.faults works.cause.later (cause.fault is) };
+        open_still = committed_open made;
+        spends = (one.0, one.1, spends made full ends fills ready one.0 works);
+        exact = λ pool told rests. spends made full ends fills ready (cost.block pool) (wrote.1 pool (falls told) rests);
+        spares = λ apart. spares made works.fills fills apart;
+        ready = committed_ok (λ kept. Ready last kept.body) made ready;
+        stays = λ standing. committed_err (Ready last kept.body) made (stays standing);
+        failed = failed_then old_failed new_failed last_failed (is_disk_fault answer) works.failed (failed ∙ ap (λ (b : Bool). new_failed || b) (committed_fails made));
+        cause = record { later = omega (arith, works.cause.later, disk.later); fault = λ is. Rose-earlier old.faults new.faults last.faults works.cause.later (disk.fault is) };
         honest = λ told. works.fills.honest (falls told);
-      }
+      } in
+      subst (Runs definition cost kept old old_failed last least last_failed) (sym same) runs
     where
-      spends : (r : Result Kept PoolFault) → IfErr r WriteFault → ((need largest : ℕ) → r ≡ Err (Full need largest) → IsDirFull less least dir need largest)
-          → IfOk r (λ next. (next.body.end ≡ least.end) × (next.body.sectors ≡ kept.body.sectors)) → (¬ (r ≡ Err DiskFault) → OnErr r (FillsFree new less last least)) → IfOk r (λ kept. Ready last kept.body)
-          → (block : ℕ) → Works cost.cells block old (free_by kept.body) old_failed new less new_failed None → Spends cost.cells block kept least as_kept r
-      spends (Ok next) fault full ends fills ready block works =
+      spends : (r : Result Kept CommitFault) → ((need largest : ℕ) → r ≡ Err (commits.Full need largest) → IsDirFull less least dir need largest)
+          → IfOk r (λ next. (next.body.end ≡ least.end) × (next.body.sectors ≡ kept.body.sectors)) → (¬ (r ≡ Err commits.DiskFault) → OnErr r (FillsFree new less last least)) → IfOk r (λ kept. Ready last kept.body)
+          → (block : ℕ) → Works cost.cells block old (free_by kept.body) old_failed new less new_failed None → Spends cost.cells block kept least as_kept (of_committed r)
+      spends (Ok next) full ends fills ready block works =
           record { full = tt; grows = spends_grows kept cost.cells block dir works takes grows next old_ready.in_range.end.1 ready.in_range.end.1 ends.0 ends.1 }
-      spends (Err e) fault full ends fills ready block works = record {
-        full = λ need largest same.
-            let apart : ¬ (◌≡◌ {A = Result Kept PoolFault} (Err e) (Err DiskFault)) = λ is. cc in
-            spends_full kept cost.cells block dir works takes grows e (fills apart) (λ n l is. full n l (ap (λ f. Err f) is)) fault need largest same;
-        grows = tt;
-      }
+      spends (Err (commits.Full need largest)) full ends fills ready block works =
+          let apart : ¬ (◌≡◌ {A = Result Kept CommitFault} (Err (commits.Full need largest)) (Err commits.DiskFault)) = λ is. cc in
+          let told = spends_full kept cost.cells block dir works takes grows need largest (fills apart) (full need largest refl) in
+          record {
+            full = λ n l same.
+                let needed : need ≡ n = cc in
+                let left : largest ≡ l = cc in
+                subst (λ (m : ℕ). HasNoRoom cost.cells block kept.body kept.dir least m l) needed (subst (λ (m : ℕ). HasNoRoom cost.cells block kept.body kept.dir least need m) left told);
+            grows = tt;
+          }
+      spends (Err commits.DiskFault) full ends fills ready block works = record { full = λ n l same. absurd (cc); grows = tt }
+      spends (Err commits.OutOfMemory) full ends fills ready block works = record { full = λ n l same. absurd (cc); grows = tt }
 
-      spares : (r : Result Kept PoolFault) → FillsFree old (free_by kept.body) new less → OnErr r (FillsFree new less last least) → OnErr r (SparesTaken (free_by kept.body) old.seen last.seen)
-      spares (Ok next) first second = tt
-      spares (Err e) first second = let both = FillsFree-then old new last (free_by kept.body) less least first second in both.seen
+      spares : (r : Result Kept CommitFault) → FillsFree old (free_by kept.body) new less → (¬ (r ≡ Err commits.DiskFault) → OnErr r (FillsFree new less last least)) → ¬ (of_committed r ≡ Err DiskFault)
+          → OnErr (of_committed r) (SparesTaken (free_by kept.body) old.seen last.seen)
+      spares (Ok next) first second apart = tt
+      spares (Err (commits.Full need largest)) first second apart = let both = FillsFree-then old new last (free_by kept.body) less least first (second (λ is. cc)) in both.seen
+      spares (Err commits.DiskFault) first second apart = absurd (apart refl)
+      spares (Err commits.OutOfMemory) first second apart = let both = FillsFree-then old new last (free_by kept.body) less least first (second (λ is. cc)) in both.seen
 
 -- before its first part a command wrote nothing
 pub idle_wrote : (kept : Kept) (cost : Cost) (disk : DiskState) (space : FreeSectors) (failed : Bool) (stop : Option BlockFault) → stop ≡ None → space ≡ free_by kept.body → Ready disk kept.body

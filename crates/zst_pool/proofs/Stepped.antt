@@ -6,7 +6,7 @@ use Rattle.zst_pool.specs.Cost.{FindsNoRoom, Spends}
 use Rattle.zst_pool.specs.Runs.{as_kept}
 use Rattle.zst_pool.specs.declared.fault.PoolFault.{PoolFault}
 use Rattle.zst_pool.specs.declared.fault.PoolFault.TheVariants.{DiskFault, Full}
-use Rattle.zst_pool.specs.declared.kept.Kept.{Kept}
+use Rattle.zst_image.specs.declared.kept.Kept.{Kept}
 
 module _ {T : Type 0} (cells block : ℕ) (kept : Kept) (left : FreeSectors) where
   -- a step that went well

@@ -12,7 +12,7 @@ use Rattle.zst_block.specs.declared.fault.BlockFault.{BlockFault}
 use Rattle.zst_block.specs.declared.fault.BlockFault.TheVariants as block_faults
 use Rattle.zst_block.proofs.BlocksLaws.{FillsFree-reads, FillsFree-then}
 use Rattle.zst_uber.specs.declared.uber.Uber.{Uber}
-use Rattle.zst_pool.specs.Reads.{free_by}
+use Rattle.zst_image.specs.Reads.{free_by}
 use Rattle.zst_pool.proofs.Parts.{failed_then, or_false}
 
 -- where nothing is done, nothing is taken

@@ -20,7 +20,7 @@ use Rattle.zst_tree.specs.Indices.{Blocks}
 use Rattle.zst_tree.specs.declared.tree.ObjSet.{ObjSet}
 use Rattle.zst_objset.specs.Sets.{SetHolds}
 use Rattle.zst_dir.specs.declared.rows.Dataset.{Dataset}
-use Rattle.zst_pool.specs.Reads.{DatasetIs}
+use Rattle.zst_image.specs.Reads.{DatasetIs}
 
 -- a check that passes leaves what comes next of the definition, and one that refuses gives the definition's refusal
 abbrev pub Judges : {T : Type 0} → Result Stepped Refusal → Result Stepped Refusal → Result T PlanFault → Type 0

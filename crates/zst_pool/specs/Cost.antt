@@ -9,10 +9,10 @@ use Rattle.zst_model.specs.pools.Pool.{Pool, dataset_named}
 use Rattle.zst_model.specs.pools.Pool as plain
 use Rattle.zst_dir.specs.Rows.{Rows}
 use Rattle.zst_dir.specs.Spelling.{dir_bytes}
-use Rattle.zst_pool.specs.Reads.{dir_sectors}
+use Rattle.zst_image.specs.Reads.{dir_sectors}
 use Rattle.zst_pool.specs.declared.fault.PoolFault.{PoolFault}
 use Rattle.zst_pool.specs.declared.fault.PoolFault.TheVariants.{Full}
-use Rattle.zst_pool.specs.declared.kept.Kept.{Kept}
+use Rattle.zst_image.specs.declared.kept.Kept.{Kept}
 
 -- what a change of an object set costs: so many cells that it touches, and so many sectors of data or of a spill block, in a pool, and at most whatever is there
 pub record Cost : Type 0 where

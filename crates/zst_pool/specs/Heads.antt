@@ -20,12 +20,12 @@ use Rattle.zst_objset.specs.declared.fault.ObjFault.TheVariants as set_faults
 use Rattle.zst_pool.specs.Checks.{next_of, with_head_of}
 use Rattle.zst_pool.specs.Cost.{Cost}
 use Rattle.zst_pool.specs.Faults.{StepFault, of_set, is_disk_fault}
-use Rattle.zst_pool.specs.Reads.{Rests, free_by}
+use Rattle.zst_image.specs.Reads.{Rests, free_by}
 use Rattle.zst_pool.specs.declared.fault.PoolFault.{PoolFault}
 use Rattle.zst_pool.specs.declared.fault.PoolFault.TheVariants as faults
 use Rattle.zst_pool.specs.declared.head_fault.HeadFault.{HeadFault}
 use Rattle.zst_pool.specs.declared.head_fault.HeadFault.TheVariants.{Set, Memory}
-use Rattle.zst_pool.specs.declared.kept.Kept.{Kept}
+use Rattle.zst_image.specs.declared.kept.Kept.{Kept}
 
 -- a head's fault as a pool's
 abbrev pub of_head : HeadFault → PoolFault

@@ -3,9 +3,5 @@ pub mod Cost
 pub mod Damage
 pub mod Faults
 pub mod Heads
-pub mod Making
-pub mod Reads
-pub mod Room
 pub mod Runs
 pub mod Stepping
-pub mod Work

@@ -10,11 +10,12 @@ use Rattle.zst_model.specs.pools.Step.{Stepped}
 use Rattle.zst_dir.specs.Rows.{Rows}
 use Rattle.zst_pool.specs.Cost.{Cost, Spends}
 use Rattle.zst_pool.specs.Faults.{HasDiskCause, is_disk_fault, StepFault}
-use Rattle.zst_pool.specs.Reads.{Rests, BeforeOrAfter, free_by}
-use Rattle.zst_pool.specs.Work.{Ready}
+use Rattle.zst_image.specs.Reads.{Rests, free_by}
+use Rattle.zst_pool.specs.Stepping.{BeforeOrAfter}
+use Rattle.zst_image.specs.Committing.{Ready}
 use Rattle.zst_pool.specs.declared.fault.PoolFault.{PoolFault}
 use Rattle.zst_pool.specs.declared.fault.PoolFault.TheVariants.{DiskFault, Failed}
-use Rattle.zst_pool.specs.declared.kept.Kept.{Kept}
+use Rattle.zst_image.specs.declared.kept.Kept.{Kept}
 
 -- what stands after a command's answer: what the definition makes of the pool, or the pool as it was
 abbrev pub DidAnswer : (Kept → Pool → Type 0) → Type 0 → Result Stepped Refusal → Result Kept PoolFault → Type 0

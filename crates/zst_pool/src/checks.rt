@@ -9,10 +9,10 @@ ghost use Rattle.zst_model.specs.declared.refusals.refusal.Refusal.{Refusal};
 ghost use Rattle.zst_model.specs.pools.Step.{Stepped, committed, with_dataset, count_datasets};
 ghost use Rattle.zst_pool.specs.Checks.{Judges, FindsDataset, if_guid_left, if_new_snapshot, JudgesSnapshot, next_of, with_new};
 ghost use Rattle.zst_dir.specs.Rows.{HasDataset, HasSnapshot, IsLawful};
-ghost use Rattle.zst_pool.specs.Reads.{RowsAre};
+ghost use Rattle.zst_image.specs.Reads.{RowsAre};
 
-use crate::kept::Kept;
 use zst_dir::{Dataset, Dir};
+use zst_image::Kept;
 use zst_model::limits::{LAST_GUID, LAST_NUMBER, MOST_DATASETS, MOST_SNAPSHOTS};
 use zst_model::{Holder, Missing, Name, PlanFault, Present, Quantity};
 use zst_names::{DatasetName, SnapName};

@@ -13,20 +13,19 @@ ghost use Rattle.zst_tree.specs.Sets.{SetFits};
 ghost use Rattle.zst_tree.specs.declared.tree.ObjSet.{ObjSet as ObjectSet};
 ghost use Rattle.zst_pool.specs.Checks.{FindsHead, freed, put_in};
 ghost use Rattle.zst_pool.specs.Heads.{ChangedHead, ChangesHead, JudgesHead, Stops, is_accepted, of_change, stop_of};
-ghost use Rattle.zst_pool.specs.Reads.{RowsAre, free_by};
+ghost use Rattle.zst_image.specs.Reads.{RowsAre, free_by};
 ghost use Rattle.zst_pool.specs.Cost.{Cost, cells_only, object_cost, write_cost};
 ghost use Rattle.zst_pool.specs.Runs.{Runs};
-ghost use Rattle.zst_pool.specs.Work.{Ready};
+ghost use Rattle.zst_image.specs.Committing.{Ready};
 
 use crate::changes::{change_block, change_holes, change_numbers, change_object};
 use crate::checks::{check_number, open_dataset};
-use crate::committing::commit_dir;
-use crate::fault::PoolFault;
+use crate::fault::{PoolFault, of_committed};
 use crate::head_fault::HeadFault;
-use crate::kept::Kept;
 use std::alloc::Global;
 use zst_block::{BlockFault, Io};
 use zst_dir::Dir;
+use zst_image::{Kept, commit_dir};
 use zst_laws::steps_keep_pools;
 use zst_model::{Bytes, ObjectHead, PlanFault};
 use zst_names::DatasetName;
@@ -122,7 +121,7 @@ fn commit_head<D: Disk>(
     check_levels(set)?;
     let mut dir = kept.dir.copy(alloc)?;
     dir.set_head(name, set);
-    commit_dir(io, alloc, &kept.body, kept.body.guids, dir)
+    of_committed(commit_dir(io, alloc, &kept.body, kept.body.guids, dir))
 }
 
 /// Allocates an object, or gives it other attributes. Its spill block is this one, or none.

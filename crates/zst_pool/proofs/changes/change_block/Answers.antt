@@ -14,7 +14,7 @@ use Rattle.zst_objset.specs.Sets.{SetHolds}
 use Rattle.zst_objset.proofs.SetGrows.{SetHolds-grows}
 use Rattle.zst_pool.specs.Heads.{ChangesHead, Works, stop_of}
 use Rattle.zst_pool.specs.Damage.{block_damage}
-use Rattle.zst_pool.specs.Reads.{new_pool}
+use Rattle.zst_image.specs.Reads.{new_pool}
 use Rattle.zst_space.specs.FreeSectors.{FreeSectors}
 use Rattle.zst_block.specs.Blocks.{SparesTaken}
 use Rattle.zst_tree.specs.Damage.{IsSeen, NamesNode}

@@ -27,7 +27,7 @@ returns-clause-runs g c =
     let name = c.args.name.now in
     let commit = c.commit_dir.ensures in
     let grows : length (dir_bytes c.add_dataset.new.self) ≤ length (dir_bytes kept.dir) + 1024 = omega (arith, c.in_ok-add_dataset.ensures.grows, ap (λ (d : Rows). length (dir_bytes d)) c.in_ok-dir.ensures) in
-    runs_committed (λ pool. with_dataset kind name pool) (cells_only 0) kept c.add_dataset.new.self c.commit_dir.result c.requires.ready (idle_wrote kept (cells_only 0) old space c.args.io.now.failed None refl c.requires.space c.requires.ready)
+    runs_committed (λ pool. with_dataset kind name pool) (cells_only 0) kept c.add_dataset.new.self c.commit_dir.result c.of_committed.ensures c.requires.ready (idle_wrote kept (cells_only 0) old space c.args.io.now.failed None refl c.requires.space c.requires.ready)
     (λ pool told rests.
     let done = next_of (with_new kind name pool) in
     let described = described_in old space kept.body kept.dir pool c.requires.space rests in
@@ -40,7 +40,7 @@ returns-clause-runs g c =
     let next = dataset_is_next (Has old.seen space) kept.body kept.dir c.add_dataset.new.self pool kind name described dir lawful in
     did old (g.D.Disk.state c.commit_dir.new.io.disk.now) kept.body kept.dir pool (with_dataset kind name pool) done made c.commit_dir.result
     (commit.commits c.args.io.now.disk.now kept.dir pool done.pool told rests (fills_none old space kept.body c.requires.space) next))
-    grows commit.fault commit.full commit.takes commit.ends commit.fills commit.ready commit.stays commit.failed commit.cause commit.honest
+    grows commit.full commit.takes commit.ends commit.fills commit.ready commit.stays commit.failed commit.cause commit.honest
 
 pub returns-in_err-add_dataset-clause-runs : goal.returns-in_err-add_dataset-clause-runs
 returns-in_err-add_dataset-clause-runs g c =

@@ -7,7 +7,7 @@ use Rattle.zst_names.specs.Names.{IsSnapshot, dataset_of}
 use Rattle.zst_model.specs.pools.Pool.{inserted}
 use Rattle.zst_model.specs.pools.Step.{with_snapshot}
 use Rattle.zst_pool.specs.Checks.{next_of, with_taken}
-use Rattle.zst_pool.specs.Reads.{free_by}
+use Rattle.zst_image.specs.Reads.{free_by}
 use Rattle.zst_dir.specs.Rows.{HasSnapshot, IsDatasetRow, snapshot_is_before}
 use Rattle.zst_dir.specs.declared.rows.Snapshot.{Snapshot}
 use Rattle.zst_pool.specs.declared.fault.PoolFault.TheVariants.{OutOfMemory, Plan}
@@ -42,7 +42,7 @@ returns-clause-runs g c =
     let now = c.args.now in
     let name = c.args.name.now in
     let commit = c.commit_dir.ensures in
-    runs_committed (λ pool. with_snapshot now name pool) (cells_only 0) kept c.in_ok-dir.dir c.commit_dir.result c.requires.ready (idle_wrote kept (cells_only 0) old space c.args.io.now.failed None refl c.requires.space c.requires.ready)
+    runs_committed (λ pool. with_snapshot now name pool) (cells_only 0) kept c.in_ok-dir.dir c.commit_dir.result c.of_committed.ensures c.requires.ready (idle_wrote kept (cells_only 0) old space c.args.io.now.failed None refl c.requires.space c.requires.ready)
     (λ pool told rests.
     let described = described_in old space kept.body kept.dir pool c.requires.space rests in
     let judged = c.in_ok-dataset.ensures.judged old.seen space now pool described.rows_are described.guids described.number in
@@ -56,7 +56,7 @@ returns-clause-runs g c =
     let next = snapshot_is_next (Has old.seen space) kept.body kept.dir c.in_ok-dir.dir pool now name c.in_ok-dataset.dataset.now judged.0 described judged.1 c.in_ok-dataset.ensures.free dir lawful in
     did old (g.D.Disk.state c.commit_dir.new.io.disk.now) kept.body kept.dir pool (with_snapshot now name pool) done judged.2 c.commit_dir.result
     (commit.commits c.args.io.now.disk.now kept.dir pool done.pool told rests (fills_none old space kept.body c.requires.space) next))
-    c.in_ok-dir.ensures.grows commit.fault commit.full commit.takes commit.ends commit.fills commit.ready commit.stays commit.failed commit.cause commit.honest
+    c.in_ok-dir.ensures.grows commit.full commit.takes commit.ends commit.fills commit.ready commit.stays commit.failed commit.cause commit.honest
 
 pub returns-in_err-dataset-clause-runs : goal.returns-in_err-dataset-clause-runs
 returns-in_err-dataset-clause-runs g c =

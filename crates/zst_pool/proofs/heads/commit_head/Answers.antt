@@ -15,7 +15,7 @@ use Rattle.zst_pool.specs.Checks.{next_of, with_head_of}
 use Rattle.zst_pool.specs.Faults.{StepFault}
 use Rattle.zst_pool.specs.Heads.{ChangedHead, stop_of}
 use Rattle.zst_pool.specs.Cost.{Cost}
-use Rattle.zst_pool.specs.Reads.{free_by}
+use Rattle.zst_image.specs.Reads.{free_by}
 use Rattle.zst_pool.specs.declared.fault.PoolFault.{PoolFault}
 use Rattle.zst_pool.specs.declared.fault.PoolFault.TheVariants.{Damaged, OutOfMemory}
 use Rattle.zst_pool.proofs.Doing.{did}
@@ -94,7 +94,7 @@ returns-clause-runs g c = λ start start_failed make cost changed.
     let long : length (dir_bytes c.set_head.new.self) ≡ length (dir_bytes kept.dir) = c.set_head.ensures.as_long ∙ ap (λ (d : Rows). length (dir_bytes d)) c.in_ok-dir.ensures in
     let grows : length (dir_bytes c.set_head.new.self) ≤ length (dir_bytes kept.dir) + 1024 = omega (arith, long) in
     let dir = c.set_head.ensures.headed ∙ ap (λ (d : Rows). record d { datasets = with_head name set d.datasets }) c.in_ok-dir.ensures in
-    runs_committed (λ pool. on_head name pool (make pool)) cost kept c.set_head.new.self c.commit_dir.result c.requires.ready
+    runs_committed (λ pool. on_head name pool (make pool)) cost kept c.set_head.new.self c.commit_dir.result c.of_committed.ensures c.requires.ready
     (subst (Wrote kept cost from start_failed old space c.args.io.now.failed) c.in_ok-judge.ensures.went_well writes)
     (λ pool told rests.
     let made = changed.made pool (commit.honest told) rests in
@@ -104,4 +104,4 @@ returns-clause-runs g c = λ start start_failed make cost changed.
     let described = described_on from old space kept.body kept.dir pool rests fills in
     let next = head_is_next (Has old.seen space) kept.body kept.dir c.set_head.new.self pool name set head.0 described head.2 dir (changed.lawful pool done rests.reads.described.lawful is) in
     did from last kept.body kept.dir pool (on_head name pool (make pool)) done is c.commit_dir.result (commit.commits start kept.dir pool done.pool told rests fills next))
-    grows commit.fault commit.full commit.takes commit.ends commit.fills commit.ready commit.stays commit.failed commit.cause commit.honest
+    grows commit.full commit.takes commit.ends commit.fills commit.ready commit.stays commit.failed commit.cause commit.honest

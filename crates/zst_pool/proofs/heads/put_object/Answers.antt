@@ -4,7 +4,7 @@ use Rattle.zst_model.specs.pools.Pool.{Pool}
 use Rattle.zst_pool.specs.Checks.{put_in}
 use Rattle.zst_pool.specs.Cost.{object_cost, spill_sectors}
 use Rattle.zst_pool.proofs.Doing.{free_by_fits}
-use Rattle.zst_pool.specs.Reads.{free_by}
+use Rattle.zst_image.specs.Reads.{free_by}
 use Rattle.zst_pool.specs.declared.fault.PoolFault.TheVariants.{Plan}
 use Rattle.zst_model.specs.pools.Step.{on_head}
 use Rattle.zst_pool.proofs.Judging.{err_is}
