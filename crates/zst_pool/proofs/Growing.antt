@@ -22,7 +22,7 @@ Grows describes = (has more : Ptr → List ℕ → Type 0) → ((ptr : Ptr) (byt
 abbrev pub AreMore : Blocks → Blocks → Type 0
 AreMore has more = (ptr : Ptr) (bytes : List ℕ) → has ptr bytes → more ptr bytes
 
-DatasetIs-grows : (has more : Blocks) → AreMore has more → (row : Dataset) (dataset : plain.Dataset) → DatasetIs has row dataset → DatasetIs more row dataset
+pub DatasetIs-grows : (has more : Blocks) → AreMore has more → (row : Dataset) (dataset : plain.Dataset) → DatasetIs has row dataset → DatasetIs more row dataset
 DatasetIs-grows has more up row dataset is = record {
   name = is.name;
   kind = is.kind;
@@ -31,7 +31,7 @@ DatasetIs-grows has more up row dataset is = record {
   redact = is.redact;
 }
 
-SnapshotIs-grows : (has more : Blocks) → AreMore has more → (row : Snapshot) (snapshot : plain.Snapshot) → SnapshotIs has row snapshot → SnapshotIs more row snapshot
+pub SnapshotIs-grows : (has more : Blocks) → AreMore has more → (row : Snapshot) (snapshot : plain.Snapshot) → SnapshotIs has row snapshot → SnapshotIs more row snapshot
 SnapshotIs-grows has more up row snapshot is = record {
   name = is.name;
   guid = is.guid;
@@ -41,7 +41,7 @@ SnapshotIs-grows has more up row snapshot is = record {
   redact = is.redact;
 }
 
-PartialIs-grows : (has more : Blocks) → AreMore has more → (row : Partial) (partial : plain.Partial) → PartialIs has row partial → PartialIs more row partial
+pub PartialIs-grows : (has more : Blocks) → AreMore has more → (row : Partial) (partial : plain.Partial) → PartialIs has row partial → PartialIs more row partial
 PartialIs-grows has more up row partial is = record {
   target = is.target;
   component = is.component;

@@ -1,7 +1,11 @@
+pub mod Calls
 pub mod Checks
 pub mod Cost
 pub mod Damage
 pub mod Faults
+pub mod Finding
 pub mod Heads
+pub mod PartialRows
+pub mod Partials
 pub mod Runs
 pub mod Stepping

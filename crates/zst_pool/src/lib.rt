@@ -1,13 +1,16 @@
 //! The commands on the pool of an image: each is checked, carried out and committed.
 #![tactic(auto)]
 
+mod calls;
 mod changes;
 mod checks;
 mod commands;
 mod fault;
 mod head_fault;
 mod heads;
+mod partials;
 mod pool;
+mod receiving;
 #[cfg(test)]
 mod tests;
 
