@@ -1,7 +1,7 @@
 -- What a call of a receive does to a pool that runs.
-use Rattle.std.specs.Prelude.{◌≡◌, ◌⊎◌, ◌<◌, ℕ, Result, Ok, Err}
+use Rattle.std.specs.Prelude.{◌≡◌, ◌⊎◌, ◌+◌, ◌<◌, ℕ, length, Result, Ok, Err}
 use Rattle.zst_outside.specs.Images.{DiskState, Leaves}
-use Rattle.zst_space.specs.FreeSectors.{FreeSectors}
+use Rattle.zst_space.specs.FreeSectors.{FreeSectors, largest_of}
 use Rattle.zst_block.specs.Blocks.{FillsFree, FitsDisk, Has}
 use Rattle.zst_uber.specs.declared.uber.Uber.{Uber}
 use Rattle.zst_model.specs.declared.refusals.faults.Quantity.{Quantity}
@@ -12,8 +12,9 @@ use Rattle.zst_model.specs.refusals.Refusal.{refusal_of}
 use Rattle.zst_model.specs.pools.Kept.{kept_of}
 use Rattle.zst_model.specs.pools.Pool.{Pool}
 use Rattle.zst_dir.specs.Rows.{Rows}
+use Rattle.zst_dir.specs.Spelling.{dir_bytes}
 use Rattle.zst_pool.specs.PartialRows.{RunsBy}
-use Rattle.zst_image.specs.Reads.{Reads, Rests, free_by}
+use Rattle.zst_image.specs.Reads.{Reads, Rests, dir_sectors, free_by}
 use Rattle.zst_image.specs.Committing.{Ready}
 use Rattle.zst_pool.specs.declared.fault.PoolFault.{PoolFault}
 use Rattle.zst_pool.specs.declared.fault.PoolFault.TheVariants.{Plan, CannotApply, Redacted, Full, Damaged, DiskFault, Failed, OutOfMemory}
@@ -87,3 +88,9 @@ pub record CallDid (start now : DiskState) (body : Uber) (running : Pool) (defin
 abbrev pub keeping : Kept → Result ℕ PoolFault → Result Kept PoolFault
 keeping kept (Ok number) = Ok kept
 keeping kept (Err fault) = Err fault
+
+-- E24 of a call: need is the 16 sectors of a block of a directory, and before it no run was free of as many as a directory with 2,048 bytes more takes
+pub record IsCallFull (space : FreeSectors) (rows : Rows) (need largest : ℕ) : Type 0 where
+  pub shorter : largest < need
+  pub needed : need ≡ 16
+  pub before : largest_of space < dir_sectors (length (dir_bytes rows) + 2048)
