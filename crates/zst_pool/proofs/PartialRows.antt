@@ -1,5 +1,5 @@
 -- What a receive makes of rows.
-use Rattle.std.proofs.Common.{◌≡◌, ◌≢◌, ℕ, ◌+◌, Bool, true, false, not, List, [], ◌∷◌, ◌++◌, filter, map, Option, Some, None, IfSome, if◌then◌else◌, get_or, sym, ap, ◌∙◌, subst, refl}
+use Rattle.std.proofs.Common.{◌≡◌, ◌≢◌, ℕ, ◌+◌, ◌&&◌, Bool, true, false, cond, not, List, [], ◌∷◌, ◌++◌, filter, map, Option, Some, None, IfSome, if◌then◌else◌, get_or, sym, ap, ◌∙◌, subst, refl}
 use Rattle.std.specs.List.{All, Contains}
 use Rattle.std.specs.Str.{bytes_eq}
 use Rattle.std.proofs.lemmas.Bool.{true≢false}
@@ -8,8 +8,9 @@ use Rattle.std.proofs.lemmas.Slice.Eq.{bytes_eq-Decides}
 use Rattle.zst_names.specs.Names.{dataset_of}
 use Rattle.zst_model.specs.pools.Pool.{Pool, is_before, inserted}
 use Rattle.zst_model.specs.pools.Pool as plain
+use Rattle.zst_model.specs.pools.Kept.{kept_of}
 use Rattle.zst_tree.specs.Indices.{Blocks}
-use Rattle.zst_dir.specs.Rows.{Rows, HasSnapshot, is_for, with_objects_at, with_partial}
+use Rattle.zst_dir.specs.Rows.{Rows, HasSnapshot, is_for, is_unkept_for, with_objects_at, with_partial}
 use Rattle.zst_dir.specs.declared.rows.Dataset.{Dataset}
 use Rattle.zst_dir.specs.declared.rows.Snapshot.{Snapshot}
 use Rattle.zst_dir.specs.declared.rows.Partial.{Partial}
@@ -81,3 +82,33 @@ module _ (has : Blocks) where
         partials = put_match;
       }
       partial_is_put false = record { datasets = runs.datasets; snapshots = runs.snapshots; bookmarks = runs.bookmarks; partials = put_match }
+
+-- the rows without a partial state that isn't kept
+pub unkept_dropped : (has : Blocks) (rows : Rows) (running : Pool) (target : List ℕ) → RunsBy has rows running
+    → RunsBy has (record rows { partials = filter (λ partial. not (is_unkept_for target partial)) rows.partials }) (plains.without_unkept target running)
+unkept_dropped has rows running target runs = record {
+  datasets = runs.datasets;
+  snapshots = runs.snapshots;
+  bookmarks = runs.bookmarks;
+  partials =
+      filter-Match (PartialIs has) (λ partial. not (is_unkept_for target partial)) (λ partial. not (bytes_eq partial.target target && not partial.keep))
+      (λ x y xy. ap (λ (t : List ℕ). not (bytes_eq t target && not x.keep)) (sym xy.target) ∙ ap (λ (k : Bool). not (bytes_eq y.target target && not k)) (sym xy.keep))
+      rows.partials running.partials runs.partials;
+}
+
+-- is no part of what is kept
+kept_left : (target : List ℕ) (partials : List plain.Partial)
+    → filter (λ partial. partial.keep) (filter (λ partial. not (bytes_eq partial.target target && not partial.keep)) partials) ≡ filter (λ partial. partial.keep) partials
+kept_left target [] = refl
+kept_left target (partial ∷ partials) =
+    go (bytes_eq partial.target target) partial.keep refl (filter (λ other. not (bytes_eq other.target target && not other.keep)) partials) (kept_left target partials)
+  where
+    go : (b k : Bool) → partial.keep ≡ k → (left : List plain.Partial) → filter (λ other. other.keep) left ≡ filter (λ other. other.keep) partials
+        → filter (λ other. other.keep) (cond (not (b && not k)) (partial ∷ left) left) ≡ cond k (partial ∷ filter (λ other. other.keep) partials) (filter (λ other. other.keep) partials)
+    go true true is left rest = ap (λ (t : Bool). cond t (partial ∷ filter (λ other. other.keep) left) (filter (λ other. other.keep) left)) is ∙ ap (λ (l : List plain.Partial). partial ∷ l) rest
+    go true false is left rest = rest
+    go false true is left rest = ap (λ (t : Bool). cond t (partial ∷ filter (λ other. other.keep) left) (filter (λ other. other.keep) left)) is ∙ ap (λ (l : List plain.Partial). partial ∷ l) rest
+    go false false is left rest = ap (λ (t : Bool). cond t (partial ∷ filter (λ other. other.keep) left) (filter (λ other. other.keep) left)) is ∙ rest
+
+pub kept_stays : (target : List ℕ) (running : Pool) → kept_of (plains.without_unkept target running) ≡ kept_of running
+kept_stays target running = ap (λ (l : List plain.Partial). record running { partials = l }) (kept_left target running.partials)

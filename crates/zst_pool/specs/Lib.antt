@@ -7,5 +7,6 @@ pub mod Finding
 pub mod Heads
 pub mod PartialRows
 pub mod Partials
+pub mod Reopening
 pub mod Runs
 pub mod Stepping

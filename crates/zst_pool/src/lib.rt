@@ -11,6 +11,7 @@ mod heads;
 mod partials;
 mod pool;
 mod receiving;
+mod reopening;
 #[cfg(test)]
 mod tests;
 
