@@ -1,6 +1,6 @@
 -- What a call of a receive did, from what its commit did.
 use Rattle.std.specs.Prelude.{Result, Ok, Err, IfOk}
-use Rattle.std.proofs.Common.{◌≡◌, ◌⊎◌, inl, inr, ⊎_elim, ℕ, ◌+◌, ◌≤◌, ◌<◌, ◌^◌, List, refl, sym, ap, ◌∙◌, subst, arith}
+use Rattle.std.proofs.Common.{◌≡◌, ◌⊎◌, inl, inr, ⊎_elim, ℕ, ◌+◌, ◌<◌, ◌^◌, List, refl, sym, ap, ◌∙◌, subst, arith}
 use Rattle.zst_outside.specs.Images.{DiskState, Leaves, Leaves-weaker}
 use Rattle.zst_space.specs.FreeSectors.{FreeSectors}
 use Rattle.zst_block.specs.Blocks.{Has, KeepsBlocks}
@@ -12,7 +12,7 @@ use Rattle.zst_model.specs.pools.Limits.{last_number}
 use Rattle.zst_model.specs.pools.Pool.{Pool}
 use Rattle.zst_tree.specs.Indices.{Blocks}
 use Rattle.zst_dir.specs.Rows.{Rows, IsLawful}
-use Rattle.zst_pool.specs.Calls.{CallAnswer, CallDid, CallFault, IsFrom, ListsAnew, StillRests}
+use Rattle.zst_pool.specs.Calls.{CallDid, CallFault, IsFrom, ListsAnew, StillRests}
 use Rattle.zst_pool.specs.Faults.{of_commit, of_committed}
 use Rattle.zst_image.specs.declared.commit_fault.CommitFault.{CommitFault}
 use Rattle.zst_image.specs.declared.commit_fault.CommitFault.TheVariants as commits

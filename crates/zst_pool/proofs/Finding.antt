@@ -1,18 +1,15 @@
 -- What is found among the rows of a directory holds what is found in the pool that they stand for.
-use Rattle.std.proofs.Common.{◌≡◌, ℕ, Bool, true, false, cond, List, [], ◌∷◌, Some, None, option_map, sym, ap}
+use Rattle.std.proofs.Common.{◌≡◌, ℕ, Bool, true, false, cond, List, [], ◌∷◌, Some, option_map, sym, ap}
 use Rattle.std.specs.List.{find}
 use Rattle.std.specs.Str.{bytes_eq}
 use Rattle.zst_model.specs.declared.refusals.named.Name.TheVariants as names
 use Rattle.zst_model.specs.states.Dated.{DatedState}
 use Rattle.zst_model.specs.pools.Pool.{Pool}
-use Rattle.zst_model.specs.pools.Pool as plain
 use Rattle.zst_model.specs.pools.Step.{state_named}
 use Rattle.zst_tree.specs.Indices.{Blocks}
 use Rattle.zst_tree.specs.declared.tree.ObjSet.{ObjSet}
 use Rattle.zst_objset.specs.Sets.{SetHolds}
 use Rattle.zst_dir.specs.Rows.{Rows}
-use Rattle.zst_dir.specs.declared.rows.Dataset.{Dataset}
-use Rattle.zst_dir.specs.declared.rows.Snapshot.{Snapshot}
 use Rattle.zst_pool.specs.Finding.{FindsState, set_named}
 use Rattle.zst_image.specs.Reads.{Match, RowsAre, DatasetIs, SnapshotIs}
 

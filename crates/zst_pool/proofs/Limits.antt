@@ -9,7 +9,6 @@ use Rattle.zst_model.specs.pools.Step.{count_datasets, last_number, most_dataset
 use Rattle.zst_tree.specs.Indices.{Blocks}
 use Rattle.zst_dir.specs.Rows.{Rows}
 use Rattle.zst_dir.specs.declared.rows.Dataset.{Dataset}
-use Rattle.zst_dir.specs.declared.rows.Partial.{Partial}
 use Rattle.zst_pool.specs.PartialRows.{RunsBy}
 use Rattle.zst_pool.specs.Partials.{next_commit}
 use Rattle.zst_image.specs.Reads.{DatasetIs, SnapshotIs, PartialIs}

@@ -1,5 +1,5 @@
 -- What is looked up in a pool.
-use Rattle.std.specs.Prelude.{ℕ, ◌==◌, Option, Some, None, option_map, find, bytes_eq}
+use Rattle.std.specs.Prelude.{Option, Some, None, option_map, find, bytes_eq}
 use Rattle.zst_model.specs.declared.refusals.named.Name.{Name}
 use Rattle.zst_model.specs.declared.refusals.named.Name.TheVariants as names
 use Rattle.zst_model.specs.states.Dated.{DatedState}

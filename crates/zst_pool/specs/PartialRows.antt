@@ -1,11 +1,11 @@
 -- What a receive makes of the rows of a directory.
-use Rattle.std.specs.Prelude.{◌≡◌, ◌+◌, ℕ, Bool, List, ◌∷◌, ◌++◌, map, filter, not, Option, Some, None, is_some, position, Result, Ok, Err, bytes_eq, if◌then◌else◌}
+use Rattle.std.specs.Prelude.{◌≡◌, ◌+◌, ℕ, Bool, List, filter, not, Option, Some, None, Result, Ok, Err, bytes_eq, if◌then◌else◌}
 use Rattle.zst_names.specs.Names.{dataset_of}
 use Rattle.zst_model.specs.declared.refusals.plan_fault.PlanFault.{PlanFault}
-use Rattle.zst_model.specs.pools.Pool.{Pool, is_before, inserted}
+use Rattle.zst_model.specs.pools.Pool.{Pool}
 use Rattle.zst_model.specs.refusals.Refusal.{refusal_of}
 use Rattle.zst_tree.specs.Indices.{Blocks}
-use Rattle.zst_dir.specs.Rows.{Rows, snapshot_is_before, with_objects, with_partial, is_for}
+use Rattle.zst_dir.specs.Rows.{Rows, with_objects, with_partial, is_for}
 use Rattle.zst_dir.specs.declared.rows.Dataset.{Dataset}
 use Rattle.zst_dir.specs.declared.rows.Snapshot.{Snapshot}
 use Rattle.zst_dir.specs.declared.rows.Partial.{Partial}

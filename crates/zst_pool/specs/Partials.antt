@@ -1,5 +1,5 @@
 -- What a receive makes of a pool that runs, with the partial states that last no longer than their sessions: it puts a partial state, finishes one, or drops one.
-use Rattle.std.specs.Prelude.{◌≡◌, ℕ, ◌+◌, Bool, true, false, List, [], ◌∷◌, ◌++◌, length, map, filter, not, ◌&&◌, Option, Some, None, is_some, Result, Ok, bytes_eq, if◌then◌else◌}
+use Rattle.std.specs.Prelude.{ℕ, ◌+◌, Bool, List, [], ◌∷◌, ◌++◌, length, map, filter, not, ◌&&◌, Option, Some, None, is_some, Result, Ok, bytes_eq, if◌then◌else◌}
 use Rattle.zst_model.specs.declared.refusals.faults.Quantity.TheVariants as quantities
 use Rattle.zst_model.specs.declared.refusals.refusal.Refusal.{Refusal}
 use Rattle.zst_model.specs.pools.Pool.{Pool, Dataset, Snapshot, Partial, dataset_of_snapshot, dataset_named, is_before, snapshot_is_before, inserted}

@@ -89,7 +89,12 @@ fn roll_back(dir: &mut Dir, name: &DatasetName, roll: bool)
 
 /// The directory with a partial state in place of its target's, and where it is asked for with the
 /// target's head rolled back.
-pub fn dir_with_partial(alloc: Global, dir: &Dir, partial: Partial, roll: bool) -> Result<Dir, AllocError>
+pub fn dir_with_partial(
+    alloc: Global,
+    dir: &Dir,
+    partial: Partial,
+    roll: bool,
+) -> Result<Dir, AllocError>
     requires row { IsPartialRow partial }
     requires base { IfSome partial.base (HasSnapshot dir.now) }
     requires component { HasSnapshot dir.now (partial.target ++ 64 ∷ partial.snapshot) → ⊥ }

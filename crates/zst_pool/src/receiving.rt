@@ -13,8 +13,8 @@ ghost use Rattle.zst_image.specs.Reads.{PartialIs, free_by};
 ghost use Rattle.zst_image.specs.Committing.{IsDirFull, Ready};
 
 use crate::fault::{PoolFault, of_committed};
-use crate::pool::Pool;
 use crate::partials::{check_limits, dir_with_partial};
+use crate::pool::Pool;
 use std::alloc::Global;
 use zst_block::Io;
 use zst_dir::{Dir, Partial};
@@ -75,7 +75,11 @@ fn commit_partial<D: Disk>(
 
 impl<'d, D: Disk> Pool<'d, D> {
     // Keeps what was committed. What the latest body leaves free is free again.
-    fn settle(&mut self, alloc: Global, committed: Result<Kept, PoolFault>) -> Result<u64, PoolFault>
+    fn settle(
+        &mut self,
+        alloc: Global,
+        committed: Result<Kept, PoolFault>,
+    ) -> Result<u64, PoolFault>
         ensures kept { keeping self.new.kept result ≡ committed }
         ensures number { IfOk result (λ number. number ≡ self.new.kept.body.number) }
         ensures stays { OnErr result (self.new.kept ≡ self.old.kept) }
@@ -100,7 +104,12 @@ impl<'d, D: Disk> Pool<'d, D> {
     /// is asked for, the target's head is rolled back to its latest snapshot in the same commit.
     ///
     /// Afterwards what the latest body leaves free is free again.
-    pub fn put_partial(&mut self, alloc: Global, partial: Partial, roll: bool) -> Result<u64, PoolFault>
+    pub fn put_partial(
+        &mut self,
+        alloc: Global,
+        partial: Partial,
+        roll: bool,
+    ) -> Result<u64, PoolFault>
         requires row { IsPartialRow partial }
         requires base { IfSome partial.base (HasSnapshot self.old.kept.dir) }
         requires component { HasSnapshot self.old.kept.dir (partial.target ++ 64 ∷ partial.snapshot) → ⊥ }

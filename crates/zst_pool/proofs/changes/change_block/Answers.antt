@@ -1,8 +1,8 @@
-use Rattle.std.specs.Prelude.{Option, Result, Err}
+use Rattle.std.specs.Prelude.{Option, Result}
 use Rattle.zst_block.specs.declared.fault.BlockFault.{BlockFault}
 use Rattle.zst_pool.specs.declared.head_fault.HeadFault.{HeadFault}
 use Rattle.zst_pool.specs.declared.head_fault.HeadFault.TheVariants.{Memory}
-use Rattle.std.proofs.Common.{◌≡◌, inl, inr, ℕ, ◌+◌, ◌*◌, ◌/◌, ◌≤◌, List, length, sym, ap, ◌∙◌, subst, arith}
+use Rattle.std.proofs.Common.{◌≡◌, inl, inr, ℕ, ◌+◌, ◌*◌, ◌/◌, List, length, sym, ap, ◌∙◌, subst, arith}
 use Rattle.zst_block.specs.Blocks.{Has}
 use Rattle.zst_block.proofs.BlocksLaws.{KeepsBlocks-fills}
 use Rattle.zst_model.specs.declared.refusals.refusal.Refusal.{Refusal}
@@ -18,7 +18,7 @@ use Rattle.zst_image.specs.Reads.{new_pool}
 use Rattle.zst_space.specs.FreeSectors.{FreeSectors}
 use Rattle.zst_block.specs.Blocks.{SparesTaken}
 use Rattle.zst_tree.specs.Damage.{IsSeen, NamesNode}
-use Rattle.zst_objset.specs.Damage.{DamageFact, IsDamagedObject, IsDamagedSet}
+use Rattle.zst_objset.specs.Damage.{IsDamagedObject, IsDamagedSet}
 use Rattle.zst_pool.proofs.Changing.{filled_length}
 use Rattle.zst_pool.proofs.Judging.{err_is}
 use Rattle.zst_pool.proofs.Damaged.{damaged_call, damaged_err}

@@ -1,5 +1,5 @@
-use Rattle.std.specs.Prelude.{Result, Ok, Err}
-use Rattle.std.proofs.Common.{◌≡◌, ℕ, ◌+◌, ◌≤◌, Bool, length, refl, sym, ap, ◌∙◌, subst, arith}
+use Rattle.std.specs.Prelude.{Result, Err}
+use Rattle.std.proofs.Common.{◌≡◌, ◌+◌, ◌≤◌, Bool, length, sym, ap, ◌∙◌, subst, arith}
 use Rattle.zst_fletcher.specs.WeightSum.{parts_of}
 use Rattle.zst_outside.specs.Images.{DiskState}
 use Rattle.zst_block.specs.Blocks.{Has}
@@ -15,7 +15,6 @@ use Rattle.zst_pool.specs.Checks.{next_of, with_head_of}
 use Rattle.zst_pool.specs.Faults.{StepFault}
 use Rattle.zst_pool.specs.Heads.{ChangedHead, stop_of}
 use Rattle.zst_pool.specs.Cost.{Cost}
-use Rattle.zst_image.specs.Reads.{free_by}
 use Rattle.zst_pool.specs.declared.fault.PoolFault.{PoolFault}
 use Rattle.zst_pool.specs.declared.fault.PoolFault.TheVariants.{Damaged, OutOfMemory}
 use Rattle.zst_pool.proofs.Doing.{did}

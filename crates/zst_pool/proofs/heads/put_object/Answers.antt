@@ -1,4 +1,4 @@
-use Rattle.std.proofs.Common.{None, refl, ◌≡◌, ◌≤◌, ℕ, sym, subst, arith}
+use Rattle.std.proofs.Common.{None, refl, sym, subst, arith}
 use Rattle.zst_block.specs.Blocks.{FitsDisk}
 use Rattle.zst_model.specs.pools.Pool.{Pool}
 use Rattle.zst_pool.specs.Checks.{put_in}

@@ -1,7 +1,6 @@
-use Rattle.std.proofs.Common.{◌≡◌, ℕ, ◌+◌, ◌<◌, ◌≤◌, length, Err, ap, sym, ◌∙◌, arith}
+use Rattle.std.proofs.Common.{length, Err, ap, sym, ◌∙◌, arith}
 use Rattle.zst_block.specs.Blocks.{Has}
 use Rattle.zst_model.specs.refusals.Refusal.{refusal_of}
-use Rattle.zst_model.specs.pools.Step.{count_datasets}
 use Rattle.zst_pool.proofs.Limits.{datasets_counted, partials_counted, snapshots_counted, past_partials, past_datasets, past_snapshots, past_number, within_limits}
 use Rattle.zst_pool.proofs.partials.check_limits.Goals as goal
 

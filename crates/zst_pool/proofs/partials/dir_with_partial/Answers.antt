@@ -1,4 +1,4 @@
-use Rattle.std.proofs.Common.{◌≡◌, List, Bool, not, filter, sym, ap, ◌∙◌, subst, if◌then◌else◌}
+use Rattle.std.proofs.Common.{List, not, filter, sym, ap, ◌∙◌, subst, if◌then◌else◌}
 use Rattle.std.specs.List.{All}
 use Rattle.std.specs.Prelude.{◌≢◌}
 use Rattle.zst_dir.specs.Rows.{Rows, with_partial, is_for}

@@ -1,5 +1,4 @@
-use Rattle.std.proofs.Common.{◌≡◌, ap, sym, ◌∙◌, subst, bytes_eq, Some, Option, IfSome, List}
-use Rattle.std.specs.List.{All}
+use Rattle.std.proofs.Common.{ap, sym, ◌∙◌, subst, bytes_eq, Some, Option, IfSome}
 use Rattle.zst_names.specs.Names.{dataset_of}
 use Rattle.zst_dir.specs.Rows.{IsSnapshotRow}
 use Rattle.zst_dir.specs.declared.rows.Snapshot.{Snapshot}

@@ -1,7 +1,4 @@
-use Rattle.std.proofs.Common.{◌≡◌, sym, subst}
 use Rattle.zst_block.specs.Blocks.{Has}
-use Rattle.zst_model.specs.pools.Step.{state_named}
-use Rattle.zst_pool.specs.Finding.{FindsState}
 use Rattle.zst_pool.proofs.Finding.{finds_head, finds_objects}
 use Rattle.zst_pool.proofs.pool.Pool.objects_of.Goals as goal
 

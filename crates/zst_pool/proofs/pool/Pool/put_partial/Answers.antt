@@ -1,4 +1,4 @@
-use Rattle.std.proofs.Common.{◌≡◌, sym, subst}
+use Rattle.std.proofs.Common.{sym}
 use Rattle.zst_pool.proofs.pool.Pool.put_partial.Goals as goal
 
 pub returns-clause-did : goal.returns-clause-did
