@@ -6,6 +6,7 @@ pub mod EndLaws
 pub mod FreeLaws
 pub mod IndicesChanged
 pub mod LeafLaws
+pub mod LimitLaws
 pub mod ObjectLaws
 pub mod RangeLaws
 pub mod SetGrows

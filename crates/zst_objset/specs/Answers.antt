@@ -1,11 +1,12 @@
 -- What a call on an object set answers where the set holds a dated state.
-use Rattle.std.specs.Prelude.{◌≡◌, ℕ, List, length, replicate, Option, Some, None, Result, Ok, Err}
+use Rattle.std.specs.Prelude.{◌≡◌, ℕ, ◌<◌, List, length, replicate, Option, Some, None, Result, Ok, Err}
 use Rattle.zst_block.specs.declared.fault.BlockFault.{BlockFault}
 use Rattle.zst_block.specs.declared.fault.BlockFault.TheVariants as blocks
 use Rattle.zst_dnode.specs.declared.dnode.Dnode.{Dnode}
 use Rattle.zst_dnode.specs.declared.slot.Slot.{Slot}
 use Rattle.zst_model.specs.declared.states.cell.Cell.{Cell}
 use Rattle.zst_model.specs.declared.states.cell.Cell.TheVariants as cells
+use Rattle.zst_model.specs.declared.refusals.faults.Quantity.{Quantity}
 use Rattle.zst_model.specs.declared.refusals.refusal.Refusal.{Refusal}
 use Rattle.zst_model.specs.declared.refusals.refusal.Refusal.TheVariants as refusals
 use Rattle.zst_model.specs.states.State.{Block, Hole, Data}
@@ -78,6 +79,20 @@ IsOfBlock (faults.CannotApply fault) = ⊥
 IsOfBlock (faults.Redacted object block) = ⊥
 IsOfBlock (faults.Limit which number) = ⊥
 IsOfBlock (faults.Block fault) = Unit {0}
+
+-- no E23
+abbrev pub NotLimit : ObjFault → Type 0
+NotLimit (faults.CannotApply fault) = Unit {0}
+NotLimit (faults.Redacted object block) = Unit {0}
+NotLimit (faults.Limit which number) = ⊥
+NotLimit (faults.Block fault) = Unit {0}
+
+-- E23 of this quantity alone, with its limit, and only where the end of a range is past that
+abbrev pub LimitOnly : Quantity → (limit past : ℕ) → ObjFault → Type 0
+LimitOnly which limit past (faults.CannotApply fault) = Unit {0}
+LimitOnly which limit past (faults.Redacted object block) = Unit {0}
+LimitOnly which limit past (faults.Limit other number) = (other ≡ which) × (number ≡ limit) × (limit < past)
+LimitOnly which limit past (faults.Block fault) = Unit {0}
 
 -- a dnode is that of the object; E21 where there is none; the disk may fail
 abbrev pub FindsThere : Blocks → DatedState → ℕ → Result Dnode ObjFault → Type 0

@@ -1,15 +1,16 @@
 //! The call that allocates an object, or gives it other attributes.
-ghost use Rattle.std.specs.Prelude.{◌≡◌, ◌<◌, ℕ, true, List, IfSome, OnErr};
+ghost use Rattle.std.specs.Prelude.{◌≡◌, ◌+◌, ◌<◌, ℕ, true, List, IfErr, IfSome, OnErr};
 ghost use Rattle.zst_space.specs.FreeSectors.{FreeSectors};
 ghost use Rattle.zst_block.specs.Blocks.{FitsDisk, Has, SparesTaken};
 ghost use Rattle.zst_block.specs.Working.{Works};
 ghost use Rattle.zst_dnode.specs.Dnode.{DnodeFits};
+ghost use Rattle.zst_model.specs.declared.refusals.faults.Quantity.TheVariants as quantities;
 ghost use Rattle.zst_model.specs.declared.states.item.Change.TheVariants.{Put};
 ghost use Rattle.zst_model.specs.pools.Step.{filled};
 ghost use Rattle.zst_model.specs.states.Dated.{DatedState};
-ghost use Rattle.zst_model.specs.states.State.{IsBonus, IsHead, is_number};
+ghost use Rattle.zst_model.specs.states.State.{IsBonus, IsHead, is_number, number_bound};
 ghost use Rattle.zst_objset.specs.Allocating.{kept_blocks, kept_spill, no_blocks};
-ghost use Rattle.zst_objset.specs.Answers.{Changes, stop_of};
+ghost use Rattle.zst_objset.specs.Answers.{Changes, LimitOnly, stop_of};
 ghost use Rattle.zst_objset.specs.Changes.{object_put};
 ghost use Rattle.zst_objset.specs.Damage.{IfSetDamaged, IsDamagedSet};
 ghost use Rattle.zst_objset.specs.Dnodes.{DnodeIs};
@@ -133,6 +134,7 @@ pub(crate) fn put_object<D: Disk>(
     requires fits { FitsDisk (D.state io.old.disk.now).size io.old.space }
     ensures changed { (state : DatedState) → (D.state io.new.disk.now).honest → SetHolds (Has (D.state io.old.disk.now).seen io.old.space) set.old state
         → Changes (SetHolds (Has (D.state io.new.disk.now).seen io.new.space) set.new) (object_put number object head bonus.now keep_spill state) result }
+    ensures limits { IfErr result (LimitOnly quantities.Object number_bound (object + 1)) }
     ensures damaged { (D.state io.new.disk.now).honest → IfSetDamaged result (IsDamagedSet (SparesTaken io.old.space (D.state io.old.disk.now).seen) (D.state io.old.disk.now).size set.old) }
     ensures kept { OnErr result (set.new ≡ set.old) }
     ensures works { Works 640 16 (D.state io.old.disk.now) io.old.space io.old.failed (D.state io.new.disk.now) io.new.space io.new.failed (stop_of result) }

@@ -8,7 +8,7 @@ ghost use Rattle.zst_dnode.specs.Slot.{SlotFits};
 ghost use Rattle.zst_model.specs.states.Dated.{DatedState};
 ghost use Rattle.zst_model.specs.states.State.{Block, BlockFits, Object};
 ghost use Rattle.zst_tree.specs.Damage.{IsSeen};
-ghost use Rattle.zst_objset.specs.Answers.{FindsObject, FindsSlot, FindsThere, IsOfBlock, ReadsBlock, ReadsData, stop_of};
+ghost use Rattle.zst_objset.specs.Answers.{FindsObject, FindsSlot, FindsThere, IsOfBlock, NotLimit, ReadsBlock, ReadsData, stop_of};
 ghost use Rattle.zst_objset.specs.Changes.{block_found, found_at};
 ghost use Rattle.zst_objset.specs.Damage.{IfSetDamaged, IsDamagedBlock, IsDamagedData, IsDamagedSet, StandsIn};
 ghost use Rattle.zst_objset.specs.Dnodes.{BlockIs};
@@ -77,6 +77,7 @@ pub(crate) fn object_there<D: Disk>(
     ensures found { (snap : DatedState) → (D.state io.new.disk.now).honest → SetHolds (Has (D.state io.old.disk.now).seen io.old.space) set.now snap
         → FindsThere (Has (D.state io.new.disk.now).seen io.new.space) snap object result }
     ensures ranges { IfOk result DnodeFits }
+    ensures limits { IfErr result NotLimit }
     ensures bound { OnOk result (object < 2 ^ 48) }
     ensures stands { (D.state io.new.disk.now).honest → IfOk result (StandsIn (IsSeen (D.state io.old.disk.now).seen) set.now) }
     ensures damaged { (D.state io.new.disk.now).honest → IfSetDamaged result (IsDamagedSet (IsSeen (D.state io.old.disk.now).seen) (D.state io.old.disk.now).size set.now) }

@@ -1,5 +1,5 @@
 //! The calls that change a set.
-ghost use Rattle.std.specs.Prelude.{◌≡◌, ◌+◌, ◌/◌, ◌<◌, ◌^◌, ℕ, OnErr, length};
+ghost use Rattle.std.specs.Prelude.{◌≡◌, ◌+◌, ◌/◌, ◌<◌, ◌^◌, ℕ, IfErr, OnErr, length};
 ghost use Rattle.zst_block.specs.Blocks.{FitsDisk, Has, SparesTaken};
 ghost use Rattle.zst_block.specs.Ptr.{PtrFits};
 ghost use Rattle.zst_block.specs.Working.{Works};
@@ -8,7 +8,7 @@ ghost use Rattle.zst_model.specs.declared.states.item.Change.{Change};
 ghost use Rattle.zst_model.specs.declared.states.item.Item.TheVariants.{At};
 ghost use Rattle.zst_model.specs.states.Dated.{DatedState};
 ghost use Rattle.zst_model.specs.states.State.{IsSpill};
-ghost use Rattle.zst_objset.specs.Answers.{Changes, stop_of};
+ghost use Rattle.zst_objset.specs.Answers.{Changes, NotLimit, stop_of};
 ghost use Rattle.zst_objset.specs.Changes.{changed, spill_put};
 ghost use Rattle.zst_objset.specs.Damage.{IfSetDamaged, IsDamagedSet};
 ghost use Rattle.zst_objset.specs.Putting.{MakesDnode};
@@ -65,6 +65,7 @@ pub(crate) fn put_dnode<D: Disk>(
     ensures changed { (number : ℕ) (change : Change) (state : DatedState) → (D.state io.new.disk.now).honest → SetHolds (Has (D.state io.old.disk.now).seen io.old.space) set.old state
         → MakesDnode (Has (D.state io.old.disk.now).seen io.old.space) number object change state dnode
         → Changes (SetHolds (Has (D.state io.new.disk.now).seen io.new.space) set.new) (changed number (At object change) state) result }
+    ensures limits { IfErr result NotLimit }
     ensures damaged { (D.state io.new.disk.now).honest → IfSetDamaged result (IsDamagedSet (SparesTaken io.old.space (D.state io.old.disk.now).seen) (D.state io.old.disk.now).size set.old) }
     ensures kept { OnErr result (set.new ≡ set.old) }
     ensures works { Works 240 16 (D.state io.old.disk.now) io.old.space io.old.failed (D.state io.new.disk.now) io.new.space io.new.failed (stop_of result) }
@@ -93,6 +94,7 @@ pub(crate) fn put_spill<D: Disk>(
     requires fits { FitsDisk (D.state io.old.disk.now).size io.old.space }
     ensures changed { (state : DatedState) → (D.state io.new.disk.now).honest → SetHolds (Has (D.state io.old.disk.now).seen io.old.space) set.old state
         → Changes (SetHolds (Has (D.state io.new.disk.now).seen io.new.space) set.new) (spill_put number object bytes.now state) result }
+    ensures limits { IfErr result NotLimit }
     ensures damaged { (D.state io.new.disk.now).honest → IfSetDamaged result (IsDamagedSet (SparesTaken io.old.space (D.state io.old.disk.now).seen) (D.state io.old.disk.now).size set.old) }
     ensures kept { OnErr result (set.new ≡ set.old) }
     ensures works { Works (640 + length bytes.now / 512) (length bytes.now / 512) (D.state io.old.disk.now) io.old.space io.old.failed (D.state io.new.disk.now) io.new.space io.new.failed (stop_of result) }

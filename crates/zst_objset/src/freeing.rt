@@ -1,10 +1,12 @@
 //! The call that frees a range of numbers.
-ghost use Rattle.std.specs.Prelude.{◌≡◌, ◌+◌, ◌*◌, ◌/◌, ◌<◌, ◌≤◌, ◌^◌, IfOk, OnErr};
+ghost use Rattle.std.specs.Prelude.{◌≡◌, ◌+◌, ◌*◌, ◌/◌, ◌<◌, ◌≤◌, ◌^◌, IfErr, IfOk, OnErr};
 ghost use Rattle.zst_block.specs.Blocks.{FitsDisk, Has, SparesTaken};
 ghost use Rattle.zst_block.specs.Working.{Works, stop_of as block_stop_of};
+ghost use Rattle.zst_model.specs.declared.refusals.faults.Quantity.TheVariants as quantities;
 ghost use Rattle.zst_model.specs.states.Dated.{DatedState};
+ghost use Rattle.zst_model.specs.states.State.{number_bound};
 ghost use Rattle.zst_tree.specs.Indices.{Delivers};
-ghost use Rattle.zst_objset.specs.Answers.{Changes, stop_of};
+ghost use Rattle.zst_objset.specs.Answers.{Changes, LimitOnly, stop_of};
 ghost use Rattle.zst_objset.specs.Changes.{objects_freed};
 ghost use Rattle.zst_objset.specs.Damage.{IfDamaged, IfSetDamaged, IsDamagedSet, IsSetWithin};
 ghost use Rattle.zst_objset.specs.Freeing.{freed};
@@ -106,6 +108,7 @@ fn free_range<D: Disk>(
 }
 
 /// Makes `count` numbers absent.
+#[tactic(auto, unfolding(zst_model::specs::states::State::number_bound))]
 pub(crate) fn free_objects<D: Disk>(
     set: &mut ObjSet,
     io: &mut Io<'_, D>,
@@ -117,6 +120,7 @@ pub(crate) fn free_objects<D: Disk>(
     requires fits { FitsDisk (D.state io.old.disk.now).size io.old.space }
     ensures changed { (state : DatedState) → (D.state io.new.disk.now).honest → SetHolds (Has (D.state io.old.disk.now).seen io.old.space) set.old state
         → Changes (SetHolds (Has (D.state io.new.disk.now).seen io.new.space) set.new) (objects_freed number first count state) result }
+    ensures limits { IfErr result (LimitOnly quantities.Object number_bound (first + count)) }
     ensures damaged { (D.state io.new.disk.now).honest → IfSetDamaged result (IsDamagedSet (SparesTaken io.old.space (D.state io.old.disk.now).seen) (D.state io.old.disk.now).size set.old) }
     ensures kept { OnErr result (set.new ≡ set.old) }
     ensures works { Works 1280 16 (D.state io.old.disk.now) io.old.space io.old.failed (D.state io.new.disk.now) io.new.space io.new.failed (stop_of result) }

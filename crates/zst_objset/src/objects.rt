@@ -7,10 +7,11 @@ ghost use Rattle.zst_dnode.specs.Dnode.{DnodeFits};
 ghost use Rattle.zst_dnode.specs.Slot.{SlotFits};
 ghost use Rattle.zst_model.specs.pools.Pool.{untouched};
 ghost use Rattle.zst_model.specs.states.Dated.{DatedState};
-ghost use Rattle.zst_model.specs.states.State.{Object, IsBonus, IsHead, IsSpill, number_bound};
+ghost use Rattle.zst_model.specs.declared.refusals.faults.Quantity.TheVariants as quantities;
+ghost use Rattle.zst_model.specs.states.State.{Object, IsBonus, IsHead, IsSpill, index_bound, number_bound};
 ghost use Rattle.zst_tree.specs.Damage.{IsSeen, NamesNode, SumsUp};
 ghost use Rattle.zst_tree.specs.Indices.{Blocks};
-ghost use Rattle.zst_objset.specs.Answers.{Changes, FindsObject, FindsSlot, IsOfBlock, ReadsBlock, stop_of};
+ghost use Rattle.zst_objset.specs.Answers.{Changes, FindsObject, FindsSlot, IsOfBlock, LimitOnly, NotLimit, ReadsBlock, stop_of};
 ghost use Rattle.zst_objset.specs.Changes.{block_written, found_at, holes_made, object_put, objects_freed, range_redacted, spill_put};
 ghost use Rattle.zst_objset.specs.Damage.{DamageFact, IfSetDamaged};
 
@@ -106,6 +107,7 @@ pub trait Objects<D: Disk> {
         requires fits { FitsDisk (D.state io.old.disk.now).size io.old.space }
         ensures changed { (state : DatedState) → (D.state io.new.disk.now).honest → holds self.old (Has (D.state io.old.disk.now).seen io.old.space) state
             → Changes (holds self.new (Has (D.state io.new.disk.now).seen io.new.space)) (object_put number object head bonus.now keep_spill state) result }
+        ensures limits { IfErr result (LimitOnly quantities.Object number_bound (object + 1)) }
         ensures damaged { (D.state io.new.disk.now).honest → IfSetDamaged result (slot_damage (SparesTaken io.old.space (D.state io.old.disk.now).seen) (D.state io.old.disk.now).size self.old) }
         ensures kept { OnErr result (self.new ≡ self.old) }
         ensures works { Works 640 16 (D.state io.old.disk.now) io.old.space io.old.failed (D.state io.new.disk.now) io.new.space io.new.failed (stop_of result) }
@@ -124,6 +126,7 @@ pub trait Objects<D: Disk> {
         requires fits { FitsDisk (D.state io.old.disk.now).size io.old.space }
         ensures changed { (state : DatedState) → (D.state io.new.disk.now).honest → holds self.old (Has (D.state io.old.disk.now).seen io.old.space) state
             → Changes (holds self.new (Has (D.state io.new.disk.now).seen io.new.space)) (spill_put number object bytes.now state) result }
+        ensures limits { IfErr result NotLimit }
         ensures damaged { (D.state io.new.disk.now).honest → IfSetDamaged result (slot_damage (SparesTaken io.old.space (D.state io.old.disk.now).seen) (D.state io.old.disk.now).size self.old) }
         ensures kept { OnErr result (self.new ≡ self.old) }
         ensures works { Works (640 + length bytes.now / 512) (length bytes.now / 512) (D.state io.old.disk.now) io.old.space io.old.failed (D.state io.new.disk.now) io.new.space io.new.failed (stop_of result) }
@@ -141,6 +144,7 @@ pub trait Objects<D: Disk> {
         requires fits { FitsDisk (D.state io.old.disk.now).size io.old.space }
         ensures changed { (state : DatedState) → (D.state io.new.disk.now).honest → holds self.old (Has (D.state io.old.disk.now).seen io.old.space) state
             → Changes (holds self.new (Has (D.state io.new.disk.now).seen io.new.space)) (objects_freed number first count state) result }
+        ensures limits { IfErr result (LimitOnly quantities.Object number_bound (first + count)) }
         ensures damaged { (D.state io.new.disk.now).honest → IfSetDamaged result (slot_damage (SparesTaken io.old.space (D.state io.old.disk.now).seen) (D.state io.old.disk.now).size self.old) }
         ensures kept { OnErr result (self.new ≡ self.old) }
         ensures works { Works 1280 16 (D.state io.old.disk.now) io.old.space io.old.failed (D.state io.new.disk.now) io.new.space io.new.failed (stop_of result) }
@@ -159,6 +163,7 @@ pub trait Objects<D: Disk> {
         requires fits { FitsDisk (D.state io.old.disk.now).size io.old.space }
         ensures changed { (state : DatedState) → (D.state io.new.disk.now).honest → holds self.old (Has (D.state io.old.disk.now).seen io.old.space) state
             → Changes (holds self.new (Has (D.state io.new.disk.now).seen io.new.space)) (block_written number object index bytes.now state) result }
+        ensures limits { IfErr result (LimitOnly quantities.Block index_bound (index + 1)) }
         ensures damaged { (D.state io.new.disk.now).honest → IfSetDamaged result (tree_damage (SparesTaken io.old.space (D.state io.old.disk.now).seen) (D.state io.old.disk.now).size NamesNode self.old) }
         ensures kept { OnErr result (self.new ≡ self.old) }
         ensures works { Works (640 + length bytes.now / 512) (length bytes.now / 512) (D.state io.old.disk.now) io.old.space io.old.failed (D.state io.new.disk.now) io.new.space io.new.failed (stop_of result) }
@@ -177,6 +182,7 @@ pub trait Objects<D: Disk> {
         requires fits { FitsDisk (D.state io.old.disk.now).size io.old.space }
         ensures changed { (state : DatedState) → (D.state io.new.disk.now).honest → holds self.old (Has (D.state io.old.disk.now).seen io.old.space) state
             → Changes (holds self.new (Has (D.state io.new.disk.now).seen io.new.space)) (holes_made number object first count state) result }
+        ensures limits { IfErr result (LimitOnly quantities.Block index_bound (first + count)) }
         ensures damaged { (D.state io.new.disk.now).honest → IfSetDamaged result (tree_damage (SparesTaken io.old.space (D.state io.old.disk.now).seen) (D.state io.old.disk.now).size (SumsUp (SparesTaken io.old.space (D.state io.old.disk.now).seen)) self.old) }
         ensures kept { OnErr result (self.new ≡ self.old) }
         ensures works { Works 1280 16 (D.state io.old.disk.now) io.old.space io.old.failed (D.state io.new.disk.now) io.new.space io.new.failed (stop_of result) }
@@ -195,6 +201,7 @@ pub trait Objects<D: Disk> {
         requires fits { FitsDisk (D.state io.old.disk.now).size io.old.space }
         ensures changed { (state : DatedState) → (D.state io.new.disk.now).honest → holds self.old (Has (D.state io.old.disk.now).seen io.old.space) state
             → Changes (holds self.new (Has (D.state io.new.disk.now).seen io.new.space)) (range_redacted number object first count state) result }
+        ensures limits { IfErr result (LimitOnly quantities.Block index_bound (first + count)) }
         ensures damaged { (D.state io.new.disk.now).honest → IfSetDamaged result (tree_damage (SparesTaken io.old.space (D.state io.old.disk.now).seen) (D.state io.old.disk.now).size NamesNode self.old) }
         ensures kept { OnErr result (self.new ≡ self.old) }
         ensures works { Works 1280 16 (D.state io.old.disk.now) io.old.space io.old.failed (D.state io.new.disk.now) io.new.space io.new.failed (stop_of result) }

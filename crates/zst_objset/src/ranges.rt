@@ -3,13 +3,13 @@ ghost use Rattle.std.specs.Prelude.{◌≡◌, ◌⊎◌, ◌+◌, ◌<◌, ◌�
 ghost use Rattle.zst_block.specs.Blocks.{FitsDisk, Has, SparesTaken};
 ghost use Rattle.zst_block.specs.Working.{Looks, Works, stop_of as block_stop};
 ghost use Rattle.zst_dnode.specs.Dnode.{DnodeFits};
-ghost use Rattle.zst_model.specs.declared.refusals.faults.Quantity.TheVariants.{Block};
+ghost use Rattle.zst_model.specs.declared.refusals.faults.Quantity.TheVariants as quantities;
 ghost use Rattle.zst_model.specs.states.Apply.{within};
 ghost use Rattle.zst_model.specs.states.Dated.{DatedState};
 ghost use Rattle.zst_model.specs.states.State.{Object, Hole, Redacted, IsState, end_of, index_bound, is_number};
 ghost use Rattle.zst_tree.specs.Damage.{IsSeen, NamesDamage, NamesNode, SumsUp};
 ghost use Rattle.zst_tree.specs.Indices.{Delivers, Map};
-ghost use Rattle.zst_objset.specs.Answers.{Changes, stop_of};
+ghost use Rattle.zst_objset.specs.Answers.{Changes, LimitOnly, stop_of};
 ghost use Rattle.zst_objset.specs.Changes.{holes_made, range_redacted};
 ghost use Rattle.zst_objset.specs.Damage.{IfSetDamaged, IsDamagedObject};
 ghost use Rattle.zst_objset.specs.Dnodes.{IsThere, ObjectIs};
@@ -34,7 +34,7 @@ use zst_tree::ObjSet;
 #[tactic(auto, unfolding(zst_model::specs::states::State::index_bound))]
 fn check_range(first: u64, count: u64) -> Result<(), ObjFault>
     ensures inside { OnOk result (first + count ≤ index_bound) }
-    ensures past { IfErr result (λ fault. (fault ≡ faults.Limit Block index_bound) × (index_bound < first + count)) }
+    ensures past { IfErr result (λ fault. (fault ≡ faults.Limit quantities.Block index_bound) × (index_bound < first + count)) }
 {
     if first.saturating_add(count) > INDEX_BOUND {
         return Err(ObjFault::Limit {
@@ -179,6 +179,7 @@ pub(crate) fn punch<D: Disk>(
     requires fits { FitsDisk (D.state io.old.disk.now).size io.old.space }
     ensures changed { (state : DatedState) → (D.state io.new.disk.now).honest → SetHolds (Has (D.state io.old.disk.now).seen io.old.space) set.old state
         → Changes (SetHolds (Has (D.state io.new.disk.now).seen io.new.space) set.new) (holes_made number object first count state) result }
+    ensures limits { IfErr result (LimitOnly quantities.Block index_bound (first + count)) }
     ensures damaged { (D.state io.new.disk.now).honest → IfSetDamaged result (IsDamagedObject (SparesTaken io.old.space (D.state io.old.disk.now).seen) (D.state io.old.disk.now).size (SumsUp (SparesTaken io.old.space (D.state io.old.disk.now).seen)) set.old) }
     ensures kept { OnErr result (set.new ≡ set.old) }
     ensures works { Works 1280 16 (D.state io.old.disk.now) io.old.space io.old.failed (D.state io.new.disk.now) io.new.space io.new.failed (stop_of result) }
@@ -203,6 +204,7 @@ pub(crate) fn redact_range<D: Disk>(
     requires fits { FitsDisk (D.state io.old.disk.now).size io.old.space }
     ensures changed { (state : DatedState) → (D.state io.new.disk.now).honest → SetHolds (Has (D.state io.old.disk.now).seen io.old.space) set.old state
         → Changes (SetHolds (Has (D.state io.new.disk.now).seen io.new.space) set.new) (range_redacted number object first count state) result }
+    ensures limits { IfErr result (LimitOnly quantities.Block index_bound (first + count)) }
     ensures damaged { (D.state io.new.disk.now).honest → IfSetDamaged result (IsDamagedObject (SparesTaken io.old.space (D.state io.old.disk.now).seen) (D.state io.old.disk.now).size NamesNode set.old) }
     ensures kept { OnErr result (set.new ≡ set.old) }
     ensures works { Works 1280 16 (D.state io.old.disk.now) io.old.space io.old.failed (D.state io.new.disk.now) io.new.space io.new.failed (stop_of result) }

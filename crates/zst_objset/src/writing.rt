@@ -1,12 +1,13 @@
 //! The call that writes a block of an object.
-ghost use Rattle.std.specs.Prelude.{◌≡◌, ◌+◌, ◌/◌, ◌%◌, ◌<◌, ◌≤◌, ◌^◌, ◌&&◌, not, nat_lt, IfOk, None, OnErr, OnOk, length};
+ghost use Rattle.std.specs.Prelude.{◌≡◌, ◌+◌, ◌/◌, ◌%◌, ◌<◌, ◌≤◌, ◌^◌, ◌&&◌, not, nat_lt, IfErr, IfOk, None, OnErr, OnOk, length};
 ghost use Rattle.zst_block.specs.Blocks.{FitsDisk, Has, SparesTaken};
 ghost use Rattle.zst_block.specs.Working.{Works, stop_of as block_stop};
+ghost use Rattle.zst_model.specs.declared.refusals.faults.Quantity.TheVariants as quantities;
 ghost use Rattle.zst_model.specs.states.Dated.{DatedState};
-ghost use Rattle.zst_model.specs.states.State.{is_odd_size};
+ghost use Rattle.zst_model.specs.states.State.{index_bound, is_odd_size};
 ghost use Rattle.zst_tree.specs.Damage.{NamesDamage, NamesNode};
 ghost use Rattle.zst_tree.specs.Indices.{Delivers, Map, TreeIs};
-ghost use Rattle.zst_objset.specs.Answers.{Changes, stop_of};
+ghost use Rattle.zst_objset.specs.Answers.{Changes, LimitOnly, stop_of};
 ghost use Rattle.zst_objset.specs.Changes.{block_written};
 ghost use Rattle.zst_objset.specs.Damage.{IfSetDamaged, IsDamagedObject};
 ghost use Rattle.zst_objset.specs.Sets.{SetHolds};
@@ -35,6 +36,7 @@ fn may_have_block(size: u32, index: u64) -> bool
 fn judge_write(dnode: &Dnode, index: u64, count: usize) -> Result<(), ObjFault>
     ensures judged { result ≡ write_judged dnode.now.block_size index count }
     ensures index { OnOk result (index < 2 ^ 43) }
+    ensures limits { IfErr result (LimitOnly quantities.Block index_bound (index + 1)) }
     ensures stop { stop_of result ≡ None }
 {
     if count != dnode.block_size as usize {
@@ -93,6 +95,7 @@ pub(crate) fn write_block<D: Disk>(
     requires fits { FitsDisk (D.state io.old.disk.now).size io.old.space }
     ensures changed { (state : DatedState) → (D.state io.new.disk.now).honest → SetHolds (Has (D.state io.old.disk.now).seen io.old.space) set.old state
         → Changes (SetHolds (Has (D.state io.new.disk.now).seen io.new.space) set.new) (block_written number object index bytes.now state) result }
+    ensures limits { IfErr result (LimitOnly quantities.Block index_bound (index + 1)) }
     ensures damaged { (D.state io.new.disk.now).honest → IfSetDamaged result (IsDamagedObject (SparesTaken io.old.space (D.state io.old.disk.now).seen) (D.state io.old.disk.now).size NamesNode set.old) }
     ensures kept { OnErr result (set.new ≡ set.old) }
     ensures works { Works (640 + length bytes.now / 512) (length bytes.now / 512) (D.state io.old.disk.now) io.old.space io.old.failed (D.state io.new.disk.now) io.new.space io.new.failed (stop_of result) }

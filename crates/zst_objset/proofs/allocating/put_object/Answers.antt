@@ -12,6 +12,10 @@ use Rattle.zst_objset.proofs.LeafLaws.{is_number_at, look_on}
 use Rattle.zst_objset.proofs.ObjectLaws.{in_numbers-over, in_numbers-within}
 use Rattle.zst_tree.proofs.Told.{fills_looks}
 use Rattle.zst_objset.proofs.DamageLaws.{fault_spared, set_after}
+use Rattle.zst_model.specs.states.State.{number_bound}
+use Rattle.zst_model.specs.declared.refusals.faults.Quantity.TheVariants as quantities
+use Rattle.std.proofs.Common.{refl}
+use Rattle.zst_objset.proofs.LimitLaws.{if_no_limit}
 use Rattle.zst_objset.proofs.allocating.put_object.Goals as goal
 
 pub returns-then-object-ge-NUMBER_BOUND-clause-changed : goal.returns-then-object-ge-NUMBER_BOUND-clause-changed
@@ -40,3 +44,10 @@ returns-clause-damaged g c = λ honest.
 
 pub returns-clause-works : goal.returns-clause-works
 returns-clause-works g c = Works-after c.in-Ok.ensures.looks (Works-more (omega arith) c.put_dnode.ensures.works)
+
+pub returns-then-object-ge-NUMBER_BOUND-clause-limits : goal.returns-then-object-ge-NUMBER_BOUND-clause-limits
+unfolding number_bound
+returns-then-object-ge-NUMBER_BOUND-clause-limits g c = (refl, refl, omega arith)
+
+pub returns-clause-limits : goal.returns-clause-limits
+returns-clause-limits g c = if_no_limit quantities.Object number_bound (c.args.object + 1) c.put_dnode.result c.put_dnode.ensures.limits

@@ -15,6 +15,10 @@ use Rattle.zst_dnode.specs.declared.dnode.Dnode.{Dnode}
 use Rattle.zst_tree.specs.Damage.{NamesNode}
 use Rattle.zst_tree.proofs.Told.{fills_looks}
 use Rattle.zst_objset.proofs.DamageLaws.{told_before, object_told, set_after, set_spared, tree_told}
+use Rattle.zst_model.specs.states.State.{index_bound}
+use Rattle.zst_model.specs.declared.refusals.faults.Quantity.TheVariants as quantities
+use Rattle.std.proofs.Common.{refl}
+use Rattle.zst_objset.proofs.LimitLaws.{if_no_limit, no_limit}
 use Rattle.zst_objset.proofs.ranges.redact_range.Goals as goal
 
 pub returns-in_err-dnode-clause-changed : goal.returns-in_err-dnode-clause-changed
@@ -85,3 +89,17 @@ pub returns-clause-damaged : goal.returns-clause-damaged
 returns-clause-damaged g c = λ honest.
     let filled = FillsFree-then _ _ _ _ _ _ (fills_looks _ _ _ _ _ _ _ c.in_ok-dnode.ensures.looks) c.in_ok-made.ensures.works.fills in
     object_told _ _ _ c.args.set.now c.put_dnode.result (set_after _ _ _ _ filled c.args.set.now c.put_dnode.result (c.put_dnode.ensures.damaged honest))
+
+pub returns-in_err-dnode-clause-limits : goal.returns-in_err-dnode-clause-limits
+returns-in_err-dnode-clause-limits g c =
+    let p = err_from_is_err_and c.from_residual.result c.from_residual.ensures.1 in
+    rw (p.1, p.2) (no_limit quantities.Block index_bound (c.args.first + c.args.count) _ c.in_err-dnode.ensures.limits)
+
+pub returns-in_err-check_range-clause-limits : goal.returns-in_err-check_range-clause-limits
+returns-in_err-check_range-clause-limits g c =
+    let p = err_from_is_err_and c.from_residual-in_err-check_range.result c.from_residual-in_err-check_range.ensures.1 in
+    let past = c.in_err-check_range.ensures.past in
+    rw (p.1, p.2, past.0) (refl, refl, past.1)
+
+pub returns-clause-limits : goal.returns-clause-limits
+returns-clause-limits g c = if_no_limit quantities.Block index_bound (c.args.first + c.args.count) c.put_dnode.result c.put_dnode.ensures.limits

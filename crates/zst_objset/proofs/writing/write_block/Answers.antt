@@ -22,6 +22,8 @@ use Rattle.zst_tree.specs.Damage.{NamesNode}
 use Rattle.zst_tree.proofs.Told.{fills_looks}
 use Rattle.zst_objset.proofs.DamageLaws.{told_before, object_told, set_after, set_spared, tree_told}
 use Rattle.zst_objset.proofs.TreeFits.{data_fits, dnode_root, root_fits, with_tree_fits}
+use Rattle.zst_model.specs.declared.refusals.faults.Quantity.TheVariants as quantities
+use Rattle.zst_objset.proofs.LimitLaws.{if_no_limit, no_limit}
 use Rattle.zst_objset.proofs.writing.write_block.Goals as goal
 
 pub returns-in-Err-clause-changed : goal.returns-in-Err-clause-changed
@@ -102,3 +104,9 @@ pub returns-clause-damaged : goal.returns-clause-damaged
 returns-clause-damaged g c = λ honest.
     let filled = FillsFree-then _ _ _ _ _ _ (fills_looks _ _ _ _ _ _ _ c.in-Ok.ensures.looks) c.in-Ok-put_data.ensures.works.fills in
     object_told _ _ NamesNode c.args.set.now c.put_dnode.result (set_after _ _ _ _ filled c.args.set.now c.put_dnode.result (c.put_dnode.ensures.damaged honest))
+
+pub returns-in-Err-clause-limits : goal.returns-in-Err-clause-limits
+returns-in-Err-clause-limits g c = no_limit quantities.Block index_bound (c.args.index + 1) c.in-Err.fault c.in-Err.ensures.limits
+
+pub returns-clause-limits : goal.returns-clause-limits
+returns-clause-limits g c = if_no_limit quantities.Block index_bound (c.args.index + 1) c.put_dnode.result c.put_dnode.ensures.limits
