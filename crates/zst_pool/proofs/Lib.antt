@@ -8,9 +8,11 @@ pub mod Growing
 pub mod Judging
 pub mod Known
 pub mod Matching
+pub mod Naming
 pub mod NextPools
 pub mod Opened
 pub mod Parts
+pub mod Planned
 pub mod Replying
 pub mod Room
 pub mod Running

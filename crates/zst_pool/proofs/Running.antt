@@ -15,7 +15,7 @@ use Rattle.zst_dir.specs.Spelling.{dir_bytes}
 use Rattle.zst_pool.specs.Checks.{FindsHead}
 use Rattle.zst_pool.specs.Faults.{HasDiskCause, IsStepFault, StepFault, WriteFault, is_disk_fault}
 use Rattle.zst_pool.specs.Heads.{ChangedHead, ChangesHead}
-use Rattle.zst_pool.specs.Reads.{Rests, RowsAre, free_by}
+use Rattle.zst_pool.specs.Reads.{AreNamed, DatasetIs, Rests, free_by}
 use Rattle.zst_pool.specs.Room.{IsDirFull, NotFull}
 use Rattle.zst_pool.specs.Work.{Did, Ready, Runs, Writes}
 use Rattle.zst_pool.specs.declared.fault.PoolFault.{PoolFault}
@@ -23,6 +23,8 @@ use Rattle.zst_pool.specs.declared.fault.PoolFault.TheVariants.{Full}
 use Rattle.zst_pool.specs.declared.kept.Kept.{Kept}
 use Rattle.zst_pool.proofs.Doing.{fell, free_by_fits}
 use Rattle.zst_pool.proofs.Known.{if_known_write}
+use Rattle.zst_pool.proofs.Matching.{Match-alike}
+use Rattle.zst_pool.proofs.Naming.{rows_named}
 use Rattle.zst_pool.proofs.Parts.{cause_then, described_in, failed_then, taken}
 use Rattle.zst_pool.proofs.Room.{no_room-commit, no_room-part}
 use Rattle.zst_pool.proofs.Writing.{writes_err, writes_none}
@@ -86,15 +88,19 @@ number_is number next pool lawful same is = let le : number ≤ 2 ^ 63 = omega (
 -- a head that was opened and changed
 pub changed_head : (kept : Kept) (name : List ℕ) (make : Pool → DatedState → Result DatedState Refusal) {most number : ℕ} {old : DiskState} {space : FreeSectors} {old_failed : Bool} {new : DiskState} {less : FreeSectors} {new_failed : Bool} {was set : ObjSet} {changed : Result (Unit {0}) PoolFault}
     → space ≡ free_by kept.body → (kept.body.number ≤ 2 ^ 63 → number ≡ kept.body.number + 1)
-    → ((image : List ℕ) (space : FreeSectors) (pool : Pool) → RowsAre (Has image space) kept.dir pool → FindsHead (Has image space) name pool (Ok was))
+    → ((pool : Pool) → AreNamed kept.dir pool → FindsHead kept.dir name pool (Ok was))
     → ((pool : Pool) (head : DatedState) → new.honest → pool.number + 1 ≡ number → SetHolds (Has old.seen space) was head → ChangesHead (Has new.seen less) set (make pool head) changed)
     → ((pool : Pool) (done : Stepped) → IsPool pool → on_head name pool (make pool) ≡ Ok done → IsPool done.pool) → Writes most old space old_failed new less new_failed changed
     → ChangedHead kept name make most old old_failed new less new_failed set changed
 changed_head kept name make {most = most} {number = number} {old = old} {space = space} {old_failed = old_failed} {new = new} {less = less} {new_failed = new_failed} {changed = changed} free next found changes lawful writes = record {
   made = λ pool told rests.
       let described = described_in old space kept.body kept.dir pool free rests in
-      let there = found old.seen space pool described.rows_are in
-      (there.0, changes pool there.0 told (number_is kept.body.number number pool described.lawful described.number next) there.1, there.2 (make pool));
+      let has = Has old.seen space in
+      let there = found pool (rows_named has kept.dir pool described.rows_are) in
+      let dataset = there.1 in
+      let stands = Match-alike (DatasetIs has) kept.dir.datasets pool.datasets there.0 dataset described.rows_are.datasets there.2 in
+      let holds = subst (λ (set : ObjSet). SetHolds has set dataset.head) there.3 stands.head in
+      (dataset.head, changes pool dataset.head told (number_is kept.body.number number pool described.lawful described.number next) holds, there.4 (make pool));
   lawful = lawful;
   writes = subst (λ (s : FreeSectors). Writes most old s old_failed new less new_failed changed) free writes;
 }

@@ -1,6 +1,7 @@
 // What a command makes of the object set of a head.
-ghost use Rattle.std.specs.Prelude.{◌≡◌, ◌+◌, ◌<◌, ◌≤◌, ℕ, true, length, IfOk, IfSome};
+ghost use Rattle.std.specs.Prelude.{◌≡◌, ◌+◌, ◌<◌, ◌≤◌, ℕ, true, length, Err, IfOk, IfSome};
 ghost use Rattle.zst_block.specs.Blocks.{FitsDisk, Has};
+ghost use Rattle.zst_model.specs.declared.refusals.plan_fault.PlanFault.{PlanFault};
 ghost use Rattle.zst_model.specs.states.Dated.{DatedState, size_at};
 ghost use Rattle.zst_model.specs.states.State.{is_block_size, IsHead, IsBonus, IsSpill};
 ghost use Rattle.zst_model.specs.pools.Pool.{Pool};
@@ -9,6 +10,7 @@ ghost use Rattle.zst_objset.specs.Sets.{SetHolds};
 ghost use Rattle.zst_pool.specs.Checks.{freed, put_in};
 ghost use Rattle.zst_pool.specs.Faults.{of_call};
 ghost use Rattle.zst_pool.specs.Heads.{ChangesHead, FindsSize};
+ghost use Rattle.zst_pool.specs.Plans.{IsPast};
 ghost use Rattle.zst_pool.specs.Room.{object_sectors};
 ghost use Rattle.zst_pool.specs.Work.{Writes};
 
@@ -47,6 +49,7 @@ pub fn change_object<D: Disk>(
     requires spill { IfSome spill IsSpill }
     ensures changed { (pool : Pool) (old : DatedState) → (D.state io.new.disk.now).honest → pool.number + 1 ≡ number → SetHolds (Has (D.state io.old.disk.now).seen io.old.space) set.old old
         → ChangesHead (Has (D.state io.new.disk.now).seen io.new.space) set.new (put_in pool object head bonus spill old) result }
+    ensures limits { (fault : PlanFault) → result ≡ Err (PoolFault.Plan fault) → IsPast (object + 1) 0 fault }
     ensures writes { Writes (object_sectors spill) (D.state io.old.disk.now) io.old.space io.old.failed (D.state io.new.disk.now) io.new.space io.new.failed result }
     ensures same { io.new.disk.ghost_name ≡ io.old.disk.ghost_name }
 {
@@ -70,6 +73,7 @@ fn find_size<D: Disk>(
     requires object { 0 < object }
     ensures found { (pool : Pool) (index : ℕ) (head : DatedState) → (D.state io.new.disk.now).honest → SetHolds (Has (D.state io.old.disk.now).seen io.old.space) set.now head
         → FindsSize (written pool object index bytes.now head) (size_at (head.state object)) result }
+    ensures limits { (fault : PlanFault) → result ≡ Err (PoolFault.Plan fault) → ⊥ }
     ensures size { IfOk result (λ size. is_block_size size ≡ true) }
     ensures room { IfOk result (λ size. length bytes.now ≤ size) }
     ensures writes { Writes 0 (D.state io.old.disk.now) io.old.space io.old.failed (D.state io.new.disk.now) io.new.space io.new.failed result }
@@ -110,6 +114,7 @@ pub fn change_block<D: Disk>(
     requires object { 0 < object }
     ensures changed { (pool : Pool) (head : DatedState) → (D.state io.new.disk.now).honest → pool.number + 1 ≡ number → SetHolds (Has (D.state io.old.disk.now).seen io.old.space) set.old head
         → ChangesHead (Has (D.state io.new.disk.now).seen io.new.space) set.new (written pool object index bytes.now head) result }
+    ensures limits { (fault : PlanFault) → result ≡ Err (PoolFault.Plan fault) → IsPast 0 (index + 1) fault }
     ensures writes { Writes (640 + 256) (D.state io.old.disk.now) io.old.space io.old.failed (D.state io.new.disk.now) io.new.space io.new.failed result }
     ensures same { io.new.disk.ghost_name ≡ io.old.disk.ghost_name }
 {
@@ -132,6 +137,7 @@ pub fn change_holes<D: Disk>(
     requires object { 0 < object }
     ensures changed { (pool : Pool) (head : DatedState) → (D.state io.new.disk.now).honest → pool.number + 1 ≡ number → SetHolds (Has (D.state io.old.disk.now).seen io.old.space) set.old head
         → ChangesHead (Has (D.state io.new.disk.now).seen io.new.space) set.new (punched pool object first count head) result }
+    ensures limits { (fault : PlanFault) → result ≡ Err (PoolFault.Plan fault) → IsPast 0 (first + count) fault }
     ensures writes { Writes 1280 (D.state io.old.disk.now) io.old.space io.old.failed (D.state io.new.disk.now) io.new.space io.new.failed result }
     ensures same { io.new.disk.ghost_name ≡ io.old.disk.ghost_name }
 {
@@ -151,6 +157,7 @@ pub fn change_numbers<D: Disk>(
     requires first { 0 < first }
     ensures changed { (pool : Pool) (head : DatedState) → (D.state io.new.disk.now).honest → pool.number + 1 ≡ number → SetHolds (Has (D.state io.old.disk.now).seen io.old.space) set.old head
         → ChangesHead (Has (D.state io.new.disk.now).seen io.new.space) set.new (freed pool first count head) result }
+    ensures limits { (fault : PlanFault) → result ≡ Err (PoolFault.Plan fault) → IsPast (first + count) 0 fault }
     ensures writes { Writes 1280 (D.state io.old.disk.now) io.old.space io.old.failed (D.state io.new.disk.now) io.new.space io.new.failed result }
     ensures same { io.new.disk.ghost_name ≡ io.old.disk.ghost_name }
 {

@@ -1,9 +1,10 @@
 // The commands on a dataset's head, each over the Io of a pool that hasn't failed.
-ghost use Rattle.std.specs.Prelude.{◌≡◌, ◌⊎◌, ◌+◌, ◌<◌, ◌≤◌, ◌^◌, ℕ, Bool, List, Result, length, IfErr, IfSome, OnErr, OnOk};
+ghost use Rattle.std.specs.Prelude.{◌≡◌, ◌⊎◌, ◌+◌, ◌<◌, ◌≤◌, ◌^◌, ℕ, Bool, true, List, Result, Err, length, IfErr, IfSome, OnErr, OnOk};
 ghost use Rattle.zst_space.specs.FreeSectors.{FreeSectors};
 ghost use Rattle.zst_fletcher.specs.WeightSum.{parts_of};
 ghost use Rattle.zst_block.specs.Blocks.{FitsDisk, Has};
 ghost use Rattle.zst_names.specs.Names.{IsDataset};
+ghost use Rattle.zst_model.specs.declared.refusals.plan_fault.PlanFault.{PlanFault};
 ghost use Rattle.zst_model.specs.declared.refusals.refusal.Refusal.{Refusal};
 ghost use Rattle.zst_model.specs.states.State.{IsHead, IsBonus, IsSpill};
 ghost use Rattle.zst_model.specs.states.Dated.{DatedState};
@@ -14,7 +15,8 @@ ghost use Rattle.zst_tree.specs.declared.tree.ObjSet.{ObjSet as Set};
 ghost use Rattle.zst_pool.specs.Checks.{FindsHead, freed, put_in};
 ghost use Rattle.zst_pool.specs.Faults.{is_disk_fault};
 ghost use Rattle.zst_pool.specs.Heads.{ChangedHead, ChangesHead, IsPlan, JudgesHead, is_accepted};
-ghost use Rattle.zst_pool.specs.Reads.{RowsAre, free_by};
+ghost use Rattle.zst_pool.specs.Plans.{IsLast, Plans, is_by_rows};
+ghost use Rattle.zst_pool.specs.Reads.{AreNamed, free_by};
 ghost use Rattle.zst_pool.specs.Room.{object_sectors};
 ghost use Rattle.zst_pool.specs.Work.{Ready, Runs};
 
@@ -36,7 +38,8 @@ use zst_uber::Uber;
 // The object set of the head of a dataset that has no partial state.
 fn open_head(dir: &Dir, name: &DatasetName) -> Result<ObjSet, PlanFault>
     ensures named { OnOk result (IsDataset name.now) }
-    ensures found { (image : List ℕ) (space : FreeSectors) (pool : Pool) → RowsAre (Has image space) dir.now pool → FindsHead (Has image space) name.now pool result }
+    ensures rows { IfErr result (λ fault. is_by_rows fault ≡ true) }
+    ensures found { (pool : Pool) → AreNamed dir.now pool → FindsHead dir.now name.now pool result }
 {
     match open_dataset(dir, name) {
         Ok(dataset) => Ok(dataset.head),
@@ -64,6 +67,7 @@ fn judge(number: u64, changed: Result<(), PoolFault>) -> Result<(), PoolFault>
         → ChangesHead (Has image space) set change changed → JudgesHead (Has image space) set name pool change result }
     ensures below { OnOk result (number < 2 ^ 63) }
     ensures refused { IfErr result (λ fault. (changed ≡ Err fault) ⊎ IsPlan fault) }
+    ensures last { (fault : PlanFault) → result ≡ Err (PoolFault.Plan fault) → (changed ≡ Err (PoolFault.Plan fault)) ⊎ IsLast number fault }
     ensures disk { is_disk_fault result ≡ is_disk_fault changed }
 {
     if !is_accepted(&changed) {
@@ -101,6 +105,7 @@ fn commit_head<D: Disk>(
     ensures runs { (start : D) (start_failed : Bool) (make : Pool → DatedState → Result DatedState Refusal) (most : ℕ)
         → ChangedHead kept.now name.now make most (D.state start) start_failed (D.state io.old.disk.now) io.old.space io.old.failed set changed
         → Runs (λ pool. on_head name.now pool (make pool)) most kept.now (D.state start) start_failed (D.state io.new.disk.now) io.new.failed result }
+    ensures plans { (fault : PlanFault) → result ≡ Err (PoolFault.Plan fault) → (changed ≡ Err (PoolFault.Plan fault)) ⊎ IsLast kept.now.body.number fault }
     ensures same { io.new.disk.ghost_name ≡ io.old.disk.ghost_name }
 {
     judge(kept.body.number, changed)?;
@@ -128,6 +133,7 @@ pub fn put_object<D: Disk>(
     requires space { io.old.space ≡ free_by kept.now.body }
     requires ready { Ready (D.state io.old.disk.now) kept.now.body }
     ensures runs { Runs (λ pool. on_head name.now pool (put_in pool object head bonus spill)) (object_sectors spill) kept.now (D.state io.old.disk.now) io.old.failed (D.state io.new.disk.now) io.new.failed result }
+    ensures plans { Plans (λ pool. on_head name.now pool (put_in pool object head bonus spill)) (object + 1) 0 kept.now result }
     ensures same { io.new.disk.ghost_name ≡ io.old.disk.ghost_name }
 {
     let mut set = open_head(&kept.dir, name)?;
@@ -153,6 +159,7 @@ pub fn write_block<D: Disk>(
     requires space { io.old.space ≡ free_by kept.now.body }
     requires ready { Ready (D.state io.old.disk.now) kept.now.body }
     ensures runs { Runs (λ pool. on_head name.now pool (written pool object index bytes.now)) (640 + 256) kept.now (D.state io.old.disk.now) io.old.failed (D.state io.new.disk.now) io.new.failed result }
+    ensures plans { Plans (λ pool. on_head name.now pool (written pool object index bytes.now)) 0 (index + 1) kept.now result }
     ensures same { io.new.disk.ghost_name ≡ io.old.disk.ghost_name }
 {
     let mut set = open_head(&kept.dir, name)?;
@@ -177,6 +184,7 @@ pub fn punch<D: Disk>(
     requires space { io.old.space ≡ free_by kept.now.body }
     requires ready { Ready (D.state io.old.disk.now) kept.now.body }
     ensures runs { Runs (λ pool. on_head name.now pool (punched pool object first count)) 1280 kept.now (D.state io.old.disk.now) io.old.failed (D.state io.new.disk.now) io.new.failed result }
+    ensures plans { Plans (λ pool. on_head name.now pool (punched pool object first count)) 0 (first + count) kept.now result }
     ensures same { io.new.disk.ghost_name ≡ io.old.disk.ghost_name }
 {
     let mut set = open_head(&kept.dir, name)?;
@@ -200,6 +208,7 @@ pub fn free_objects<D: Disk>(
     requires space { io.old.space ≡ free_by kept.now.body }
     requires ready { Ready (D.state io.old.disk.now) kept.now.body }
     ensures runs { Runs (λ pool. on_head name.now pool (freed pool first count)) 1280 kept.now (D.state io.old.disk.now) io.old.failed (D.state io.new.disk.now) io.new.failed result }
+    ensures plans { Plans (λ pool. on_head name.now pool (freed pool first count)) (first + count) 0 kept.now result }
     ensures same { io.new.disk.ghost_name ≡ io.old.disk.ghost_name }
 {
     let mut set = open_head(&kept.dir, name)?;

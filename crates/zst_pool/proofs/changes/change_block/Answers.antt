@@ -1,5 +1,5 @@
 use Rattle.std.specs.Prelude.{Result}
-use Rattle.std.proofs.Common.{◌≡◌, ℕ, ◌+◌, ◌/◌, ◌≤◌, List, length, sym, ap, ◌∙◌, subst, arith}
+use Rattle.std.proofs.Common.{◌≡◌, ℕ, ◌+◌, ◌/◌, ◌≤◌, List, length, sym, ap, ◌∙◌, subst, arith, Err}
 use Rattle.zst_block.specs.Blocks.{Has}
 use Rattle.zst_block.proofs.BlocksLaws.{KeepsBlocks-fills}
 use Rattle.zst_model.specs.declared.refusals.refusal.Refusal.{Refusal}
@@ -14,6 +14,8 @@ use Rattle.zst_pool.proofs.Changing.{filled_length}
 use Rattle.zst_pool.proofs.Judging.{err_is}
 use Rattle.zst_pool.proofs.Room.{block-sectors}
 use Rattle.zst_pool.proofs.Writing.{call_changes, call_writes, writes_more, writes_then}
+use Rattle.zst_pool.specs.declared.fault.PoolFault.TheVariants.{OutOfMemory, Plan}
+use Rattle.zst_pool.proofs.Planned.{past_indices}
 use Rattle.zst_pool.proofs.changes.change_block.Goals as goal
 
 pub returns-in_err-size-clause-changed : goal.returns-in_err-size-clause-changed
@@ -50,3 +52,18 @@ returns-clause-writes g c =
     let le : 0 + (640 + length block / 512) ≤ 640 + 256 = omega (arith, long, sectors) in
     writes_more c.answer.result le
     (writes_then size c.answer.result c.in_ok-size.ensures.writes (call_writes c.write_block.result c.answer.result c.answer.ensures c.write_block.ensures.works c.in_ok-size.ensures.writes.works.fits))
+
+pub returns-in_err-size-clause-limits : goal.returns-in_err-size-clause-limits
+returns-in_err-size-clause-limits g c = λ fault is.
+    let fell = c.in_err-size.field-0.0 in
+    let answered = err_is c.from_residual.result fell c.from_residual.ensures.1 in
+    let same : fell ≡ Plan fault = cc (answered, is) in
+    absurd (c.in_err-size.ensures.limits fault (ap (λ f. Err f) same))
+
+pub returns-in_err-block-clause-limits : goal.returns-in_err-block-clause-limits
+returns-in_err-block-clause-limits g c = λ fault is.
+    let answered = err_is c.from_residual-in_err-block.result OutOfMemory c.from_residual-in_err-block.ensures.1 in
+    absurd (cc (answered, is))
+
+pub returns-clause-limits : goal.returns-clause-limits
+returns-clause-limits g c = past_indices (c.args.index + 1) c.write_block.result c.answer.ensures c.write_block.ensures.limits

@@ -1,4 +1,4 @@
-use Rattle.std.proofs.Common.{ℕ, sym, ap, ◌∙◌, subst}
+use Rattle.std.proofs.Common.{ℕ, sym, ap, ◌∙◌, subst, ◌+◌}
 use Rattle.std.specs.Prelude.{Result}
 use Rattle.zst_block.specs.Blocks.{Has}
 use Rattle.zst_model.specs.declared.refusals.refusal.Refusal.{Refusal}
@@ -7,6 +7,7 @@ use Rattle.zst_objset.specs.Answers.{Changes}
 use Rattle.zst_objset.specs.Changes.{holes_made}
 use Rattle.zst_objset.specs.Sets.{SetHolds}
 use Rattle.zst_pool.proofs.Writing.{call_changes, call_writes}
+use Rattle.zst_pool.proofs.Planned.{past_indices}
 use Rattle.zst_pool.proofs.changes.change_holes.Goals as goal
 
 pub returns-clause-changed : goal.returns-clause-changed
@@ -19,3 +20,6 @@ returns-clause-changed g c = λ pool head told number holds.
 
 pub returns-clause-writes : goal.returns-clause-writes
 returns-clause-writes g c = call_writes c.punch.result c.answer.result c.answer.ensures c.punch.ensures.works c.requires.fits
+
+pub returns-clause-limits : goal.returns-clause-limits
+returns-clause-limits g c = past_indices (c.args.first + c.args.count) c.punch.result c.answer.ensures c.punch.ensures.limits

@@ -1,4 +1,4 @@
-use Rattle.std.proofs.Common.{ℕ, sym, ap, ◌∙◌, subst}
+use Rattle.std.proofs.Common.{ℕ, sym, ap, ◌∙◌, subst, ◌+◌}
 use Rattle.std.specs.Prelude.{Result}
 use Rattle.zst_block.specs.Blocks.{Has}
 use Rattle.zst_model.specs.declared.refusals.refusal.Refusal.{Refusal}
@@ -7,6 +7,7 @@ use Rattle.zst_objset.specs.Answers.{Changes}
 use Rattle.zst_objset.specs.Changes.{objects_freed}
 use Rattle.zst_objset.specs.Sets.{SetHolds}
 use Rattle.zst_pool.proofs.Writing.{call_changes, call_writes}
+use Rattle.zst_pool.proofs.Planned.{past_numbers}
 use Rattle.zst_pool.proofs.changes.change_numbers.Goals as goal
 
 pub returns-clause-changed : goal.returns-clause-changed
@@ -19,3 +20,6 @@ returns-clause-changed g c = λ pool head told number holds.
 
 pub returns-clause-writes : goal.returns-clause-writes
 returns-clause-writes g c = call_writes c.free_objects.result c.answer.result c.answer.ensures c.free_objects.ensures.works c.requires.fits
+
+pub returns-clause-limits : goal.returns-clause-limits
+returns-clause-limits g c = past_numbers (c.args.first + c.args.count) c.free_objects.result c.answer.ensures c.free_objects.ensures.limits

@@ -14,6 +14,7 @@ use Rattle.zst_pool.proofs.Changing.{put_fault, then_spilled}
 use Rattle.zst_pool.proofs.Judging.{err_is}
 use Rattle.zst_pool.proofs.Writing.{call_changes, call_writes, writes_err, writes_more, writes_then}
 use Rattle.zst_pool.proofs.changes.change_object.Given.{Over}
+use Rattle.zst_pool.proofs.Planned.{no_plan, past_numbers}
 use Rattle.zst_pool.proofs.changes.change_object.Goals as goal
 use Rattle.zst_pool.proofs.changes.change_object.Goals.{After-answer}
 
@@ -109,3 +110,11 @@ returns-clause-writes g c =
     let is : Some c.as_slice-in-Some.result.now ≡ c.args.spill = ap (λ (b : List ℕ). Some b) c.as_slice-in-Some.ensures ∙ sym c.in-Some.is in
     subst (λ (s : Option (List ℕ)). Writes (object_sectors s) old c.args.io.now.space c.args.io.now.failed new c.put_spill.new.io.space c.put_spill.new.io.failed answered) is
     (writes_then c.in_ok-answer.field-0 answered first second)
+
+pub returns-in_err-answer-clause-limits : goal.returns-in_err-answer-clause-limits
+returns-in_err-answer-clause-limits g c = λ fault is.
+    past_numbers (c.args.object + 1) c.put_object.result c.answer.ensures c.put_object.ensures.limits fault
+    (c.in_err-answer.was ∙ sym (err_is c.from_residual.result c.in_err-answer.field-0.0 c.from_residual.ensures.1) ∙ is)
+
+pub returns-clause-limits : goal.returns-clause-limits
+returns-clause-limits g c = λ fault is. absurd (no_plan c.put_spill.result c.answer-in-Some.ensures c.put_spill.ensures.limits fault is)

@@ -9,6 +9,9 @@ use Rattle.zst_objset.specs.Dnodes.{DnodeAt}
 use Rattle.zst_pool.specs.Heads.{ChangeFault}
 use Rattle.zst_pool.proofs.Changing.{written_absent, written_long}
 use Rattle.zst_pool.proofs.Writing.{disk_is}
+use Rattle.std.proofs.Common.{◌∙◌}
+use Rattle.zst_pool.specs.declared.fault.PoolFault.TheVariants.{Plan}
+use Rattle.zst_pool.proofs.Planned.{no_plan-block}
 use Rattle.zst_pool.proofs.changes.find_size.Goals as goal
 
 -- what is found at a number, and what isn't
@@ -42,3 +45,8 @@ pub returns-in-Err-clause-found : goal.returns-in-Err-clause-found
 returns-in-Err-clause-found g c = λ pool index head told holds.
     let definition = written pool c.args.object index c.args.bytes.now head in
     subst (ChangeFault definition) (sym c.from.ensures) (disk_is definition c.in-Err.fault (c.in-Err.ensures.found head told holds))
+
+pub returns-in-Err-clause-limits : goal.returns-in-Err-clause-limits
+returns-in-Err-clause-limits g c = λ fault is.
+    let same : c.from.result ≡ Plan fault = cc in
+    no_plan-block c.in-Err.fault fault c.in-Err.ensures.known (sym c.from.ensures ∙ same)

@@ -5,6 +5,8 @@ use Rattle.zst_pool.specs.Stepping.{StepAnswer}
 use Rattle.zst_pool.specs.declared.fault.PoolFault.TheVariants.{OutOfMemory, Full}
 use Rattle.zst_pool.proofs.Judging.{err_is}
 use Rattle.zst_pool.proofs.Replying.{step_reply}
+use Rattle.zst_pool.specs.Plans.{indices_end, numbers_end}
+use Rattle.zst_pool.proofs.Planned.{plans_err, plans_ok}
 use Rattle.zst_pool.proofs.pool.Pool.step.Goals as goal
 
 pub returns-clause-moments : goal.returns-clause-moments
@@ -57,3 +59,17 @@ returns-in_err-kept-clause-full g c = λ pool need largest rests is.
     let answered = err_is c.from_residual-in_err-kept.result fault c.from_residual-in_err-kept.ensures.1 in
     let same : fault ≡ Full need largest = cc (answered, is) in
     c.in_err-kept.ensures.runs.full need largest same
+
+pub returns-clause-planned : goal.returns-clause-planned
+returns-clause-planned g c = λ standing built left.
+    plans_ok (stepped [] c.args.now c.args.command) (numbers_end c.args.command) (indices_end c.args.command) c.args.self.now.kept c.in_ok-kept.kept c.in_ok-reply.reply c.in_ok-kept.ensures.plans
+
+pub returns-in_err-kept-clause-planned : goal.returns-in_err-kept-clause-planned
+returns-in_err-kept-clause-planned g c = λ standing built left.
+    let fault = c.in_err-kept.field-0.0 in
+    let fell = c.from_residual-in_err-kept in
+    plans_err (stepped [] c.args.now c.args.command) (numbers_end c.args.command) (indices_end c.args.command) c.args.self.now.kept fault (err_is fell.result fault fell.ensures.1) c.in_err-kept.ensures.plans
+
+pub returns-in_err-reply-clause-planned : goal.returns-in_err-reply-clause-planned
+returns-in_err-reply-clause-planned g c = λ standing built left.
+    absurd (left (err_is c.from_residual.result OutOfMemory c.from_residual.ensures.1))
