@@ -6,9 +6,10 @@ use Rattle.zst_names.specs.Names.{dataset_of}
 use Rattle.zst_model.specs.pools.Pool.{is_before, inserted}
 use Rattle.zst_model.proofs.InsertedLaws.{inserted-place, All-from_contains, contains-inserted, inserted_has_rest, All-inserted}
 use Rattle.zst_model.proofs.OrderLaws.{names_differ-inserted, names_rise-inserted, rows_rise-inserted}
-use Rattle.zst_dir.specs.Rows.{Rows, snapshot_is_before, HasDataset, HasSnapshot, IsDatasetRow, IsSnapshotRow, IsLawful}
+use Rattle.zst_dir.specs.Rows.{Rows, snapshot_is_before, with_partial, HasDataset, HasSnapshot, IsDatasetRow, IsSnapshotRow, IsPartialRow, IsLawful}
 use Rattle.zst_dir.specs.declared.rows.Dataset.{Dataset}
 use Rattle.zst_dir.specs.declared.rows.Snapshot.{Snapshot}
+use Rattle.zst_dir.specs.declared.rows.Partial.{Partial}
 
 -- what holds of a value that is there holds more weakly
 pub IfSome_weaker : {A : Type 0} (o : Option A) (P Q : A → Type 0) → ((x : A) → P x → Q x) → IfSome o P → IfSome o Q
@@ -90,4 +91,30 @@ snapshot_added rows row lawful is_row absent dataset component =
       snapshots = All-inserted IsSnapshotRow snapshot_is_before row olds is_row lawful.snapshots;
       bookmarks = lawful.bookmarks;
       partials = lawful.partials;
+    }
+
+-- a lawful directory with a new partial state
+pub partial_added : (rows : Rows) (row : Partial) → IsLawful rows → IsPartialRow row → All (λ other. other.target ≢ row.target) rows.partials → IfSome row.base (HasSnapshot rows)
+    → (HasSnapshot rows (row.target ++ 64 ∷ row.snapshot) → ⊥) → IsLawful (record rows { partials = with_partial row rows.partials })
+partial_added rows row lawful is_row new base component =
+    let by_target = λ (a b : Partial). is_before a.target b.target in
+    let differs : (x : Partial) → Contains rows.partials x → x.target ≢ row.target = λ x there. All-contains (λ (other : Partial). other.target ≢ row.target) rows.partials x new there in
+    record {
+      ordered = record {
+        datasets = lawful.ordered.datasets;
+        snapshots = lawful.ordered.snapshots;
+        snapshots_differ = lawful.ordered.snapshots_differ;
+        bookmarks = lawful.ordered.bookmarks;
+        partials = names_rise-inserted (λ (p : Partial). p.target) row rows.partials differs lawful.ordered.partials;
+      };
+      linked = record {
+        snapshots = lawful.linked.snapshots;
+        origins = lawful.linked.origins;
+        bases = All-inserted (λ p. IfSome p.base (HasSnapshot rows)) by_target row rows.partials base lawful.linked.bases;
+        components = All-inserted (λ p. HasSnapshot rows (p.target ++ 64 ∷ p.snapshot) → ⊥) by_target row rows.partials component lawful.linked.components;
+      };
+      datasets = lawful.datasets;
+      snapshots = lawful.snapshots;
+      bookmarks = lawful.bookmarks;
+      partials = All-inserted IsPartialRow by_target row rows.partials is_row lawful.partials;
     }

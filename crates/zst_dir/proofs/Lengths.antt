@@ -1,7 +1,8 @@
 -- How long the rows of a directory are, before and after a change.
-use Rattle.std.proofs.Common.{◌≡◌, ℕ, ◌+◌, ◌*◌, ◌≤◌, Bool, true, false, not, List, [], ◌∷◌, ◌++◌, length, get_or, filter, Option, Some, None, IfSome, if◌then◌else◌, refl, ap, arith, length-append}
-use Rattle.std.specs.List.{flat_map, sum_by, insert, position_or_len}
+use Rattle.std.proofs.Common.{◌≡◌, ℕ, ◌+◌, ◌*◌, ◌≤◌, Bool, true, false, not, List, [], ◌∷◌, ◌++◌, length, get_or, filter, Option, Some, None, IfSome, if◌then◌else◌, refl, sym, ap, ◌∙◌, subst, arith, length-append}
+use Rattle.std.specs.List.{All, AllPairs, flat_map, sum_by, insert, position_or_len}
 use Rattle.std.specs.Str.{bytes_eq}
+use Rattle.std.proofs.lemmas.List.Elements.{All-head, All-tail}
 use Rattle.std.proofs.lemmas.List.Concat.{length-flat_map, flat_map-append}
 use Rattle.std.proofs.lemmas.List.Filters.{sum_by-filter_both}
 use Rattle.std.proofs.lemmas.List.Sums.{sum_by-insert, sum_by-le}
@@ -12,15 +13,17 @@ use Rattle.zst_bytes.specs.Words.{word, padding, text_bytes, words_bytes}
 use Rattle.zst_block.proofs.PtrLaws.{length-ptr_bytes}
 use Rattle.zst_names.specs.Names.{IsSnapshot, dataset_of, component_of}
 use Rattle.zst_model.specs.fields.Guids.{IsGuidSet}
-use Rattle.zst_model.specs.pools.Pool.{is_before, inserted}
+use Rattle.zst_model.specs.pools.Pool.{is_before, inserted, IsStated}
 use Rattle.zst_tree.specs.Sets.{set_bytes}
 use Rattle.zst_tree.specs.declared.tree.ObjSet.{ObjSet}
-use Rattle.zst_dir.specs.Rows.{Rows, with_head, with_head_at, snapshot_is_before, IsDatasetRow, IsSnapshotRow, IsLawful}
-use Rattle.zst_dir.specs.Spelling.{name_bytes, snapshot_bytes, snapshots_of, dataset_bytes, bookmark_bytes, partial_bytes, dir_bytes}
+use Rattle.zst_dir.specs.Rows.{Rows, with_head, with_head_at, with_objects, with_objects_at, with_partial, snapshot_is_before, IsDatasetRow, IsSnapshotRow, IsPartialRow, IsLawful}
+use Rattle.zst_dir.specs.Spelling.{name_bytes, snapshot_bytes, snapshots_of, dataset_bytes, bookmark_bytes, header_bytes, partial_bytes, dir_bytes}
 use Rattle.zst_dir.specs.declared.rows.Dataset.{Dataset}
 use Rattle.zst_dir.specs.declared.rows.Snapshot.{Snapshot}
 use Rattle.zst_dir.specs.declared.rows.Partial.{Partial}
-use Rattle.zst_model.proofs.InsertedLaws.{inserted-place}
+use Rattle.zst_model.proofs.InsertedLaws.{inserted-place, AllPairs-head, AllPairs-tail}
+use Rattle.zst_model.proofs.OrderLaws.{same_bytes, not_before_itself}
+use Rattle.zst_model.specs.declared.sends.header.Header.{Header}
 use Rattle.zst_dir.proofs.SnapshotRuns.{runs, snapshots_are_runs}
 use Rattle.zst_dir.proofs.Texts.{joined}
 
@@ -157,3 +160,101 @@ heads_long snapshots name head (dataset ∷ datasets) =
 -- so a directory is as long
 pub head_as_long : (rows : Rows) (name : List ℕ) (head : ObjSet) → length (dir_bytes (record rows { datasets = with_head name head rows.datasets })) ≡ length (dir_bytes rows)
 head_as_long rows name head = omega (arith, dir_long rows, dir_long (record rows { datasets = with_head name head rows.datasets }), heads_long rows.snapshots name head rows.datasets)
+
+-- a stated name and a header are short
+header_short : (header : Header) → IsStated header → length (header_bytes header) ≤ 590
+unfolding header_bytes
+header_short header is =
+    simp (length-append, length-number_bytes) (omega (arith, text_short header.name, is.name.short, guids_short header.redact is.redact, guids_short header.from_redact is.from_redact))
+
+-- a partial state has at most 1,280 bytes
+partial_short : (partial : Partial) → IsPartialRow partial → length (partial_bytes partial) ≤ 1280
+unfolding partial_bytes
+partial_short partial is =
+    simp (length-append, length-number_bytes, set_long) (omega (
+      arith,
+      text_short partial.target,
+      is.target.short,
+      text_short partial.snapshot,
+      is.snapshot.short,
+      header_short partial.header is.header,
+      name_short partial.base is.base,
+    ))
+
+-- so a new partial state adds few bytes
+pub partial_grows : (rows : Rows) (row : Partial) → IsPartialRow row → length (dir_bytes (record rows { partials = with_partial row rows.partials })) ≤ length (dir_bytes rows) + 1280
+partial_grows rows row is =
+    omega (
+      arith,
+      dir_long rows,
+      dir_long (record rows { partials = with_partial row rows.partials }),
+      inserted_long partial_bytes (λ a b. is_before a.target b.target) row rows.partials,
+      partial_short row is,
+    )
+
+-- a dataset with other objects has at most sixteen guids more
+objects_long : (snapshots : List Snapshot) (head : ObjSet) (redact : List ℕ) (dataset : Dataset) → IsGuidSet redact
+    → length (dataset_bytes snapshots (record dataset { head = head; redact = redact })) ≤ length (dataset_bytes snapshots dataset) + 136
+unfolding dataset_bytes
+objects_long snapshots head redact dataset is = simp (length-append, length-number_bytes, set_long) (omega (arith, guids_short redact is))
+
+-- datasets of other names stay as they are
+unnamed : (name : List ℕ) (head : ObjSet) (redact : List ℕ) (datasets : List Dataset) → All (λ (d : Dataset). is_before name d.name ≡ true) datasets
+    → with_objects name head redact datasets ≡ datasets
+unnamed name head redact [] later = refl
+unnamed name head redact (dataset ∷ datasets) later =
+    let before : is_before name dataset.name ≡ true = All-head (λ (d : Dataset). is_before name d.name ≡ true) dataset datasets later in
+    ap (λ (d : Dataset). d ∷ with_objects name head redact datasets) (one (bytes_eq dataset.name name) refl before)
+    ∙ ap (λ (l : List Dataset). dataset ∷ l) (unnamed name head redact datasets (All-tail (λ (d : Dataset). is_before name d.name ≡ true) dataset datasets later))
+  where
+    one : (t : Bool) → bytes_eq dataset.name name ≡ t → is_before name dataset.name ≡ true → (if t then record dataset { head = head; redact = redact } else dataset) ≡ dataset
+    one true e before = absurd (not_before_itself name (ap (is_before name) (sym (same_bytes dataset.name name e)) ∙ before))
+    one false e before = refl
+
+-- so of datasets in their order one at most grows
+all_objects_long : (snapshots : List Snapshot) (name : List ℕ) (head : ObjSet) (redact : List ℕ) (datasets : List Dataset) → IsGuidSet redact
+    → AllPairs (λ a b. is_before a.name b.name ≡ true) datasets
+    → length (flat_map (dataset_bytes snapshots) (with_objects name head redact datasets)) ≤ length (flat_map (dataset_bytes snapshots) datasets) + 136
+all_objects_long snapshots name head redact [] is ordered = omega arith
+all_objects_long snapshots name head redact (dataset ∷ datasets) is ordered =
+    go (bytes_eq dataset.name name) refl
+    (all_objects_long snapshots name head redact datasets is (AllPairs-tail (λ (a b : Dataset). is_before a.name b.name ≡ true) dataset datasets ordered))
+  where
+    rest : List Dataset
+    rest = with_objects name head redact datasets
+
+    spell : Dataset → List ℕ
+    spell d = dataset_bytes snapshots d
+
+    later : All (λ (d : Dataset). is_before dataset.name d.name ≡ true) datasets
+    later = AllPairs-head (λ (a b : Dataset). is_before a.name b.name ≡ true) dataset datasets ordered
+
+    go : (t : Bool) → bytes_eq dataset.name name ≡ t → length (flat_map spell rest) ≤ length (flat_map spell datasets) + 136
+        → length (flat_map spell ((if t then record dataset { head = head; redact = redact } else dataset) ∷ rest)) ≤ length (flat_map spell (dataset ∷ datasets)) + 136
+    go true e others =
+        omega (
+          arith,
+          objects_long snapshots head redact dataset is,
+          ap (λ (l : List Dataset). length (flat_map spell l))
+              (unnamed name head redact datasets (subst (λ (n : List ℕ). All (λ (d : Dataset). is_before n d.name ≡ true) datasets) (same_bytes dataset.name name e) later)),
+          length-append (spell (record dataset { head = head; redact = redact })) (flat_map spell rest),
+          length-append (spell dataset) (flat_map spell datasets),
+        )
+    go false e others =
+        omega (
+          arith,
+          others,
+          length-append (spell dataset) (flat_map spell rest),
+          length-append (spell dataset) (flat_map spell datasets),
+        )
+
+-- so a directory with other objects of a dataset has few bytes more
+pub objects_grow : (rows : Rows) (name : List ℕ) (head : ObjSet) (redact : List ℕ) → IsLawful rows → IsGuidSet redact
+    → length (dir_bytes (record rows { datasets = with_objects name head redact rows.datasets })) ≤ length (dir_bytes rows) + 136
+objects_grow rows name head redact lawful is =
+    omega (
+      arith,
+      dir_long rows,
+      dir_long (record rows { datasets = with_objects name head redact rows.datasets }),
+      all_objects_long rows.snapshots name head redact rows.datasets is lawful.ordered.datasets,
+    )

@@ -1,9 +1,9 @@
 -- What a directory lists, and which directories are lawful.
-use Rattle.std.specs.Prelude.{◌≡◌, ◌≢◌, ◌<◌, ◌≤◌, ◌^◌, ℕ, Bool, true, false, List, [], ◌∷◌, ◌++◌, length, map, if◌then◌else◌, None, IfSome, All, AllPairs, Contains, nat_lt, bytes_eq, ◌&&◌, ◌||◌}
+use Rattle.std.specs.Prelude.{◌≡◌, ◌≢◌, ◌<◌, ◌≤◌, ◌^◌, ℕ, Bool, true, false, List, [], ◌∷◌, ◌++◌, length, map, if◌then◌else◌, None, IfSome, All, AllPairs, Contains, nat_lt, bytes_eq, not, ◌&&◌, ◌||◌}
 use Rattle.zst_names.specs.Names.{IsDataset, IsSnapshot, IsBookmark, IsComponent, dataset_of}
 use Rattle.zst_block.specs.Ptr.{PtrFits}
 use Rattle.zst_model.specs.fields.Guids.{IsGuidSet}
-use Rattle.zst_model.specs.pools.Pool.{is_before, IsKind, IsGuid, IsStated}
+use Rattle.zst_model.specs.pools.Pool.{is_before, inserted, IsKind, IsGuid, IsStated}
 use Rattle.zst_tree.specs.Sets.{SetFits}
 use Rattle.zst_tree.specs.declared.tree.ObjSet.{ObjSet}
 use Rattle.zst_dir.specs.declared.rows.Dataset.{Dataset}
@@ -35,6 +35,25 @@ with_head_at name head dataset = if bytes_eq dataset.name name then record datas
 -- the datasets with another head of the one of this name
 abbrev pub with_head : List ℕ → ObjSet → List Dataset → List Dataset
 with_head name head datasets = map (with_head_at name head) datasets
+
+-- a dataset with this head and these redaction guids, where it has this name
+abbrev pub with_objects_at : List ℕ → ObjSet → List ℕ → Dataset → Dataset
+with_objects_at name head redact dataset = if bytes_eq dataset.name name then record dataset { head = head; redact = redact } else dataset
+
+-- the datasets with another head, and other redaction guids, of the one of this name
+abbrev pub with_objects : List ℕ → ObjSet → List ℕ → List Dataset → List Dataset
+with_objects name head redact datasets = map (with_objects_at name head redact) datasets
+
+-- a partial state put in its place, by target
+abbrev pub with_partial : Partial → List Partial → List Partial
+with_partial partial partials = inserted (λ a b. is_before a.target b.target) partial partials
+
+-- a partial state of this target, and one that isn't kept
+abbrev pub is_for : List ℕ → Partial → Bool
+is_for target partial = bytes_eq partial.target target
+
+abbrev pub is_unkept_for : List ℕ → Partial → Bool
+is_unkept_for target partial = bytes_eq partial.target target && not partial.keep
 
 -- rows stand in their order, and their names differ
 pub record AreOrdered (rows : Rows) : Type 0 where

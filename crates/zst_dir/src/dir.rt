@@ -3,7 +3,8 @@ ghost use Rattle.std.specs.List.{position_or_len};
 ghost use Rattle.zst_model.specs.pools.Pool.{is_before, inserted};
 ghost use Rattle.zst_names.specs.Names.{dataset_of};
 ghost use Rattle.zst_tree.specs.Sets.{SetFits};
-ghost use Rattle.zst_dir.specs.Rows.{Rows, no_rows, snapshot_is_before, HasDataset, HasSnapshot, IsDatasetRow, IsSnapshotRow, IsLawful, with_head};
+ghost use Rattle.zst_dir.specs.Rows.{Rows, no_rows, snapshot_is_before, HasDataset, HasSnapshot, IsDatasetRow, IsSnapshotRow, IsPartialRow, IsLawful, with_head, with_objects, with_partial, is_unkept_for};
+ghost use Rattle.zst_model.specs.fields.Guids.{IsGuidSet};
 ghost use Rattle.zst_dir.specs.Spelling.{dir_bytes};
 ghost use Rattle.zst_dir.specs.declared.rows.Dataset.{Dataset};
 ghost use Rattle.zst_dir.specs.declared.rows.Snapshot.{Snapshot};
@@ -11,6 +12,7 @@ ghost use Rattle.zst_dir.specs.declared.rows.Snapshot.{Snapshot};
 use crate::rows::{Bookmark, Dataset, Partial, Snapshot};
 use std::alloc::{AllocError, Global};
 use std::marker::Model;
+use zst_model::GuidSet;
 use zst_names::{BookName, DatasetName, SnapName};
 use zst_tree::ObjSet;
 
@@ -144,6 +146,30 @@ impl Dir {
         self.partials.retain(|partial| partial.target != *name);
     }
 
+    /// Leaves out the partial state of this target, where there is one that isn't kept.
+    pub fn drop_unkept(&mut self, name: &DatasetName)
+        ensures dropped { self.new ≡ record self.old { partials = filter (λ partial. not (is_unkept_for name.now partial)) self.old.partials } }
+        ensures shrinks { length (dir_bytes self.new) ≤ length (dir_bytes self.old) }
+    {
+        self.partials
+            .retain(|partial| partial.target != *name || partial.keep);
+    }
+
+    /// Adds a partial state at its place. Without memory nothing is added.
+    pub fn add_partial(&mut self, partial: Partial) -> Result<(), AllocError>
+        requires row { IsPartialRow partial }
+        requires new { All (λ other. other.target ≢ partial.target) self.old.partials }
+        requires base { IfSome partial.base (HasSnapshot self.old) }
+        requires component { HasSnapshot self.old (partial.target ++ 64 ∷ partial.snapshot) → ⊥ }
+        ensures added { OnOk result (self.new ≡ record self.old { partials = with_partial partial self.old.partials }) }
+        ensures same { OnErr result (self.new ≡ self.old) }
+        ensures grows { length (dir_bytes self.new) ≤ length (dir_bytes self.old) + 1280 }
+    {
+        let place = place_of_partial(self.partials.as_slice(), &partial.target);
+        self.partials.insert(place, partial)?;
+        Ok(())
+    }
+
     /// Gives the dataset of this name another head.
     pub fn set_head(&mut self, name: &DatasetName, head: ObjSet)
         requires { SetFits head }
@@ -151,6 +177,16 @@ impl Dir {
         ensures as_long { length (dir_bytes self.new) ≡ length (dir_bytes self.old) }
     {
         set_head(self.datasets.as_mut_slice(), name, head);
+    }
+
+    /// Gives the dataset of this name another head, and other redaction guids.
+    pub fn set_objects(&mut self, name: &DatasetName, head: ObjSet, redact: &GuidSet)
+        requires head { SetFits head }
+        requires redact { IsGuidSet redact.now }
+        ensures changed { self.new ≡ record self.old { datasets = with_objects name.now head redact.now self.old.datasets } }
+        ensures grows { length (dir_bytes self.new) ≤ length (dir_bytes self.old) + 136 }
+    {
+        set_objects(self.datasets.as_mut_slice(), name, head, redact);
     }
 
     /// Adds a snapshot at its place. Without memory nothing is added.
@@ -203,6 +239,26 @@ fn place_of_snapshot(snapshots: &[Snapshot], snapshot: &Snapshot) -> usize
     ensures { result ≡ position_or_len (snapshot_is_before snapshot.now) snapshots.now }
 {
     snapshots.partition_point(|other| !snapshot.is_before(other))
+}
+
+// The place of the first partial state that one of this target stands before, or the end.
+fn place_of_partial(partials: &[Partial], target: &DatasetName) -> usize
+    requires { AllPairs (λ a b. is_before a.target b.target ≡ true) partials.now }
+    ensures { result ≡ position_or_len (λ other. is_before target.now other.target) partials.now }
+{
+    partials.partition_point(|other| other.target <= *target)
+}
+
+// Gives the dataset of this name another head, and other redaction guids.
+fn set_objects(datasets: &mut [Dataset], name: &DatasetName, head: ObjSet, redact: &GuidSet)
+    ensures { datasets.new ≡ with_objects name.now head redact.now datasets.old }
+{
+    for row in datasets.iter_mut() {
+        if row.name == *name {
+            row.head = head;
+            row.redact = redact.duplicate();
+        }
+    }
 }
 
 // Gives the dataset of this name another head.

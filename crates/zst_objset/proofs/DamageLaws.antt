@@ -1,6 +1,6 @@
 -- What may be told as damaged of a set, from the block up.
 use Rattle.std.proofs.Common.{◌≡◌, ◌⊎◌, inl, inr, ⊎_elim, ℕ, zero, suc, ◌*◌, ◌^◌, ◌<◌, ◌≤◌, Bool, List, length, refl, sym, ◌∙◌, ap, subst, arith}
-use Rattle.std.specs.Prelude.{Option, Some, Result, Ok, Err}
+use Rattle.std.specs.Prelude.{Option, Some, Result, Ok, Err, OnOk}
 use Rattle.std.proofs.lemmas.Bool.{cases_lt}
 use Rattle.zst_bytes.specs.Bytes.{bytes_at}
 use Rattle.zst_fletcher.specs.WeightSum.{parts_of}
@@ -243,3 +243,10 @@ pub set_within : (images : List ℕ → Type 0) (size other : ℕ) (set : ObjSet
     → IsSetWithin images size set fewer last
 set_within images size other set mid made fewer last same first second = λ sector stated found damaged.
     first sector stated found (subst (λ (n : ℕ). IsSetWithin mid n made fewer last) same second sector stated found damaged)
+
+-- what is told after a change was told before a call in front of it that wrote into free sectors alone
+pub within_after : (old mid : DiskState) (space less : FreeSectors) → FillsFree old space mid less → (set : ObjSet) (fewer : List ℕ → Type 0) (made : ObjSet) (result : Result (Unit {0}) ObjFault)
+    → OnOk result (IsSetWithin (SparesTaken less mid.seen) mid.size set fewer made) → OnOk result (IsSetWithin (SparesTaken space old.seen) old.size set fewer made)
+within_after old mid space less fills set fewer made (Ok done) within =
+    set_within (SparesTaken space old.seen) old.size mid.size set (SparesTaken less mid.seen) set fewer made fills.size (set_now old mid space less fills set) within
+within_after old mid space less fills set fewer made (Err fault) within = tt

@@ -1,14 +1,14 @@
 -- What a change of a range of indices makes, and what it is refused for.
-use Rattle.std.proofs.Common.{◌≡◌, ℕ, ◌+◌, ◌*◌, ◌^◌, ◌<◌, ◌≤◌, ◌==◌, ◌||◌, ◌&&◌, not, nat_lt, List, length, Bool, true, false, refl, sym, ap, ◌∙◌, subst, arith, Option, Some, None, Result, Ok, Err, if◌then◌else◌}
+use Rattle.std.proofs.Common.{◌≡◌, ℕ, ◌+◌, ◌*◌, ◌<◌, ◌≤◌, ◌==◌, ◌||◌, ◌&&◌, not, nat_lt, length, Bool, true, false, refl, sym, ap, ◌∙◌, subst, arith, Option, Some, None, Result, Ok, Err, if◌then◌else◌}
 use Rattle.std.proofs.Math.Nat.{mul-mod_left}
 use Rattle.std.proofs.Math.Path.{fun_ext}
 use Rattle.std.proofs.lemmas.Bool.{false≢true}
 use Rattle.std.proofs.lemmas.Bool.Decides.{nat_tests}
-use Rattle.zst_block.specs.Ptr.{PtrFits, hole_of, redacted_of}
+use Rattle.zst_block.specs.Ptr.{hole_of, redacted_of}
 use Rattle.zst_block.specs.declared.ptr.Ptr.{Ptr}
 use Rattle.zst_dnode.specs.Dnode.{DnodeFits}
 use Rattle.zst_dnode.specs.declared.dnode.Dnode.{Dnode}
-use Rattle.zst_laws.specs.Dating.{AppliedIsState, IsLawfulItem}
+use Rattle.zst_laws.specs.Dating.{IsLawfulItem}
 use Rattle.zst_model.proofs.Sizes.{size_of_lawful}
 use Rattle.zst_model.specs.declared.refusals.apply_fault.ApplyFault.{ApplyFault}
 use Rattle.zst_model.specs.declared.refusals.apply_fault.ApplyFault.TheVariants.{NoObject, NotUserData, OddBlock, Unaligned}
@@ -28,7 +28,7 @@ use Rattle.zst_objset.proofs.AnswerLaws.{object_of}
 use Rattle.zst_objset.proofs.ChangePuts.{changed_to}
 use Rattle.zst_objset.proofs.IndicesChanged.{change_made}
 use Rattle.zst_objset.proofs.Within.{one_times, some_times, within_times}
-use Rattle.zst_objset.proofs.TreeFits.{changed_object, tree_fits, with_tree}
+use Rattle.zst_objset.proofs.TreeFits.{with_tree}
 
 aligned : (size n : ℕ) → is_unaligned size (n * size) ≡ false
 aligned size n = rw (mul-mod_left n size) refl
@@ -166,13 +166,10 @@ module _ (has : Blocks) (number k first count : ℕ) (state : DatedState) (objec
       past : (i : ℕ) → index_bound ≤ i → within first count i ≡ false
       past i over = grind (arith, nat_tests)
 
--- A tree whose values are in their fields has a leaf at each index of a range, and else what another map has.
+-- A tree has a leaf at each index of a range, and else what another map has.
 pub record HasRange (has : Blocks) (tree : Tree) (first count : ℕ) (leaf : Ptr) (map put : Map) : Type 0 where
   pub holds : TreeIs has tree put
   pub puts : (i : ℕ) → i < index_bound → put i ≡ put_range first count leaf map i
-  pub levels : tree.levels ≤ 7
-  pub root : PtrFits tree.root
-  pub past : tree.past < 2 ^ 64
 
 module _ (has : Blocks) (number k first count : ℕ) (change : Change) (block : Block) (leaf : Ptr) (state : DatedState) (dnode : Dnode) (tree : Tree) (end : ℕ) (put : Map) (object : Object) (map : Map) (was : ObjectIs has dnode object (state.number_date k) (state.index_date k) map)
     (fills : Fills has number k first count change block leaf state object) (has_range : HasRange has tree first count leaf map put) (end_is : end ≡ end_of (with_range first count block object)) where
@@ -199,16 +196,15 @@ module _ (has : Blocks) (number k first count : ℕ) (change : Change) (block : 
     index_dates = λ i less. ap (λ (ptr : Ptr). ptr.number) (has_range.puts i less) ∙ date_at i (within first count i) refl (was.index_dates i less);
   }
 
-  pub makes_range : ((ptr : Ptr) (bytes : List ℕ) → has ptr bytes → length bytes ≡ ptr.length) → AppliedIsState → IsState state.state → DnodeFits dnode → MakesDnode has number k change state (with_tree dnode tree end)
-  makes_range long law lawful fits =
-      let made = with_range first count block object in record {
-        object = made;
-        made = fills.made;
-        lawful = fills.lawful;
-        fits = tree_fits has long dnode tree end made (date_to number k change state) (dates_to number k change state) put fits range_object (changed_object number k change state made law lawful fills.lawful fills.made) has_range.levels has_range.root has_range.past;
-        map = put;
-        is = range_object;
-      }
+  pub makes_range : DnodeFits (with_tree dnode tree end) → MakesDnode has number k change state (with_tree dnode tree end)
+  makes_range fits = record {
+    object = with_range first count block object;
+    made = fills.made;
+    lawful = fills.lawful;
+    fits = fits;
+    map = put;
+    is = range_object;
+  }
 
 -- the tree of an object, as code has it
 pub tree_is : (has : Blocks) (dnode : Dnode) (tree : Tree) (map : Map) → tree ≡ tree_of dnode → TreeIs has (tree_of dnode) map → TreeIs has tree map

@@ -5,10 +5,8 @@ use Rattle.std.proofs.lemmas.Bool.{cases_lt, cases_order}
 use Rattle.std.proofs.lemmas.Bool.Decides.{nat_tests}
 use Rattle.zst_space.specs.FreeSectors.{FreeSectors}
 use Rattle.zst_block.specs.Blocks.{Has, KeepsBlocks}
-use Rattle.zst_block.specs.Ptr.{PtrFits, is_lawful}
-use Rattle.zst_block.specs.declared.ptr.Ptr.{Ptr}
-use Rattle.zst_block.proofs.BlocksLaws.{IsBlock-length}
-use Rattle.zst_dnode.specs.Dnode.{DnodeFits, is_root}
+use Rattle.zst_block.specs.Ptr.{PtrFits}
+use Rattle.zst_dnode.specs.Dnode.{DnodeFits}
 use Rattle.zst_dnode.specs.declared.dnode.Dnode.{Dnode}
 use Rattle.zst_model.specs.declared.refusals.apply_fault.ApplyFault.{ApplyFault}
 use Rattle.zst_model.specs.declared.refusals.apply_fault.ApplyFault.TheVariants.{NoObject, SizeDiffers, OddBlock, Unaligned}
@@ -19,21 +17,23 @@ use Rattle.zst_model.specs.declared.states.item.Change.TheVariants.{Write}
 use Rattle.zst_model.specs.declared.states.item.Item.TheVariants.{At}
 use Rattle.zst_model.specs.states.Apply.{apply, apply_change, is_unaligned, unless}
 use Rattle.zst_model.specs.states.Dated.{DatedState, size_at}
-use Rattle.zst_model.specs.states.State.{Block, Hole, Redacted, Data, BlockFits, IsObject, IsState, Object, end_of, index_bound, is_block_size, is_hole, is_number, is_odd_size, past_last}
+use Rattle.zst_model.specs.states.State.{Block, Data, IsObject, IsState, Object, end_of, index_bound, is_block_size, is_hole, is_number, is_odd_size, past_last}
 use Rattle.zst_model.specs.pools.Step.{in_indices, of_applying}
-use Rattle.zst_tree.specs.Indices.{Blocks, Map, Subtree, TreeIs, any_present}
+use Rattle.zst_tree.specs.Indices.{Blocks}
 use Rattle.zst_tree.specs.declared.tree.Tree.{Tree}
 use Rattle.zst_objset.specs.Answers.{FindsThere, Refuses}
 use Rattle.zst_objset.specs.Changes.{block_written, changed, indices_changed}
-use Rattle.zst_objset.specs.Dnodes.{BlockIs, IsThere, ObjectIs}
+use Rattle.zst_objset.specs.Dnodes.{BlockIs, IsThere, ObjectIs, tree_of}
 use Rattle.zst_objset.specs.Putting.{MakesDnode, dates_to}
-use Rattle.zst_objset.specs.Writing.{PutsData, write_judged}
+use Rattle.zst_objset.specs.Writing.{PutsData, PutsDataRoot, write_judged}
 use Rattle.zst_objset.specs.declared.fault.ObjFault.{ObjFault}
 use Rattle.zst_objset.specs.declared.fault.ObjFault.TheVariants as faults
 use Rattle.zst_objset.proofs.AnswerLaws.{none_refused, in_indices_far, in_indices_ok, object_of}
 use Rattle.zst_objset.proofs.ChangePuts.{changed_is, changed_to}
 use Rattle.zst_objset.proofs.SetGrows.{ObjectIs-grows}
 use Rattle.zst_objset.proofs.SetOnly.{under_bound}
+use Rattle.zst_objset.proofs.TreeFits.{data_fits, dnode_root, root_fits, with_tree, with_tree_fits}
+use Rattle.zst_objset.proofs.Within.{some_times}
 
 past_step : (hole : Bool) (bound rest : ℕ) → rest ≤ bound → (if hole then rest else suc bound) ≤ suc bound
 past_step true bound rest le = omega arith
@@ -72,10 +72,6 @@ same_place size i j some = go (cases_order j i)
     go (inr (inl lower)) = let more : suc j * size ≤ i * size = mul-le-mul_right size lower in grind (arith, nat_tests, more)
     go (inr (inr higher)) = let more : suc i * size ≤ j * size = mul-le-mul_right size higher in grind (arith, nat_tests, more)
 
-some_place : (size i : ℕ) → 0 < size → nat_lt 0 (i * size) ≡ nat_lt 0 i
-some_place size zero some = grind (arith, nat_tests)
-some_place size (suc i) some = let more : suc 0 * size ≤ suc i * size = mul-le-mul_right size (omega arith) in grind (arith, nat_tests, more)
-
 -- the write of a whole block at an index of what stands at a number
 abbrev pub write_at : ℕ → List ℕ → Option Object → Change
 write_at i bytes there = Write (i * size_at there) 0 bytes
@@ -96,7 +92,7 @@ write_some i bytes object some =
     let size = object.attr.block_size in
     ap (unless (not (length bytes == size)) SizeDiffers)
     (passed (is_unaligned size (i * size)) Unaligned _ (ap (λ (n : ℕ). not (n == 0)) (mul-mod_left i size))
-    ∙ ap (λ (b : Bool). unless (is_odd_size size && b) OddBlock (Ok (Some (written_to i bytes object)))) (some_place size i some))
+    ∙ ap (λ (b : Bool). unless (is_odd_size size && b) OddBlock (Ok (Some (written_to i bytes object)))) (some_times i size some))
 
 write_is : (i : ℕ) (bytes : List ℕ) (there : Option Object) (object : Object) → there ≡ Some object → 0 < object.attr.block_size
     → apply_change (write_at i bytes there) there
@@ -195,31 +191,14 @@ module _ (has : Blocks) (number k i : ℕ) (bytes : List ℕ) (snap : DatedState
     pub is_change : block_written number k i bytes snap ≡ changed number (At k (write_at i bytes (snap.state k))) snap
     is_change = is_accepted ∙ sym (write_ok is_made).0
 
--- the root of a tree, of which index 0 has this block, is one that a dnode may have
-data_root : (image : List ℕ) (space : FreeSectors) (ptr : Ptr) (size : ℕ) (block : Block) → BlockIs (Has image space) ptr block → BlockFits size block → is_root 0 size ptr ≡ true
-data_root image space ptr size Hole is fits = rw is refl
-data_root image space ptr size Redacted is fits = rw is refl
-data_root image space ptr size (Data bytes) is fits = let long = IsBlock-length image ptr bytes is.1.block in grind (arith, nat_tests, is.0)
-
-node_root : (levels size : ℕ) (ptr : Ptr) (test : Bool) → ptr.kind ≡ (if test then 3 else 4) → (is_lawful ptr ≡ true) × (is_root (suc levels) size ptr ≡ true)
-node_root levels size ptr true is = let over : (suc levels == 0) ≡ false = grind (arith, nat_tests) in (rw is refl, rw (over, is) refl)
-node_root levels size ptr false is = let over : (suc levels == 0) ≡ false = grind (arith, nat_tests) in (rw is refl, rw (over, is) refl)
-
-root_at : (image : List ℕ) (space : FreeSectors) (levels size : ℕ) (root : Ptr) (whole : Map) (block : Block) → Subtree (Has image space) levels root 0 whole → BlockIs (Has image space) (whole 0) block → BlockFits size block
-    → (is_lawful root ≡ true) × (is_root levels size root ≡ true)
-unfolding Subtree
-root_at image space zero size root whole block (lawful, is) at fits = (lawful, data_root image space root size block (subst (λ (ptr : Ptr). BlockIs (Has image space) ptr block) is at) fits)
-root_at image space (suc levels) size root whole block (inl (lawful, flat, same)) at fits = (lawful, rw flat refl)
-root_at image space (suc levels) size root whole block (inr (bytes, node, below)) at fits = node_root levels size root (any_present bytes 128) node.kind_is
-
-pub tree_root : (image : List ℕ) (space : FreeSectors) (tree : Tree) (size : ℕ) (map : Map) (block : Block) → TreeIs (Has image space) tree map → BlockIs (Has image space) (map 0) block → BlockFits size block
-    → (is_lawful tree.root ≡ true) × (is_root tree.levels size tree.root ≡ true)
-tree_root image space tree size map block is at fits =
-    root_at image space tree.levels size tree.root is.whole block is.stands.below (subst (λ (ptr : Ptr). BlockIs (Has image space) ptr block) (is.agrees 0 (omega arith)) at) fits
-
--- a dnode with another tree and another end
-abbrev pub with_tree : Dnode → Tree → ℕ → Dnode
-with_tree dnode tree end = record dnode { levels = tree.levels; past = tree.past; end = end; root = tree.root }
+-- its dnode is in its ranges
+pub written_fits : (dnode : Dnode) (tree : Tree) (i count : ℕ) → DnodeFits dnode → IsWritable dnode.block_size i count → PutsDataRoot (tree_of dnode) count tree → tree.levels ≤ 7 → PtrFits tree.root → tree.past < 2 ^ 64
+    → DnodeFits (with_tree dnode tree (max dnode.end (i + 1)))
+unfolding index_bound
+written_fits dnode tree i count fits may put levels ptr past =
+    with_tree_fits dnode tree (max dnode.end (i + 1)) fits levels ptr past
+    (root_fits dnode.block_size (tree_of dnode) tree put.block (dnode_root dnode fits) (data_fits dnode.block_size put.block put.kind (put.length_is ∙ may.whole)) put.root)
+    (omega (arith, fits.end, may.inside)) (λ odd. omega (arith, fits.odd odd, may.alone odd))
 
 -- an object with a block, whose tree was put
 module _ (old_image : List ℕ) (old_space : FreeSectors) (image : List ℕ) (space : FreeSectors) (keeps : KeepsBlocks old_image old_space image space) (number k i : ℕ) (bytes : List ℕ) (snap : DatedState) (dnode : Dnode)
@@ -268,27 +247,13 @@ module _ (old_image : List ℕ) (old_space : FreeSectors) (image : List ℕ) (sp
       same j more = let is : (j == i) ≡ false = grind (arith, nat_tests) in rw (same_place there.object.attr.block_size i j size_over, is) refl
 
   -- its dnode
-  pub writes_dnode : is_number k ≡ true → DnodeFits dnode → tree.levels ≤ 7 → tree.past < 2 ^ 64 → PtrFits tree.root → MakesDnode (Has image space) number k (write_at i bytes (snap.state k)) snap (with_tree dnode tree (max dnode.end (i + 1)))
+  pub writes_dnode : is_number k ≡ true → DnodeFits (with_tree dnode tree (max dnode.end (i + 1))) → MakesDnode (Has image space) number k (write_at i bytes (snap.state k)) snap (with_tree dnode tree (max dnode.end (i + 1)))
   unfolding index_bound
-  writes_dnode number_is fits levels past root_fits = record {
+  writes_dnode number_is fits = record {
     object = written_to i bytes there.object;
     made = is_made (Has old_image old_space) number k i bytes snap dnode there lawful may;
     lawful = (number_is, λ j over. rw (size_is) (let is : (j == i) ≡ false = grind (arith, nat_tests, may.inside) in rw (same_place there.object.attr.block_size i j size_over, is) refl));
-    fits = record {
-      head = fits.head;
-      bonus = fits.bonus;
-      date = fits.date;
-      levels = levels;
-      past = past;
-      end = omega (arith, fits.end, may.inside);
-      odd = λ is. omega (arith, fits.odd is, may.alone is);
-      root_fits = root_fits;
-      root_lawful = root.0;
-      root = root.1;
-      spill_fits = fits.spill_fits;
-      spill_lawful = fits.spill_lawful;
-      spill = fits.spill;
-    };
+    fits = fits;
     map = put.map;
     is = record {
       type_is = is_now.type_is;
@@ -303,13 +268,3 @@ module _ (old_image : List ℕ) (old_space : FreeSectors) (image : List ℕ) (sp
       index_dates = date_at;
     };
   }
-    where
-      block_fits : (j : ℕ) → BlockFits dnode.block_size ((written_to i bytes there.object).blocks j)
-      block_fits j = go (j * there.object.attr.block_size == i * there.object.attr.block_size)
-        where
-          go : (same : Bool) → BlockFits dnode.block_size (if same then Data bytes else there.object.blocks j)
-          go true = may.whole
-          go false = rw is_now.size_is ((is_object (Has old_image old_space) number k i bytes snap dnode there lawful).fits j)
-
-      root : (is_lawful tree.root ≡ true) × (is_root tree.levels dnode.block_size tree.root ≡ true)
-      root = tree_root image space tree dnode.block_size put.map ((written_to i bytes there.object).blocks 0) put.tree_is (block_at 0 (omega arith)) (block_fits 0)

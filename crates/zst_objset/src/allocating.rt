@@ -1,5 +1,5 @@
 //! The call that allocates an object, or gives it other attributes.
-ghost use Rattle.std.specs.Prelude.{◌≡◌, ◌+◌, ◌<◌, ℕ, true, List, IfErr, IfSome, OnErr};
+ghost use Rattle.std.specs.Prelude.{◌≡◌, ◌<◌, ℕ, true, List, IfSome, OnErr, OnOk, ◌+◌, IfErr};
 ghost use Rattle.zst_space.specs.FreeSectors.{FreeSectors};
 ghost use Rattle.zst_block.specs.Blocks.{FitsDisk, Has, SparesTaken};
 ghost use Rattle.zst_block.specs.Working.{Works};
@@ -9,10 +9,11 @@ ghost use Rattle.zst_model.specs.declared.states.item.Change.TheVariants.{Put};
 ghost use Rattle.zst_model.specs.pools.Step.{filled};
 ghost use Rattle.zst_model.specs.states.Dated.{DatedState};
 ghost use Rattle.zst_model.specs.states.State.{IsBonus, IsHead, is_number, number_bound};
+ghost use Rattle.zst_tree.specs.Sets.{SetFits};
 ghost use Rattle.zst_objset.specs.Allocating.{kept_blocks, kept_spill, no_blocks};
 ghost use Rattle.zst_objset.specs.Answers.{Changes, LimitOnly, stop_of};
 ghost use Rattle.zst_objset.specs.Changes.{object_put};
-ghost use Rattle.zst_objset.specs.Damage.{IfSetDamaged, IsDamagedSet};
+ghost use Rattle.zst_objset.specs.Damage.{IfSetDamaged, IsDamagedSet, IsSetWithin};
 ghost use Rattle.zst_objset.specs.Dnodes.{DnodeIs};
 ghost use Rattle.zst_objset.specs.Putting.{MakesDnode};
 ghost use Rattle.zst_objset.specs.Sets.{SetHolds};
@@ -136,7 +137,9 @@ pub(crate) fn put_object<D: Disk>(
         → Changes (SetHolds (Has (D.state io.new.disk.now).seen io.new.space) set.new) (object_put number object head bonus.now keep_spill state) result }
     ensures limits { IfErr result (LimitOnly quantities.Object number_bound (object + 1)) }
     ensures damaged { (D.state io.new.disk.now).honest → IfSetDamaged result (IsDamagedSet (SparesTaken io.old.space (D.state io.old.disk.now).seen) (D.state io.old.disk.now).size set.old) }
+    ensures within { (D.state io.new.disk.now).honest → OnOk result (IsSetWithin (SparesTaken io.old.space (D.state io.old.disk.now).seen) (D.state io.old.disk.now).size set.old (SparesTaken io.new.space (D.state io.new.disk.now).seen) set.new) }
     ensures kept { OnErr result (set.new ≡ set.old) }
+    ensures levels { OnOk result (SetFits set.new) }
     ensures works { Works 640 16 (D.state io.old.disk.now) io.old.space io.old.failed (D.state io.new.disk.now) io.new.space io.new.failed (stop_of result) }
     ensures same { io.new.disk.ghost_name ≡ io.old.disk.ghost_name }
 {

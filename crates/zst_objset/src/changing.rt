@@ -1,5 +1,5 @@
 //! The calls that change a set.
-ghost use Rattle.std.specs.Prelude.{◌≡◌, ◌+◌, ◌/◌, ◌<◌, ◌^◌, ℕ, IfErr, OnErr, length};
+ghost use Rattle.std.specs.Prelude.{◌≡◌, ◌+◌, ◌/◌, ◌<◌, ◌^◌, ℕ, OnErr, OnOk, length, IfErr};
 ghost use Rattle.zst_block.specs.Blocks.{FitsDisk, Has, SparesTaken};
 ghost use Rattle.zst_block.specs.Ptr.{PtrFits};
 ghost use Rattle.zst_block.specs.Working.{Works};
@@ -8,9 +8,10 @@ ghost use Rattle.zst_model.specs.declared.states.item.Change.{Change};
 ghost use Rattle.zst_model.specs.declared.states.item.Item.TheVariants.{At};
 ghost use Rattle.zst_model.specs.states.Dated.{DatedState};
 ghost use Rattle.zst_model.specs.states.State.{IsSpill};
-ghost use Rattle.zst_objset.specs.Answers.{Changes, NotLimit, stop_of};
+ghost use Rattle.zst_tree.specs.Sets.{SetFits};
+ghost use Rattle.zst_objset.specs.Answers.{Changes, stop_of, NotLimit};
 ghost use Rattle.zst_objset.specs.Changes.{changed, spill_put};
-ghost use Rattle.zst_objset.specs.Damage.{IfSetDamaged, IsDamagedSet};
+ghost use Rattle.zst_objset.specs.Damage.{IfSetDamaged, IsDamagedSet, IsSetWithin};
 ghost use Rattle.zst_objset.specs.Putting.{MakesDnode};
 ghost use Rattle.zst_objset.specs.Sets.{SetHolds};
 
@@ -67,7 +68,9 @@ pub(crate) fn put_dnode<D: Disk>(
         → Changes (SetHolds (Has (D.state io.new.disk.now).seen io.new.space) set.new) (changed number (At object change) state) result }
     ensures limits { IfErr result NotLimit }
     ensures damaged { (D.state io.new.disk.now).honest → IfSetDamaged result (IsDamagedSet (SparesTaken io.old.space (D.state io.old.disk.now).seen) (D.state io.old.disk.now).size set.old) }
+    ensures within { (D.state io.new.disk.now).honest → OnOk result (IsSetWithin (SparesTaken io.old.space (D.state io.old.disk.now).seen) (D.state io.old.disk.now).size set.old (SparesTaken io.new.space (D.state io.new.disk.now).seen) set.new) }
     ensures kept { OnErr result (set.new ≡ set.old) }
+    ensures levels { OnOk result (SetFits set.new) }
     ensures works { Works 240 16 (D.state io.old.disk.now) io.old.space io.old.failed (D.state io.new.disk.now) io.new.space io.new.failed (stop_of result) }
     ensures same { io.new.disk.ghost_name ≡ io.old.disk.ghost_name }
 {
@@ -97,6 +100,7 @@ pub(crate) fn put_spill<D: Disk>(
     ensures limits { IfErr result NotLimit }
     ensures damaged { (D.state io.new.disk.now).honest → IfSetDamaged result (IsDamagedSet (SparesTaken io.old.space (D.state io.old.disk.now).seen) (D.state io.old.disk.now).size set.old) }
     ensures kept { OnErr result (set.new ≡ set.old) }
+    ensures levels { OnOk result (SetFits set.new) }
     ensures works { Works (640 + length bytes.now / 512) (length bytes.now / 512) (D.state io.old.disk.now) io.old.space io.old.failed (D.state io.new.disk.now) io.new.space io.new.failed (stop_of result) }
     ensures same { io.new.disk.ghost_name ≡ io.old.disk.ghost_name }
 {

@@ -6,14 +6,15 @@ ghost use Rattle.zst_model.specs.declared.refusals.faults.Quantity.TheVariants a
 ghost use Rattle.zst_model.specs.states.Dated.{DatedState};
 ghost use Rattle.zst_model.specs.states.State.{number_bound};
 ghost use Rattle.zst_tree.specs.Indices.{Delivers};
-ghost use Rattle.zst_objset.specs.Answers.{Changes, LimitOnly, stop_of};
+ghost use Rattle.zst_tree.specs.Sets.{SetFits};
+ghost use Rattle.zst_objset.specs.Answers.{Changes, stop_of, LimitOnly};
 ghost use Rattle.zst_objset.specs.Changes.{objects_freed};
 ghost use Rattle.zst_objset.specs.Damage.{IfDamaged, IfSetDamaged, IsDamagedSet, IsSetWithin};
 ghost use Rattle.zst_objset.specs.Freeing.{freed};
 ghost use Rattle.zst_objset.specs.Sets.{SetHolds};
 
 use crate::fault::ObjFault;
-use crate::putting::put_in_leaf;
+use crate::putting::{put_in_leaf, set_over};
 use zst_block::{BlockFault, Io};
 use zst_dnode::Slot;
 use zst_model::Quantity;
@@ -39,6 +40,7 @@ fn free_in_leaf<D: Disk>(
     ensures damaged { (D.state io.new.disk.now).honest → IfDamaged result (IsDamagedSet (SparesTaken io.old.space (D.state io.old.disk.now).seen) (D.state io.old.disk.now).size set) }
     ensures within { (D.state io.new.disk.now).honest → IfOk result (IsSetWithin (SparesTaken io.old.space (D.state io.old.disk.now).seen) (D.state io.old.disk.now).size set (SparesTaken io.new.space (D.state io.new.disk.now).seen)) }
     ensures works { Works 240 16 (D.state io.old.disk.now) io.old.space io.old.failed (D.state io.new.disk.now) io.new.space io.new.failed (block_stop_of result) }
+    ensures levels { SetFits set → IfOk result SetFits }
     ensures same { io.new.disk.ghost_name ≡ io.old.disk.ghost_name }
 {
     if first == below {
@@ -65,6 +67,7 @@ fn free_leaves<D: Disk>(
     ensures damaged { (D.state io.new.disk.now).honest → IfDamaged result (IsDamagedSet (SparesTaken io.old.space (D.state io.old.disk.now).seen) (D.state io.old.disk.now).size set) }
     ensures within { (D.state io.new.disk.now).honest → IfOk result (IsSetWithin (SparesTaken io.old.space (D.state io.old.disk.now).seen) (D.state io.old.disk.now).size set (SparesTaken io.new.space (D.state io.new.disk.now).seen)) }
     ensures works { Works 320 16 (D.state io.old.disk.now) io.old.space io.old.failed (D.state io.new.disk.now) io.new.space io.new.failed (block_stop_of result) }
+    ensures levels { SetFits set → IfOk result SetFits }
     ensures same { io.new.disk.ghost_name ≡ io.old.disk.ghost_name }
 {
     if first == below {
@@ -73,9 +76,9 @@ fn free_leaves<D: Disk>(
     if set.tree.levels > 7 {
         return Err(BlockFault::of_layout(&set.tree.root));
     }
-    let mut made = set;
-    made.tree.punch(io, first, below - first, number)?;
-    Ok(made)
+    let mut tree = set.tree;
+    tree.punch(io, first, below - first, number)?;
+    Ok(set_over(tree))
 }
 
 // Frees the numbers from one on and below another: in one leaf, or up to the end of the first one's,
@@ -95,6 +98,7 @@ fn free_range<D: Disk>(
         → Delivers (λ made. SetHolds (Has (D.state io.new.disk.now).seen io.new.space) made (freed number first below state)) result }
     ensures damaged { (D.state io.new.disk.now).honest → IfDamaged result (IsDamagedSet (SparesTaken io.old.space (D.state io.old.disk.now).seen) (D.state io.old.disk.now).size set) }
     ensures works { Works 800 16 (D.state io.old.disk.now) io.old.space io.old.failed (D.state io.new.disk.now) io.new.space io.new.failed (block_stop_of result) }
+    ensures levels { SetFits set → IfOk result SetFits }
     ensures same { io.new.disk.ghost_name ≡ io.old.disk.ghost_name }
 {
     let whole = first.div_ceil(16);
@@ -123,6 +127,7 @@ pub(crate) fn free_objects<D: Disk>(
     ensures limits { IfErr result (LimitOnly quantities.Object number_bound (first + count)) }
     ensures damaged { (D.state io.new.disk.now).honest → IfSetDamaged result (IsDamagedSet (SparesTaken io.old.space (D.state io.old.disk.now).seen) (D.state io.old.disk.now).size set.old) }
     ensures kept { OnErr result (set.new ≡ set.old) }
+    ensures levels { SetFits set.old → SetFits set.new }
     ensures works { Works 1280 16 (D.state io.old.disk.now) io.old.space io.old.failed (D.state io.new.disk.now) io.new.space io.new.failed (stop_of result) }
     ensures same { io.new.disk.ghost_name ≡ io.old.disk.ghost_name }
 {

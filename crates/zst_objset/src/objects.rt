@@ -1,4 +1,4 @@
-ghost use Rattle.std.specs.Prelude.{◌≡◌, ◌/◌, ◌+◌, ◌<◌, ◌≤◌, ℕ, List, length, IfErr, IfOk, IfSome, OnErr, Some};
+ghost use Rattle.std.specs.Prelude.{◌≡◌, ◌/◌, ◌+◌, ◌<◌, ◌≤◌, ℕ, List, length, IfErr, IfOk, IfSome, OnErr, OnOk, Some};
 ghost use Rattle.zst_space.specs.FreeSectors.{FreeSectors};
 ghost use Rattle.zst_block.specs.Blocks.{FitsDisk, Has, SparesTaken};
 ghost use Rattle.zst_block.specs.Working.{Looks, Works};
@@ -32,6 +32,9 @@ pub trait Objects<D: Disk> {
     /// is held are clauses of `sets_hold_states`.
     ghost holds: { Self → Blocks → DatedState → Type 0 };
 
+    /// The set fits the bytes in which it is named: its levels aren't too many.
+    ghost fits: { Self → Type 0 };
+
     /// A damage may be told by a call that looks at the slots of a set, where these images may stand
     /// on a disk of so many bytes.
     ghost slot_damage: { (List ℕ → Type 0) → ℕ → Self → DamageFact };
@@ -45,7 +48,8 @@ pub trait Objects<D: Disk> {
 
     /// The set of no objects, which nothing touched.
     fn empty() -> Self
-        ensures { (image : List ℕ) (space : FreeSectors) → holds result (Has image space) untouched };
+        ensures held { (image : List ℕ) (space : FreeSectors) → holds result (Has image space) untouched }
+        ensures levels { fits result };
 
     /// The dnode of an object.
     fn attr(&self, io: &mut Io<'_, D>, object: u64) -> Result<Option<Dnode>, ObjFault>
@@ -109,7 +113,10 @@ pub trait Objects<D: Disk> {
             → Changes (holds self.new (Has (D.state io.new.disk.now).seen io.new.space)) (object_put number object head bonus.now keep_spill state) result }
         ensures limits { IfErr result (LimitOnly quantities.Object number_bound (object + 1)) }
         ensures damaged { (D.state io.new.disk.now).honest → IfSetDamaged result (slot_damage (SparesTaken io.old.space (D.state io.old.disk.now).seen) (D.state io.old.disk.now).size self.old) }
+        ensures within { (D.state io.new.disk.now).honest → OnOk result ((sector : ℕ) (stated found : List ℕ) → slot_damage (SparesTaken io.new.space (D.state io.new.disk.now).seen) (D.state io.old.disk.now).size self.new sector stated found
+            → slot_damage (SparesTaken io.old.space (D.state io.old.disk.now).seen) (D.state io.old.disk.now).size self.old sector stated found) }
         ensures kept { OnErr result (self.new ≡ self.old) }
+        ensures levels { OnOk result (fits self.new) }
         ensures works { Works 640 16 (D.state io.old.disk.now) io.old.space io.old.failed (D.state io.new.disk.now) io.new.space io.new.failed (stop_of result) }
         ensures same { io.new.disk.ghost_name ≡ io.old.disk.ghost_name };
 
@@ -129,6 +136,7 @@ pub trait Objects<D: Disk> {
         ensures limits { IfErr result NotLimit }
         ensures damaged { (D.state io.new.disk.now).honest → IfSetDamaged result (slot_damage (SparesTaken io.old.space (D.state io.old.disk.now).seen) (D.state io.old.disk.now).size self.old) }
         ensures kept { OnErr result (self.new ≡ self.old) }
+        ensures levels { OnOk result (fits self.new) }
         ensures works { Works (640 + length bytes.now / 512) (length bytes.now / 512) (D.state io.old.disk.now) io.old.space io.old.failed (D.state io.new.disk.now) io.new.space io.new.failed (stop_of result) }
         ensures same { io.new.disk.ghost_name ≡ io.old.disk.ghost_name };
 
@@ -147,6 +155,7 @@ pub trait Objects<D: Disk> {
         ensures limits { IfErr result (LimitOnly quantities.Object number_bound (first + count)) }
         ensures damaged { (D.state io.new.disk.now).honest → IfSetDamaged result (slot_damage (SparesTaken io.old.space (D.state io.old.disk.now).seen) (D.state io.old.disk.now).size self.old) }
         ensures kept { OnErr result (self.new ≡ self.old) }
+        ensures levels { fits self.old → fits self.new }
         ensures works { Works 1280 16 (D.state io.old.disk.now) io.old.space io.old.failed (D.state io.new.disk.now) io.new.space io.new.failed (stop_of result) }
         ensures same { io.new.disk.ghost_name ≡ io.old.disk.ghost_name };
 
@@ -166,6 +175,7 @@ pub trait Objects<D: Disk> {
         ensures limits { IfErr result (LimitOnly quantities.Block index_bound (index + 1)) }
         ensures damaged { (D.state io.new.disk.now).honest → IfSetDamaged result (tree_damage (SparesTaken io.old.space (D.state io.old.disk.now).seen) (D.state io.old.disk.now).size NamesNode self.old) }
         ensures kept { OnErr result (self.new ≡ self.old) }
+        ensures levels { OnOk result (fits self.new) }
         ensures works { Works (640 + length bytes.now / 512) (length bytes.now / 512) (D.state io.old.disk.now) io.old.space io.old.failed (D.state io.new.disk.now) io.new.space io.new.failed (stop_of result) }
         ensures same { io.new.disk.ghost_name ≡ io.old.disk.ghost_name };
 
@@ -185,6 +195,7 @@ pub trait Objects<D: Disk> {
         ensures limits { IfErr result (LimitOnly quantities.Block index_bound (first + count)) }
         ensures damaged { (D.state io.new.disk.now).honest → IfSetDamaged result (tree_damage (SparesTaken io.old.space (D.state io.old.disk.now).seen) (D.state io.old.disk.now).size (SumsUp (SparesTaken io.old.space (D.state io.old.disk.now).seen)) self.old) }
         ensures kept { OnErr result (self.new ≡ self.old) }
+        ensures levels { OnOk result (fits self.new) }
         ensures works { Works 1280 16 (D.state io.old.disk.now) io.old.space io.old.failed (D.state io.new.disk.now) io.new.space io.new.failed (stop_of result) }
         ensures same { io.new.disk.ghost_name ≡ io.old.disk.ghost_name };
 
@@ -204,6 +215,7 @@ pub trait Objects<D: Disk> {
         ensures limits { IfErr result (LimitOnly quantities.Block index_bound (first + count)) }
         ensures damaged { (D.state io.new.disk.now).honest → IfSetDamaged result (tree_damage (SparesTaken io.old.space (D.state io.old.disk.now).seen) (D.state io.old.disk.now).size NamesNode self.old) }
         ensures kept { OnErr result (self.new ≡ self.old) }
+        ensures levels { OnOk result (fits self.new) }
         ensures works { Works 1280 16 (D.state io.old.disk.now) io.old.space io.old.failed (D.state io.new.disk.now) io.new.space io.new.failed (stop_of result) }
         ensures same { io.new.disk.ghost_name ≡ io.old.disk.ghost_name };
 }

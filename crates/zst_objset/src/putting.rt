@@ -5,6 +5,7 @@ ghost use Rattle.zst_block.specs.Working.{Works, stop_of};
 ghost use Rattle.zst_dnode.specs.Slot.{SlotFits};
 ghost use Rattle.zst_model.specs.states.Dated.{DatedState};
 ghost use Rattle.zst_tree.specs.Indices.{Delivers};
+ghost use Rattle.zst_tree.specs.Sets.{SetFits};
 ghost use Rattle.zst_objset.specs.Damage.{IfDamaged, IsDamagedSet, IsSetWithin};
 ghost use Rattle.zst_objset.specs.Putting.{PutsSlot};
 ghost use Rattle.zst_objset.specs.Sets.{SetHolds};
@@ -14,7 +15,16 @@ use crate::slots::put_slots;
 use zst_block::{BlockFault, Io};
 use zst_dnode::Slot;
 use zst_outside::Disk;
-use zst_tree::ObjSet;
+use zst_tree::{ObjSet, Tree};
+
+/// The set over a tree.
+pub(crate) fn set_over(tree: Tree) -> ObjSet
+    requires { tree.levels ≤ 7 }
+    ensures made { result ≡ record { tree = tree } }
+    ensures fits { SetFits result }
+{
+    ObjSet { tree }
+}
 
 /// The set with this slot from one number on and below another, all of one leaf.
 pub(crate) fn put_in_leaf<D: Disk>(
@@ -36,6 +46,7 @@ pub(crate) fn put_in_leaf<D: Disk>(
     ensures damaged { (D.state io.new.disk.now).honest → IfDamaged result (IsDamagedSet (SparesTaken io.old.space (D.state io.old.disk.now).seen) (D.state io.old.disk.now).size set) }
     ensures within { (D.state io.new.disk.now).honest → IfOk result (IsSetWithin (SparesTaken io.old.space (D.state io.old.disk.now).seen) (D.state io.old.disk.now).size set (SparesTaken io.new.space (D.state io.new.disk.now).seen)) }
     ensures works { Works 240 16 (D.state io.old.disk.now) io.old.space io.old.failed (D.state io.new.disk.now) io.new.space io.new.failed (stop_of result) }
+    ensures levels { IfOk result SetFits }
     ensures same { io.new.disk.ghost_name ≡ io.old.disk.ghost_name }
 {
     let leaf = first / 16;
@@ -44,7 +55,7 @@ pub(crate) fn put_in_leaf<D: Disk>(
     let was = find_slots(&set, io, leaf)?;
     put_slots(&mut io.node, from as usize, to as usize, slot);
     let ptr = save_slots(io, &was)?;
-    let mut made = set;
-    made.tree.set(io, leaf, ptr)?;
-    Ok(made)
+    let mut tree = set.tree;
+    tree.set(io, leaf, ptr)?;
+    Ok(set_over(tree))
 }

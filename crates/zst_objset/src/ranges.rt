@@ -9,7 +9,8 @@ ghost use Rattle.zst_model.specs.states.Dated.{DatedState};
 ghost use Rattle.zst_model.specs.states.State.{Object, Hole, Redacted, IsState, end_of, index_bound, is_number};
 ghost use Rattle.zst_tree.specs.Damage.{IsSeen, NamesDamage, NamesNode, SumsUp};
 ghost use Rattle.zst_tree.specs.Indices.{Delivers, Map};
-ghost use Rattle.zst_objset.specs.Answers.{Changes, LimitOnly, stop_of};
+ghost use Rattle.zst_tree.specs.Sets.{SetFits};
+ghost use Rattle.zst_objset.specs.Answers.{Changes, stop_of, LimitOnly};
 ghost use Rattle.zst_objset.specs.Changes.{holes_made, range_redacted};
 ghost use Rattle.zst_objset.specs.Damage.{IfSetDamaged, IsDamagedObject};
 ghost use Rattle.zst_objset.specs.Dnodes.{IsThere, ObjectIs};
@@ -24,7 +25,6 @@ use crate::fault::ObjFault;
 use crate::trees::tree_of;
 use zst_block::{BlockFault, Io};
 use zst_dnode::Dnode;
-use zst_laws::applied_is_state;
 use zst_model::limits::INDEX_BOUND;
 use zst_model::{ApplyFault, Quantity};
 use zst_outside::Disk;
@@ -133,7 +133,6 @@ fn punched<D: Disk>(
     ensures works { Works 320 16 (D.state io.old.disk.now) io.old.space io.old.failed (D.state io.new.disk.now) io.new.space io.new.failed (block_stop result) }
     ensures same { io.new.disk.ghost_name ≡ io.old.disk.ghost_name }
 {
-    applied_is_state();
     let end = end_punched(io, &dnode, first, count)?;
     let mut tree = tree_of(&dnode);
     tree.punch(io, first, count_in_tree(first, count), number)?;
@@ -160,7 +159,6 @@ fn redacted<D: Disk>(
     ensures works { Works 320 16 (D.state io.old.disk.now) io.old.space io.old.failed (D.state io.new.disk.now) io.new.space io.new.failed (block_stop result) }
     ensures same { io.new.disk.ghost_name ≡ io.old.disk.ghost_name }
 {
-    applied_is_state();
     let mut tree = tree_of(&dnode);
     tree.redact(io, first, count, number)?;
     Ok(with_tree(dnode, tree, end_redacted(dnode.end, first, count)))
@@ -182,6 +180,7 @@ pub(crate) fn punch<D: Disk>(
     ensures limits { IfErr result (LimitOnly quantities.Block index_bound (first + count)) }
     ensures damaged { (D.state io.new.disk.now).honest → IfSetDamaged result (IsDamagedObject (SparesTaken io.old.space (D.state io.old.disk.now).seen) (D.state io.old.disk.now).size (SumsUp (SparesTaken io.old.space (D.state io.old.disk.now).seen)) set.old) }
     ensures kept { OnErr result (set.new ≡ set.old) }
+    ensures levels { OnOk result (SetFits set.new) }
     ensures works { Works 1280 16 (D.state io.old.disk.now) io.old.space io.old.failed (D.state io.new.disk.now) io.new.space io.new.failed (stop_of result) }
     ensures same { io.new.disk.ghost_name ≡ io.old.disk.ghost_name }
 {
@@ -207,6 +206,7 @@ pub(crate) fn redact_range<D: Disk>(
     ensures limits { IfErr result (LimitOnly quantities.Block index_bound (first + count)) }
     ensures damaged { (D.state io.new.disk.now).honest → IfSetDamaged result (IsDamagedObject (SparesTaken io.old.space (D.state io.old.disk.now).seen) (D.state io.old.disk.now).size NamesNode set.old) }
     ensures kept { OnErr result (set.new ≡ set.old) }
+    ensures levels { OnOk result (SetFits set.new) }
     ensures works { Works 1280 16 (D.state io.old.disk.now) io.old.space io.old.failed (D.state io.new.disk.now) io.new.space io.new.failed (stop_of result) }
     ensures same { io.new.disk.ghost_name ≡ io.old.disk.ghost_name }
 {

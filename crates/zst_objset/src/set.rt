@@ -16,8 +16,11 @@ use zst_tree::ObjSet;
 impl<D: Disk> Objects<D> for ObjSet {
     ghost use Rattle.zst_objset.specs.Damage.{IsDamagedBlock, IsDamagedObject, IsDamagedSet};
     ghost use Rattle.zst_objset.specs.Sets.{SetHolds};
+    ghost use Rattle.zst_tree.specs.Sets.{SetFits};
 
     ghost holds = { λ set has state. SetHolds has set state };
+
+    ghost fits = { λ set. SetFits set };
 
     ghost slot_damage = { λ images size set. IsDamagedSet images size set };
 

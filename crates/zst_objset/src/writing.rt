@@ -7,7 +7,8 @@ ghost use Rattle.zst_model.specs.states.Dated.{DatedState};
 ghost use Rattle.zst_model.specs.states.State.{index_bound, is_odd_size};
 ghost use Rattle.zst_tree.specs.Damage.{NamesDamage, NamesNode};
 ghost use Rattle.zst_tree.specs.Indices.{Delivers, Map, TreeIs};
-ghost use Rattle.zst_objset.specs.Answers.{Changes, LimitOnly, stop_of};
+ghost use Rattle.zst_tree.specs.Sets.{SetFits};
+ghost use Rattle.zst_objset.specs.Answers.{Changes, stop_of, LimitOnly};
 ghost use Rattle.zst_objset.specs.Changes.{block_written};
 ghost use Rattle.zst_objset.specs.Damage.{IfSetDamaged, IsDamagedObject};
 ghost use Rattle.zst_objset.specs.Sets.{SetHolds};
@@ -98,6 +99,7 @@ pub(crate) fn write_block<D: Disk>(
     ensures limits { IfErr result (LimitOnly quantities.Block index_bound (index + 1)) }
     ensures damaged { (D.state io.new.disk.now).honest → IfSetDamaged result (IsDamagedObject (SparesTaken io.old.space (D.state io.old.disk.now).seen) (D.state io.old.disk.now).size NamesNode set.old) }
     ensures kept { OnErr result (set.new ≡ set.old) }
+    ensures levels { OnOk result (SetFits set.new) }
     ensures works { Works (640 + length bytes.now / 512) (length bytes.now / 512) (D.state io.old.disk.now) io.old.space io.old.failed (D.state io.new.disk.now) io.new.space io.new.failed (stop_of result) }
     ensures same { io.new.disk.ghost_name ≡ io.old.disk.ghost_name }
 {

@@ -8,9 +8,9 @@ use Rattle.zst_block.specs.Blocks.{FitsDisk}
 use Rattle.zst_block.specs.Working as blocks
 use Rattle.zst_block.specs.declared.fault.BlockFault.{BlockFault}
 use Rattle.zst_block.specs.declared.fault.BlockFault.TheVariants as block_faults
-use Rattle.zst_tree.specs.Leaves.{GivesText, stop_of_leaves}
-use Rattle.zst_tree.specs.declared.leaves.LeavesFault.{LeavesFault}
-use Rattle.zst_tree.specs.declared.leaves.LeavesFault.TheVariants.{Block, Memory}
+use Rattle.zst_leaves.specs.Leaves.{GivesText, stop_of_leaves}
+use Rattle.zst_leaves.specs.declared.fault.LeavesFault.{LeavesFault}
+use Rattle.zst_leaves.specs.declared.fault.LeavesFault.TheVariants.{Block, Memory}
 use Rattle.zst_pool.specs.Faults.{HasDiskCause, LoadFault, ReadFault, WriteFault, is_disk_fault, of_block, of_leaves}
 use Rattle.zst_pool.specs.Room.{IsLeafFull}
 use Rattle.zst_pool.specs.Work.{Works}

@@ -6,8 +6,8 @@ use Rattle.zst_bytes.proofs.BytesLaws.{length-number_bytes}
 use Rattle.zst_block.specs.Ptr.{is_lawful}
 use Rattle.zst_block.specs.declared.ptr.Ptr.{Ptr}
 use Rattle.zst_tree.specs.Indices.{Blocks}
-use Rattle.zst_tree.specs.Leaves.{HasLeaves, LeavesBelow}
-use Rattle.zst_tree.proofs.LeavesLaws.{HasLeaves-grows}
+use Rattle.zst_leaves.specs.Leaves.{HasLeaves, LeavesBelow}
+use Rattle.zst_leaves.proofs.LeavesLaws.{HasLeaves-grows}
 use Rattle.zst_dir.specs.Rows.{Rows, no_rows}
 use Rattle.zst_dir.specs.Spelling.{IsDir, dir_bytes, dataset_bytes, bookmark_bytes, partial_bytes, rows_bytes}
 use Rattle.zst_pool.specs.Reads.{DirStands, dir_sectors}

@@ -10,8 +10,8 @@ use Rattle.zst_model.specs.declared.refusals.refusal.Refusal.TheVariants as refu
 use Rattle.zst_model.specs.refusals.Refusal.{refusal_of}
 use Rattle.zst_model.specs.pools.Step.{Stepped}
 use Rattle.zst_model.specs.declared.refusals.plan_fault.PlanFault.TheVariants as plans
-use Rattle.zst_tree.specs.declared.leaves.LeavesFault.{LeavesFault}
-use Rattle.zst_tree.specs.declared.leaves.LeavesFault.TheVariants as leaves
+use Rattle.zst_leaves.specs.declared.fault.LeavesFault.{LeavesFault}
+use Rattle.zst_leaves.specs.declared.fault.LeavesFault.TheVariants as leaves
 use Rattle.zst_objset.specs.declared.fault.ObjFault.{ObjFault}
 use Rattle.zst_objset.specs.declared.fault.ObjFault.TheVariants as sets
 use Rattle.zst_pool.specs.declared.fault.PoolFault.{PoolFault}

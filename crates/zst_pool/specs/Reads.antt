@@ -12,7 +12,7 @@ use Rattle.zst_model.specs.pools.Pool.{Pool, IsPool}
 use Rattle.zst_model.specs.pools.Pool as plain
 use Rattle.zst_model.specs.pools.Step.{Stepped}
 use Rattle.zst_tree.specs.Indices.{Blocks}
-use Rattle.zst_tree.specs.Leaves.{HasLeaves, leaves_for}
+use Rattle.zst_leaves.specs.Leaves.{HasLeaves, leaves_for}
 use Rattle.zst_dir.specs.Rows.{Rows}
 use Rattle.zst_dir.specs.Spelling.{IsDir, dir_bytes}
 use Rattle.zst_dir.specs.declared.rows.Dataset.{Dataset}

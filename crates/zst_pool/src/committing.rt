@@ -5,7 +5,7 @@ ghost use Rattle.zst_block.specs.Ptr.{hole_of};
 ghost use Rattle.zst_uber.specs.Slots.{latest};
 ghost use Rattle.zst_model.specs.pools.Pool.{Pool};
 ghost use Rattle.zst_dir.specs.Rows.{Rows};
-ghost use Rattle.zst_tree.specs.Leaves.{HasLeaves};
+ghost use Rattle.zst_leaves.specs.Leaves.{HasLeaves};
 ghost use Rattle.zst_pool.specs.Faults.{HasDiskCause, WriteFault, is_disk_fault};
 ghost use Rattle.zst_pool.specs.Reads.{DirStands, Rests, dir_sectors, free_by};
 ghost use Rattle.zst_pool.specs.Room.{IsDirFull, IsLeafFull};
@@ -16,8 +16,9 @@ use crate::kept::Kept;
 use std::alloc::Global;
 use zst_block::{Io, Ptr};
 use zst_dir::Dir;
+use zst_leaves::write_leaves;
 use zst_outside::Disk;
-use zst_tree::{Tree, write_leaves};
+use zst_tree::Tree;
 use zst_uber::{Uber, commit_event};
 
 // So many bytes have room below a tree of 2 levels.

@@ -1,8 +1,8 @@
 use std::alloc::AllocError;
 use zst_block::{BlockFault, Ptr};
+use zst_leaves::LeavesFault;
 use zst_model::{ApplyFault, PlanFault, Refusal};
 use zst_objset::ObjFault;
-use zst_tree::LeavesFault;
 use zst_uber::UberFault;
 
 /// Why a pool isn't made, opened or stepped.

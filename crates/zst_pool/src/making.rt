@@ -9,7 +9,7 @@ ghost use Rattle.zst_uber.specs.Commit.{HeadSettled};
 ghost use Rattle.zst_uber.specs.Slots.{latest as latest_of};
 ghost use Rattle.zst_uber.specs.declared.uber.Uber.{Uber};
 ghost use Rattle.zst_dir.specs.Rows.{Rows};
-ghost use Rattle.zst_tree.specs.Leaves.{HasLeaves};
+ghost use Rattle.zst_leaves.specs.Leaves.{HasLeaves};
 ghost use Rattle.zst_pool.specs.Faults.{HasDiskCause, LoadFault};
 ghost use Rattle.zst_pool.specs.Making.{NoneAnswers, CreateAnswers, RefusedLeaves, OpenAnswers, GivesPool};
 ghost use Rattle.zst_pool.specs.Reads.{HasDir, Reads, ReadsAs, Rests, free_by, new_pool};
@@ -21,10 +21,10 @@ use crate::kept::Kept;
 use std::alloc::Global;
 use zst_block::{Io, Node, Ptr};
 use zst_dir::Dir;
+use zst_leaves::read_leaves;
 use zst_model::{PlanFault, Present, Quantity};
 use zst_outside::Disk;
 use zst_space::Space;
-use zst_tree::read_leaves;
 use zst_uber::{Uber, UberFault, VERSION, latest};
 
 impl Kept {

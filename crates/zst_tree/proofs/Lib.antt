@@ -17,12 +17,4 @@ pub mod Quieter
 pub mod Emptier
 pub mod Damage
 pub mod Told
-pub mod Least
-pub mod Pieces
-pub mod Counted
-pub mod LeavesLaws
-pub mod Gathered
-pub mod LeavesRead
-pub mod Placed
-pub mod Leading
 pub mod Within

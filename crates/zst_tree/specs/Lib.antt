@@ -4,6 +4,5 @@ pub mod Earlier
 pub mod Finding
 pub mod Indices
 pub mod Later
-pub mod Leaves
 pub mod Reaching
 pub mod Sets

@@ -4,7 +4,6 @@
 mod earlier;
 mod get;
 mod later;
-mod leaves;
 mod nodes;
 mod put;
 mod reach;
@@ -17,8 +16,9 @@ mod walks;
 mod words;
 mod writes;
 
-pub use leaves::{LeavesFault, MOST_BYTES, read_leaves, write_leaves};
-pub use spans::INDEX_BOUND;
+pub use nodes::child_at;
+pub use put::put_child;
+pub use spans::{INDEX_BOUND, span_of};
 pub use steps::Steps;
 pub use tree::{ObjSet, Tree};
 pub use words::{push_ptr, push_set, read_ptr, read_set};

@@ -12,9 +12,9 @@ use std::sync::ledger::Ledger;
 use zst_block::{BlockFault, Io, Node, Ptr, load};
 use zst_outside::Disk;
 
-// One of the 128 pointers of a node.
+/// One of the 128 pointers of a node.
 #[tactic(auto, unfolding(crate::specs::Indices::child))]
-pub(crate) fn child_at(node: &Node, k: usize) -> Ptr
+pub fn child_at(node: &Node, k: usize) -> Ptr
     requires { k < 128 }
     ensures child { result ≡ child node.now k }
     ensures long { length node.now ≡ 8192 }

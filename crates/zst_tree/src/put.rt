@@ -14,8 +14,8 @@ use crate::spans::{place_of, span_of};
 use zst_block::{BlockFault, Io, Node, Ptr, save};
 use zst_outside::Disk;
 
-// Puts a pointer at one place of a node.
-pub(crate) fn put_child(node: &mut Node, k: usize, ptr: &Ptr)
+/// Puts a pointer at one place of a node.
+pub fn put_child(node: &mut Node, k: usize, ptr: &Ptr)
     requires { k < 128 }
     ensures puts { PutsChild node.old node.new k ptr.now }
     ensures before { length node.old ≡ 8192 }

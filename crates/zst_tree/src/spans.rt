@@ -5,8 +5,8 @@ ghost use Rattle.zst_tree.specs.Indices.{span};
 /// Indices are below this.
 pub const INDEX_BOUND: u64 = 17592186044416;
 
-// How many indices stand below a pointer at a level.
-pub(crate) fn span_of(level: u8) -> u64
+/// How many indices stand below a pointer at a level.
+pub fn span_of(level: u8) -> u64
     requires { level ≤ 7 }
     ensures { result ≡ span level }
 {

@@ -1,5 +1,5 @@
 // The commit: one body more, in the slot that isn't the latest.
-ghost use Rattle.std.specs.Prelude.{◌≡◌, ◌+◌, ◌≤◌, ◌||◌, List, ℕ, IfOk, OnOk, is_err};
+ghost use Rattle.std.specs.Prelude.{◌≡◌, ◌↔◌, ◌+◌, ◌≤◌, ◌||◌, List, ℕ, IsTrue, IfOk, OnOk, is_err};
 ghost use Rattle.zst_outside.specs.Causes.{HasCause};
 ghost use Rattle.zst_outside.specs.Images.{IsSynced, Leaves, OnlyReads, WritesIn};
 ghost use Rattle.zst_outside.specs.Ranges.{bytes_at};
@@ -11,7 +11,7 @@ ghost use Rattle.zst_uber.specs.Commit.{HeadSettled, HasOldOrNew, KeepsOldOrNew,
 ghost use Rattle.zst_uber.specs.Opening.{HasDiskCause};
 
 use crate::fault::UberFault;
-use crate::slot::{OPEN, Slot, later_slot, read_slot};
+use crate::slot::{OPEN, Slot, is_open, latest_in, read_front};
 use crate::uber::Uber;
 use zst_block::Io;
 use zst_outside::{Disk, Fault, put};
@@ -91,36 +91,39 @@ fn write_body<D: Disk>(disk: &mut D, uber: &Uber) -> Result<(), Fault>
     ensures cause { HasCause (D.state disk.old).faults (D.state disk.new).faults result }
 {
     let body = uber.encode();
-    let slot = find_idle(disk)?;
-    close(disk, slot)?;
+    let (slot, is_open) = find_idle(disk)?;
+    close(disk, slot, is_open)?;
     fill(disk, slot, &body)?;
     open_gate(disk, slot)
 }
 
-// The slot that isn't the latest body's.
-fn find_idle<D: Disk>(disk: &mut D) -> Result<Slot, Fault>
-    ensures idle { (D.state disk.new).honest → IfOk result (λ slot. latest_slot (D.state disk.old).seen ≡ other slot) }
+// The slot that isn't the latest body's, and whether its gate is open.
+fn find_idle<D: Disk>(disk: &mut D) -> Result<(Slot, bool), Fault>
+    requires { 2048 ≤ (D.state disk.old).size }
+    ensures idle { (D.state disk.new).honest → IfOk result (λ found. latest_slot (D.state disk.old).seen ≡ other found.0) }
+    ensures gate { (D.state disk.new).honest → IfOk result (λ found. IsTrue found.1 ↔ IsOpen (D.state disk.old).seen found.0) }
     ensures reads { OnlyReads (D.state disk.old) (D.state disk.new) }
     ensures cause { HasCause (D.state disk.old).faults (D.state disk.new).faults result }
 {
-    let first = read_slot(disk, Slot::First)?;
-    let second = read_slot(disk, Slot::Second)?;
-    Ok(later_slot(&first, &second).other())
+    let mut front = [0u8; 2048];
+    let count = read_front(disk, &mut front)?;
+    let (slot, _) = latest_in(&front[..count]);
+    let idle = slot.other();
+    Ok((idle, is_open(&front[..count], idle)))
 }
 
 // Closes a gate if it is open, and syncs. A closed gate isn't written: until the sync it might
 // hold any byte.
-fn close<D: Disk>(disk: &mut D, slot: Slot) -> Result<(), Fault>
-    requires { 2048 ≤ (D.state disk.old).size }
+fn close<D: Disk>(disk: &mut D, slot: Slot, is_open: bool) -> Result<(), Fault>
+    requires room { 2048 ≤ (D.state disk.old).size }
+    requires gate { (D.state disk.old).honest → (IsTrue is_open ↔ IsOpen (D.state disk.old).seen slot) }
     ensures closed { (D.state disk.new).honest → OnOk result (¬ (IsOpen (D.state disk.new).seen slot)) }
     ensures durable { OnOk result (IsSynced (D.state disk.new)) }
     ensures closes { (D.state disk.new).honest → Closes slot (D.state disk.old) (D.state disk.new) }
     ensures writes { WritesIn (gate_place slot) 1 (D.state disk.old) (D.state disk.new) }
     ensures cause { HasCause (D.state disk.old).faults (D.state disk.new).faults result }
 {
-    let mut gate = [0u8; 1];
-    disk.read(slot.gate(), &mut gate)?;
-    if gate[0] == OPEN {
+    if is_open {
         put(disk, slot.gate(), &[0])
     } else {
         disk.sync()

@@ -11,7 +11,7 @@ ghost use Rattle.zst_uber.specs.declared.uber.Uber.{Uber};
 
 use crate::VERSION;
 use crate::fault::UberFault;
-use crate::slot::{Slot, later_slot, read_slot};
+use crate::slot::{Slot, latest_in, read_front};
 use crate::uber::Uber;
 use zst_block::get_sum;
 use zst_bytes::le32;
@@ -52,12 +52,9 @@ fn newest<D: Disk>(disk: &mut D) -> Result<(Slot, Option<[u8; 512]>), Fault>
     ensures reads { OnlyReads (D.state disk.old) (D.state disk.new) }
     ensures cause { HasCause (D.state disk.old).faults (D.state disk.new).faults result }
 {
-    let first = read_slot(disk, Slot::First)?;
-    let second = read_slot(disk, Slot::Second)?;
-    match later_slot(&first, &second) {
-        Slot::First => Ok((Slot::First, first)),
-        Slot::Second => Ok((Slot::Second, second)),
-    }
+    let mut front = [0u8; 2048];
+    let count = read_front(disk, &mut front)?;
+    Ok(latest_in(&front[..count]))
 }
 
 // What a body in this sector says on a disk of so many bytes.

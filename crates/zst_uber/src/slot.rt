@@ -1,9 +1,9 @@
 // The slots in the first four sectors.
-ghost use Rattle.std.specs.Prelude.{◌≡◌, ◌≤◌, List, ℕ, length, IfOk};
+ghost use Rattle.std.specs.Prelude.{◌≡◌, ◌↔◌, ◌<◌, ◌≤◌, List, ℕ, IsTrue, length, min, take, IfOk};
 ghost use Rattle.zst_outside.specs.Causes.{HasCause};
 ghost use Rattle.zst_outside.specs.Images.{OnlyReads};
 ghost use Rattle.zst_outside.specs.Ranges.{bytes_at};
-ghost use Rattle.zst_uber.specs.Slots.{gate_place, body_place, body_sector, counts, slot_at, greater, other};
+ghost use Rattle.zst_uber.specs.Slots.{gate_of, gate_place, body_place, body_sector, counts, latest, latest_slot, slot_at, greater, other, IsOpen};
 
 use crate::MAGIC;
 use zst_bytes::le64;
@@ -61,6 +61,39 @@ impl Slot {
     }
 }
 
+/// Reads the front of a disk, which has both slots, and gives how many bytes of it there are.
+pub fn read_front<D: Disk>(disk: &mut D, front: &mut [u8]) -> Result<usize, Fault>
+    requires long { length front.old ≡ 2048 }
+    ensures bytes { (D.state disk.new).honest → IfOk result (λ count. take count front.new ≡ bytes_at (D.state disk.old).seen 0 2048) }
+    ensures inside { IfOk result (λ count. count ≤ 2048) }
+    ensures length { IfOk result (λ count. count ≡ min 2048 (D.state disk.old).size) }
+    ensures reads { OnlyReads (D.state disk.old) (D.state disk.new) }
+    ensures cause { HasCause (D.state disk.old).faults (D.state disk.new).faults result }
+{
+    let count = disk.bytes().min(2048) as usize;
+    disk.read(0, &mut front[..count])?;
+    Ok(count)
+}
+
+// The gate of a slot: one byte.
+#[tactic(auto, unfolding(zst_outside::specs::Ranges::bytes_at))]
+fn gate_in(front: &[u8], slot: Slot) -> &[u8]
+    requires { gate_place slot < length front.now }
+    ensures gate { result.now ≡ gate_of front.now slot }
+    ensures long { length result.now ≡ 1 }
+{
+    let place = slot.gate() as usize;
+    &front[place..place + 1]
+}
+
+/// Whether the gate of a slot is open.
+pub fn is_open(front: &[u8], slot: Slot) -> bool
+    requires { gate_place slot < length front.now }
+    ensures { IsTrue result ↔ IsOpen front.now slot }
+{
+    gate_in(front, slot)[0] == OPEN
+}
+
 // Whether the gate is open and the magic is right.
 fn is_live(gate: &[u8], body: &[u8]) -> bool
     requires gate { length gate.now ≡ 1 }
@@ -70,28 +103,26 @@ fn is_live(gate: &[u8], body: &[u8]) -> bool
     gate[0] == OPEN && le64(body, 0) == MAGIC
 }
 
-/// The body in a slot, where it counts.
-pub fn read_slot<D: Disk>(disk: &mut D, slot: Slot) -> Result<Option<[u8; 512]>, Fault>
-    ensures body { (D.state disk.new).honest → IfOk result (λ body. body ≡ slot_at (D.state disk.old).seen slot) }
-    ensures reads { OnlyReads (D.state disk.old) (D.state disk.new) }
-    ensures cause { HasCause (D.state disk.old).faults (D.state disk.new).faults result }
+// The body in a slot, where it counts.
+#[tactic(auto, unfolding(zst_outside::specs::Ranges::bytes_at))]
+fn body_in(front: &[u8], slot: Slot) -> Option<[u8; 512]>
+    ensures { result ≡ slot_at front.now slot }
 {
-    if disk.bytes() < slot.body() + 512 {
-        return Ok(None);
+    let place = slot.body() as usize;
+    if front.len() < place + 512 {
+        return None;
     }
-    let mut gate = [0u8; 1];
-    disk.read(slot.gate(), &mut gate)?;
     let mut body = [0u8; 512];
-    disk.read(slot.body(), &mut body)?;
-    if is_live(&gate, &body) {
-        Ok(Some(body))
+    body.copy_from_slice(&front[place..place + 512]);
+    if is_live(gate_in(front, slot), &body) {
+        Some(body)
     } else {
-        Ok(None)
+        None
     }
 }
 
-/// The slot of the body with the greater number, and the first where they are equal.
-pub fn later_slot(first: &Option<[u8; 512]>, second: &Option<[u8; 512]>) -> Slot
+// The slot of the body with the greater number, and the first where they are equal.
+fn later_slot(first: &Option<[u8; 512]>, second: &Option<[u8; 512]>) -> Slot
     ensures { result ≡ greater first.now second.now }
 {
     match (first, second) {
@@ -104,5 +135,18 @@ pub fn later_slot(first: &Option<[u8; 512]>, second: &Option<[u8; 512]>) -> Slot
                 Slot::First
             }
         }
+    }
+}
+
+/// The slot of the latest body, and the body.
+pub fn latest_in(front: &[u8]) -> (Slot, Option<[u8; 512]>)
+    ensures slot { result.0 ≡ latest_slot front.now }
+    ensures body { result.1 ≡ latest front.now }
+{
+    let first = body_in(front, Slot::First);
+    let second = body_in(front, Slot::Second);
+    match later_slot(&first, &second) {
+        Slot::First => (Slot::First, first),
+        Slot::Second => (Slot::Second, second),
     }
 }

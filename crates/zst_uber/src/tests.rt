@@ -110,7 +110,7 @@ fn failure_is_whole(alloc: Global, call: u64) -> Result<bool, AllocError> {
 
 #[test]
 fn each_call_of_a_commit_may_fail(rt: HostRuntime) -> Result<(), AllocError> {
-    for call in 0..15 {
+    for call in 0..8 {
         assert!(rt; failure_is_whole(rt.alloc(), call)?, "at {call}");
     }
     Ok(())

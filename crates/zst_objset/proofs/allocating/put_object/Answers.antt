@@ -11,7 +11,7 @@ use Rattle.zst_objset.proofs.AnswerLaws.{Refuses-disk, disk_fault}
 use Rattle.zst_objset.proofs.LeafLaws.{is_number_at, look_on}
 use Rattle.zst_objset.proofs.ObjectLaws.{in_numbers-over, in_numbers-within}
 use Rattle.zst_tree.proofs.Told.{fills_looks}
-use Rattle.zst_objset.proofs.DamageLaws.{fault_spared, set_after}
+use Rattle.zst_objset.proofs.DamageLaws.{fault_spared, set_after, within_after}
 use Rattle.zst_model.specs.states.State.{number_bound}
 use Rattle.zst_model.specs.declared.refusals.faults.Quantity.TheVariants as quantities
 use Rattle.std.proofs.Common.{refl}
@@ -41,6 +41,10 @@ returns-in-Err-clause-damaged g c = λ honest. fault_spared _ _ _ c.args.set.now
 pub returns-clause-damaged : goal.returns-clause-damaged
 returns-clause-damaged g c = λ honest.
     set_after _ _ _ _ (fills_looks _ _ _ _ _ _ _ c.in-Ok.ensures.looks) c.args.set.now c.put_dnode.result (c.put_dnode.ensures.damaged honest)
+
+pub returns-clause-within : goal.returns-clause-within
+returns-clause-within g c = λ honest.
+    within_after _ _ _ _ (fills_looks _ _ _ _ _ _ _ c.in-Ok.ensures.looks) c.args.set.now _ c.put_dnode.new.set c.put_dnode.result (c.put_dnode.ensures.within honest)
 
 pub returns-clause-works : goal.returns-clause-works
 returns-clause-works g c = Works-after c.in-Ok.ensures.looks (Works-more (omega arith) c.put_dnode.ensures.works)

@@ -17,9 +17,9 @@ pub returns-clause-frees : goal.returns-clause-frees
 returns-clause-frees g c = λ state honest holds.
     let hole = hole_of c.args.number in
     let punched = c.in_ok-punch.ensures in
-    SetHolds-holes _ _ (KeepsBlocks-fills _ _ _ _ punched.works.fills) c.args.set (record { tree = c.punch.new.self }) state _ c.args.first c.args.below c.args.number
+    rw c.set_over.ensures.made (SetHolds-holes _ _ (KeepsBlocks-fills _ _ _ _ punched.works.fills) c.args.set (record { tree = c.punch.new.self }) state _ c.args.first c.args.below c.args.number
     (freed_puts c.args.number (16 * c.args.first) (16 * c.args.below) state _ holds.lawful holds.bounded) holds punched.levels
-    (punched.puts holds.map (with_holes holds.map c.args.first c.args.below hole) honest holds.tree (Puts-holes holds.map c.args.first c.args.below _ hole (omega arith)))
+    (punched.puts holds.map (with_holes holds.map c.args.first c.args.below hole) honest holds.tree (Puts-holes holds.map c.args.first c.args.below _ hole (omega arith))))
 
 pub returns-then-first-below-clause-within : goal.returns-then-first-below-clause-within
 returns-then-first-below-clause-within g c = λ honest sector stated found damaged. damaged
@@ -27,4 +27,4 @@ returns-then-first-below-clause-within g c = λ honest sector stated found damag
 pub returns-clause-within : goal.returns-clause-within
 returns-clause-within g c = λ honest.
     let punched = c.in_ok-punch.ensures in
-    changed_within _ _ _ _ punched.works.fills c.args.set (record { tree = c.punch.new.self }) (hole_of c.args.number) punched.levels (λ sector stated found damaged. damaged.some refl) (punched.within honest)
+    rw c.set_over.ensures.made (changed_within _ _ _ _ punched.works.fills c.args.set (record { tree = c.punch.new.self }) (hole_of c.args.number) punched.levels (λ sector stated found damaged. damaged.some refl) (punched.within honest))

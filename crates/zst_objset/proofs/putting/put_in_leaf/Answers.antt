@@ -64,8 +64,8 @@ returns-clause-put g c = λ snap after honest holds puts.
     look_on (λ (seen : List ℕ) (space : FreeSectors). KeepsBlocks old.seen c.args.io.now.space seen space) _ _ _ _ _ _ _ c.in_ok-was.ensures.looks (λ ptr bytes has. has) in
     let saving : KeepsBlocks old.seen c.args.io.now.space (g.D.Disk.state c.save_slots.new.io.disk.now).seen c.save_slots.new.io.space =
     λ ptr bytes has. KeepsBlocks-fills _ _ _ _ c.in_ok-ptr.ensures.works.fills ptr bytes (reading ptr bytes has) in
-    put_leaf _ _ _ _ _ _ saving (KeepsBlocks-fills _ _ _ _ c.in_ok-set.ensures.works.fills) c.args.set c.set.new.self snap after c.args.first c.args.below (c.args.first / 16) _ _ c.args.slot.now c.in_ok-ptr.ptr _ _
-    at is puts holds (c.in_ok-was.ensures.slots snap was_found holds) c.in_ok-ptr.ensures.names (λ map other tree put. c.in_ok-set.ensures.puts map other honest tree put) c.in_ok-set.ensures.levels
+    rw c.set_over.ensures.made (put_leaf _ _ _ _ _ _ saving (KeepsBlocks-fills _ _ _ _ c.in_ok-set.ensures.works.fills) c.args.set c.set.new.self snap after c.args.first c.args.below (c.args.first / 16) _ _ c.args.slot.now c.in_ok-ptr.ptr _ _
+    at is puts holds (c.in_ok-was.ensures.slots snap was_found holds) c.in_ok-ptr.ensures.names (λ map other tree put. c.in_ok-set.ensures.puts map other honest tree put) c.in_ok-set.ensures.levels)
 
 pub returns-in_err-was-clause-damaged : goal.returns-in_err-was-clause-damaged
 returns-in_err-was-clause-damaged g c = λ honest.
@@ -95,5 +95,5 @@ returns-clause-within g c = λ honest.
     let set = c.in_ok-set.ensures in
     let filled = FillsFree-then _ _ _ _ _ _ (fills_looks _ _ _ _ _ _ _ c.in_ok-was.ensures.looks) saved.works.fills in
     let whole = leaf_whole _ _ _ c.in_ok-ptr.ptr _ (g.met.D.Disk.seen_size c.set.new.io.disk.now ∙ set.works.fills.size) (KeepsBlocks-fills _ _ _ _ set.works.fills _ _ saved.wrote) (c.put_slots.ensures.long (omega arith)) saved.some in
-    set_within _ _ _ c.args.set _ c.args.set _ _ filled.size (set_now _ _ _ _ filled c.args.set)
-    (changed_within _ _ _ _ set.works.fills c.args.set (record { tree = c.set.new.self }) c.in_ok-ptr.ptr set.levels whole (set.within honest))
+    rw c.set_over.ensures.made (set_within _ _ _ c.args.set _ c.args.set _ _ filled.size (set_now _ _ _ _ filled c.args.set)
+    (changed_within _ _ _ _ set.works.fills c.args.set (record { tree = c.set.new.self }) c.in_ok-ptr.ptr set.levels whole (set.within honest)))

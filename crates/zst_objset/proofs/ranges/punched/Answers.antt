@@ -2,7 +2,7 @@ use Rattle.std.proofs.Common.{ℕ, List, ap, sym, subst, if◌then◌else◌, Bo
 use Rattle.std.proofs.lemmas.Result.{err_from_is_err_and}
 use Rattle.zst_block.specs.Blocks.{Has, KeepsBlocks}
 use Rattle.zst_block.specs.Ptr.{hole_of}
-use Rattle.zst_block.proofs.BlocksLaws.{IsBlock-length, KeepsBlocks-fills}
+use Rattle.zst_block.proofs.BlocksLaws.{KeepsBlocks-fills}
 use Rattle.zst_block.proofs.Working.{Works-after}
 use Rattle.zst_dnode.specs.declared.dnode.Dnode.{Dnode}
 use Rattle.zst_model.specs.states.State.{Hole}
@@ -42,6 +42,15 @@ returns-in_err-punch-clause-works g c =
     let p = err_from_is_err_and c.from_residual-in_err-punch.result c.from_residual-in_err-punch.ensures.1 in
     rw (p.1, p.2) (Works-after c.in_ok-end.ensures.looks c.in_err-punch.ensures.works)
 
+pub returns-clause-fits : goal.returns-clause-fits
+returns-clause-fits g c =
+    let fits = c.requires.dnode in
+    let end = c.in_ok-end.ensures.range in
+    let root = root_fits c.args.dnode.block_size (tree_of c.args.dnode) c.punch.new.self (hole_of c.args.number) (dnode_root c.args.dnode fits) (hole_fits c.args.dnode.block_size c.args.number) (rw c.tree_of-tree.ensures at c.in_ok-punch.ensures.root) in
+    subst (λ (dnode : Dnode). DnodeFits dnode) (sym c.with_tree.ensures.made)
+    (with_tree_fits c.args.dnode c.punch.new.self c.in_ok-end.end fits c.in_ok-punch.ensures.levels c.with_tree.ensures.root c.with_tree.ensures.past root
+    (omega (arith, end, fits.end)) (λ odd. omega (arith, end, fits.odd odd)))
+
 pub returns-clause-made : goal.returns-clause-made
 returns-clause-made g c = λ k state honest number lawful there.
     let old = g.D.Disk.state c.args.io.now.disk.now in
@@ -62,21 +71,9 @@ returns-clause-made g c = λ k state honest number lawful there.
     (record {
       holds = c.in_ok-punch.ensures.puts there.map put honest tree (Puts-range c.args.first c.count_in_tree.result (hole_of c.args.number) there.map);
       puts = λ i less. ap (λ (b : Bool). if b then hole_of c.args.number else there.map i) (c.count_in_tree.ensures.same i less);
-      levels = c.in_ok-punch.ensures.levels;
-      root = c.with_tree.ensures.root;
-      past = c.with_tree.ensures.past;
     })
     (c.in_ok-end.ensures.end there.object (state.number_date k) (state.index_date k) there.map (c.in_ok-punch.ensures.works.fills.honest honest) there.is)
-    (λ ptr bytes is. IsBlock-length new.seen ptr bytes is.block) c.applied_is_state.ensures lawful c.requires.dnode)
-
-pub returns-clause-fits : goal.returns-clause-fits
-returns-clause-fits g c =
-    let fits = c.requires.dnode in
-    let end = c.in_ok-end.ensures.range in
-    let root = root_fits c.args.dnode.block_size (tree_of c.args.dnode) c.punch.new.self (hole_of c.args.number) (dnode_root c.args.dnode fits) (hole_fits c.args.dnode.block_size c.args.number) (rw c.tree_of-tree.ensures at c.in_ok-punch.ensures.root) in
-    subst (λ (dnode : Dnode). DnodeFits dnode) (sym c.with_tree.ensures.made)
-    (with_tree_fits c.args.dnode c.punch.new.self c.in_ok-end.end fits c.in_ok-punch.ensures.levels c.with_tree.ensures.root c.with_tree.ensures.past root
-    (omega (arith, end, fits.end)) (λ odd. omega (arith, end, fits.odd odd)))
+    (subst (λ (dnode : Dnode). DnodeFits dnode) c.with_tree.ensures.made (returns-clause-fits g c)))
 
 pub returns-in_err-end-clause-damaged : goal.returns-in_err-end-clause-damaged
 returns-in_err-end-clause-damaged g c = λ honest.

@@ -2,7 +2,7 @@ use Rattle.std.proofs.Common.{refl, sym, subst}
 use Rattle.std.proofs.lemmas.Result.{err_from_is_err_and}
 use Rattle.zst_block.specs.Blocks.{Has}
 use Rattle.zst_block.specs.Ptr.{redacted_of}
-use Rattle.zst_block.proofs.BlocksLaws.{IsBlock-length, KeepsBlocks-fills}
+use Rattle.zst_block.proofs.BlocksLaws.{KeepsBlocks-fills}
 use Rattle.zst_dnode.specs.declared.dnode.Dnode.{Dnode}
 use Rattle.zst_model.specs.states.State.{Redacted, index_bound}
 use Rattle.zst_tree.specs.Indices.{TreeIs}
@@ -25,6 +25,16 @@ returns-in_err-redact-clause-made g c = λ k state honest number lawful there.
     let tree : TreeIs (Has old.seen c.args.io.now.space) c.tree_of-tree.result there.map = tree_is _ c.args.dnode _ there.map c.tree_of-tree.ensures there.is.tree in
     rw (p.1, p.2) (c.in_err-redact.ensures.puts there.map _ honest tree (Puts-range c.args.first c.args.count (redacted_of c.args.number) there.map))
 
+pub returns-clause-fits : goal.returns-clause-fits
+unfolding index_bound
+returns-clause-fits g c =
+    let fits = c.requires.dnode in
+    let root = root_fits c.args.dnode.block_size (tree_of c.args.dnode) c.redact.new.self (redacted_of c.args.number) (dnode_root c.args.dnode fits) (redacted_fits c.args.dnode.block_size c.args.number) (rw c.tree_of-tree.ensures at c.in_ok-redact.ensures.root) in
+    subst (λ (dnode : Dnode). DnodeFits dnode) (sym c.with_tree.ensures.made)
+    (with_tree_fits c.args.dnode c.redact.new.self c.end_redacted.result fits c.in_ok-redact.ensures.levels c.with_tree.ensures.root c.with_tree.ensures.past root
+    (⊎_elim (λ same. omega (arith, same, fits.end)) (λ more. omega (arith, more.1, fits.end, c.requires.range)) c.end_redacted.ensures.range)
+    (λ odd. ⊎_elim (λ same. omega (arith, same, fits.odd odd)) (λ more. omega (arith, more.1, fits.odd odd, redacted_odd c.args.dnode c.args.first c.args.count c.requires.checked odd more.0)) c.end_redacted.ensures.range))
+
 pub returns-clause-made : goal.returns-clause-made
 returns-clause-made g c = λ k state honest number lawful there.
     let old = g.D.Disk.state c.args.io.now.disk.now in
@@ -40,19 +50,6 @@ returns-clause-made g c = λ k state honest number lawful there.
     (record {
       holds = c.in_ok-redact.ensures.puts there.map put honest tree (Puts-range c.args.first c.args.count (redacted_of c.args.number) there.map);
       puts = λ i less. refl;
-      levels = c.in_ok-redact.ensures.levels;
-      root = c.with_tree.ensures.root;
-      past = c.with_tree.ensures.past;
     })
     (c.end_redacted.ensures.end there.object there.is.end_is)
-    (λ ptr bytes is. IsBlock-length new.seen ptr bytes is.block) c.applied_is_state.ensures lawful c.requires.dnode)
-
-pub returns-clause-fits : goal.returns-clause-fits
-unfolding index_bound
-returns-clause-fits g c =
-    let fits = c.requires.dnode in
-    let root = root_fits c.args.dnode.block_size (tree_of c.args.dnode) c.redact.new.self (redacted_of c.args.number) (dnode_root c.args.dnode fits) (redacted_fits c.args.dnode.block_size c.args.number) (rw c.tree_of-tree.ensures at c.in_ok-redact.ensures.root) in
-    subst (λ (dnode : Dnode). DnodeFits dnode) (sym c.with_tree.ensures.made)
-    (with_tree_fits c.args.dnode c.redact.new.self c.end_redacted.result fits c.in_ok-redact.ensures.levels c.with_tree.ensures.root c.with_tree.ensures.past root
-    (⊎_elim (λ same. omega (arith, same, fits.end)) (λ more. omega (arith, more.1, fits.end, c.requires.range)) c.end_redacted.ensures.range)
-    (λ odd. ⊎_elim (λ same. omega (arith, same, fits.odd odd)) (λ more. omega (arith, more.1, fits.odd odd, redacted_odd c.args.dnode c.args.first c.args.count c.requires.checked odd more.0)) c.end_redacted.ensures.range))
+    (subst (λ (dnode : Dnode). DnodeFits dnode) c.with_tree.ensures.made (returns-clause-fits g c)))

@@ -1,27 +1,26 @@
-use Rattle.std.proofs.Common.{◌∙◌, ℕ, ◌+◌, max, Err, List, arith, ap, subst, sym, Result}
+use Rattle.std.proofs.Common.{◌∙◌, ◌+◌, ℕ, Err, List, arith, ap, subst, sym, Result}
 use Rattle.zst_space.specs.FreeSectors.{FreeSectors}
 use Rattle.zst_block.specs.Blocks.{Has, KeepsBlocks}
 use Rattle.zst_block.proofs.BlocksLaws.{FillsFree-then, KeepsBlocks-fills}
 use Rattle.zst_block.proofs.Working.{Works-after, Works-block, Works-more, Works-then}
 use Rattle.zst_model.specs.declared.refusals.refusal.Refusal.{Refusal}
 use Rattle.zst_model.specs.states.Dated.{DatedState}
+use Rattle.zst_model.specs.states.State.{index_bound}
 use Rattle.zst_tree.specs.Indices.{TreeIs}
 use Rattle.zst_tree.specs.declared.tree.Tree.{Tree}
 use Rattle.zst_objset.specs.Answers.{Changes}
-use Rattle.zst_objset.specs.Dnodes.{tree_of}
 use Rattle.zst_objset.specs.Putting.{MakesDnode}
 use Rattle.zst_objset.specs.Sets.{SetHolds}
 use Rattle.zst_objset.proofs.LeafLaws.{is_number_at, look_on}
 use Rattle.zst_objset.proofs.SetGrows.{SetHolds-grows}
 use Rattle.zst_objset.proofs.SpillLaws.{stops}
-use Rattle.zst_objset.proofs.WriteLaws.{block_some, block_whole, is_accepted, is_change, is_refused, judged, with_tree, write_at, write_not_there, writes_dnode}
+use Rattle.zst_objset.proofs.WriteLaws.{block_some, block_whole, is_accepted, is_change, is_refused, judged, write_at, write_not_there, writes_dnode, written_fits}
 use Rattle.zst_dnode.specs.Dnode.{DnodeFits}
 use Rattle.zst_dnode.specs.declared.dnode.Dnode.{Dnode}
-use Rattle.zst_model.specs.states.State.{index_bound}
 use Rattle.zst_tree.specs.Damage.{NamesNode}
 use Rattle.zst_tree.proofs.Told.{fills_looks}
 use Rattle.zst_objset.proofs.DamageLaws.{told_before, object_told, set_after, set_spared, tree_told}
-use Rattle.zst_objset.proofs.TreeFits.{data_fits, dnode_root, root_fits, with_tree_fits}
+use Rattle.zst_objset.proofs.TreeFits.{with_tree}
 use Rattle.zst_model.specs.declared.refusals.faults.Quantity.TheVariants as quantities
 use Rattle.zst_objset.proofs.LimitLaws.{if_no_limit, no_limit}
 use Rattle.zst_objset.proofs.writing.write_block.Goals as goal
@@ -52,6 +51,13 @@ returns-in-Err-put_data-clause-changed g c = λ state honest holds.
 pub returns-in-Err-put_data-clause-works : goal.returns-in-Err-put_data-clause-works
 returns-in-Err-put_data-clause-works g c = Works-after c.in-Ok.ensures.looks (Works-more (omega arith) c.in-Err-put_data.ensures.works)
 
+pub put_dnode-requires-clause-dnode : goal.put_dnode-requires-clause-dnode
+put_dnode-requires-clause-dnode g c =
+    let may = judged _ _ _ c.in_default.ensures.judged in
+    let made = c.with_tree.ensures in
+    subst (λ (dnode : Dnode). DnodeFits dnode) (sym (made.made ∙ ap (with_tree c.in-Ok.dnode c.in-Ok-put_data.tree) c.max-end.ensures))
+    (written_fits c.in-Ok.dnode c.in-Ok-put_data.tree c.args.index _ c.in-Ok.ensures.ranges may (rw c.tree_of.ensures at c.in-Ok-put_data.ensures.root) c.in-Ok-put_data.ensures.levels made.root made.past)
+
 pub returns-clause-changed : goal.returns-clause-changed
 returns-clause-changed g c = λ state honest holds.
     let old = g.D.Disk.state c.args.io.now.disk.now in
@@ -66,9 +72,10 @@ returns-clause-changed g c = λ state honest holds.
     look_on (λ (seen : List ℕ) (space : FreeSectors). KeepsBlocks old.seen c.args.io.now.space seen space) _ _ _ _ _ _ _ c.in-Ok.ensures.looks (λ ptr bytes is. is) in
     let grown = SetHolds-grows (Has old.seen c.args.io.now.space) (Has new.seen c.put_data.new.io.space) (λ ptr bytes is. putting ptr bytes (reading ptr bytes is)) c.args.set.now state holds in
     let change = write_at c.args.index c.args.bytes.now (state.state c.args.object) in
-    let makes = subst (MakesDnode (Has new.seen c.put_data.new.io.space) c.args.number c.args.object change state) (sym (c.with_tree.ensures.made ∙ ap (with_tree c.in-Ok.dnode c.in-Ok-put_data.tree) c.max-end.ensures))
+    let made_is = c.with_tree.ensures.made ∙ ap (with_tree c.in-Ok.dnode c.in-Ok-put_data.tree) c.max-end.ensures in
+    let makes = subst (MakesDnode (Has new.seen c.put_data.new.io.space) c.args.number c.args.object change state) (sym made_is)
     (writes_dnode mid.seen c.object_there.new.io.space new.seen c.put_data.new.io.space putting c.args.number c.args.object c.args.index c.args.bytes.now state c.in-Ok.dnode there holds.lawful may c.in-Ok-put_data.tree put
-    (is_number_at c.args.object c.requires.object c.in-Ok.ensures.bound) c.in-Ok.ensures.ranges c.in-Ok-put_data.ensures.levels c.with_tree.ensures.past c.with_tree.ensures.root) in
+    (is_number_at c.args.object c.requires.object c.in-Ok.ensures.bound) (written_fits c.in-Ok.dnode c.in-Ok-put_data.tree c.args.index _ c.in-Ok.ensures.ranges may (rw c.tree_of.ensures at c.in-Ok-put_data.ensures.root) c.in-Ok-put_data.ensures.levels c.with_tree.ensures.root c.with_tree.ensures.past)) in
     let last = g.D.Disk.state c.put_dnode.new.io.disk.now in
     subst (λ (definition : Result DatedState Refusal). Changes (SetHolds (Has last.seen c.put_dnode.new.io.space) c.put_dnode.new.set) definition c.put_dnode.result)
     (sym (is_change (Has mid.seen c.object_there.new.io.space) c.args.number c.args.object c.args.index c.args.bytes.now state c.in-Ok.dnode there holds.lawful may))
@@ -76,17 +83,6 @@ returns-clause-changed g c = λ state honest holds.
 
 pub returns-clause-works : goal.returns-clause-works
 returns-clause-works g c = Works-after c.in-Ok.ensures.looks (Works-more (omega arith) (Works-then c.in-Ok-put_data.ensures.works (Works-block c.put_dnode.ensures.works)))
-
-pub put_dnode-requires-clause-dnode : goal.put_dnode-requires-clause-dnode
-unfolding index_bound
-put_dnode-requires-clause-dnode g c =
-    let may = judged _ _ _ c.in_default.ensures.judged in
-    let fits = c.in-Ok.ensures.ranges in
-    let put = c.in-Ok-put_data.ensures.root in
-    let root = root_fits c.in-Ok.dnode.block_size (tree_of c.in-Ok.dnode) c.in-Ok-put_data.tree put.block (dnode_root c.in-Ok.dnode fits) (data_fits c.in-Ok.dnode.block_size put.block put.kind (put.length_is ∙ may.whole)) (rw c.tree_of.ensures at put.root) in
-    subst (λ (dnode : Dnode). DnodeFits dnode) (sym (c.with_tree.ensures.made ∙ ap (with_tree c.in-Ok.dnode c.in-Ok-put_data.tree) c.max-end.ensures))
-    (with_tree_fits c.in-Ok.dnode c.in-Ok-put_data.tree (max c.in-Ok.dnode.end (c.args.index + 1)) fits c.in-Ok-put_data.ensures.levels c.with_tree.ensures.root c.with_tree.ensures.past root
-    (omega (arith, fits.end, may.inside)) (λ odd. omega (arith, fits.odd odd, may.alone odd)))
 
 pub returns-in-Err-clause-damaged : goal.returns-in-Err-clause-damaged
 returns-in-Err-clause-damaged g c = λ honest.

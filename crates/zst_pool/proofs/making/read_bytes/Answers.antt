@@ -3,7 +3,7 @@ use Rattle.std.specs.declared.alloc.Global.{Global}
 use Rattle.std.proofs.Common.{rules, ◌≡◌, ℕ, List, [], refl, sym, subst}
 use Rattle.zst_space.specs.FreeSectors.{FreeSectors}
 use Rattle.zst_block.specs.Blocks.{Has}
-use Rattle.zst_tree.specs.Leaves.{HasLeaves}
+use Rattle.zst_leaves.specs.Leaves.{HasLeaves}
 use Rattle.zst_pool.specs.Reads.{free_by}
 use Rattle.zst_pool.proofs.Causes.{leaves_cause, leaves_load, leaves_read, ok_cause}
 use Rattle.zst_pool.proofs.making.read_bytes.Goals as goal

@@ -1,0 +1,10 @@
+pub mod Span
+pub mod Kept
+pub mod Least
+pub mod Pieces
+pub mod Counted
+pub mod LeavesLaws
+pub mod Gathered
+pub mod LeavesRead
+pub mod Placed
+pub mod Leading

@@ -1,0 +1,16 @@
+use Rattle.std.proofs.Common.{◌≡◌, ℕ, true, false, sym, subst, arith}
+use Rattle.zst_leaves.specs.Leaves.{StandsBefore}
+use Rattle.zst_leaves.proofs.Placed.{Has-stands}
+use Rattle.zst_leaves.proofs.reading.load_named.Goals as goal
+use Rattle.zst_leaves.proofs.reading.load_named.Goals.{then-ptr-kind-via-then-ptr-kind, then-ptr-kind-via-else-ptr-kind+then-ptr-level, then-ptr-kind-via-else-ptr-kind+else-ptr-level+then-not-stands_before}
+
+pub returns-then-ptr-kind-clause-there : goal.returns-then-ptr-kind-clause-there
+returns-then-ptr-kind-clause-there g c = λ bytes honest kind level has long. elim c.then-ptr-kind.branch [
+  | then-ptr-kind-via-then-ptr-kind w ↦ absurd (omega (arith, w.if-ptr-kind.true, kind))
+  | then-ptr-kind-via-else-ptr-kind+then-ptr-level w ↦ absurd (omega (arith, w.if-ptr-level.true, level))
+  | then-ptr-kind-via-else-ptr-kind+else-ptr-level+then-not-stands_before w ↦ (
+      let stands = subst (λ (end : ℕ). StandsBefore end c.args.ptr) (sym w.end.ensures) (Has-stands _ c.args.io.now.space c.args.ptr bytes has long) in
+      let holds : w.stands_before.result ≡ true = w.stands_before.ensures.1 stands in
+      let fails : w.stands_before.result ≡ false = w.if-not-stands_before.true in
+      absurd (cc))
+]

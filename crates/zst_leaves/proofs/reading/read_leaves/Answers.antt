@@ -1,0 +1,36 @@
+use Rattle.std.proofs.Common.{◌≡◌, ◌++◌, List, ℕ, sym, ◌∙◌, ap, arith}
+use Rattle.zst_leaves.proofs.Counted.{most_blocks}
+use Rattle.zst_leaves.proofs.Leading.{layout_told, told_here}
+use Rattle.zst_leaves.proofs.LeavesLaws.{HasLeaves-grows, LeavesBelow-grows}
+use Rattle.zst_leaves.proofs.LeavesRead.{LeavesBelow-only}
+use Rattle.zst_leaves.proofs.Placed.{Has-before}
+use Rattle.zst_leaves.proofs.reading.read_leaves.Goals as goal
+
+pub returns-in_err-read_below-clause-calls : goal.returns-in_err-read_below-clause-calls
+returns-in_err-read_below-clause-calls g c =
+    let least = c.is_least.ensures.0 c.if-not-is_least.false in
+    omega (arith, most_blocks c.args.levels c.args.count least.1.few least.0 least.1.enough, c.in_err-read_below.ensures.calls)
+
+pub returns-clause-there : goal.returns-clause-there
+returns-clause-there g c = λ text honest is long.
+    let read = c.in_ok-read_below.ensures.only honest in
+    let same : read.text ≡ text = LeavesBelow-only _ c.args.levels c.args.root read.text text (read.long_is ∙ sym long) (omega (arith, read.long_is, long, is.least.enough)) (LeavesBelow-grows _ _ (λ ptr bytes block. block.0) c.args.levels c.args.root read.text read.below) (LeavesBelow-grows _ _ (λ ptr bytes has. has.block) c.args.levels c.args.root text is.below) in
+    read.new_is ∙ ap (λ (old : List ℕ). old ++ read.text) c.new-text.ensures.items ∙ same
+
+pub returns-clause-only : goal.returns-clause-only
+returns-clause-only g c = λ honest.
+    let least = c.is_least.ensures.0 c.if-not-is_least.false in
+    let read = c.in_ok-read_below.ensures.only honest in
+    let same : c.read_below.new.text.items ≡ read.text = read.new_is ∙ ap (λ (old : List ℕ). old ++ read.text) c.new-text.ensures.items in
+    rw same (record { some = omega (arith, read.long_is, least.0); least = rw read.long_is least.1; below = read.below })
+
+pub returns-clause-stands : goal.returns-clause-stands
+returns-clause-stands g c = λ honest none. HasLeaves-grows _ _ (Has-before _ c.args.io.now.space none) c.args.levels c.args.root _ (returns-clause-only g c honest)
+
+pub returns-clause-calls : goal.returns-clause-calls
+returns-clause-calls g c =
+    let least = c.is_least.ensures.0 c.if-not-is_least.false in
+    omega (arith, most_blocks c.args.levels c.args.count least.1.few least.0 least.1.enough, c.in_ok-read_below.ensures.calls)
+
+pub returns-then-not-is_least-clause-damaged : goal.returns-then-not-is_least-clause-damaged
+returns-then-not-is_least-clause-damaged g c = λ honest. told_here _ _ c.args.levels c.args.root c.of_layout.result (layout_told _ _ c.args.root c.of_layout.result c.of_layout.ensures)

@@ -1,5 +1,0 @@
-use Rattle.zst_tree.proofs.LeavesLaws.{leaf_written}
-use Rattle.zst_tree.proofs.leaves.write_leaf.Goals as goal
-
-pub returns-clause-leaf : goal.returns-clause-leaf
-returns-clause-leaf g c = leaf_written c.args.number _ _ _ c.args.bytes.now c.put_bytes.new.bytes c.write.result c.put_bytes.ensures c.write.ensures.wrote c.write.ensures.pointer
