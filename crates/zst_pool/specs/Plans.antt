@@ -1,5 +1,5 @@
 -- What a command's plan refuses, whatever the object sets hold.
-use Rattle.std.specs.Prelude.{◌≡◌, ◌⊎◌, ◌↔◌, ℕ, ◌+◌, ◌<◌, ◌≤◌, ◌^◌, Bool, true, false, Result, Err}
+use Rattle.std.specs.Prelude.{◌≡◌, ◌⊎◌, ◌↔◌, ℕ, ◌+◌, ◌<◌, ◌≤◌, ◌^◌, Bool, true, false, [], filter, map, Result, Err}
 use Rattle.zst_uber.specs.declared.uber.Uber.{Uber}
 use Rattle.zst_model.specs.declared.pools.command.Command.{Command}
 use Rattle.zst_model.specs.declared.pools.command.Command.TheVariants as commands
@@ -9,8 +9,14 @@ use Rattle.zst_model.specs.declared.refusals.plan_fault.PlanFault.{PlanFault}
 use Rattle.zst_model.specs.declared.refusals.plan_fault.PlanFault.TheVariants as plans
 use Rattle.zst_model.specs.declared.refusals.refusal.Refusal.{Refusal}
 use Rattle.zst_model.specs.refusals.Refusal.{refusal_of}
-use Rattle.zst_model.specs.pools.Pool.{Pool}
+use Rattle.zst_model.specs.pools.Pool.{Pool, untouched}
+use Rattle.zst_model.specs.pools.Pool as plain
 use Rattle.zst_model.specs.pools.Step.{Stepped}
+use Rattle.zst_dir.specs.Rows.{Rows}
+use Rattle.zst_dir.specs.declared.rows.Bookmark.{Bookmark}
+use Rattle.zst_dir.specs.declared.rows.Dataset.{Dataset}
+use Rattle.zst_dir.specs.declared.rows.Partial.{Partial}
+use Rattle.zst_dir.specs.declared.rows.Snapshot.{Snapshot}
 use Rattle.zst_pool.specs.Reads.{IsNamedBy}
 use Rattle.zst_pool.specs.declared.fault.PoolFault.{PoolFault}
 use Rattle.zst_pool.specs.declared.fault.PoolFault.TheVariants.{Plan}
@@ -60,3 +66,27 @@ IsLimitOf numbers indices uber fault = IsPast numbers indices fault ⊎ IsLast u
 pub record Plans {T : Type 0} (definition : Pool → Result Stepped Refusal) (numbers indices : ℕ) (kept : Kept) (result : Result T PoolFault) : Type 0 where
   pub exact : (pool : Pool) (fault : PlanFault) → IsNamedBy kept.body kept.dir pool → is_by_rows fault ≡ true → (definition pool ≡ Err (refusal_of fault)) ↔ (result ≡ Err (Plan fault))
   pub limits : (fault : PlanFault) → result ≡ Err (Plan fault) → (is_by_rows fault ≡ true) ⊎ IsLimitOf numbers indices kept.body fault
+
+-- the pool that a body and its rows name, whose objects nothing touched yet
+abbrev pub bare_dataset : Dataset → plain.Dataset
+bare_dataset row = record { name = row.name; kind = row.kind; origin = row.origin; head = untouched; redact = row.redact }
+
+abbrev pub bare_snapshot : Snapshot → plain.Snapshot
+bare_snapshot row = record { name = row.name; guid = row.guid; time = row.time; number = row.number; objects = untouched; redact = row.redact }
+
+abbrev pub bare_bookmark : Bookmark → plain.Bookmark
+bare_bookmark row = record { name = row.name; guid = row.guid; time = row.time; number = row.number; redact = row.redact; runs = [] }
+
+abbrev pub bare_partial : Partial → plain.Partial
+bare_partial row = record { target = row.target; component = row.snapshot; keep = row.keep; header = row.header; base = row.base; objects = untouched; point = row.point }
+
+abbrev pub bare_pool : Uber → Rows → Pool
+bare_pool uber rows = record {
+  id = uber.id;
+  number = uber.number;
+  guids = uber.guids;
+  datasets = map bare_dataset rows.datasets;
+  snapshots = map bare_snapshot rows.snapshots;
+  bookmarks = map bare_bookmark rows.bookmarks;
+  partials = map bare_partial (filter (λ row. row.keep) rows.partials);
+}

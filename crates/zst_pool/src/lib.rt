@@ -8,6 +8,7 @@ mod committing;
 mod fault;
 mod heads;
 mod kept;
+mod laws;
 mod making;
 mod pool;
 #[cfg(test)]
@@ -15,4 +16,5 @@ mod tests;
 
 pub use fault::PoolFault;
 pub use kept::Kept;
+pub use laws::rows_name_a_pool;
 pub use pool::Pool;
