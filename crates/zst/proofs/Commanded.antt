@@ -1,6 +1,6 @@
 -- What stands after a command on the pool of an image, from what opening and stepping say.
 use Rattle.std.specs.Prelude.{IsTrue, Bool, Result, Ok, Err}
-use Rattle.std.proofs.Common.{◌≡◌, ◌≢◌, inl, ⊎_elim, ℕ, ◌≤◌, List, [], refl, sym, ap, ◌∙◌, subst, arith}
+use Rattle.std.proofs.Common.{◌≡◌, ◌≢◌, inl, inr, ⊎_elim, ℕ, ◌≤◌, List, [], refl, sym, ap, ◌∙◌, subst, arith}
 use Rattle.zst_outside.specs.Causes.{Rose-earlier}
 use Rattle.zst_outside.specs.Images.{DiskState, Leaves, Leaves-weaker, Leaves-then, OnlyReads, IsSynced}
 use Rattle.zst_outside.specs.States.{SinkState}
@@ -17,15 +17,19 @@ use Rattle.zst_model.specs.declared.refusals.plan_fault.PlanFault.TheVariants as
 use Rattle.zst_model.specs.declared.refusals.refusal.Refusal.{Refusal}
 use Rattle.zst_model.specs.declared.refusals.refusal.Refusal.TheVariants as refusals
 use Rattle.zst_dir.specs.Rows.{Rows}
+use Rattle.zst_image.specs.Faults.{open_refusal}
+use Rattle.zst_image.specs.Faults as opening
+use Rattle.zst_image.specs.Opening.{GivesPool, OpenAnswers}
+use Rattle.zst_image.specs.Reads.{Reads, ReadsAs, Rests}
+use Rattle.zst_image.specs.declared.kept.Kept.{Kept}
+use Rattle.zst_image.specs.declared.open_fault.OpenFault.{OpenFault}
+use Rattle.zst_image.specs.declared.open_fault.OpenFault.TheVariants as opens
 use Rattle.zst_pool.specs.Faults.{HasDiskCause, IsStepFault, StepFault, pool_refusal}
-use Rattle.zst_pool.specs.Making.{GivesPool, OpenAnswers}
-use Rattle.zst_pool.specs.Reads.{Reads, ReadsAs, Rests, BeforeOrAfter}
 use Rattle.zst_pool.specs.Room.{HasNoRoom, most_sectors}
-use Rattle.zst_pool.specs.Stepping.{StepAnswer}
+use Rattle.zst_pool.specs.Stepping.{BeforeOrAfter, StepAnswer}
 use Rattle.zst_pool.specs.declared.fault.PoolFault.{PoolFault}
 use Rattle.zst_pool.specs.declared.fault.PoolFault.TheVariants as faults
-use Rattle.zst_pool.specs.declared.kept.Kept.{Kept}
-use Rattle.zst.specs.Commands.{Holds, IsPoolRefusal, Answers, Opened, Stepping, Steps}
+use Rattle.zst.specs.Commands.{Holds, IsPoolRefusal, OfStepping, Answers, Opened, Stepping, Steps}
 use Rattle.zst.specs.Replies.{Replied}
 
 -- ---- plans' faults as refusals
@@ -57,8 +61,6 @@ disk_fault (faults.CannotApply fault) is = absurd (cc is)
 disk_fault (faults.Redacted object block) is = absurd (cc is)
 disk_fault (faults.Full need largest) is = absurd (cc is)
 disk_fault (faults.Damaged sector stated found) is = absurd (cc is)
-disk_fault faults.NoPool is = absurd (cc is)
-disk_fault (faults.BadVersion number) is = absurd (cc is)
 disk_fault faults.DiskFault is = refl
 disk_fault faults.Failed is = absurd (cc is)
 disk_fault faults.OutOfMemory is = absurd (cc is)
@@ -70,8 +72,6 @@ failed_before (faults.CannotApply fault) is = absurd (cc is)
 failed_before (faults.Redacted object block) is = absurd (cc is)
 failed_before (faults.Full need largest) is = absurd (cc is)
 failed_before (faults.Damaged sector stated found) is = absurd (cc is)
-failed_before faults.NoPool is = absurd (cc is)
-failed_before (faults.BadVersion number) is = absurd (cc is)
 failed_before faults.DiskFault is = absurd (cc is)
 failed_before faults.Failed is = refl
 failed_before faults.OutOfMemory is = absurd (cc is)
@@ -84,21 +84,43 @@ full_only (faults.CannotApply fault) need largest is = absurd (cc is)
 full_only (faults.Redacted object block) need largest is = absurd (cc is)
 full_only (faults.Full n l) need largest is = cc is
 full_only (faults.Damaged sector stated found) need largest is = absurd (cc is)
-full_only faults.NoPool need largest is = absurd (cc is)
-full_only (faults.BadVersion number) need largest is = absurd (cc is)
 full_only faults.DiskFault need largest is = absurd (cc is)
 full_only faults.Failed need largest is = absurd (cc is)
 full_only faults.OutOfMemory need largest is = absurd (cc is)
 
--- the fault of a part, as a refusal of the whole
-pub IsPoolRefusal-part : {T : Type 0} → (here mid here' : DiskState) (fault : PoolFault) → here.faults ≤ mid.faults → HasDiskCause {T = T} mid.faults here'.faults (Err fault)
-    → fault ≢ faults.Failed → IsPoolRefusal here here' (pool_refusal fault)
-IsPoolRefusal-part here mid here' fault later cause alive = record {
-  fault = fault;
-  is = refl;
+-- the fault of a command, as a refusal of the whole
+refused_step : {T : Type 0} → (here mid here' : DiskState) (fault : PoolFault) → here.faults ≤ mid.faults → HasDiskCause {T = T} mid.faults here'.faults (Err fault)
+    → fault ≢ faults.Failed → IsPoolRefusal OfStepping here here' (pool_refusal fault)
+refused_step here mid here' fault later cause alive = record {
+  one = inr (fault, refl);
   alive = λ is. alive (failed_before fault is);
   cause = λ is. Rose-earlier here.faults mid.faults here'.faults later (cause.fault (ap (λ f. Err f) (disk_fault fault is)));
 }
+
+-- a fault of opening is the disk's only as that, and never that it had failed or is full
+open_disk : (fault : OpenFault) → open_refusal fault ≡ refusals.DiskFault → fault ≡ opens.DiskFault
+open_disk (opens.Damaged sector stated found) is = absurd (cc is)
+open_disk opens.NoPool is = absurd (cc is)
+open_disk (opens.BadVersion version) is = absurd (cc is)
+open_disk opens.DiskFault is = refl
+open_disk opens.OutOfMemory is = absurd (cc is)
+
+open_alive : (fault : OpenFault) → open_refusal fault ≢ refusals.Failed
+open_alive (opens.Damaged sector stated found) is = absurd (cc is)
+open_alive opens.NoPool is = absurd (cc is)
+open_alive (opens.BadVersion version) is = absurd (cc is)
+open_alive opens.DiskFault is = absurd (cc is)
+open_alive opens.OutOfMemory is = absurd (cc is)
+
+open_room : (fault : OpenFault) (need largest : ℕ) → open_refusal fault ≢ refusals.Full need largest
+open_room (opens.Damaged sector stated found) need largest is = absurd (cc is)
+open_room opens.NoPool need largest is = absurd (cc is)
+open_room (opens.BadVersion version) need largest is = absurd (cc is)
+open_room opens.DiskFault need largest is = absurd (cc is)
+open_room opens.OutOfMemory need largest is = absurd (cc is)
+
+refused_open : {T : Type 0} → (here here' : DiskState) (fault : OpenFault) → opening.HasDiskCause {T = T} opens.DiskFault here.faults here'.faults (Err fault) → IsPoolRefusal OfStepping here here' (open_refusal fault)
+refused_open here here' fault cause = record { one = inl (fault, refl); alive = open_alive fault; cause = λ is. cause.fault (ap (λ f. Err f) (open_disk fault is)) }
 
 -- ---- opening
 
@@ -131,18 +153,13 @@ moments_then here mid here' pool after holds reads step =
 -- ---- answers
 
 -- where the pool reads, opening is refused by the disk or by want of memory alone
-pub answers_unopened : (here mid : DiskState) (pool : Pool) (after : Result Stepped Refusal) (uber : Uber) (rows : Rows) (fault : PoolFault) → Holds here pool → OnlyReads here mid
-    → GivesPool uber rows (Err fault) → Answers mid pool after (Err (pool_refusal fault))
-answers_unopened here mid pool after uber rows (faults.Plan fault) holds reads gives = absurd gives
-answers_unopened here mid pool after uber rows (faults.CannotApply fault) holds reads gives = absurd gives
-answers_unopened here mid pool after uber rows (faults.Redacted object block) holds reads gives = absurd gives
-answers_unopened here mid pool after uber rows (faults.Full need largest) holds reads gives = absurd gives
-answers_unopened here mid pool after uber rows (faults.Damaged sector stated found) holds reads gives = absurd gives
-answers_unopened here mid pool after uber rows faults.NoPool holds reads gives = absurd gives
-answers_unopened here mid pool after uber rows (faults.BadVersion number) holds reads gives = absurd gives
-answers_unopened here mid pool after uber rows faults.DiskFault holds reads gives = tt
-answers_unopened here mid pool after uber rows faults.Failed holds reads gives = absurd gives
-answers_unopened here mid pool after uber rows faults.OutOfMemory holds reads gives = holds_read here mid pool holds reads
+pub answers_unopened : (here mid : DiskState) (pool : Pool) (after : Result Stepped Refusal) (uber : Uber) (rows : Rows) (fault : OpenFault) → Holds here pool → OnlyReads here mid
+    → GivesPool uber rows (Err fault) → Answers mid pool after (Err (open_refusal fault))
+answers_unopened here mid pool after uber rows (opens.Damaged sector stated found) holds reads gives = absurd gives
+answers_unopened here mid pool after uber rows opens.NoPool holds reads gives = absurd gives
+answers_unopened here mid pool after uber rows (opens.BadVersion version) holds reads gives = absurd gives
+answers_unopened here mid pool after uber rows opens.DiskFault holds reads gives = tt
+answers_unopened here mid pool after uber rows opens.OutOfMemory holds reads gives = holds_read here mid pool holds reads
 
 -- what a refused command leaves
 pub answers_refused : (here' : DiskState) (uber : Uber) (rows : Rows) (pool : Pool) (after : Result Stepped Refusal) (fault : PoolFault)
@@ -153,8 +170,6 @@ answers_refused here' uber rows pool after (faults.CannotApply fault) is = (is.0
 answers_refused here' uber rows pool after (faults.Redacted object block) is = (is.0, holds_rests here' uber rows pool is.1)
 answers_refused here' uber rows pool after (faults.Full need largest) is = holds_rests here' uber rows pool is.1
 answers_refused here' uber rows pool after (faults.Damaged sector stated found) is = absurd is
-answers_refused here' uber rows pool after faults.NoPool is = absurd is
-answers_refused here' uber rows pool after (faults.BadVersion number) is = absurd is
 answers_refused here' uber rows pool after faults.DiskFault is = tt
 answers_refused here' uber rows pool after faults.Failed is = absurd is
 answers_refused here' uber rows pool after faults.OutOfMemory is = holds_rests here' uber rows pool is
@@ -166,17 +181,12 @@ answers_done here' uber rows pool after lines is = (is.0, is.1, is.2, holds_rest
 
 -- ---- what answers say of the latest body
 
-pub opened_refused : (here : DiskState) (fault : PoolFault) → OpenAnswers here (Err fault) → Opened here (Err (pool_refusal fault))
-opened_refused here (faults.Plan fault) is = absurd is
-opened_refused here (faults.CannotApply fault) is = absurd is
-opened_refused here (faults.Redacted object block) is = absurd is
-opened_refused here (faults.Full need largest) is = absurd is
-opened_refused here (faults.Damaged sector stated found) is = (is.body, is.there, is.version)
-opened_refused here faults.NoPool is = is
-opened_refused here (faults.BadVersion number) is = is
-opened_refused here faults.DiskFault is = tt
-opened_refused here faults.Failed is = absurd is
-opened_refused here faults.OutOfMemory is = tt
+pub opened_refused : (here : DiskState) (fault : OpenFault) → OpenAnswers here (Err fault) → Opened here (Err (open_refusal fault))
+opened_refused here (opens.Damaged sector stated found) is = (is.body, is.there, is.version)
+opened_refused here opens.NoPool is = is
+opened_refused here (opens.BadVersion version) is = is
+opened_refused here opens.DiskFault is = tt
+opened_refused here opens.OutOfMemory is = tt
 
 pub opened_done : (here : DiskState) (kept : Kept) (lines : List (List ℕ)) → OpenAnswers here (Ok kept) → Opened here (Ok lines)
 opened_done here kept lines is = (is.0, kept.body, kept.dir, is.1, is.2)
@@ -190,8 +200,6 @@ opened_then here kept (faults.Full need largest) is known = (is.0, kept.body, ke
 opened_then here kept (faults.Damaged sector stated found) is known =
     let body = is.2.is_body in
     (is.0, is.1, ap (λ (b : List ℕ). number_at b 8 4) body.spelled ∙ ap (λ (u : Uber). u.version) (uber_at-body_bytes kept.body body.fits) ∙ body.in_range.version)
-opened_then here kept faults.NoPool is known = absurd known
-opened_then here kept (faults.BadVersion number) is known = absurd known
 opened_then here kept faults.DiskFault is known = tt
 opened_then here kept faults.Failed is known = (is.0, kept.body, kept.dir, is.1, is.2)
 opened_then here kept faults.OutOfMemory is known = tt
@@ -206,19 +214,18 @@ images_after old new P leaves before only now c image =
     ⊎_elim (λ was. before c (only c was)) (λ is. is) (leaves.adds old.moment c (omega arith) (now old.moment c leaves.later image))
 
 -- opening was refused
-pub stepping_unopened : (now : ℕ) (command : Command) (here here' : DiskState) (fault : PoolFault)
+pub stepping_unopened : (now : ℕ) (command : Command) (here here' : DiskState) (fault : OpenFault)
     → ((uber : Uber) (rows : Rows) (pool : Pool) → here'.honest → ReadsAs uber rows pool here.seen → GivesPool uber rows (Err fault))
-    → (here'.honest → OpenAnswers here (Err fault)) → OnlyReads here here' → HasDiskCause {T = Kept} here.faults here'.faults (Err fault) → fault ≢ faults.Failed
-    → Stepping now command here here' (Err (pool_refusal fault))
-stepping_unopened now command here here' fault there answer reads cause alive = record {
+    → (here'.honest → OpenAnswers here (Err fault)) → OnlyReads here here' → opening.HasDiskCause {T = Kept} opens.DiskFault here.faults here'.faults (Err fault)
+    → Stepping now command here here' (Err (open_refusal fault))
+stepping_unopened now command here here' fault there answer reads cause = record {
   moments = λ pool told holds. moments_read here here' pool (stepped [] now command pool) holds reads;
   images = λ pool told holds c image. inl (holds.images c (reads.crash c image));
   answers = λ pool told holds.
       answers_unopened here here' pool (stepped [] now command pool) holds.seen.0 holds.seen.1 fault holds reads (there holds.seen.0 holds.seen.1 pool told holds.seen.2);
   opened = λ told. opened_refused here fault (answer told);
-  full = λ uber rows pool need largest told reads is.
-      absurd (subst (λ (f : PoolFault). GivesPool uber rows (Err f)) (full_only fault need largest (cc is)) (there uber rows pool told reads));
-  refused = IsPoolRefusal-part here here here' fault (omega arith) cause alive;
+  full = λ uber rows pool need largest told reads is. absurd (open_room fault need largest (cc is));
+  refused = refused_open here here' fault cause;
   later = cause.later;
 }
 
@@ -263,7 +270,7 @@ module _ (now : ℕ) (command : Command) (here mid here' : DiskState) (kept kept
     full = λ uber rows pool need largest told is_pool is.
         let same = there uber rows pool (falls told) is_pool in
         rw (← same.0, ← same.1) (room pool need largest told (rests_opened here mid kept uber rows pool is_pool reads synced same) (full_only fault need largest (cc is)));
-    refused = IsPoolRefusal-part here mid here' fault later cause (λ is. subst IsStepFault is known);
+    refused = refused_step here mid here' fault later cause (λ is. subst IsStepFault is known);
     later = omega (arith, later, cause.later);
   }
 

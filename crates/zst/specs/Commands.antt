@@ -17,10 +17,14 @@ use Rattle.zst_model.specs.declared.refusals.plan_fault.PlanFault.TheVariants as
 use Rattle.zst_model.specs.declared.refusals.refusal.Refusal.{Refusal}
 use Rattle.zst_model.specs.declared.refusals.refusal.Refusal.TheVariants as refusals
 use Rattle.zst_dir.specs.Rows.{Rows}
+use Rattle.zst_image.specs.Faults.{create_refusal, open_refusal}
+use Rattle.zst_image.specs.Opening.{IsOpened}
+use Rattle.zst_image.specs.Reads.{Reads, ReadsAs, new_pool}
+use Rattle.zst_image.specs.declared.create_fault.CreateFault.{CreateFault}
+use Rattle.zst_image.specs.declared.open_fault.OpenFault.{OpenFault}
 use Rattle.zst_pool.specs.Faults.{pool_refusal}
-use Rattle.zst_pool.specs.Making.{IsOpened}
-use Rattle.zst_pool.specs.Reads.{Reads, ReadsAs, BeforeOrAfter, new_pool}
 use Rattle.zst_pool.specs.Room.{HasNoRoom, most_sectors}
+use Rattle.zst_pool.specs.Stepping.{BeforeOrAfter}
 use Rattle.zst_pool.specs.declared.fault.PoolFault.{PoolFault}
 use Rattle.zst.specs.Replies.{Replied}
 
@@ -29,10 +33,16 @@ pub record Holds (disk : DiskState) (pool : Pool) : Type 0 where
   pub seen : Reads pool disk.seen
   pub images : (c : List ℕ) → disk.images c → Reads pool c
 
--- one of a pool's refusals, but not that its disk had failed before (E31); the disk's (E28) only where its count of faults rose
-pub record IsPoolRefusal (here here' : DiskState) (refusal : Refusal) : Type 0 where
-  pub fault : PoolFault
-  pub is : refusal ≡ pool_refusal fault
+-- a refusal of making a pool, and one of opening it or of a command on it
+abbrev pub OfMaking : Refusal → Type 0
+OfMaking refusal = (fault : CreateFault) × (refusal ≡ create_refusal fault)
+
+abbrev pub OfStepping : Refusal → Type 0
+OfStepping refusal = ((fault : OpenFault) × (refusal ≡ open_refusal fault)) ⊎ ((fault : PoolFault) × (refusal ≡ pool_refusal fault))
+
+-- one of these refusals, but not that the disk had failed before (E31); the disk's (E28) only where its count of faults rose
+pub record IsPoolRefusal (Is : Refusal → Type 0) (here here' : DiskState) (refusal : Refusal) : Type 0 where
+  pub one : Is refusal
   pub alive : refusal ≢ refusals.Failed
   pub cause : refusal ≡ refusals.DiskFault → Rose here.faults here'.faults
 
@@ -67,7 +77,7 @@ pub record Stepping (now : ℕ) (command : Command) (here here' : DiskState) (an
   pub opened : here'.honest → Opened here answer
   pub full : (uber : Uber) (rows : Rows) (pool : Pool) (need largest : ℕ) → here'.honest → ReadsAs uber rows pool here.seen
       → answer ≡ Err (refusals.Full need largest) → HasNoRoom (most_sectors command) uber rows need largest
-  pub refused : IfErr answer (IsPoolRefusal here here')
+  pub refused : IfErr answer (IsPoolRefusal OfStepping here here')
   pub later : here.faults ≤ here'.faults
 
 -- and its lines are written
@@ -94,7 +104,7 @@ Makes sectors id here here' (Err refusal) = ⊥
 pub record Making (sectors id : ℕ) (here here' : DiskState) (answer : Result (List (List ℕ)) Refusal) : Type 0 where
   pub moments : here'.honest → Leaves here here' (λ c. ((d : List ℕ) × here.images d × (latest c ≡ latest d)) ⊎ Reads (new_pool id) c)
   pub makes : here'.honest → Makes sectors id here here' answer
-  pub refused : IfErr answer (IsPoolRefusal here here')
+  pub refused : IfErr answer (IsPoolRefusal OfMaking here here')
   pub later : here.faults ≤ here'.faults
 
 -- and its line is written

@@ -6,9 +6,10 @@ ghost use Rattle.zst.specs.Commands.{Creates, Stepping, Steps};
 
 use crate::reply::{print_line, print_reply};
 use std::alloc::Global;
+use zst_image::Kept;
 use zst_model::{Command, Refusal, Reply};
 use zst_outside::{Disk, Sink};
-use zst_pool::{Kept, Pool};
+use zst_pool::Pool;
 
 /// Makes a pool in an image that has none, and writes the reply.
 pub(crate) fn create_pool<D: Disk, K: Sink>(

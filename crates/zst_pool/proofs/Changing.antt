@@ -23,7 +23,7 @@ use Rattle.zst_tree.specs.declared.tree.ObjSet.{ObjSet}
 use Rattle.zst_objset.specs.Changes.{changed, object_made, object_put, spill_put}
 use Rattle.zst_pool.specs.Heads.{ChangeFault, ChangesHead}
 use Rattle.zst_pool.specs.declared.fault.PoolFault.{PoolFault}
-use Rattle.zst_pool.specs.declared.fault.PoolFault.TheVariants.{Plan, CannotApply, Redacted, Full, Damaged, NoPool, BadVersion, DiskFault, Failed, OutOfMemory}
+use Rattle.zst_pool.specs.declared.fault.PoolFault.TheVariants.{Plan, CannotApply, Redacted, Full, Damaged, DiskFault, Failed, OutOfMemory}
 
 -- one item that can't be applied
 applied_fault : (pool : Pool) (item : Item) (head : DatedState) (fault : ApplyFault) → apply_dated (pool.number + 1) item head ≡ Err fault → applied pool (item ∷ []) head ≡ Err (cannot_apply fault)
@@ -150,8 +150,6 @@ first_fault first second goes (Full need largest) is =
     let after = goes is.1.0 is.1.1 in
     (is.0, (after.0, ap (λ (r : Result DatedState Refusal). r >>= second) is.1.1 ∙ after.1))
 first_fault first second goes (Damaged sector stated found) is = is
-first_fault first second goes NoPool is = is
-first_fault first second goes (BadVersion number) is = is
 first_fault first second goes DiskFault is = is
 first_fault first second goes Failed is = is
 first_fault first second goes OutOfMemory is = is

@@ -1,6 +1,6 @@
 -- What a command did, from what its parts did.
 use Rattle.std.specs.Prelude.{Result, Ok, Err}
-use Rattle.std.proofs.Common.{◌≡◌, ◌⊎◌, inl, inr, ⊎_elim, ℕ, List, sym, ◌∙◌, subst}
+use Rattle.std.proofs.Common.{◌≡◌, ◌<◌, ◌⊎◌, inl, inr, ⊎_elim, ℕ, List, refl, sym, ap, ◌∙◌, subst}
 use Rattle.zst_outside.specs.Images.{DiskState, Leaves, Leaves-weaker}
 use Rattle.zst_space.specs.FreeSectors.{FreeSectors}
 use Rattle.zst_block.specs.Blocks.{Has, FitsDisk, FillsFree, IsTaken, SparesTaken, Spared}
@@ -11,12 +11,16 @@ use Rattle.zst_model.specs.declared.refusals.refusal.Refusal.{Refusal}
 use Rattle.zst_model.specs.pools.Pool.{Pool}
 use Rattle.zst_model.specs.pools.Step.{Stepped}
 use Rattle.zst_dir.specs.Rows.{Rows}
-use Rattle.zst_pool.specs.Faults.{StepFault, WriteFault}
-use Rattle.zst_pool.specs.Reads.{ReadsAs, Reads, Rests, BeforeOrAfter, free_by}
-use Rattle.zst_pool.specs.Work.{Commits, Did, Stays}
+use Rattle.zst_image.specs.declared.commit_fault.CommitFault.{CommitFault}
+use Rattle.zst_image.specs.declared.commit_fault.CommitFault.TheVariants as commits
+use Rattle.zst_pool.specs.Faults.{StepFault, of_commit, of_committed}
+use Rattle.zst_image.specs.Reads.{ReadsAs, Reads, Rests, free_by}
+use Rattle.zst_pool.specs.Stepping.{BeforeOrAfter}
+use Rattle.zst_image.specs.Committing.{Commits, Stays}
+use Rattle.zst_pool.specs.Work.{Did}
 use Rattle.zst_pool.specs.declared.fault.PoolFault.{PoolFault}
-use Rattle.zst_pool.specs.declared.fault.PoolFault.TheVariants.{Plan, CannotApply, Redacted, Full, Damaged, NoPool, BadVersion, DiskFault, Failed, OutOfMemory}
-use Rattle.zst_pool.specs.declared.kept.Kept.{Kept}
+use Rattle.zst_pool.specs.declared.fault.PoolFault.TheVariants.{Plan, CannotApply, Redacted, Full, Damaged, DiskFault, Failed, OutOfMemory}
+use Rattle.zst_image.specs.declared.kept.Kept.{Kept}
 use Rattle.zst_pool.proofs.Growing.{Describes-grows}
 use Rattle.zst_pool.proofs.Working.{latest-spared}
 
@@ -40,24 +44,16 @@ keeps before definition still (CannotApply fault) is = (is.0, still)
 keeps before definition still (Redacted object block) is = (is.0, still)
 keeps before definition still (Full need largest) is = (is.0, still)
 keeps before definition still (Damaged sector stated found) is = is
-keeps before definition still NoPool is = is
-keeps before definition still (BadVersion number) is = is
 keeps before definition still DiskFault is = tt
 keeps before definition still Failed is = is
 keeps before definition still OutOfMemory is = still
 
 -- and so it does after each fault of a commit
-commit_fault : (before : Type 0) (definition : Result Stepped Refusal) (fault : PoolFault) → WriteFault fault → Stays before fault → StepFault before definition fault
-commit_fault before definition (Plan fault) is still = absurd is
-commit_fault before definition (CannotApply fault) is still = absurd is
-commit_fault before definition (Redacted object block) is still = absurd is
-commit_fault before definition (Full need largest) is still = (is, still)
-commit_fault before definition (Damaged sector stated found) is still = absurd is
-commit_fault before definition NoPool is still = absurd is
-commit_fault before definition (BadVersion number) is still = absurd is
-commit_fault before definition DiskFault is still = tt
-commit_fault before definition Failed is still = absurd is
-commit_fault before definition OutOfMemory is still = still
+commit_fault : (before : Type 0) (definition : Result Stepped Refusal) (fault : CommitFault) → ((need largest : ℕ) → fault ≡ commits.Full need largest → largest < need) → Stays before fault
+    → StepFault before definition (of_commit fault)
+commit_fault before definition (commits.Full need largest) shorter still = (shorter need largest refl, still)
+commit_fault before definition commits.DiskFault shorter still = tt
+commit_fault before definition commits.OutOfMemory shorter still = still
 
 module _ (start now : DiskState) (space : FreeSectors) (uber : Uber) (rows : Rows) (pool : Pool) (head : IsTaken (free_by uber) 0 4096)
     (rests : Rests start uber rows pool) (fills : FillsFree start (free_by uber) now space) where
@@ -80,11 +76,15 @@ module _ (start now : DiskState) (space : FreeSectors) (uber : Uber) (rows : Row
 
 -- a command that committed what its definition makes
 module _ (start now : DiskState) (uber : Uber) (rows : Rows) (pool : Pool) (definition : Result Stepped Refusal) (done : Stepped) (is : definition ≡ Ok done) where
-  moments_of : (result : Result Kept PoolFault) → Commits start now uber rows pool done.pool result → Leaves start now (BeforeOrAfter pool definition)
-  moments_of result commits =
+  moments_of : (made : Result Kept CommitFault) → Commits start now uber rows pool done.pool made → Leaves start now (BeforeOrAfter pool definition)
+  moments_of made commits =
       Leaves-weaker start now (λ c. Reads pool c ⊎ Reads done.pool c) (BeforeOrAfter pool definition) commits.moments
       (λ c either. ⊎_elim (λ before. inl before) (λ after. inr (done, is, after)) either)
 
-  pub did : (result : Result Kept PoolFault) → Commits start now uber rows pool done.pool result → Did start now uber rows pool definition result
-  did (Ok kept) commits = record { moments = moments_of (Ok kept) commits; answer = (done, is, commits.answer) }
-  did (Err fault) commits = record { moments = moments_of (Err fault) commits; answer = commit_fault (Rests now uber rows pool) definition fault commits.answer.0 commits.answer.1 }
+  pub did : (made : Result Kept CommitFault) → ((need largest : ℕ) → made ≡ Err (commits.Full need largest) → largest < need) → Commits start now uber rows pool done.pool made
+      → Did start now uber rows pool definition (of_committed made)
+  did (Ok kept) shorter commits = record { moments = moments_of (Ok kept) commits; answer = (done, is, commits.answer) }
+  did (Err fault) shorter commits = record {
+    moments = moments_of (Err fault) commits;
+    answer = commit_fault (Rests now uber rows pool) definition fault (λ need largest full. shorter need largest (ap (λ (f : CommitFault). Err f) full)) commits.answer;
+  }

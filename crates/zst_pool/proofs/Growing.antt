@@ -6,12 +6,13 @@ use Rattle.zst_model.specs.pools.Pool.{Pool}
 use Rattle.zst_model.specs.pools.Pool as plain
 use Rattle.zst_tree.specs.Indices.{Blocks}
 use Rattle.zst_objset.proofs.SetGrows.{SetHolds-grows}
+use Rattle.zst_leaves.proofs.LeavesLaws.{HasLeaves-grows}
 use Rattle.zst_dir.specs.Rows.{Rows}
+use Rattle.zst_dir.specs.Spelling.{dir_bytes}
 use Rattle.zst_dir.specs.declared.rows.Dataset.{Dataset}
 use Rattle.zst_dir.specs.declared.rows.Snapshot.{Snapshot}
 use Rattle.zst_dir.specs.declared.rows.Partial.{Partial}
-use Rattle.zst_pool.specs.Reads.{Match, DatasetIs, SnapshotIs, PartialIs, RowsAre, HasDir, Describes}
-use Rattle.zst_pool.proofs.Directories.{DirStands-grows}
+use Rattle.zst_image.specs.Reads.{Match, DatasetIs, SnapshotIs, PartialIs, RowsAre, HasDir, Describes}
 
 -- what some blocks describe, those and more describe too
 abbrev pub Grows : ((Ptr → List ℕ → Type 0) → Type 0) → Type 1
@@ -55,7 +56,7 @@ RowsAre-grows has more up rows pool is = record {
 }
 
 pub HasDir-grows : (has more : Blocks) → AreMore has more → (uber : Uber) (rows : Rows) → HasDir has uber rows → HasDir more uber rows
-HasDir-grows has more up uber rows is = DirStands-grows has more up uber.dir_levels uber.dir_root uber.dir_bytes rows is
+HasDir-grows has more up uber rows is = record { directory = is.directory; count_is = is.count_is; leaves = HasLeaves-grows has more up uber.dir_levels uber.dir_root (dir_bytes rows) is.leaves }
 
 pub Describes-grows : (uber : Uber) (rows : Rows) (pool : Pool) → Grows (Describes uber rows pool)
 Describes-grows uber rows pool has more up is = record {

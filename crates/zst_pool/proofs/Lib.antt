@@ -1,16 +1,11 @@
-pub mod Causes
 pub mod Changing
 pub mod Committed
-pub mod Created
-pub mod Directories
 pub mod Doing
 pub mod Growing
 pub mod Judging
-pub mod Known
 pub mod Matching
 pub mod Naming
 pub mod NextPools
-pub mod Opened
 pub mod Parts
 pub mod Planned
 pub mod Replying

@@ -23,11 +23,11 @@ use Rattle.zst_tree.specs.declared.tree.ObjSet.{ObjSet}
 use Rattle.zst_pool.specs.Checks.{freed, next_of, put_in, with_head_of, with_new, with_taken}
 use Rattle.zst_dir.specs.Rows.{Rows, HasDataset, HasSnapshot, IsPartialRow}
 use Rattle.zst_dir.specs.Rows as dir_rows
-use Rattle.zst_pool.specs.Reads.{Describes, DatasetIs, SnapshotIs}
+use Rattle.zst_image.specs.Reads.{Describes, DatasetIs, SnapshotIs}
 use Rattle.zst_tree.specs.Indices.{Blocks}
 use Rattle.zst_objset.specs.Sets.{SetHolds}
 use Rattle.zst_objset.proofs.SetLaws.{empty}
-use Rattle.zst_pool.specs.Work.{NextIs}
+use Rattle.zst_image.specs.Committing.{NextIs}
 use Rattle.zst_dir.specs.declared.rows.Dataset.{Dataset}
 use Rattle.zst_dir.specs.declared.rows.Partial.{Partial}
 use Rattle.zst_dir.specs.declared.rows.Snapshot.{Snapshot}

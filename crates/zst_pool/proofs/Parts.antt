@@ -13,11 +13,12 @@ use Rattle.zst_uber.specs.declared.uber.Uber.{Uber}
 use Rattle.zst_model.specs.pools.Pool.{Pool}
 use Rattle.zst_dir.specs.Rows.{Rows}
 use Rattle.zst_pool.specs.Faults.{HasDiskCause, is_disk_fault}
-use Rattle.zst_pool.specs.Reads.{Describes, Rests, free_by}
-use Rattle.zst_pool.specs.Work.{Ready, Works}
+use Rattle.zst_image.specs.Reads.{Describes, Rests, free_by}
+use Rattle.zst_image.specs.Committing.{Ready}
+use Rattle.zst_pool.specs.Work.{Works}
 use Rattle.zst_pool.specs.declared.fault.PoolFault.{PoolFault}
-use Rattle.zst_pool.specs.declared.fault.PoolFault.TheVariants.{Plan, CannotApply, Redacted, Full, Damaged, NoPool, BadVersion, DiskFault, Failed, OutOfMemory}
-use Rattle.zst_pool.proofs.Doing.{fell, free_by_fits}
+use Rattle.zst_pool.specs.declared.fault.PoolFault.TheVariants.{Plan, CannotApply, Redacted, Full, Damaged, DiskFault, Failed, OutOfMemory}
+use Rattle.zst_pool.proofs.Doing.{free_by_fits}
 use Rattle.zst_pool.proofs.Growing.{Describes-grows}
 
 -- a fault is the disk's whatever the part would have given
@@ -27,8 +28,6 @@ disk_fault_same T U (CannotApply fault) = refl
 disk_fault_same T U (Redacted object block) = refl
 disk_fault_same T U (Full need largest) = refl
 disk_fault_same T U (Damaged sector stated found) = refl
-disk_fault_same T U NoPool = refl
-disk_fault_same T U (BadVersion number) = refl
 disk_fault_same T U DiskFault = refl
 disk_fault_same T U Failed = refl
 disk_fault_same T U OutOfMemory = refl

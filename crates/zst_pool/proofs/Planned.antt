@@ -28,12 +28,14 @@ use Rattle.zst_objset.specs.Answers.{IsOfBlock, LimitOnly, NotLimit}
 use Rattle.zst_objset.specs.declared.fault.ObjFault.{ObjFault}
 use Rattle.zst_objset.specs.declared.fault.ObjFault.TheVariants as sets
 use Rattle.zst_pool.specs.Checks.{FindsHead, freed, next_of, put_in, with_head_of}
-use Rattle.zst_pool.specs.Faults.{WriteFault, of_call, of_set}
+use Rattle.zst_pool.specs.Faults.{of_call, of_committed, of_set}
 use Rattle.zst_pool.specs.Plans.{IsLast, IsLimitOf, IsPast, Plans, is_by_rows, is_counted}
-use Rattle.zst_pool.specs.Reads.{IsNamedBy}
+use Rattle.zst_image.specs.Reads.{IsNamedBy}
 use Rattle.zst_pool.specs.declared.fault.PoolFault.{PoolFault}
 use Rattle.zst_pool.specs.declared.fault.PoolFault.TheVariants.{Plan}
-use Rattle.zst_pool.specs.declared.kept.Kept.{Kept}
+use Rattle.zst_image.specs.declared.commit_fault.CommitFault.{CommitFault}
+use Rattle.zst_image.specs.declared.commit_fault.CommitFault.TheVariants as commits
+use Rattle.zst_image.specs.declared.kept.Kept.{Kept}
 
 -- whether the directory tells a refusal, and whether a definition gives such a one
 pub is_told : Refusal → Bool
@@ -249,8 +251,14 @@ no_plan-block (sets.Block (blocks.Damaged sector stated found)) fault known is =
 no_plan-block (sets.Block blocks.DiskFault) fault known is = absurd (cc)
 
 -- nor has a commit
-pub no_plan-commit : {T : Type 0} (result : Result T PoolFault) → IfErr result WriteFault → (fault : PlanFault) → result ≡ Err (Plan fault) → ⊥
-no_plan-commit {T = T} result known fault is = subst (λ (r : Result T PoolFault). IfErr r WriteFault) is known
+pub no_plan-commit : (made : Result Kept CommitFault) {answered : Result Kept PoolFault} → answered ≡ of_committed made → (fault : PlanFault) → answered ≡ Err (Plan fault) → ⊥
+no_plan-commit made same fault is = not_planned made fault (sym same ∙ is)
+  where
+    not_planned : (made : Result Kept CommitFault) (fault : PlanFault) → of_committed made ≡ Err (Plan fault) → ⊥
+    not_planned (Ok kept) fault is = absurd (cc)
+    not_planned (Err (commits.Full need largest)) fault is = absurd (cc)
+    not_planned (Err commits.DiskFault) fault is = absurd (cc)
+    not_planned (Err commits.OutOfMemory) fault is = absurd (cc)
 
 -- what a command on a head is refused for once it was opened
 pub head_limits : (numbers indices : ℕ) (uber : Uber) (changed : Result (Unit {0}) PoolFault) → ((fault : PlanFault) → changed ≡ Err (Plan fault) → IsPast numbers indices fault)

@@ -1,6 +1,6 @@
 -- What a command does, from what its parts do.
-use Rattle.std.specs.Prelude.{Result, Ok, Err, IfErr, IfOk, OnErr}
-use Rattle.std.proofs.Common.{◌≡◌, ℕ, ◌+◌, ◌≤◌, ◌^◌, Bool, false, ◌||◌, List, length, refl, sym, subst, arith}
+use Rattle.std.specs.Prelude.{Result, Ok, Err, IfOk, OnErr}
+use Rattle.std.proofs.Common.{◌≡◌, ℕ, ◌+◌, ◌≤◌, ◌^◌, Bool, false, ◌||◌, List, length, refl, sym, ap, ◌∙◌, subst, arith}
 use Rattle.zst_outside.specs.Images.{DiskState}
 use Rattle.zst_space.specs.FreeSectors.{FreeSectors}
 use Rattle.zst_block.specs.Blocks.{Has}
@@ -13,16 +13,22 @@ use Rattle.zst_objset.specs.Sets.{SetHolds}
 use Rattle.zst_dir.specs.Rows.{Rows}
 use Rattle.zst_dir.specs.Spelling.{dir_bytes}
 use Rattle.zst_pool.specs.Checks.{FindsHead}
-use Rattle.zst_pool.specs.Faults.{HasDiskCause, IsStepFault, StepFault, WriteFault, is_disk_fault}
+use Rattle.zst_pool.specs.Faults.{IsStepFault, StepFault, is_disk_fault, of_committed}
 use Rattle.zst_pool.specs.Heads.{ChangedHead, ChangesHead}
-use Rattle.zst_pool.specs.Reads.{AreNamed, DatasetIs, Rests, free_by}
-use Rattle.zst_pool.specs.Room.{IsDirFull, NotFull}
-use Rattle.zst_pool.specs.Work.{Did, Ready, Runs, Writes}
+use Rattle.zst_image.specs.Reads.{AreNamed, DatasetIs, Rests, free_by}
+use Rattle.zst_image.specs.Committing.{IsDirFull}
+use Rattle.zst_pool.specs.Room.{NotFull}
+use Rattle.zst_image.specs.Committing.{Ready}
+use Rattle.zst_pool.specs.Work.{Did, Runs, Writes}
 use Rattle.zst_pool.specs.declared.fault.PoolFault.{PoolFault}
-use Rattle.zst_pool.specs.declared.fault.PoolFault.TheVariants.{Full}
-use Rattle.zst_pool.specs.declared.kept.Kept.{Kept}
+use Rattle.zst_block.specs.Working.{fails}
+use Rattle.zst_image.specs.Faults.{stop_of_commit}
+use Rattle.zst_image.specs.Faults as images
+use Rattle.zst_image.specs.declared.commit_fault.CommitFault.{CommitFault}
+use Rattle.zst_image.specs.declared.commit_fault.CommitFault.TheVariants as commits
+use Rattle.zst_image.specs.declared.kept.Kept.{Kept}
 use Rattle.zst_pool.proofs.Doing.{fell, free_by_fits}
-use Rattle.zst_pool.proofs.Known.{if_known_write}
+use Rattle.zst_pool.proofs.Committed.{committed_cause, committed_err, committed_fails, committed_known, committed_ok}
 use Rattle.zst_pool.proofs.Matching.{Match-alike}
 use Rattle.zst_pool.proofs.Naming.{rows_named}
 use Rattle.zst_pool.proofs.Parts.{cause_then, described_in, failed_then, taken}
@@ -56,22 +62,26 @@ module _ (definition : Pool → Result Stepped Refusal) (most : ℕ) (kept : Kep
       (λ pool told rests. refused pool rests)
 
   -- one that came to its commit
-  pub runs_committed : {old : DiskState} {old_failed : Bool} {new : DiskState} {less : FreeSectors} {new_failed : Bool} {value : Unit {0}} {last : DiskState} {least : FreeSectors} {last_failed : Bool} (dir : Rows) (answer : Result Kept PoolFault) → Writes most old (free_by kept.body) old_failed new less new_failed (Ok value)
-      → ((pool : Pool) → last.honest → Rests old kept.body kept.dir pool → Did old last kept.body kept.dir pool (definition pool) answer)
-      → length (dir_bytes dir) ≤ length (dir_bytes kept.dir) + 1024 → IfErr answer WriteFault
-      → ((need largest : ℕ) → answer ≡ Err (Full need largest) → IsDirFull less least dir need largest)
-      → IfOk answer (λ kept. Ready last kept.body) → (last_failed ≡ false → OnErr answer (Ready last kept.body))
-      → last_failed ≡ (new_failed || is_disk_fault answer) → HasDiskCause new.faults last.faults answer → (last.honest → new.honest) → Runs definition most kept old old_failed last last_failed answer
-  runs_committed {old = old} {old_failed = old_failed} {new = new} {less = less} {new_failed = new_failed} {value = value} {last = last} {least = least} {last_failed = last_failed} dir answer writes did grows fault full ready stays failed cause falls = record {
-    did = did;
-    known = if_known_write answer fault;
-    full = no_room-commit most kept less least dir answer writes.took grows fault full;
-    ready = ready;
-    stays = stays;
-    failed = failed_then old_failed new_failed last_failed (is_disk_fault answer) writes.works.failed failed;
-    cause = cause_then old.faults new.faults last.faults value answer writes.works.cause cause;
-    honest = λ told. writes.works.fills.honest (falls told);
-  }
+  pub runs_committed : {old : DiskState} {old_failed : Bool} {new : DiskState} {less : FreeSectors} {new_failed : Bool} {value : Unit {0}} {last : DiskState} {least : FreeSectors} {last_failed : Bool} (dir : Rows) (made : Result Kept CommitFault) {answer : Result Kept PoolFault} → answer ≡ of_committed made
+      → Writes most old (free_by kept.body) old_failed new less new_failed (Ok value)
+      → ((pool : Pool) → last.honest → Rests old kept.body kept.dir pool → Did old last kept.body kept.dir pool (definition pool) (of_committed made))
+      → length (dir_bytes dir) ≤ length (dir_bytes kept.dir) + 1024
+      → ((need largest : ℕ) → made ≡ Err (commits.Full need largest) → IsDirFull less least dir need largest)
+      → IfOk made (λ kept. Ready last kept.body) → (last_failed ≡ false → OnErr made (Ready last kept.body))
+      → last_failed ≡ (new_failed || fails (stop_of_commit made)) → images.HasDiskCause commits.DiskFault new.faults last.faults made → (last.honest → new.honest) → Runs definition most kept old old_failed last last_failed answer
+  runs_committed {old = old} {old_failed = old_failed} {new = new} {less = less} {new_failed = new_failed} {value = value} {last = last} {least = least} {last_failed = last_failed} dir made same writes did grows full ready stays failed cause falls =
+      let answer = of_committed made in
+      let runs : Runs definition most kept old old_failed last last_failed answer = record {
+        did = did;
+        known = committed_known made (λ need largest is. (full need largest is).shorter);
+        full = no_room-commit most kept less least dir made writes.took grows full;
+        ready = committed_ok (λ kept. Ready last kept.body) made ready;
+        stays = λ standing. committed_err (Ready last kept.body) made (stays standing);
+        failed = failed_then old_failed new_failed last_failed (is_disk_fault answer) writes.works.failed (failed ∙ ap (λ b. new_failed || b) (committed_fails made));
+        cause = cause_then old.faults new.faults last.faults value answer writes.works.cause (committed_cause new.faults last.faults made cause);
+        honest = λ told. writes.works.fills.honest (falls told);
+      } in
+      subst (Runs definition most kept old old_failed last last_failed) (sym same) runs
 
 -- before its first part a command wrote nothing
 pub idle_writes : (kept : Kept) (disk : DiskState) (space : FreeSectors) (failed : Bool) → space ≡ free_by kept.body → Ready disk kept.body

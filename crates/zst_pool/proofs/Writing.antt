@@ -21,7 +21,7 @@ use Rattle.zst_pool.specs.Heads.{ChangeFault, ChangesHead, IsPlan}
 use Rattle.zst_pool.specs.Room.{FullBelow, NotFull}
 use Rattle.zst_pool.specs.Work.{Writes}
 use Rattle.zst_pool.specs.declared.fault.PoolFault.{PoolFault}
-use Rattle.zst_pool.specs.declared.fault.PoolFault.TheVariants.{Full, DiskFault}
+use Rattle.zst_pool.specs.declared.fault.PoolFault.TheVariants.{DiskFault}
 use Rattle.zst_pool.proofs.Parts.{works_err, works_none, works_then}
 use Rattle.zst_pool.proofs.Working.{works}
 

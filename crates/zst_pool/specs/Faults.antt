@@ -3,17 +3,15 @@ use Rattle.std.specs.Prelude.{◌≡◌, ◌<◌, ◌≤◌, ℕ, Bool, true, fa
 use Rattle.zst_outside.specs.Causes.{Rose}
 use Rattle.zst_block.specs.declared.fault.BlockFault.{BlockFault}
 use Rattle.zst_block.specs.declared.fault.BlockFault.TheVariants as blocks
-use Rattle.zst_uber.specs.declared.fault.UberFault.{UberFault}
-use Rattle.zst_uber.specs.declared.fault.UberFault.TheVariants as ubers
 use Rattle.zst_model.specs.declared.refusals.refusal.Refusal.{Refusal}
 use Rattle.zst_model.specs.declared.refusals.refusal.Refusal.TheVariants as refusals
 use Rattle.zst_model.specs.refusals.Refusal.{refusal_of}
 use Rattle.zst_model.specs.pools.Step.{Stepped}
 use Rattle.zst_model.specs.declared.refusals.plan_fault.PlanFault.TheVariants as plans
-use Rattle.zst_leaves.specs.declared.fault.LeavesFault.{LeavesFault}
-use Rattle.zst_leaves.specs.declared.fault.LeavesFault.TheVariants as leaves
 use Rattle.zst_objset.specs.declared.fault.ObjFault.{ObjFault}
 use Rattle.zst_objset.specs.declared.fault.ObjFault.TheVariants as sets
+use Rattle.zst_image.specs.declared.commit_fault.CommitFault.{CommitFault}
+use Rattle.zst_image.specs.declared.commit_fault.CommitFault.TheVariants as commits
 use Rattle.zst_pool.specs.declared.fault.PoolFault.{PoolFault}
 use Rattle.zst_pool.specs.declared.fault.PoolFault.TheVariants as faults
 
@@ -24,8 +22,6 @@ pool_refusal (faults.CannotApply fault) = refusals.CannotApply 0 fault
 pool_refusal (faults.Redacted object block) = refusals.Redacted object block
 pool_refusal (faults.Full need largest) = refusals.Full need largest
 pool_refusal (faults.Damaged sector stated found) = refusals.Damaged sector stated found
-pool_refusal faults.NoPool = refusals.NoPool
-pool_refusal (faults.BadVersion number) = refusals.BadVersion number
 pool_refusal faults.DiskFault = refusals.DiskFault
 pool_refusal faults.Failed = refusals.Failed
 pool_refusal faults.OutOfMemory = refusals.OutOfMemory
@@ -43,22 +39,21 @@ of_set (sets.Redacted object block) = faults.Redacted object block
 of_set (sets.Limit which number) = faults.Plan (plans.Limit which number)
 of_set (sets.Block fault) = of_block fault
 
--- a fault of a text in leaves as a pool's
-abbrev pub of_leaves : LeavesFault → PoolFault
-of_leaves (leaves.Block fault) = of_block fault
-of_leaves leaves.Memory = faults.OutOfMemory
-
 -- what a call of an object set answers, as a pool's answer
 abbrev pub of_call : Result (Unit {0}) ObjFault → Result (Unit {0}) PoolFault
 of_call (Ok done) = Ok done
 of_call (Err fault) = Err (of_set fault)
 
--- an opening's fault as a pool's
-abbrev pub of_uber : UberFault → PoolFault
-of_uber (ubers.Damaged sector stated found) = faults.Damaged sector stated found
-of_uber ubers.NoPool = faults.NoPool
-of_uber (ubers.BadVersion version) = faults.BadVersion version
-of_uber ubers.DiskFault = faults.DiskFault
+-- a commit's fault as a pool's
+abbrev pub of_commit : CommitFault → PoolFault
+of_commit (commits.Full need largest) = faults.Full need largest
+of_commit commits.DiskFault = faults.DiskFault
+of_commit commits.OutOfMemory = faults.OutOfMemory
+
+-- what a commit answers, as a pool's answer
+abbrev pub of_committed : {T : Type 0} → Result T CommitFault → Result T PoolFault
+of_committed (Ok value) = Ok value
+of_committed (Err fault) = Err (of_commit fault)
 
 -- whether the disk failed
 abbrev pub is_disk_fault : {T : Type 0} → Result T PoolFault → Bool
@@ -68,8 +63,6 @@ is_disk_fault (Err (faults.CannotApply fault)) = false
 is_disk_fault (Err (faults.Redacted object block)) = false
 is_disk_fault (Err (faults.Full need largest)) = false
 is_disk_fault (Err (faults.Damaged sector stated found)) = false
-is_disk_fault (Err faults.NoPool) = false
-is_disk_fault (Err (faults.BadVersion number)) = false
 is_disk_fault (Err faults.DiskFault) = true
 is_disk_fault (Err faults.Failed) = false
 is_disk_fault (Err faults.OutOfMemory) = false
@@ -86,60 +79,17 @@ StepFault kept after (faults.CannotApply fault) = (after ≡ Err (refusals.Canno
 StepFault kept after (faults.Redacted object block) = (after ≡ Err (refusals.Redacted object block)) × kept
 StepFault kept after (faults.Full need largest) = (largest < need) × kept
 StepFault kept after (faults.Damaged sector stated found) = ⊥
-StepFault kept after faults.NoPool = ⊥
-StepFault kept after (faults.BadVersion number) = ⊥
 StepFault kept after faults.DiskFault = Unit {0}
 StepFault kept after faults.Failed = ⊥
 StepFault kept after faults.OutOfMemory = kept
 
--- what a read of what is there may answer: the disk's failure, or want of memory
-abbrev pub ReadFault : PoolFault → Type 0
-ReadFault (faults.Plan fault) = ⊥
-ReadFault (faults.CannotApply fault) = ⊥
-ReadFault (faults.Redacted object block) = ⊥
-ReadFault (faults.Full need largest) = ⊥
-ReadFault (faults.Damaged sector stated found) = ⊥
-ReadFault faults.NoPool = ⊥
-ReadFault (faults.BadVersion number) = ⊥
-ReadFault faults.DiskFault = Unit {0}
-ReadFault faults.Failed = ⊥
-ReadFault faults.OutOfMemory = Unit {0}
-
--- what a read may answer where it isn't known what is there: that a block isn't as it was written besides
-abbrev pub LoadFault : PoolFault → Type 0
-LoadFault (faults.Plan fault) = ⊥
-LoadFault (faults.CannotApply fault) = ⊥
-LoadFault (faults.Redacted object block) = ⊥
-LoadFault (faults.Full need largest) = ⊥
-LoadFault (faults.Damaged sector stated found) = Unit {0}
-LoadFault faults.NoPool = ⊥
-LoadFault (faults.BadVersion number) = ⊥
-LoadFault faults.DiskFault = Unit {0}
-LoadFault faults.Failed = ⊥
-LoadFault faults.OutOfMemory = Unit {0}
-
--- what a write may answer: that the disk is full besides
-abbrev pub WriteFault : PoolFault → Type 0
-WriteFault (faults.Plan fault) = ⊥
-WriteFault (faults.CannotApply fault) = ⊥
-WriteFault (faults.Redacted object block) = ⊥
-WriteFault (faults.Full need largest) = largest < need
-WriteFault (faults.Damaged sector stated found) = ⊥
-WriteFault faults.NoPool = ⊥
-WriteFault (faults.BadVersion number) = ⊥
-WriteFault faults.DiskFault = Unit {0}
-WriteFault faults.Failed = ⊥
-WriteFault faults.OutOfMemory = Unit {0}
-
--- the faults that a command on a pool that hasn't failed may answer, whatever the image is: those of opening are none of them
+-- the faults that a command on a pool that hasn't failed may answer, whatever the image is: all but that it failed before, and a full disk only with less left than is needed
 abbrev pub IsStepFault : PoolFault → Type 0
 IsStepFault (faults.Plan fault) = Unit {0}
 IsStepFault (faults.CannotApply fault) = Unit {0}
 IsStepFault (faults.Redacted object block) = Unit {0}
 IsStepFault (faults.Full need largest) = largest < need
 IsStepFault (faults.Damaged sector stated found) = Unit {0}
-IsStepFault faults.NoPool = ⊥
-IsStepFault (faults.BadVersion number) = ⊥
 IsStepFault faults.DiskFault = Unit {0}
 IsStepFault faults.Failed = ⊥
 IsStepFault faults.OutOfMemory = Unit {0}

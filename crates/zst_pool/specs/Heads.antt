@@ -16,11 +16,11 @@ use Rattle.zst_tree.specs.declared.tree.ObjSet.{ObjSet}
 use Rattle.zst_objset.specs.Sets.{SetHolds}
 use Rattle.zst_pool.specs.Checks.{next_of, with_head_of}
 use Rattle.zst_pool.specs.Faults.{StepFault}
-use Rattle.zst_pool.specs.Reads.{Rests, free_by}
+use Rattle.zst_image.specs.Reads.{Rests, free_by}
 use Rattle.zst_pool.specs.Work.{Writes}
 use Rattle.zst_pool.specs.declared.fault.PoolFault.{PoolFault}
-use Rattle.zst_pool.specs.declared.fault.PoolFault.TheVariants.{Plan, CannotApply, Redacted, Full, Damaged, NoPool, BadVersion, DiskFault, Failed, OutOfMemory}
-use Rattle.zst_pool.specs.declared.kept.Kept.{Kept}
+use Rattle.zst_pool.specs.declared.fault.PoolFault.TheVariants.{Plan, CannotApply, Redacted, Full, Damaged, DiskFault, Failed, OutOfMemory}
+use Rattle.zst_image.specs.declared.kept.Kept.{Kept}
 
 -- why a head isn't changed, where its set holds it: as the definition refuses it; full only where the definition accepts; never damaged
 abbrev pub ChangeFault : Result DatedState Refusal → PoolFault → Type 0
@@ -29,8 +29,6 @@ ChangeFault change (CannotApply fault) = change ≡ Err (refusals.CannotApply 0 
 ChangeFault change (Redacted object block) = change ≡ Err (refusals.Redacted object block)
 ChangeFault change (Full need largest) = (largest < need) × ((after : DatedState) × (change ≡ Ok after))
 ChangeFault change (Damaged sector stated found) = ⊥
-ChangeFault change NoPool = ⊥
-ChangeFault change (BadVersion number) = ⊥
 ChangeFault change DiskFault = Unit {0}
 ChangeFault change Failed = ⊥
 ChangeFault change OutOfMemory = Unit {0}
@@ -53,8 +51,6 @@ is_accepted (Err (CannotApply fault)) = false
 is_accepted (Err (Redacted object block)) = false
 is_accepted (Err (Full need largest)) = true
 is_accepted (Err (Damaged sector stated found)) = false
-is_accepted (Err NoPool) = false
-is_accepted (Err (BadVersion number)) = false
 is_accepted (Err DiskFault) = false
 is_accepted (Err Failed) = false
 is_accepted (Err OutOfMemory) = false

@@ -17,10 +17,10 @@ use Rattle.zst_dir.specs.declared.rows.Bookmark.{Bookmark}
 use Rattle.zst_dir.specs.declared.rows.Dataset.{Dataset}
 use Rattle.zst_dir.specs.declared.rows.Partial.{Partial}
 use Rattle.zst_dir.specs.declared.rows.Snapshot.{Snapshot}
-use Rattle.zst_pool.specs.Reads.{IsNamedBy}
+use Rattle.zst_image.specs.Reads.{IsNamedBy}
 use Rattle.zst_pool.specs.declared.fault.PoolFault.{PoolFault}
 use Rattle.zst_pool.specs.declared.fault.PoolFault.TheVariants.{Plan}
-use Rattle.zst_pool.specs.declared.kept.Kept.{Kept}
+use Rattle.zst_image.specs.declared.kept.Kept.{Kept}
 
 -- whether a quantity is counted in the directory and the latest body
 abbrev pub is_counted : Quantity → Bool

@@ -6,10 +6,10 @@ use Rattle.zst_model.specs.declared.pools.command.Command.{Command}
 use Rattle.zst_model.specs.declared.pools.command.Command.TheVariants as commands
 use Rattle.zst_dir.specs.Rows.{Rows}
 use Rattle.zst_dir.specs.Spelling.{dir_bytes}
-use Rattle.zst_pool.specs.Reads.{dir_sectors}
+use Rattle.zst_image.specs.Reads.{dir_sectors}
 use Rattle.zst_pool.specs.declared.fault.PoolFault.{PoolFault}
 use Rattle.zst_pool.specs.declared.fault.PoolFault.TheVariants.{Full}
-use Rattle.zst_pool.specs.declared.kept.Kept.{Kept}
+use Rattle.zst_image.specs.declared.kept.Kept.{Kept}
 
 -- so many sectors an object takes at most: for the trees of its set, and then, where it has a spill block, for that and for the trees again
 abbrev pub object_sectors : Option (List ℕ) → ℕ
@@ -33,16 +33,6 @@ most_sectors (commands.ListObjects name) = 0
 pub record HasNoRoom (most : ℕ) (uber : Uber) (rows : Rows) (need largest : ℕ) : Type 0 where
   pub shorter : largest < need
   pub room : uber.sectors - uber.end < most + dir_sectors (length (dir_bytes rows) + 1024)
-
--- E24 of a directory's block: 16 sectors are longer than what is free then, and before the directory no run of so many was free
-pub record IsLeafFull (most : ℕ) (old new : FreeSectors) (need largest : ℕ) : Type 0 where
-  pub needed : need ≡ 16
-  pub is_longest : largest ≡ largest_of new
-  pub before : largest_of old < most
-
--- and so many sectors are what a directory with these rows takes at most
-abbrev pub IsDirFull : FreeSectors → FreeSectors → Rows → ℕ → ℕ → Type 0
-IsDirFull old new rows need largest = IsLeafFull (dir_sectors (length (dir_bytes rows))) old new need largest
 
 -- a fault that isn't E24
 abbrev pub NotFull : PoolFault → Type 0

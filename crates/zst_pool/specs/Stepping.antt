@@ -1,5 +1,5 @@
 -- What stepping a pool answers.
-use Rattle.std.specs.Prelude.{◌≡◌, ℕ, Bool, true, false, List, Result, Ok, Err}
+use Rattle.std.specs.Prelude.{◌≡◌, ◌⊎◌, ℕ, Bool, true, false, List, Result, Ok, Err}
 use Rattle.zst_outside.specs.Images.{DiskState}
 use Rattle.zst_uber.specs.declared.uber.Uber.{Uber}
 use Rattle.zst_model.specs.declared.pools.command.Command.{Command}
@@ -9,7 +9,7 @@ use Rattle.zst_model.specs.pools.Pool.{Pool}
 use Rattle.zst_model.specs.pools.Step.{Stepped}
 use Rattle.zst_dir.specs.Rows.{Rows}
 use Rattle.zst_pool.specs.Faults.{StepFault}
-use Rattle.zst_pool.specs.Reads.{Rests}
+use Rattle.zst_image.specs.Reads.{Reads, Rests}
 use Rattle.zst_pool.specs.declared.fault.PoolFault.{PoolFault}
 
 -- whether a command is built: those that only answer aren't yet
@@ -24,6 +24,10 @@ is_built (commands.Snapshot name) = true
 is_built (commands.Read name k i) = false
 is_built commands.List = false
 is_built (commands.ListObjects name) = false
+
+-- an image reads as the pool before a command, or as the pool after it
+abbrev pub BeforeOrAfter : Pool → Result Stepped Refusal → List ℕ → Type 0
+BeforeOrAfter pool after image = Reads pool image ⊎ ((done : Stepped) × (after ≡ Ok done) × Reads done.pool image)
 
 -- after Ok the disk reads as what the definition makes of the pool, and the reply is the definition's; after a refusal the pool is as it was, and the refusal is the definition's
 abbrev pub StepAnswer : DiskState → Uber → Rows → Pool → Result Stepped Refusal → Result (List (List ℕ)) PoolFault → Type 0

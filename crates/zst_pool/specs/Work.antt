@@ -1,29 +1,22 @@
 -- What the parts of a command do: they read, they write blocks into free sectors, and one commits.
-use Rattle.std.specs.Prelude.{◌≡◌, ◌⊎◌, ◌+◌, ◌||◌, ◌≤◌, ℕ, Bool, false, List, length, Result, Ok, Err, IfErr, IfOk, OnErr}
+use Rattle.std.specs.Prelude.{◌≡◌, ◌+◌, ◌||◌, ◌≤◌, ℕ, Bool, false, Result, Ok, Err, IfErr, IfOk, OnErr}
 use Rattle.zst_outside.specs.Images.{DiskState, Leaves}
-use Rattle.zst_space.specs.FreeSectors.{FreeSectors, IsFree, largest_of}
-use Rattle.zst_block.specs.Blocks.{FitsDisk, FillsFree, KeepsBlocks}
-use Rattle.zst_uber.specs.Body.{InRange}
+use Rattle.zst_space.specs.FreeSectors.{FreeSectors, largest_of}
+use Rattle.zst_block.specs.Blocks.{FitsDisk, FillsFree}
 use Rattle.zst_uber.specs.Commit.{HeadSettled}
-use Rattle.zst_uber.specs.Slots.{latest, IsNext}
+use Rattle.zst_uber.specs.Slots.{latest}
 use Rattle.zst_uber.specs.declared.uber.Uber.{Uber}
 use Rattle.zst_model.specs.declared.refusals.refusal.Refusal.{Refusal}
-use Rattle.zst_model.specs.pools.Pool.{Pool, IsPool}
+use Rattle.zst_model.specs.pools.Pool.{Pool}
 use Rattle.zst_model.specs.pools.Step.{Stepped}
 use Rattle.zst_dir.specs.Rows.{Rows}
-use Rattle.zst_tree.specs.Indices.{Blocks}
-use Rattle.zst_pool.specs.Faults.{HasDiskCause, is_disk_fault, IsStepFault, ReadFault, WriteFault, StepFault}
-use Rattle.zst_pool.specs.Reads.{Reads, RowsAre, Rests, BeforeOrAfter}
+use Rattle.zst_image.specs.Committing.{Ready}
+use Rattle.zst_image.specs.Reads.{Rests}
+use Rattle.zst_image.specs.declared.kept.Kept.{Kept}
+use Rattle.zst_pool.specs.Faults.{HasDiskCause, is_disk_fault, IsStepFault, StepFault}
 use Rattle.zst_pool.specs.Room.{FindsNoRoom, FullBelow}
+use Rattle.zst_pool.specs.Stepping.{BeforeOrAfter}
 use Rattle.zst_pool.specs.declared.fault.PoolFault.{PoolFault}
-use Rattle.zst_pool.specs.declared.fault.PoolFault.TheVariants.{Plan, CannotApply, Redacted, Full, Damaged, NoPool, BadVersion, DiskFault, Failed, OutOfMemory}
-use Rattle.zst_pool.specs.declared.kept.Kept.{Kept}
-
--- a disk from which the next commit can be made: this body is in its ranges and, where the disk is honest, its latest, with nothing pending in sectors 0 to 7
-pub record Ready (disk : DiskState) (uber : Uber) : Type 0 where
-  pub in_range : InRange disk.size uber
-  pub next : disk.honest → IsNext (uber.number + 1) (latest disk.seen)
-  pub head : disk.honest → HeadSettled disk
 
 -- a part of a command: it wrote into free sectors alone, took them, and left sectors 0 to 7 as they were
 pub record Works {T : Type 0} (old : DiskState) (old_space : FreeSectors) (old_failed : Bool) (new : DiskState) (new_space : FreeSectors) (new_failed : Bool) (result : Result T PoolFault) : Type 0 where
@@ -41,57 +34,6 @@ pub record Writes {T : Type 0} (most : ℕ) (old : DiskState) (old_space : FreeS
   pub took : largest_of old_space ≤ largest_of new_space + most
   pub known : IfErr result IsStepFault
   pub full : IfErr result (FullBelow old_space most)
-
--- a read of what is there gives it, or the disk or the memory failed
-abbrev pub ReadAnswer : {T : Type 0} → (T → Type 0) → Result T PoolFault → Type 0
-ReadAnswer Is (Ok value) = Is value
-ReadAnswer Is (Err fault) = ReadFault fault
-
--- these rows over these blocks are the next pool of this body, with this guid counter
-pub record NextIs (has : Blocks) (uber : Uber) (guids : ℕ) (rows : Rows) (next : Pool) : Type 0 where
-  pub id : next.id ≡ uber.id
-  pub number : next.number ≡ uber.number + 1
-  pub guid_counter : next.guids ≡ guids
-  pub rows_are : RowsAre has rows next
-  pub lawful : IsPool next
-
--- what stands after a fault: the pool from before, unless the disk failed
-abbrev pub Stays : Type 0 → PoolFault → Type 0
-Stays before (Plan fault) = before
-Stays before (CannotApply fault) = before
-Stays before (Redacted object block) = before
-Stays before (Full need largest) = before
-Stays before (Damaged sector stated found) = before
-Stays before NoPool = before
-Stays before (BadVersion number) = before
-Stays before DiskFault = Unit {0}
-Stays before Failed = before
-Stays before OutOfMemory = before
-
--- what stands after a commit's answer
-abbrev pub CommitAnswer : (Kept → Type 0) → Type 0 → Result Kept PoolFault → Type 0
-CommitAnswer after before (Ok kept) = after kept
-CommitAnswer after before (Err fault) = WriteFault fault × Stays before fault
-
--- an image has the latest body of another and all its blocks, also where more sectors are free
-pub record KeepsImage (space : FreeSectors) (old new : List ℕ) : Type 0 where
-  pub size : length new ≡ length old
-  pub latest_stays : latest new ≡ latest old
-  pub blocks : (more : FreeSectors) → ((sector : ℕ) → IsFree space sector → IsFree more sector) → KeepsBlocks old more new more
-
--- an image that keeps one from before a commit, or one that reads as the pool that the commit makes
-abbrev pub OldOrNext : FreeSectors → DiskState → Pool → List ℕ → Type 0
-OldOrNext space old next c = ((d : List ℕ) × old.images d × KeepsImage space d c) ⊎ Reads next c
-
--- a commit of a pool, whatever stood before: inside it each image keeps one from before or reads as the pool; after a refusal that isn't the disk's, free sectors alone were written
-pub record CommitsOver (old : DiskState) (old_space : FreeSectors) (new : DiskState) (new_space : FreeSectors) (next : Pool) (result : Result Kept PoolFault) : Type 0 where
-  pub moments : Leaves old new (OldOrNext old_space old next)
-  pub answer : CommitAnswer (λ kept. Rests new kept.body kept.dir next) (FillsFree old old_space new new_space) result
-
--- a commit of the next pool: inside it each image reads as the pool before or as the next, and then by its answer
-pub record Commits (start now : DiskState) (uber : Uber) (rows : Rows) (pool next : Pool) (result : Result Kept PoolFault) : Type 0 where
-  pub moments : Leaves start now (λ c. Reads pool c ⊎ Reads next c)
-  pub answer : CommitAnswer (λ kept. Rests now kept.body kept.dir next) (Rests now uber rows pool) result
 
 -- what stands after a command's answer: what the definition makes of the pool, or the pool as it was
 abbrev pub DidAnswer : (Kept → Pool → Type 0) → Type 0 → Result Stepped Refusal → Result Kept PoolFault → Type 0

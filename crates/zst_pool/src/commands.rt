@@ -7,16 +7,16 @@ ghost use Rattle.zst_tree.specs.Sets.{no_objects};
 ghost use Rattle.zst_dir.specs.Rows.{HasDataset, HasSnapshot, IsDatasetRow, IsLawful, IsSnapshotRow, snapshot_is_before};
 ghost use Rattle.zst_dir.specs.Spelling.{dir_bytes};
 ghost use Rattle.zst_pool.specs.Plans.{Plans};
-ghost use Rattle.zst_pool.specs.Reads.{free_by};
-ghost use Rattle.zst_pool.specs.Work.{Ready, Runs};
+ghost use Rattle.zst_image.specs.Reads.{free_by};
+ghost use Rattle.zst_image.specs.Committing.{Ready};
+ghost use Rattle.zst_pool.specs.Work.{Runs};
 
 use crate::checks::{check_new_dataset, check_number, plan_snapshot};
-use crate::committing::commit_dir;
-use crate::fault::PoolFault;
-use crate::kept::Kept;
+use crate::fault::{PoolFault, of_committed};
 use std::alloc::{AllocError, Global};
 use zst_block::Io;
 use zst_dir::{Dataset, Dir, Snapshot};
+use zst_image::{Kept, commit_dir};
 use zst_laws::steps_keep_pools;
 use zst_model::GuidSet;
 use zst_names::{DatasetName, SnapName};
@@ -59,7 +59,7 @@ pub fn make_dataset<D: Disk>(
     let mut dir = kept.dir.copy(alloc)?;
     dir.add_dataset(new_dataset(kind, name))?;
     steps_keep_pools();
-    commit_dir(io, alloc, &kept.body, kept.body.guids, dir)
+    of_committed(commit_dir(io, alloc, &kept.body, kept.body.guids, dir))
 }
 
 /// The snapshot of a dataset's head, with the next number and the next guid.
@@ -115,5 +115,5 @@ pub fn take_snapshot<D: Disk>(
     let snapshot = new_snapshot(&kept.body, dataset, now, name);
     let dir = dir_with_snapshot(alloc, &kept.dir, snapshot)?;
     steps_keep_pools();
-    commit_dir(io, alloc, &kept.body, kept.body.guids + 1, dir)
+    of_committed(commit_dir(io, alloc, &kept.body, kept.body.guids + 1, dir))
 }

@@ -1,11 +1,13 @@
+ghost use Rattle.std.specs.Prelude.{◌≡◌};
+ghost use Rattle.zst_pool.specs.Faults.{of_committed};
+
 use std::alloc::AllocError;
 use zst_block::{BlockFault, Ptr};
-use zst_leaves::LeavesFault;
+use zst_image::{CommitFault, Kept};
 use zst_model::{ApplyFault, PlanFault, Refusal};
 use zst_objset::ObjFault;
-use zst_uber::UberFault;
 
-/// Why a pool isn't made, opened or stepped.
+/// Why a pool isn't stepped.
 #[derive(Clone, Debug, Drop, PartialEq, Eq)]
 pub enum PoolFault {
     /// What the command's own checks found (E2 to E15, E19, E23).
@@ -29,10 +31,6 @@ pub enum PoolFault {
         stated: [u64; 4],
         found: [u64; 4],
     },
-    /// E26: no open gate stands before a body.
-    NoPool,
-    /// E27: the latest body has this version.
-    BadVersion(u32),
     /// E28: the disk failed, and its count of faults rose.
     DiskFault,
     /// E31: the disk failed before, and the pool wasn't opened again.
@@ -102,20 +100,6 @@ impl From<BlockFault> for PoolFault {
     }
 }
 
-impl From<LeavesFault> for PoolFault {
-    ghost use Rattle.std.specs.Prelude.{◌≡◌};
-    ghost use Rattle.zst_pool.specs.Faults.{of_leaves};
-
-    ghost from_gives = { λ leaves fault. fault ≡ of_leaves leaves };
-
-    fn from(fault: LeavesFault) -> Self {
-        match fault {
-            LeavesFault::Block(fault) => PoolFault::from(fault),
-            LeavesFault::Memory => PoolFault::OutOfMemory,
-        }
-    }
-}
-
 impl From<ObjFault> for PoolFault {
     ghost use Rattle.std.specs.Prelude.{◌≡◌};
     ghost use Rattle.zst_pool.specs.Faults.{of_set};
@@ -134,27 +118,28 @@ impl From<ObjFault> for PoolFault {
     }
 }
 
-impl From<UberFault> for PoolFault {
+impl From<CommitFault> for PoolFault {
     ghost use Rattle.std.specs.Prelude.{◌≡◌};
-    ghost use Rattle.zst_pool.specs.Faults.{of_uber};
+    ghost use Rattle.zst_pool.specs.Faults.{of_commit};
 
-    ghost from_gives = { λ uber fault. fault ≡ of_uber uber };
+    ghost from_gives = { λ commit fault. fault ≡ of_commit commit };
 
-    fn from(fault: UberFault) -> Self {
+    fn from(fault: CommitFault) -> Self {
         match fault {
-            UberFault::Damaged {
-                sector,
-                stated,
-                found,
-            } => PoolFault::Damaged {
-                sector,
-                stated,
-                found,
-            },
-            UberFault::NoPool => PoolFault::NoPool,
-            UberFault::BadVersion(version) => PoolFault::BadVersion(version),
-            UberFault::DiskFault => PoolFault::DiskFault,
+            CommitFault::Full { need, largest } => PoolFault::Full { need, largest },
+            CommitFault::DiskFault => PoolFault::DiskFault,
+            CommitFault::OutOfMemory => PoolFault::OutOfMemory,
         }
+    }
+}
+
+/// What a commit answers, as a pool's answer.
+pub(crate) fn of_committed(made: Result<Kept, CommitFault>) -> Result<Kept, PoolFault>
+    ensures { result ≡ of_committed made }
+{
+    match made {
+        Ok(kept) => Ok(kept),
+        Err(fault) => Err(PoolFault::from(fault)),
     }
 }
 
@@ -178,10 +163,6 @@ impl From<PoolFault> for Refusal {
                 sector,
                 stated,
                 found,
-            },
-            PoolFault::NoPool => Refusal::NoPool,
-            PoolFault::BadVersion(version) => Refusal::BadVersion {
-                number: u64::from(version),
             },
             PoolFault::DiskFault => Refusal::DiskFault,
             PoolFault::Failed => Refusal::Failed,

@@ -16,18 +16,18 @@ ghost use Rattle.zst_pool.specs.Checks.{FindsHead, freed, put_in};
 ghost use Rattle.zst_pool.specs.Faults.{is_disk_fault};
 ghost use Rattle.zst_pool.specs.Heads.{ChangedHead, ChangesHead, IsPlan, JudgesHead, is_accepted};
 ghost use Rattle.zst_pool.specs.Plans.{IsLast, Plans, is_by_rows};
-ghost use Rattle.zst_pool.specs.Reads.{AreNamed, free_by};
+ghost use Rattle.zst_image.specs.Reads.{AreNamed, free_by};
 ghost use Rattle.zst_pool.specs.Room.{object_sectors};
-ghost use Rattle.zst_pool.specs.Work.{Ready, Runs};
+ghost use Rattle.zst_image.specs.Committing.{Ready};
+ghost use Rattle.zst_pool.specs.Work.{Runs};
 
 use crate::changes::{change_block, change_holes, change_numbers, change_object};
 use crate::checks::{check_number, open_dataset};
-use crate::committing::commit_dir;
-use crate::fault::PoolFault;
-use crate::kept::Kept;
+use crate::fault::{PoolFault, of_committed};
 use std::alloc::Global;
 use zst_block::Io;
 use zst_dir::Dir;
+use zst_image::{Kept, commit_dir};
 use zst_laws::steps_keep_pools;
 use zst_model::{Bytes, ObjectHead, PlanFault};
 use zst_names::DatasetName;
@@ -112,7 +112,7 @@ fn commit_head<D: Disk>(
     check_levels(set)?;
     let mut dir = kept.dir.copy(alloc)?;
     dir.set_head(name, set);
-    commit_dir(io, alloc, &kept.body, kept.body.guids, dir)
+    of_committed(commit_dir(io, alloc, &kept.body, kept.body.guids, dir))
 }
 
 /// Allocates an object, or gives it other attributes. Its spill block is this one, or none.

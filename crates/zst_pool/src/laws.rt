@@ -3,7 +3,7 @@ ghost use Rattle.std.specs.Prelude.{◌≡◌, All};
 ghost use Rattle.zst_uber.specs.declared.uber.Uber.{Uber};
 ghost use Rattle.zst_dir.specs.Rows.{Rows};
 ghost use Rattle.zst_pool.specs.Plans.{bare_pool};
-ghost use Rattle.zst_pool.specs.Reads.{IsNamedBy};
+ghost use Rattle.zst_image.specs.Reads.{IsNamedBy};
 
 /// A body and its rows name a pool, whatever the object sets hold: one whose objects nothing touched
 /// yet. As long as lists aren't built, no bookmark has one.

@@ -6,17 +6,19 @@ ghost use Rattle.zst_model.specs.pools.Sound.{Sound};
 ghost use Rattle.zst_model.specs.pools.Step.{Stepped, stepped, IsCommand};
 ghost use Rattle.zst_pool.specs.Faults.{HasDiskCause, IsStepFault, is_disk_fault};
 ghost use Rattle.zst_pool.specs.Plans.{Plans, indices_end, numbers_end};
-ghost use Rattle.zst_pool.specs.Reads.{Rests, BeforeOrAfter, free_by};
+ghost use Rattle.zst_image.specs.Reads.{Rests, free_by};
+ghost use Rattle.zst_pool.specs.Stepping.{BeforeOrAfter};
 ghost use Rattle.zst_pool.specs.Room.{HasNoRoom, most_sectors};
 ghost use Rattle.zst_pool.specs.Stepping.{is_built, StepAnswer};
-ghost use Rattle.zst_pool.specs.Work.{Ready, Runs};
+ghost use Rattle.zst_image.specs.Committing.{Ready};
+ghost use Rattle.zst_pool.specs.Work.{Runs};
 
 use crate::commands::{make_dataset, take_snapshot};
 use crate::fault::PoolFault;
 use crate::heads::{free_objects, punch, put_object, write_block};
-use crate::kept::Kept;
 use std::alloc::{AllocError, Global};
 use zst_block::{Io, Node};
+use zst_image::Kept;
 use zst_laws::steps_keep_sound;
 use zst_model::{Bytes, Command, Lack, PlanFault, Reply};
 use zst_outside::Disk;
@@ -76,7 +78,7 @@ impl<'d, D: Disk> Pool<'d, D> {
         // E3, E4, E5 and E23 of datasets, snapshots and guids come exactly where the directory says so, whatever the object sets hold, unless no memory is left before; E23 of numbers only past them.
         ensures planned { self.old.io.failed ≡ false → is_built command ≡ true → ¬ (result ≡ Err PoolFault.OutOfMemory)
             → Plans (λ pool. stepped [] now command pool) (numbers_end command) (indices_end command) self.old.kept result }
-        // Whatever the image is, the faults of opening never come.
+        // Whatever the image is, E31 comes only after E28, and E24 only where less is left than is needed.
         ensures known { self.old.io.failed ≡ false → IfErr result IsStepFault }
         // E24 comes only where fewer sectors are free than the command may take.
         ensures full { (pool : Plain) (need largest : ℕ) → Rests (D.state self.old.io.disk.now) self.old.kept.body self.old.kept.dir pool

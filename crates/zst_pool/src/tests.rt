@@ -2,13 +2,48 @@ ghost use Rattle.std.specs.Prelude.{◌≡◌, ◌<◌, ◌≤◌, true, length,
 ghost use Rattle.zst_model.specs.states.State.{is_block_size};
 ghost use Rattle.zst_model.specs.pools.Step.{IsCommand};
 
-use crate::{Kept, Pool, PoolFault};
+use crate::{Pool, PoolFault};
 use std::alloc::{AllocError, Global};
 use std::process::Abort;
 use zst_block::Ptr;
-use zst_model::{Bytes, Command, ObjectHead, PlanFault, Present, Quantity, Refusal, Reply};
+use zst_image::{CreateFault, Kept, OpenFault};
+use zst_model::{Bytes, Command, ObjectHead, PlanFault, Refusal, Reply};
 use zst_names::{DatasetName, SnapName};
 use zst_outside::{Disk, MemDisk};
+
+// What a test, or a part of one, was refused for.
+#[derive(Debug, Drop, PartialEq, Eq)]
+struct Refused(Refusal);
+
+impl From<AllocError> for Refused {
+    fn from(_: AllocError) -> Self {
+        Refused(Refusal::OutOfMemory)
+    }
+}
+
+impl From<PlanFault> for Refused {
+    fn from(fault: PlanFault) -> Self {
+        Refused(Refusal::from(fault))
+    }
+}
+
+impl From<OpenFault> for Refused {
+    fn from(fault: OpenFault) -> Self {
+        Refused(Refusal::from(fault))
+    }
+}
+
+impl From<CreateFault> for Refused {
+    fn from(fault: CreateFault) -> Self {
+        Refused(Refusal::from(fault))
+    }
+}
+
+impl From<PoolFault> for Refused {
+    fn from(fault: PoolFault) -> Self {
+        Refused(Refusal::from(fault))
+    }
+}
 
 // When commands are run, in seconds.
 const NOW: u64 = 1_700_000_000;
@@ -23,11 +58,11 @@ fn zeros(alloc: Global, fails: Option<u64>) -> Result<MemDisk, AllocError> {
     Ok(MemDisk::new(bytes, fail, None))
 }
 
-fn dataset(text: &str) -> Result<DatasetName, PoolFault> {
+fn dataset(text: &str) -> Result<DatasetName, Refused> {
     Ok(DatasetName::parse(text).map_err(PlanFault::from)?)
 }
 
-fn file_system(text: &str) -> Result<Command, PoolFault>
+fn file_system(text: &str) -> Result<Command, Refused>
     ensures { IfOk result IsCommand }
 {
     let name = dataset(text)?;
@@ -36,7 +71,7 @@ fn file_system(text: &str) -> Result<Command, PoolFault>
 }
 
 // The contents of a file, in blocks of this size.
-fn object(alloc: Global, text: &str, number: u64, block_size: u32) -> Result<Command, PoolFault>
+fn object(alloc: Global, text: &str, number: u64, block_size: u32) -> Result<Command, Refused>
     requires number { 0 < number }
     requires size { is_block_size block_size ≡ true }
     ensures { IfOk result IsCommand }
@@ -63,7 +98,7 @@ fn one_byte(alloc: Global) -> Result<Bytes, AllocError>
     Ok(Bytes::new(vec![in alloc; 170; 1]?))
 }
 
-fn write(alloc: Global, text: &str, number: u64, index: u64) -> Result<Command, PoolFault>
+fn write(alloc: Global, text: &str, number: u64, index: u64) -> Result<Command, Refused>
     requires { 0 < number }
     ensures { IfOk result IsCommand }
 {
@@ -78,7 +113,7 @@ fn write(alloc: Global, text: &str, number: u64, index: u64) -> Result<Command, 
     })
 }
 
-fn snapshot(text: &str) -> Result<Command, PoolFault>
+fn snapshot(text: &str) -> Result<Command, Refused>
     ensures { IfOk result IsCommand }
 {
     let name = SnapName::parse(text).map_err(PlanFault::from)?;
@@ -88,7 +123,7 @@ fn snapshot(text: &str) -> Result<Command, PoolFault>
 
 // The commands of a small pool, in order: a file system, a file in it, its first block and a snapshot.
 #[tactic(auto, unfolding(zst_model::specs::states::State::is_block_size, zst_model::specs::states::State::largest_block))]
-fn small(alloc: Global, place: u64) -> Result<Command, PoolFault>
+fn small(alloc: Global, place: u64) -> Result<Command, Refused>
     ensures { IfOk result IsCommand }
 {
     match place {
@@ -100,16 +135,16 @@ fn small(alloc: Global, place: u64) -> Result<Command, PoolFault>
 }
 
 // Opens the pool of a disk and runs one command on it.
-fn step_on(alloc: Global, disk: &mut MemDisk, command: Command) -> Result<Reply, PoolFault>
+fn step_on(alloc: Global, disk: &mut MemDisk, command: Command) -> Result<Reply, Refused>
     requires { IsCommand command }
 {
     let kept = Kept::open(alloc, disk)?;
     let mut pool = Pool::new(alloc, disk, kept);
-    pool.step(alloc, NOW, command)
+    Ok(pool.step(alloc, NOW, command)?)
 }
 
 // A disk with a new pool, on which so many commands of the small pool were run.
-fn with_small(alloc: Global, count: u64) -> Result<MemDisk, PoolFault> {
+fn with_small(alloc: Global, count: u64) -> Result<MemDisk, Refused> {
     let mut disk = zeros(alloc, None)?;
     Kept::create(alloc, &mut disk, 256, 1)?;
     for place in 0..count {
@@ -119,11 +154,11 @@ fn with_small(alloc: Global, count: u64) -> Result<MemDisk, PoolFault> {
 }
 
 // The number of the pool's last commit, and 0 where there is no pool.
-fn number_of(alloc: Global, disk: &mut MemDisk) -> Result<u64, PoolFault> {
+fn number_of(alloc: Global, disk: &mut MemDisk) -> Result<u64, Refused> {
     match Kept::open(alloc, disk) {
         Ok(kept) => Ok(kept.body.number),
-        Err(PoolFault::NoPool) => Ok(0),
-        Err(fault) => Err(fault),
+        Err(OpenFault::NoPool) => Ok(0),
+        Err(fault) => Err(Refused::from(fault)),
     }
 }
 
@@ -134,7 +169,7 @@ fn check_line(rt: &impl Abort, reply: &Reply, line: &str) {
 }
 
 #[test]
-fn small_has_the_numbers_1_to_5(rt: HostRuntime) -> Result<(), PoolFault> {
+fn small_has_the_numbers_1_to_5(rt: HostRuntime) -> Result<(), Refused> {
     let alloc = rt.alloc();
     let mut disk = with_small(alloc, 0)?;
     assert_eq!(rt; number_of(alloc, &mut disk)?, 1);
@@ -162,13 +197,13 @@ fn check_refused(
     disk: &mut MemDisk,
     command: Command,
     text: &str,
-) -> Result<(), PoolFault>
+) -> Result<(), Refused>
     requires { IsCommand command }
 {
     let number = number_of(alloc, disk)?;
     match step_on(alloc, disk, command) {
         Ok(_) => panic!(rt; "not refused: {text}"),
-        Err(fault) => assert_eq!(rt; Refusal::from(fault).text().as_str(), text),
+        Err(fault) => assert_eq!(rt; fault.0.text().as_str(), text),
     }
     assert_eq!(rt; number_of(alloc, disk)?, number, "{text}");
     Ok(())
@@ -176,7 +211,7 @@ fn check_refused(
 
 #[test]
 #[tactic(auto, unfolding(zst_model::specs::states::State::is_block_size, zst_model::specs::states::State::largest_block))]
-fn refusals_leave_the_pool(rt: HostRuntime) -> Result<(), PoolFault> {
+fn refusals_leave_the_pool(rt: HostRuntime) -> Result<(), Refused> {
     let alloc = rt.alloc();
     let mut disk = with_small(alloc, 4)?;
     step_on(alloc, &mut disk, object(alloc, "tank/a", 2, 1536)?)?;
@@ -224,7 +259,7 @@ fn is_full(answer: &Result<Reply, PoolFault>) -> bool {
 }
 
 #[test]
-fn what_a_refused_write_took_is_free_again(rt: HostRuntime) -> Result<(), PoolFault> {
+fn what_a_refused_write_took_is_free_again(rt: HostRuntime) -> Result<(), Refused> {
     let alloc = rt.alloc();
     let mut disk = with_small(alloc, 4)?;
     // 135 sectors are left. A write takes one for its block, and 16 each for the leaf of the object
@@ -244,7 +279,7 @@ fn what_a_refused_write_took_is_free_again(rt: HostRuntime) -> Result<(), PoolFa
 }
 
 #[test]
-fn a_directory_of_two_leaves_is_opened_again(rt: HostRuntime) -> Result<(), PoolFault> {
+fn a_directory_of_two_leaves_is_opened_again(rt: HostRuntime) -> Result<(), Refused> {
     let alloc = rt.alloc();
     let bytes = vec![in alloc; 0; 4_194_304]?;
     let mut disk = MemDisk::new(bytes, Vec::new(alloc), None);
@@ -263,31 +298,8 @@ fn a_directory_of_two_leaves_is_opened_again(rt: HostRuntime) -> Result<(), Pool
     Ok(())
 }
 
-#[test]
-fn zeros_have_no_pool_and_a_pool_is_made_once(rt: HostRuntime) -> Result<(), PoolFault> {
-    let alloc = rt.alloc();
-    let mut disk = zeros(alloc, None)?;
-    let opened = Kept::open(alloc, &mut disk);
-    assert!(rt; opened.err() == Some(PoolFault::NoPool));
-
-    let device = PlanFault::Limit {
-        which: Quantity::Device,
-        number: 257,
-    };
-    let made = Kept::create(alloc, &mut disk, 257, 1);
-    assert!(rt; made.err() == Some(PoolFault::Plan(device)));
-
-    let made = Kept::create(alloc, &mut disk, 256, 1);
-    assert!(rt; made.is_ok());
-    let again = Kept::create(alloc, &mut disk, 256, 2);
-    assert!(rt; again.err() == Some(PoolFault::Plan(PlanFault::Exists(Present::Pool))));
-    let kept = Kept::open(alloc, &mut disk)?;
-    assert_eq!(rt; (kept.body.id, kept.body.number), (1, 1));
-    Ok(())
-}
-
 // The number of the image that a stop at this moment leaves, where this byte fills what was pending.
-fn number_after_stop(alloc: Global, disk: &MemDisk, moment: u64, fill: u8) -> Result<u64, PoolFault>
+fn number_after_stop(alloc: Global, disk: &MemDisk, moment: u64, fill: u8) -> Result<u64, Refused>
     requires { moment ≤ (⟦<MemDisk as Disk>⟧.state disk.now).calls }
 {
     let mut image = disk.image(alloc, moment, fill)?;
@@ -303,7 +315,7 @@ fn stops_are_whole(
     before: u64,
     after: u64,
     fill: u8,
-) -> Result<bool, PoolFault> {
+) -> Result<bool, Refused> {
     let end = disk.calls();
     let mut least = before;
     for moment in start..end {
@@ -317,7 +329,7 @@ fn stops_are_whole(
 }
 
 #[test]
-fn every_stop_leaves_the_pool_before_or_after(rt: HostRuntime) -> Result<(), PoolFault> {
+fn every_stop_leaves_the_pool_before_or_after(rt: HostRuntime) -> Result<(), Refused> {
     let alloc = rt.alloc();
     // From this call on a disk has the calls of its last command alone.
     let mut start = 0;
@@ -336,18 +348,18 @@ fn every_stop_leaves_the_pool_before_or_after(rt: HostRuntime) -> Result<(), Poo
 
 // Makes a pool and runs the commands of the small pool until the disk fails. Tells how many
 // commits were accepted.
-fn accepted(alloc: Global, disk: &mut MemDisk) -> Result<u64, PoolFault>
+fn accepted(alloc: Global, disk: &mut MemDisk) -> Result<u64, Refused>
     ensures { IfOk result (λ count. count ≤ 5) }
 {
     match Kept::create(alloc, disk, 256, 1) {
         Ok(_) => {}
-        Err(PoolFault::DiskFault) => return Ok(0),
-        Err(fault) => return Err(fault),
+        Err(CreateFault::DiskFault) => return Ok(0),
+        Err(fault) => return Err(Refused::from(fault)),
     }
     for place in 0..4 {
         match step_on(alloc, disk, small(alloc, place)?) {
             Ok(_) => {}
-            Err(PoolFault::DiskFault) => return Ok(place + 1),
+            Err(Refused(Refusal::DiskFault)) => return Ok(place + 1),
             Err(fault) => return Err(fault),
         }
     }
@@ -355,7 +367,7 @@ fn accepted(alloc: Global, disk: &mut MemDisk) -> Result<u64, PoolFault>
 }
 
 #[test]
-fn each_call_of_the_disk_may_fail(rt: HostRuntime) -> Result<(), PoolFault> {
+fn each_call_of_the_disk_may_fail(rt: HostRuntime) -> Result<(), Refused> {
     let alloc = rt.alloc();
     let calls = with_small(alloc, 4)?.calls();
     for call in 0..calls {
@@ -376,20 +388,20 @@ fn each_call_of_the_disk_may_fail(rt: HostRuntime) -> Result<(), PoolFault> {
 }
 
 // Turns one bit of the byte at this place, or turns it back.
-fn turn(disk: &mut MemDisk, at: u64) -> Result<(), PoolFault> {
+fn turn(disk: &mut MemDisk, at: u64) -> Result<(), Refused> {
     let mut byte = [0; 1];
     if at >= disk.bytes() {
-        return Err(PoolFault::DiskFault);
+        return Err(Refused(Refusal::DiskFault));
     }
     if disk.read(at, &mut byte).is_err() || disk.write_at(at, &[byte[0] ^ 1]).is_err() {
-        return Err(PoolFault::DiskFault);
+        return Err(Refused(Refusal::DiskFault));
     }
     Ok(())
 }
 
 // Whether a write to a pool of 3 commits, with the byte at this place turned, is accepted exactly
 // where the pool has 4 commits then.
-fn is_answered(alloc: Global, disk: &MemDisk, at: u64) -> Result<bool, PoolFault> {
+fn is_answered(alloc: Global, disk: &MemDisk, at: u64) -> Result<bool, Refused> {
     let mut image = disk.image(alloc, disk.calls(), 0)?;
     turn(&mut image, at)?;
     let answer = step_on(alloc, &mut image, small(alloc, 2)?);
@@ -399,29 +411,26 @@ fn is_answered(alloc: Global, disk: &MemDisk, at: u64) -> Result<bool, PoolFault
 
 // Whether a write is refused while the byte at this place is turned, since the run of this pointer
 // has other sums.
-fn is_damaged(alloc: Global, disk: &mut MemDisk, ptr: &Ptr, at: u64) -> Result<bool, PoolFault> {
+fn is_damaged(alloc: Global, disk: &mut MemDisk, ptr: &Ptr, at: u64) -> Result<bool, Refused> {
     turn(disk, at)?;
     let answer = step_on(alloc, disk, small(alloc, 2)?);
     turn(disk, at)?;
     match answer {
         Err(
-            PoolFault::Damaged {
-                sector,
-                stated,
-                found,
-            },
+            Refused(
+                Refusal::Damaged {
+                    sector,
+                    stated,
+                    found,
+                },
+            ),
         ) => Ok(sector == ptr.sector && stated == ptr.sum.parts() && found != stated),
         _ => Ok(false),
     }
 }
 
 // Checks every thirty-first byte of the run that a pointer names.
-fn check_run(
-    rt: &impl Abort,
-    alloc: Global,
-    disk: &mut MemDisk,
-    ptr: &Ptr,
-) -> Result<(), PoolFault> {
+fn check_run(rt: &impl Abort, alloc: Global, disk: &mut MemDisk, ptr: &Ptr) -> Result<(), Refused> {
     assert!(rt; ptr.sector < 256);
     assert_eq!(rt; ptr.length, 8192);
     for step in 0..265 {
@@ -432,7 +441,7 @@ fn check_run(
 }
 
 #[test]
-fn each_byte_may_be_flipped(rt: HostRuntime) -> Result<(), PoolFault> {
+fn each_byte_may_be_flipped(rt: HostRuntime) -> Result<(), Refused> {
     let alloc = rt.alloc();
     let mut disk = with_small(alloc, 2)?;
     // The lowest byte of each word of the slots.

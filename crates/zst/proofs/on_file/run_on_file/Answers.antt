@@ -1,7 +1,7 @@
 use Rattle.std.proofs.Common.{◌≡◌, [], ℕ, List, length, sym, subst, ⊎_elim, ◌∙◌}
 use Rattle.zst_file.specs.Events.{fitted, fitted-same, length-fitted}
 use Rattle.zst_file.specs.FileDisk.{size_of}
-use Rattle.zst_pool.specs.Reads.{Reads}
+use Rattle.zst_image.specs.Reads.{Reads}
 use Rattle.zst.proofs.on_file.run_on_file.Goals as goal
 
 pub returns-clause-holds : goal.returns-clause-holds

@@ -1,5 +1,3 @@
-use Rattle.std.specs.Prelude.{Err}
-use Rattle.std.proofs.Common.{ap}
 use Rattle.std.proofs.lemmas.Result.{err_from_is_err_and}
 use Rattle.zst.proofs.Made.{creates_refused, creates_made}
 use Rattle.zst.proofs.Replying.{first_written, first_lost}
@@ -9,7 +7,7 @@ pub returns-in_err-create : goal.returns-in_err-create
 returns-in_err-create g c =
     let e = c.in_err-create.ensures in
     let p = err_from_is_err_and c.from_residual.result c.from_residual.ensures.1 in
-    rw (p.1, p.2) (creates_refused c.args.sectors c.args.id _ _ _ c.in_err-create.field-0.0 e.answer e.refused e.moments e.cause (λ is. e.alive (ap (λ f. Err f) is)))
+    rw (p.1, p.2) (creates_refused c.args.sectors c.args.id _ _ _ c.in_err-create.field-0.0 e.answer e.refused e.moments e.cause)
 
 pub returns-in-Ok : goal.returns-in-Ok
 returns-in-Ok g c =

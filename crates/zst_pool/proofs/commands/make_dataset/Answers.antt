@@ -17,7 +17,7 @@ use Rattle.zst_pool.proofs.Running.{idle_writes, runs_committed, runs_idle}
 use Rattle.std.proofs.Common.{inl, inr}
 use Rattle.zst_pool.proofs.Planned.{made_apart, no_plan-commit, plans_apart, plans_refused}
 use Rattle.zst_pool.proofs.commands.make_dataset.Goals.{In_ok-check_number}
-use Rattle.zst_pool.specs.Reads.{IsNamedBy, free_by}
+use Rattle.zst_image.specs.Reads.{IsNamedBy, free_by}
 use Rattle.std.proofs.Common.{◌≡◌}
 use Rattle.std.specs.Prelude.{Ok}
 use Rattle.zst_model.specs.pools.Pool.{Pool}
@@ -33,7 +33,7 @@ returns-clause-runs g c =
     let name = c.args.name.now in
     let commit = c.commit_dir.ensures in
     let grows : length (dir_bytes c.add_dataset.new.self) ≤ length (dir_bytes kept.dir) + 1024 = omega (arith, c.in_ok-add_dataset.ensures.grows, ap (λ (d : Rows). length (dir_bytes d)) c.in_ok-dir.ensures) in
-    runs_committed (λ pool. with_dataset kind name pool) 0 kept c.add_dataset.new.self c.commit_dir.result (idle_writes kept old space c.args.io.now.failed c.requires.space c.requires.ready)
+    runs_committed (λ pool. with_dataset kind name pool) 0 kept c.add_dataset.new.self c.commit_dir.result c.of_committed.ensures (idle_writes kept old space c.args.io.now.failed c.requires.space c.requires.ready)
     (λ pool told rests.
     let done = next_of (with_new kind name pool) in
     let described = described_in old space kept.body kept.dir pool c.requires.space rests in
@@ -44,9 +44,9 @@ returns-clause-runs g c =
     ∙ ap (λ (d : Rows). record d { datasets = inserted (λ (a b : Dataset). is_before a.name b.name) c.new_dataset.result d.datasets }) c.in_ok-dir.ensures
     ∙ ap (λ (row : Dataset). record kept.dir { datasets = inserted (λ (a b : Dataset). is_before a.name b.name) row kept.dir.datasets }) c.new_dataset.ensures.same in
     let next = dataset_is_next (Has old.seen space) kept.body kept.dir c.add_dataset.new.self pool kind name described dir lawful in
-    did old (g.D.Disk.state c.commit_dir.new.io.disk.now) kept.body kept.dir pool (with_dataset kind name pool) done made c.commit_dir.result
+    did old (g.D.Disk.state c.commit_dir.new.io.disk.now) kept.body kept.dir pool (with_dataset kind name pool) done made c.commit_dir.result (λ need largest is. (commit.full need largest is).shorter)
     (commit.commits c.args.io.now.disk.now kept.dir pool done.pool told rests (fills_none old space kept.body c.requires.space) next))
-    grows commit.fault commit.full commit.ready commit.stays commit.failed commit.cause commit.honest
+    grows commit.full commit.ready commit.stays commit.failed commit.cause commit.honest
 
 pub returns-in_err-add_dataset-clause-runs : goal.returns-in_err-add_dataset-clause-runs
 returns-in_err-add_dataset-clause-runs g c =
@@ -98,9 +98,9 @@ returns-in_err-add_dataset-clause-plans g c =
 pub returns-clause-plans : goal.returns-clause-plans
 returns-clause-plans g c =
     let at = (goal.at.returns-clause-plans g c).In_ok-check_number in
-    plans_apart (λ pool. with_dataset c.args.kind c.args.name.now pool) 0 0 c.args.kept.now c.commit_dir.result
+    plans_apart (λ pool. with_dataset c.args.kind c.args.name.now pool) 0 0 c.args.kept.now c.of_committed.result
     (λ pool named. made_apart (with_dataset c.args.kind c.args.name.now pool) (next_of (with_new c.args.kind c.args.name.now pool)) (made g at pool named))
-    (λ fault is. absurd (no_plan-commit c.commit_dir.result c.commit_dir.ensures.fault fault is))
+    (λ fault is. absurd (no_plan-commit c.commit_dir.result c.of_committed.ensures fault is))
 
 pub returns-in_err-check_new_dataset-clause-runs : goal.returns-in_err-check_new_dataset-clause-runs
 returns-in_err-check_new_dataset-clause-runs g c =

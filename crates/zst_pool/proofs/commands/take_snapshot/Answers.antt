@@ -6,7 +6,7 @@ use Rattle.zst_names.specs.Names.{IsSnapshot, dataset_of}
 use Rattle.zst_model.specs.pools.Pool.{inserted}
 use Rattle.zst_model.specs.pools.Step.{with_snapshot}
 use Rattle.zst_pool.specs.Checks.{next_of, with_taken}
-use Rattle.zst_pool.specs.Reads.{DatasetIs, free_by}
+use Rattle.zst_image.specs.Reads.{DatasetIs, free_by}
 use Rattle.zst_dir.specs.Rows.{HasSnapshot, IsDatasetRow, snapshot_is_before}
 use Rattle.zst_dir.specs.declared.rows.Snapshot.{Snapshot}
 use Rattle.zst_pool.specs.declared.fault.PoolFault.TheVariants.{OutOfMemory, Plan}
@@ -43,7 +43,7 @@ returns-clause-runs g c =
     let name = c.args.name.now in
     let commit = c.commit_dir.ensures in
     let has = Has old.seen space in
-    runs_committed (λ pool. with_snapshot now name pool) 0 kept c.in_ok-dir.dir c.commit_dir.result (idle_writes kept old space c.args.io.now.failed c.requires.space c.requires.ready)
+    runs_committed (λ pool. with_snapshot now name pool) 0 kept c.in_ok-dir.dir c.commit_dir.result c.of_committed.ensures (idle_writes kept old space c.args.io.now.failed c.requires.space c.requires.ready)
     (λ pool told rests.
     let described = described_in old space kept.body kept.dir pool c.requires.space rests in
     let judged = c.in_ok-dataset.ensures.judged now pool (rows_named has kept.dir pool described.rows_are) described.guids described.number in
@@ -56,9 +56,9 @@ returns-clause-runs g c =
     let dir = c.in_ok-dir.ensures.taken
     ∙ ap (λ (s : Snapshot). record kept.dir { snapshots = inserted snapshot_is_before s kept.dir.snapshots; partials = filter (λ partial. not (bytes_eq partial.target (dataset_of 64 s.name))) kept.dir.partials }) same in
     let next = snapshot_is_next has kept.body kept.dir c.in_ok-dir.dir pool now name c.in_ok-dataset.dataset.now judged.0 described stands c.in_ok-dataset.ensures.free dir lawful in
-    did old (g.D.Disk.state c.commit_dir.new.io.disk.now) kept.body kept.dir pool (with_snapshot now name pool) done judged.2 c.commit_dir.result
+    did old (g.D.Disk.state c.commit_dir.new.io.disk.now) kept.body kept.dir pool (with_snapshot now name pool) done judged.2 c.commit_dir.result (λ need largest is. (commit.full need largest is).shorter)
     (commit.commits c.args.io.now.disk.now kept.dir pool done.pool told rests (fills_none old space kept.body c.requires.space) next))
-    c.in_ok-dir.ensures.grows commit.fault commit.full commit.ready commit.stays commit.failed commit.cause commit.honest
+    c.in_ok-dir.ensures.grows commit.full commit.ready commit.stays commit.failed commit.cause commit.honest
 
 pub returns-in_err-dataset-clause-runs : goal.returns-in_err-dataset-clause-runs
 returns-in_err-dataset-clause-runs g c =
@@ -94,8 +94,8 @@ pub returns-clause-plans : goal.returns-clause-plans
 returns-clause-plans g c =
     let now = c.args.now in
     let name = c.args.name.now in
-    plans_apart (λ pool. with_snapshot now name pool) 0 0 c.args.kept.now c.commit_dir.result
+    plans_apart (λ pool. with_snapshot now name pool) 0 0 c.args.kept.now c.of_committed.result
     (λ pool named.
     let judged = c.in_ok-dataset.ensures.judged now pool named.are_named named.guids named.number in
     made_apart (with_snapshot now name pool) (next_of (with_taken now name judged.0 pool)) judged.2)
-    (λ fault is. absurd (no_plan-commit c.commit_dir.result c.commit_dir.ensures.fault fault is))
+    (λ fault is. absurd (no_plan-commit c.commit_dir.result c.of_committed.ensures fault is))

@@ -13,7 +13,7 @@ use Rattle.zst_dir.specs.Spelling.{dir_bytes}
 use Rattle.zst_pool.specs.Checks.{next_of, with_head_of}
 use Rattle.zst_pool.specs.Faults.{StepFault}
 use Rattle.zst_pool.specs.Heads.{ChangedHead}
-use Rattle.zst_pool.specs.Reads.{free_by}
+use Rattle.zst_image.specs.Reads.{free_by}
 use Rattle.zst_pool.specs.Work.{Writes}
 use Rattle.zst_pool.specs.declared.fault.PoolFault.{PoolFault}
 use Rattle.zst_pool.specs.declared.fault.PoolFault.TheVariants.{Damaged, OutOfMemory}
@@ -97,7 +97,7 @@ returns-clause-runs g c = λ start start_failed make most changed.
     let long : length (dir_bytes c.set_head.new.self) ≡ length (dir_bytes kept.dir) = c.set_head.ensures.as_long ∙ ap (λ (d : Rows). length (dir_bytes d)) c.in_ok-dir.ensures in
     let grows : length (dir_bytes c.set_head.new.self) ≤ length (dir_bytes kept.dir) + 1024 = omega (arith, long) in
     let dir = c.set_head.ensures.headed ∙ ap (λ (d : Rows). record d { datasets = with_head name set d.datasets }) c.in_ok-dir.ensures in
-    runs_committed (λ pool. on_head name pool (make pool)) most kept c.set_head.new.self c.commit_dir.result writes
+    runs_committed (λ pool. on_head name pool (make pool)) most kept c.set_head.new.self c.commit_dir.result c.of_committed.ensures writes
     (λ pool told rests.
     let made = changed.made pool (commit.honest told) rests in
     let head = c.in_ok-judge.ensures.judged old.seen space set name pool (make pool made.0) rests.reads.described.number made.1 in
@@ -105,8 +105,8 @@ returns-clause-runs g c = λ start start_failed make most changed.
     let is = made.2 ∙ ap (λ (r : Result DatedState Refusal). r >>= λ after. committed (with_head_of name after pool)) head.1 ∙ head.3 in
     let described = described_on from old space kept.body kept.dir pool rests writes.works.fills in
     let next = head_is_next (Has old.seen space) kept.body kept.dir c.set_head.new.self pool name set head.0 described head.2 dir (changed.lawful pool done rests.reads.described.lawful is) in
-    did from last kept.body kept.dir pool (on_head name pool (make pool)) done is c.commit_dir.result (commit.commits start kept.dir pool done.pool told rests writes.works.fills next))
-    grows commit.fault commit.full commit.ready commit.stays commit.failed commit.cause commit.honest
+    did from last kept.body kept.dir pool (on_head name pool (make pool)) done is c.commit_dir.result (λ need largest is. (commit.full need largest is).shorter) (commit.commits start kept.dir pool done.pool told rests writes.works.fills next))
+    grows commit.full commit.ready commit.stays commit.failed commit.cause commit.honest
 
 pub returns-in_err-judge-clause-plans : goal.returns-in_err-judge-clause-plans
 returns-in_err-judge-clause-plans g c = λ fault is.
@@ -129,4 +129,4 @@ returns-in_err-dir-clause-plans g c = λ fault is.
     absurd (cc (answered, is))
 
 pub returns-clause-plans : goal.returns-clause-plans
-returns-clause-plans g c = λ fault is. absurd (no_plan-commit c.commit_dir.result c.commit_dir.ensures.fault fault is)
+returns-clause-plans g c = λ fault is. absurd (no_plan-commit c.commit_dir.result c.of_committed.ensures fault is)

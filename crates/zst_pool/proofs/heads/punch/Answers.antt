@@ -2,7 +2,7 @@ use Rattle.zst_model.specs.pools.Pool.{Pool}
 use Rattle.zst_model.specs.pools.Step.{punched}
 use Rattle.zst_pool.specs.declared.fault.PoolFault.TheVariants.{Plan}
 use Rattle.zst_block.specs.Blocks.{Has}
-use Rattle.zst_pool.specs.Reads.{free_by}
+use Rattle.zst_image.specs.Reads.{free_by}
 use Rattle.zst_pool.proofs.Naming.{described_is_named}
 use Rattle.zst_pool.proofs.NextPools.{punched_is_lawful}
 use Rattle.zst_pool.proofs.Parts.{ready_works}

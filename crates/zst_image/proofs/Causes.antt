@@ -1,0 +1,39 @@
+-- What a fault of leaves or of a commit says of the disk.
+use Rattle.std.specs.Prelude.{Result, Err}
+use Rattle.std.proofs.Common.{ℕ, List, refl, sym, ap, subst}
+use Rattle.zst_block.specs.Working as blocks
+use Rattle.zst_block.specs.declared.fault.BlockFault.TheVariants as block_faults
+use Rattle.zst_leaves.specs.Leaves.{GivesText, stop_of_leaves}
+use Rattle.zst_leaves.specs.declared.fault.LeavesFault.{LeavesFault}
+use Rattle.zst_leaves.specs.declared.fault.LeavesFault.TheVariants.{Block, Memory}
+use Rattle.zst_image.specs.Faults.{HasDiskCause, stop_of_commit}
+use Rattle.zst_image.specs.Opening.{IsOpenFault, LoadFault, ReadFault}
+use Rattle.zst_image.specs.declared.open_fault.OpenFault.{OpenFault}
+use Rattle.zst_image.specs.declared.open_fault.OpenFault.TheVariants as opens
+use Rattle.zst_image.specs.declared.commit_fault.CommitFault.{CommitFault}
+use Rattle.zst_image.specs.declared.commit_fault.CommitFault.TheVariants as commits
+
+-- a call that read leaves fell by the disk only where its count of faults rose
+pub leaves_cause : (T U : Type 0) (before now : ℕ) (fault : LeavesFault) (answer : OpenFault) → IsOpenFault fault answer → blocks.HasCause before now (stop_of_leaves {T = T} (Err fault))
+    → HasDiskCause {T = U} opens.DiskFault before now (Err answer)
+leaves_cause T U before now (Block (block_faults.Full need largest)) answer is cause = absurd is
+leaves_cause T U before now (Block (block_faults.Damaged sector stated found)) answer is cause = record { later = cause.later; fault = λ fell. absurd (cc (is, fell)) }
+leaves_cause T U before now (Block block_faults.DiskFault) answer is cause = record { later = cause.later; fault = λ fell. cause.fault refl }
+leaves_cause T U before now Memory answer is cause = record { later = cause.later; fault = λ fell. absurd (cc (is, fell)) }
+
+pub leaves_load : (fault : LeavesFault) (answer : OpenFault) → IsOpenFault fault answer → LoadFault answer
+leaves_load (Block (block_faults.Full need largest)) answer is = absurd is
+leaves_load (Block (block_faults.Damaged sector stated found)) answer is = subst LoadFault (sym is) tt
+leaves_load (Block block_faults.DiskFault) answer is = subst LoadFault (sym is) tt
+leaves_load Memory answer is = subst LoadFault (sym is) tt
+
+-- where the leaves were there, the disk or the memory failed
+pub leaves_read : (T : Type 0) (text : List ℕ) (items : T → List ℕ) (fault : LeavesFault) (answer : OpenFault) → IsOpenFault fault answer → GivesText text items (Err fault) → ReadFault answer
+leaves_read T text items (Block (block_faults.Full need largest)) answer is gives = absurd is
+leaves_read T text items (Block (block_faults.Damaged sector stated found)) answer is gives = absurd gives
+leaves_read T text items (Block block_faults.DiskFault) answer is gives = subst ReadFault (sym is) tt
+leaves_read T text items Memory answer is gives = subst ReadFault (sym is) tt
+
+-- and so did a commit
+pub commit_cause : {T : Type 0} (before now : ℕ) (result : Result T CommitFault) → blocks.HasCause before now (stop_of_commit result) → HasDiskCause commits.DiskFault before now result
+commit_cause {T = T} before now result cause = record { later = cause.later; fault = λ is. cause.fault (ap (λ (r : Result T CommitFault). stop_of_commit r) is) }

@@ -1,0 +1,48 @@
+use Rattle.std.proofs.Common.{◌≡◌, refl, sym, ◌∙◌, ap}
+use Rattle.std.proofs.lemmas.Result.{err_from_is_err_and}
+use Rattle.zst_uber.specs.Body.{body_bytes}
+use Rattle.zst_uber.specs.declared.uber.Uber.{Uber}
+use Rattle.zst_image.proofs.Opened.{IsBody-latest, IsLatest-reads, HasDir-same, OpenAnswers-body, OpenAnswers-refused}
+use Rattle.zst_image.proofs.kept.Kept.open.Goals as goal
+
+pub returns-in_err-dir-clause-there : goal.returns-in_err-dir-clause-there
+returns-in_err-dir-clause-there g c = λ uber rows pool told reads.
+    let old = g.D.Disk.state c.args.disk.now in
+    let same : c.in_ok-body.body ≡ uber = c.in_ok-body.ensures.there uber (c.read_dir.ensures.reads.honest told) (IsLatest-reads old.size uber rows pool old.seen (g.met.D.Disk.seen_size c.args.disk.now) reads) in
+    let read = c.in_err-dir.ensures.there rows told (ap (λ (u : Uber). u.free_count) same ∙ reads.described.extents) (HasDir-same uber c.in_ok-body.body rows old.seen _ same c.latest.ensures.reads.seen reads.described.directory) in
+    let p = err_from_is_err_and c.from_residual-in_err-dir.result c.from_residual-in_err-dir.ensures.1 in
+    rw (p.1, p.2) read
+
+pub returns-in_err-body-clause-answer : goal.returns-in_err-body-clause-answer
+returns-in_err-body-clause-answer g c = λ told.
+    let p = err_from_is_err_and c.from_residual.result c.from_residual.ensures.1 in
+    rw (p.1, p.2) (OpenAnswers-body (g.D.Disk.state c.args.disk.now) c.in_err-body.field-0.0 (c.in_err-body.ensures.answer told))
+
+pub returns-in_err-dir-clause-answer : goal.returns-in_err-dir-clause-answer
+returns-in_err-dir-clause-answer g c = λ told.
+    let old = g.D.Disk.state c.args.disk.now in
+    let body = c.in_ok-body.body in
+    let p = err_from_is_err_and c.from_residual-in_err-dir.result c.from_residual-in_err-dir.ensures.1 in
+    rw (p.1, p.2) (OpenAnswers-refused old body _ (c.in_ok-body.ensures.stands (c.read_dir.ensures.reads.honest told)) c.in_err-dir.ensures.fault (λ rows none has.
+    c.in_err-dir.ensures.there rows told none (HasDir-same body body rows old.seen _ refl c.latest.ensures.reads.seen has)))
+
+pub returns-clause-there : goal.returns-clause-there
+returns-clause-there g c = λ uber rows pool told reads.
+    let old = g.D.Disk.state c.args.disk.now in
+    let same : c.in_ok-body.body ≡ uber = c.in_ok-body.ensures.there uber (c.read_dir.ensures.reads.honest told) (IsLatest-reads old.size uber rows pool old.seen (g.met.D.Disk.seen_size c.args.disk.now) reads) in
+    (same, c.in_ok-dir.ensures.there rows told (ap (λ (u : Uber). u.free_count) same ∙ reads.described.extents) (HasDir-same uber c.in_ok-body.body rows old.seen _ same c.latest.ensures.reads.seen reads.described.directory))
+
+pub returns-clause-answer : goal.returns-clause-answer
+returns-clause-answer g c = λ told.
+    let old = g.D.Disk.state c.args.disk.now in
+    let body = c.in_ok-body.body in
+    let last = c.in_ok-body.ensures.stands (c.read_dir.ensures.reads.honest told) in
+    let only = c.in_ok-dir.ensures.only told in (
+      body_bytes body,
+      last.stands,
+      record {
+        is_body = IsBody-latest old.size body old.seen last;
+        extents = only.0;
+        directory = HasDir-same body body c.in_ok-dir.dir _ old.seen refl (sym c.latest.ensures.reads.seen) only.1;
+      },
+    )

@@ -1,0 +1,39 @@
+-- What making a pool answers, and where.
+use Rattle.std.specs.Prelude.{◌≡◌, ◌≢◌, ◌*◌, ◌<◌, ℕ, List, Option, None, Result, Ok, Err}
+use Rattle.zst_outside.specs.Images.{DiskState, OnlyReads}
+use Rattle.zst_uber.specs.Slots.{latest}
+use Rattle.zst_image.specs.declared.create_fault.CreateFault.{CreateFault}
+use Rattle.zst_image.specs.declared.create_fault.CreateFault.TheVariants.{Exists, TooSmall, DiskFault, OutOfMemory}
+use Rattle.zst_image.specs.declared.commit_fault.CommitFault.{CommitFault}
+use Rattle.zst_image.specs.declared.commit_fault.CommitFault.TheVariants as commits
+use Rattle.zst_image.specs.declared.kept.Kept.{Kept}
+
+-- each answer of a look for a pool where none may be
+abbrev pub NoneAnswers : Option (List ℕ) → Result (Unit {0}) CreateFault → Type 0
+NoneAnswers body (Ok done) = body ≡ None
+NoneAnswers body (Err Exists) = body ≢ None
+NoneAnswers body (Err (TooSmall sectors)) = ⊥
+NoneAnswers body (Err DiskFault) = Unit {0}
+NoneAnswers body (Err OutOfMemory) = ⊥
+
+-- each answer of making a pool, where it comes: memory is wanted only after the checks
+abbrev pub CreateAnswers : ℕ → Option (List ℕ) → ℕ → Result Kept CreateFault → Type 0
+CreateAnswers size body sectors (Ok kept) = (body ≡ None) × (¬ (size < 512 * sectors))
+CreateAnswers size body sectors (Err Exists) = body ≢ None
+CreateAnswers size body sectors (Err (TooSmall asked)) = (body ≡ None) × (size < 512 * sectors) × (asked ≡ sectors)
+CreateAnswers size body sectors (Err DiskFault) = Unit {0}
+CreateAnswers size body sectors (Err OutOfMemory) = (body ≡ None) × (¬ (size < 512 * sectors))
+
+-- what stands after making a pool was refused: after its checks all is as it was; without memory there still is no pool
+abbrev pub RefusedLeaves : DiskState → DiskState → CreateFault → Type 0
+RefusedLeaves old new Exists = OnlyReads old new
+RefusedLeaves old new (TooSmall sectors) = OnlyReads old new
+RefusedLeaves old new DiskFault = Unit {0}
+RefusedLeaves old new OutOfMemory = latest new.seen ≡ latest old.seen
+
+-- what a first commit answered, as the answer of making a pool: it always has room
+abbrev pub IsMade : Result Kept CommitFault → Result Kept CreateFault → Type 0
+IsMade (Ok kept) answer = answer ≡ Ok kept
+IsMade (Err (commits.Full need largest)) answer = ⊥
+IsMade (Err commits.DiskFault) answer = answer ≡ Err DiskFault
+IsMade (Err commits.OutOfMemory) answer = answer ≡ Err OutOfMemory

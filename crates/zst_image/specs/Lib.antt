@@ -1,0 +1,5 @@
+pub mod Committing
+pub mod Creating
+pub mod Faults
+pub mod Opening
+pub mod Reads
