@@ -12,9 +12,11 @@ pub mod Latest
 pub mod LawfulPools
 pub mod Limits
 pub mod Matching
+pub mod Naming
 pub mod NextPools
 pub mod PartialRows
 pub mod Parts
+pub mod Planned
 pub mod Replying
 pub mod Room
 pub mod Running

@@ -7,6 +7,7 @@ pub mod Finding
 pub mod Heads
 pub mod PartialRows
 pub mod Partials
+pub mod Plans
 pub mod Reopening
 pub mod Runs
 pub mod Stepping

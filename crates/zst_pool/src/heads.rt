@@ -1,9 +1,10 @@
 // The commands on a dataset's head, each over the Io of a pool that hasn't failed.
-ghost use Rattle.std.specs.Prelude.{◌≡◌, ◌⊎◌, ◌+◌, ◌<◌, ◌≤◌, ◌^◌, ℕ, Bool, List, Result, length, IfErr, IfSome, OnErr, OnOk};
+ghost use Rattle.std.specs.Prelude.{◌≡◌, ◌⊎◌, ◌+◌, ◌<◌, ◌≤◌, ◌^◌, ℕ, Bool, true, List, Result, Err, length, IfErr, IfSome, OnErr, OnOk};
 ghost use Rattle.zst_space.specs.FreeSectors.{FreeSectors};
 ghost use Rattle.zst_fletcher.specs.WeightSum.{parts_of};
 ghost use Rattle.zst_block.specs.Blocks.{FitsDisk, Has};
 ghost use Rattle.zst_names.specs.Names.{IsDataset};
+ghost use Rattle.zst_model.specs.declared.refusals.plan_fault.PlanFault.{PlanFault};
 ghost use Rattle.zst_model.specs.declared.refusals.refusal.Refusal.{Refusal};
 ghost use Rattle.zst_model.specs.states.State.{IsHead, IsBonus, IsSpill};
 ghost use Rattle.zst_model.specs.states.Dated.{DatedState};
@@ -13,9 +14,10 @@ ghost use Rattle.zst_tree.specs.Sets.{SetFits};
 ghost use Rattle.zst_tree.specs.declared.tree.ObjSet.{ObjSet as ObjectSet};
 ghost use Rattle.zst_pool.specs.Checks.{FindsHead, freed, put_in};
 ghost use Rattle.zst_pool.specs.Heads.{ChangedHead, ChangesHead, JudgesHead, Stops, is_accepted, of_change, stop_of};
-ghost use Rattle.zst_image.specs.Reads.{RowsAre, free_by};
+ghost use Rattle.zst_image.specs.Reads.{AreNamed, free_by};
 ghost use Rattle.zst_pool.specs.Cost.{Cost, cells_only, object_cost, write_cost};
 ghost use Rattle.zst_pool.specs.Runs.{Runs};
+ghost use Rattle.zst_pool.specs.Plans.{IsLast, Plans, is_by_rows};
 ghost use Rattle.zst_image.specs.Committing.{Ready};
 
 use crate::changes::{change_block, change_holes, change_numbers, change_object};
@@ -37,7 +39,8 @@ use zst_uber::Uber;
 // The object set of the head of a dataset that has no partial state.
 fn open_head(dir: &Dir, name: &DatasetName) -> Result<ObjSet, PlanFault>
     ensures named { OnOk result (IsDataset name.now) }
-    ensures found { (image : List ℕ) (space : FreeSectors) (pool : Pool) → RowsAre (Has image space) dir.now pool → FindsHead (Has image space) name.now pool result }
+    ensures rows { IfErr result (λ fault. is_by_rows fault ≡ true) }
+    ensures found { (pool : Pool) → AreNamed dir.now pool → FindsHead dir.now name.now pool result }
 {
     match open_dataset(dir, name) {
         Ok(dataset) => Ok(dataset.head),
@@ -79,6 +82,7 @@ fn judge(number: u64, changed: Result<(), HeadFault>) -> Result<(), PoolFault>
     ensures below { OnOk result (number < 2 ^ 63) }
     ensures went_well { OnOk result (stop_of changed ≡ None) }
     ensures stops { IfErr result (Stops (stop_of changed)) }
+    ensures last { (fault : PlanFault) → result ≡ Err (PoolFault.Plan fault) → (of_change changed ≡ Err (PoolFault.Plan fault)) ⊎ IsLast number fault }
 {
     if !is_accepted(&changed) {
         return answer(changed);
@@ -115,6 +119,7 @@ fn commit_head<D: Disk>(
     ensures runs { (start : D) (start_failed : Bool) (make : Pool → DatedState → Result DatedState Refusal) (cost : Cost)
         → ChangedHead kept.now name.now make cost (D.state start) start_failed (D.state io.old.disk.now) io.old.space io.old.failed set changed
         → Runs (λ pool. on_head name.now pool (make pool)) cost kept.now (D.state start) start_failed (D.state io.new.disk.now) io.new.space io.new.failed result }
+    ensures plans { (fault : PlanFault) → result ≡ Err (PoolFault.Plan fault) → (of_change changed ≡ Err (PoolFault.Plan fault)) ⊎ IsLast kept.now.body.number fault }
     ensures same { io.new.disk.ghost_name ≡ io.old.disk.ghost_name }
 {
     judge(kept.body.number, changed)?;
@@ -142,6 +147,7 @@ pub fn put_object<D: Disk>(
     requires space { io.old.space ≡ free_by kept.now.body }
     requires ready { Ready (D.state io.old.disk.now) kept.now.body }
     ensures runs { Runs (λ pool. on_head name.now pool (put_in pool object head bonus spill)) (object_cost spill) kept.now (D.state io.old.disk.now) io.old.failed (D.state io.new.disk.now) io.new.space io.new.failed result }
+    ensures plans { Plans (λ pool. on_head name.now pool (put_in pool object head bonus spill)) (object + 1) 0 kept.now result }
     ensures same { io.new.disk.ghost_name ≡ io.old.disk.ghost_name }
 {
     let mut set = open_head(&kept.dir, name)?;
@@ -167,6 +173,7 @@ pub fn write_block<D: Disk>(
     requires space { io.old.space ≡ free_by kept.now.body }
     requires ready { Ready (D.state io.old.disk.now) kept.now.body }
     ensures runs { Runs (λ pool. on_head name.now pool (written pool object index bytes.now)) (write_cost name.now object) kept.now (D.state io.old.disk.now) io.old.failed (D.state io.new.disk.now) io.new.space io.new.failed result }
+    ensures plans { Plans (λ pool. on_head name.now pool (written pool object index bytes.now)) 0 (index + 1) kept.now result }
     ensures same { io.new.disk.ghost_name ≡ io.old.disk.ghost_name }
 {
     let mut set = open_head(&kept.dir, name)?;
@@ -191,6 +198,7 @@ pub fn punch<D: Disk>(
     requires space { io.old.space ≡ free_by kept.now.body }
     requires ready { Ready (D.state io.old.disk.now) kept.now.body }
     ensures runs { Runs (λ pool. on_head name.now pool (punched pool object first count)) (cells_only 2) kept.now (D.state io.old.disk.now) io.old.failed (D.state io.new.disk.now) io.new.space io.new.failed result }
+    ensures plans { Plans (λ pool. on_head name.now pool (punched pool object first count)) 0 (first + count) kept.now result }
     ensures same { io.new.disk.ghost_name ≡ io.old.disk.ghost_name }
 {
     let mut set = open_head(&kept.dir, name)?;
@@ -214,6 +222,7 @@ pub fn free_objects<D: Disk>(
     requires space { io.old.space ≡ free_by kept.now.body }
     requires ready { Ready (D.state io.old.disk.now) kept.now.body }
     ensures runs { Runs (λ pool. on_head name.now pool (freed pool first count)) (cells_only 2) kept.now (D.state io.old.disk.now) io.old.failed (D.state io.new.disk.now) io.new.space io.new.failed result }
+    ensures plans { Plans (λ pool. on_head name.now pool (freed pool first count)) (first + count) 0 kept.now result }
     ensures same { io.new.disk.ghost_name ≡ io.old.disk.ghost_name }
 {
     let mut set = open_head(&kept.dir, name)?;

@@ -8,6 +8,7 @@ mod commands;
 mod fault;
 mod head_fault;
 mod heads;
+mod laws;
 mod partials;
 mod pool;
 mod receiving;
@@ -16,4 +17,5 @@ mod reopening;
 mod tests;
 
 pub use fault::PoolFault;
+pub use laws::rows_name_a_pool;
 pub use pool::Pool;

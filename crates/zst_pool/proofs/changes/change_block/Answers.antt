@@ -12,7 +12,7 @@ use Rattle.zst_objset.specs.Answers.{Changes}
 use Rattle.zst_objset.specs.Changes.{block_written}
 use Rattle.zst_objset.specs.Sets.{SetHolds}
 use Rattle.zst_objset.proofs.SetGrows.{SetHolds-grows}
-use Rattle.zst_pool.specs.Heads.{ChangesHead, Works, stop_of}
+use Rattle.zst_pool.specs.Heads.{ChangesHead, Works, of_change, of_head, stop_of}
 use Rattle.zst_pool.specs.Damage.{block_damage}
 use Rattle.zst_image.specs.Reads.{new_pool}
 use Rattle.zst_space.specs.FreeSectors.{FreeSectors}
@@ -26,6 +26,8 @@ use Rattle.zst_pool.proofs.Room.{block-sectors}
 use Rattle.zst_pool.proofs.Taking.{works_looks, works_then, works_wider}
 use Rattle.zst_pool.proofs.Writing.{call_changes, call_works, stop_same}
 use Rattle.zst_pool.proofs.changes.change_block.Given.{Over}
+use Rattle.zst_pool.specs.declared.fault.PoolFault.TheVariants.{Plan}
+use Rattle.zst_pool.proofs.Planned.{past_indices}
 use Rattle.zst_pool.proofs.changes.change_block.Goals as goal
 use Rattle.zst_pool.proofs.changes.change_block.Goals.{After-answer}
 
@@ -108,3 +110,19 @@ returns-in_err-block-clause-works g c =
     let works = λ (stop : Option BlockFault). Works 1 0 (g.D.Disk.state c.args.io.now.disk.now) c.args.io.now.space c.args.io.now.failed (g.D.Disk.state c.find_size.new.io.disk.now) c.find_size.new.io.space c.find_size.new.io.failed stop in
     let stop = ap (λ (r : Result (Unit {0}) HeadFault). stop_of r) (sym (err_is fell.result Memory fell.ensures.1)) in
     (0, omega arith, subst works stop (works_looks (0 + 640 * 1) 0 c.requires.fits c.in_ok-size.ensures.looks))
+
+pub returns-in_err-size-clause-limits : goal.returns-in_err-size-clause-limits
+returns-in_err-size-clause-limits g c = λ fault is.
+    let fell = c.in_err-size.field-0.0 in
+    let told = sym (ap of_change (err_is c.from_residual.result fell c.from_residual.ensures.1)) ∙ is in
+    let same : of_head fell ≡ Plan fault = cc (told) in
+    absurd (c.in_err-size.ensures.limits fault same)
+
+pub returns-in_err-block-clause-limits : goal.returns-in_err-block-clause-limits
+returns-in_err-block-clause-limits g c = λ fault is.
+    let fell = c.from_residual-in_err-block in
+    let told = sym (ap of_change (err_is fell.result Memory fell.ensures.1)) ∙ is in
+    absurd (cc (told))
+
+pub returns-clause-limits : goal.returns-clause-limits
+returns-clause-limits g c = past_indices (c.args.index + 1) c.write_block.result c.answer.ensures c.write_block.ensures.limits

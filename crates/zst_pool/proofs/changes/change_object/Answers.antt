@@ -7,7 +7,7 @@ use Rattle.zst_model.specs.states.Dated.{DatedState}
 use Rattle.zst_objset.specs.Changes.{object_made, object_put, spill_put}
 use Rattle.zst_objset.specs.Sets.{SetHolds}
 use Rattle.zst_pool.specs.Checks.{put_in}
-use Rattle.zst_pool.specs.Heads.{ChangesHead, Works, stop_of}
+use Rattle.zst_pool.specs.Heads.{ChangesHead, Works, of_change, stop_of}
 use Rattle.zst_pool.specs.declared.head_fault.HeadFault.{HeadFault}
 use Rattle.zst_pool.specs.Cost.{object_cells, spill_sectors}
 use Rattle.zst_pool.proofs.Changing.{put_fault, then_spilled}
@@ -15,6 +15,7 @@ use Rattle.zst_pool.proofs.Judging.{err_is}
 use Rattle.zst_pool.proofs.Taking.{tree_blocks, works_then, works_wider}
 use Rattle.zst_pool.proofs.Writing.{call_changes, call_works}
 use Rattle.zst_pool.proofs.changes.change_object.Given.{Over}
+use Rattle.zst_pool.proofs.Planned.{no_plan, past_numbers}
 use Rattle.zst_pool.proofs.changes.change_object.Goals as goal
 use Rattle.zst_pool.proofs.changes.change_object.Goals.{After-answer}
 
@@ -115,3 +116,11 @@ returns-clause-works g c =
     let is : Some bytes ≡ c.args.spill = ap (λ (b : List ℕ). Some b) c.as_slice-in-Some.ensures ∙ sym c.in-Some.is in
     subst (λ (s : Option (List ℕ)). Works (object_cells s) (spill_sectors s) (g.D.Disk.state c.args.io.now.disk.now) c.args.io.now.space c.args.io.now.failed (g.D.Disk.state c.put_spill.new.io.disk.now) c.put_spill.new.io.space c.put_spill.new.io.failed (stop_of answered)) is
     (works_wider (block + 640 * 2) block (omega arith) (same_blocks block) (works_then first second))
+
+pub returns-in_err-answer-clause-limits : goal.returns-in_err-answer-clause-limits
+returns-in_err-answer-clause-limits g c = λ fault is.
+    past_numbers (c.args.object + 1) c.put_object.result c.answer.ensures c.put_object.ensures.limits fault
+    (ap of_change (c.in_err-answer.was ∙ sym (err_is c.from_residual.result c.in_err-answer.field-0.0 c.from_residual.ensures.1)) ∙ is)
+
+pub returns-clause-limits : goal.returns-clause-limits
+returns-clause-limits g c = λ fault is. absurd (no_plan c.put_spill.result c.answer-in-Some.ensures c.put_spill.ensures.limits fault is)

@@ -16,7 +16,7 @@ use Rattle.zst_pool.specs.Faults.{StepFault}
 use Rattle.zst_pool.specs.Heads.{ChangedHead, stop_of}
 use Rattle.zst_pool.specs.Cost.{Cost}
 use Rattle.zst_pool.specs.declared.fault.PoolFault.{PoolFault}
-use Rattle.zst_pool.specs.declared.fault.PoolFault.TheVariants.{Damaged, OutOfMemory}
+use Rattle.zst_pool.specs.declared.fault.PoolFault.TheVariants.{Damaged, OutOfMemory, Plan}
 use Rattle.zst_pool.proofs.Doing.{did}
 use Rattle.zst_pool.proofs.Judging.{err_is}
 use Rattle.zst_pool.proofs.NextPools.{head_is_next}
@@ -24,6 +24,7 @@ use Rattle.zst_pool.proofs.Parts.{described_on}
 use Rattle.zst_pool.proofs.Judged.{damage_stops, memory_stops}
 use Rattle.zst_pool.proofs.Running.{Wrote, runs_committed, runs_fell}
 use Rattle.zst_pool.proofs.heads.commit_head.Given.{Over}
+use Rattle.zst_pool.proofs.Planned.{no_plan-commit}
 use Rattle.zst_pool.proofs.heads.commit_head.Goals as goal
 use Rattle.zst_pool.proofs.heads.commit_head.Goals.{After-judge}
 
@@ -104,3 +105,26 @@ returns-clause-runs g c = λ start start_failed make cost changed.
     let next = head_is_next (Has old.seen space) kept.body kept.dir c.set_head.new.self pool name set head.0 described head.2 dir (changed.lawful pool done rests.reads.described.lawful is) in
     did from last kept.body kept.dir pool (on_head name pool (make pool)) done is c.commit_dir.result (commit.commits start kept.dir pool done.pool told rests fills next))
     grows commit.full commit.takes commit.ends commit.fills commit.ready commit.stays commit.failed commit.cause commit.honest
+
+pub returns-in_err-judge-clause-plans : goal.returns-in_err-judge-clause-plans
+returns-in_err-judge-clause-plans g c = λ fault is.
+    let fell = c.in_err-judge.field-0.0 in
+    let answered = err_is c.from_residual.result fell c.from_residual.ensures.1 in
+    let same : fell ≡ Plan fault = cc (answered, is) in
+    c.in_err-judge.ensures.last fault (ap (λ f. Err f) same)
+
+pub returns-in_err-check_levels-clause-plans : goal.returns-in_err-check_levels-clause-plans
+returns-in_err-check_levels-clause-plans g c = λ fault is.
+    let fell = c.from_residual-in_err-check_levels in
+    let answered = err_is fell.result c.in_err-check_levels.field-0.0 fell.ensures.1 in
+    let damaged = c.in_err-check_levels.ensures.damaged in
+    absurd (cc (answered, damaged, is))
+
+pub returns-in_err-dir-clause-plans : goal.returns-in_err-dir-clause-plans
+returns-in_err-dir-clause-plans g c = λ fault is.
+    let fell = c.from_residual-in_err-dir in
+    let answered = err_is fell.result OutOfMemory fell.ensures.1 in
+    absurd (cc (answered, is))
+
+pub returns-clause-plans : goal.returns-clause-plans
+returns-clause-plans g c = λ fault is. absurd (no_plan-commit c.commit_dir.result c.of_committed.ensures fault is)
