@@ -34,7 +34,7 @@ kept_rows has rows running runs = record {
   datasets = runs.datasets;
   snapshots = runs.snapshots;
   bookmarks = runs.bookmarks;
-  partials = filter-Match (PartialIs has) (λ row. row.keep) (λ partial. partial.keep) (λ x y is. sym is.keep) rows.partials running.partials runs.partials;
+  partials = filter-Match (PartialIs has) (λ row. row.keep) (λ partial. partial.keep) (λ x y is. sym is.named.keep) rows.partials running.partials runs.partials;
 }
 
 -- what is kept of the next pool is the next pool of the body

@@ -29,10 +29,10 @@ finds {A = A} {B = B} has Is p q set state same holds (x ∷ xs) (y ∷ ys) m = 
 module _ (has : Blocks) (rows : Rows) (pool : Pool) (are : RowsAre has rows pool) where
   pub finds_head : (name : List ℕ) → FindsState has (state_named (names.Dataset name) pool) (set_named (names.Dataset name) rows)
   finds_head name =
-      finds has (DatasetIs has) (λ d. bytes_eq d.name name) (λ d. bytes_eq d.name name) (λ d. d.head) (λ d. d.head) (λ x y is. ap (λ n. bytes_eq n name) (sym is.name)) (λ x y is. is.head)
+      finds has (DatasetIs has) (λ d. bytes_eq d.name name) (λ d. bytes_eq d.name name) (λ d. d.head) (λ d. d.head) (λ x y is. ap (λ n. bytes_eq n name) (sym is.named.name)) (λ x y is. is.head)
       rows.datasets pool.datasets are.datasets
 
   pub finds_objects : (name : List ℕ) → FindsState has (state_named (names.Snapshot name) pool) (set_named (names.Snapshot name) rows)
   finds_objects name =
-      finds has (SnapshotIs has) (λ s. bytes_eq s.name name) (λ s. bytes_eq s.name name) (λ s. s.objects) (λ s. s.objects) (λ x y is. ap (λ n. bytes_eq n name) (sym is.name)) (λ x y is. is.objects)
+      finds has (SnapshotIs has) (λ s. bytes_eq s.name name) (λ s. bytes_eq s.name name) (λ s. s.objects) (λ s. s.objects) (λ x y is. ap (λ n. bytes_eq n name) (sym is.named.name)) (λ x y is. is.objects)
       rows.snapshots pool.snapshots are.snapshots

@@ -65,23 +65,23 @@ stands_before n k m l = is_before (dataset_of 64 n) (dataset_of 64 m) || (bytes_
 
 module _ (has : Blocks) (rows : Rows) (pool : Pool) (lawful : IsLawful rows) (are : RowsAre has rows pool) where
   dataset_there : (name : List ℕ) → HasDataset rows name → plain.HasDataset pool name
-  dataset_there name h = let found = contains-Match (DatasetIs has) rows.datasets pool.datasets are.datasets h.0 h.1 in (found.0, found.1, found.2.name ∙ h.2)
+  dataset_there name h = let found = contains-Match (DatasetIs has) rows.datasets pool.datasets are.datasets h.0 h.1 in (found.0, found.1, found.2.named.name ∙ h.2)
 
   snapshot_there : (name : List ℕ) → HasSnapshot rows name → plain.HasSnapshot pool name
-  snapshot_there name h = let found = contains-Match (SnapshotIs has) rows.snapshots pool.snapshots are.snapshots h.0 h.1 in (found.0, found.1, found.2.name ∙ h.2)
+  snapshot_there name h = let found = contains-Match (SnapshotIs has) rows.snapshots pool.snapshots are.snapshots h.0 h.1 in (found.0, found.1, found.2.named.name ∙ h.2)
 
   snapshot_back : (name : List ℕ) → plain.HasSnapshot pool name → HasSnapshot rows name
   snapshot_back name h =
       let found = contains-Match (λ y x. SnapshotIs has x y) pool.snapshots rows.snapshots (turned (SnapshotIs has) rows.snapshots pool.snapshots are.snapshots) h.0 h.1 in
-      (found.0, found.1, sym found.2.name ∙ h.2)
+      (found.0, found.1, sym found.2.named.name ∙ h.2)
 
   stand_alike : (a b : Snapshot) (c d : plain.Snapshot) → SnapshotIs has a c → SnapshotIs has b d → plain.snapshot_is_before d c ≡ dir_rows.snapshot_is_before b a
   unfolding stands_before
   stand_alike a b c d ac bd =
-      ap (λ (n : List ℕ). stands_before n d.number c.name c.number) bd.name
-      ∙ ap (λ (k : ℕ). stands_before b.name k c.name c.number) bd.number
-      ∙ ap (λ (n : List ℕ). stands_before b.name b.number n c.number) ac.name
-      ∙ ap (λ (k : ℕ). stands_before b.name b.number a.name k) ac.number
+      ap (λ (n : List ℕ). stands_before n d.number c.name c.number) bd.named.name
+      ∙ ap (λ (k : ℕ). stands_before b.name k c.name c.number) bd.named.number
+      ∙ ap (λ (n : List ℕ). stands_before b.name b.number n c.number) ac.named.name
+      ∙ ap (λ (k : ℕ). stands_before b.name b.number a.name k) ac.named.number
 
   abbrev kept : List Partial
   kept = filter (λ row. row.keep) rows.partials
@@ -91,26 +91,26 @@ module _ (has : Blocks) (rows : Rows) (pool : Pool) (lawful : IsLawful rows) (ar
 
   named : IsNamed pool
   named = record {
-    dataset_names = All-Match (DatasetIs has) IsDatasetRow (λ d. IsDataset d.name) (λ x y is row. subst IsDataset (sym is.name) row.name) rows.datasets pool.datasets are.datasets lawful.datasets;
+    dataset_names = All-Match (DatasetIs has) IsDatasetRow (λ d. IsDataset d.name) (λ x y is row. subst IsDataset (sym is.named.name) row.name) rows.datasets pool.datasets are.datasets lawful.datasets;
     datasets =
         AllPairs-Match (DatasetIs has) (λ a b. is_before a.name b.name ≡ true) (λ a b. is_before a.name b.name ≡ true)
-        (λ a b c d ac bd r. ap (λ (n : List ℕ). is_before n d.name) ac.name ∙ ap (λ (n : List ℕ). is_before a.name n) bd.name ∙ r) rows.datasets pool.datasets are.datasets lawful.ordered.datasets;
-    snapshot_names = All-Match (SnapshotIs has) IsSnapshotRow (λ s. IsSnapshot s.name) (λ x y is row. subst IsSnapshot (sym is.name) row.name) rows.snapshots pool.snapshots are.snapshots lawful.snapshots;
+        (λ a b c d ac bd r. ap (λ (n : List ℕ). is_before n d.name) ac.named.name ∙ ap (λ (n : List ℕ). is_before a.name n) bd.named.name ∙ r) rows.datasets pool.datasets are.datasets lawful.ordered.datasets;
+    snapshot_names = All-Match (SnapshotIs has) IsSnapshotRow (λ s. IsSnapshot s.name) (λ x y is row. subst IsSnapshot (sym is.named.name) row.name) rows.snapshots pool.snapshots are.snapshots lawful.snapshots;
     snapshots =
         AllPairs-Match (SnapshotIs has) (λ a b. dir_rows.snapshot_is_before b a ≡ false) (λ a b. plain.snapshot_is_before b a ≡ false)
         (λ a b c d ac bd r. stand_alike a b c d ac bd ∙ r) rows.snapshots pool.snapshots are.snapshots lawful.ordered.snapshots;
     snapshots_differ =
-        AllPairs-Match (SnapshotIs has) (λ a b. a.name ≢ b.name) (λ a b. a.name ≢ b.name) (λ a b c d ac bd r e. r (sym ac.name ∙ e ∙ bd.name)) rows.snapshots pool.snapshots are.snapshots lawful.ordered.snapshots_differ;
+        AllPairs-Match (SnapshotIs has) (λ a b. a.name ≢ b.name) (λ a b. a.name ≢ b.name) (λ a b c d ac bd r e. r (sym ac.named.name ∙ e ∙ bd.named.name)) rows.snapshots pool.snapshots are.snapshots lawful.ordered.snapshots_differ;
     bookmark_names = All-Match BookmarkIs IsBookmarkRow (λ b. IsBookmark b.name) (λ x y is row. subst IsBookmark (sym is.name) row.name) rows.bookmarks pool.bookmarks are.bookmarks lawful.bookmarks;
     bookmarks =
         AllPairs-Match BookmarkIs (λ a b. is_before a.name b.name ≡ true) (λ a b. is_before a.name b.name ≡ true)
         (λ a b c d ac bd r. ap (λ (n : List ℕ). is_before n d.name) ac.name ∙ ap (λ (n : List ℕ). is_before a.name n) bd.name ∙ r) rows.bookmarks pool.bookmarks are.bookmarks lawful.ordered.bookmarks;
     targets =
         All-Match (PartialIs has) IsPartialRow (λ p. IsDataset p.target × IsComponent p.component)
-        (λ x y is row. (subst IsDataset (sym is.target) row.target, subst IsComponent (sym is.component) row.snapshot)) kept pool.partials are.partials kept_rows;
+        (λ x y is row. (subst IsDataset (sym is.named.target) row.target, subst IsComponent (sym is.named.component) row.snapshot)) kept pool.partials are.partials kept_rows;
     partials =
         AllPairs-Match (PartialIs has) (λ a b. is_before a.target b.target ≡ true) (λ a b. is_before a.target b.target ≡ true)
-        (λ a b c d ac bd r. ap (λ (n : List ℕ). is_before n d.target) ac.target ∙ ap (λ (n : List ℕ). is_before a.target n) bd.target ∙ r) kept pool.partials are.partials
+        (λ a b c d ac bd r. ap (λ (n : List ℕ). is_before n d.target) ac.named.target ∙ ap (λ (n : List ℕ). is_before a.target n) bd.named.target ∙ r) kept pool.partials are.partials
         (AllPairs-filter (λ a b. is_before a.target b.target ≡ true) (λ (row : Partial). row.keep) rows.partials lawful.ordered.partials);
   }
 
@@ -118,18 +118,18 @@ module _ (has : Blocks) (rows : Rows) (pool : Pool) (lawful : IsLawful rows) (ar
   linked = record {
     snapshots =
         All-Match (SnapshotIs has) (λ s. HasDataset rows (dataset_of 64 s.name)) (λ s. plain.HasDataset pool (dataset_of_snapshot s))
-        (λ x y is h. dataset_there (dataset_of_snapshot y) (subst (λ (n : List ℕ). HasDataset rows (dataset_of 64 n)) (sym is.name) h)) rows.snapshots pool.snapshots are.snapshots lawful.linked.snapshots;
+        (λ x y is h. dataset_there (dataset_of_snapshot y) (subst (λ (n : List ℕ). HasDataset rows (dataset_of 64 n)) (sym is.named.name) h)) rows.snapshots pool.snapshots are.snapshots lawful.linked.snapshots;
     origins =
         All-Match (DatasetIs has) (λ d. IfSome d.origin (HasSnapshot rows)) (λ d. IfSome d.origin (plain.HasSnapshot pool))
-        (λ x y is h. subst (λ (o : Option (List ℕ)). IfSome o (plain.HasSnapshot pool)) (sym is.origin) (weaker x.origin (HasSnapshot rows) (plain.HasSnapshot pool) snapshot_there h)) rows.datasets pool.datasets are.datasets lawful.linked.origins;
+        (λ x y is h. subst (λ (o : Option (List ℕ)). IfSome o (plain.HasSnapshot pool)) (sym is.named.origin) (weaker x.origin (HasSnapshot rows) (plain.HasSnapshot pool) snapshot_there h)) rows.datasets pool.datasets are.datasets lawful.linked.origins;
     bases =
         All-Match (PartialIs has) (λ p. IfSome p.base (HasSnapshot rows)) (λ p. IfSome p.base (plain.HasSnapshot pool))
-        (λ x y is h. subst (λ (o : Option (List ℕ)). IfSome o (plain.HasSnapshot pool)) (sym is.base) (weaker x.base (HasSnapshot rows) (plain.HasSnapshot pool) snapshot_there h)) kept pool.partials are.partials
+        (λ x y is h. subst (λ (o : Option (List ℕ)). IfSome o (plain.HasSnapshot pool)) (sym is.named.base) (weaker x.base (HasSnapshot rows) (plain.HasSnapshot pool) snapshot_there h)) kept pool.partials are.partials
         (All-filter (λ (row : Partial). row.keep) (λ p. IfSome p.base (HasSnapshot rows)) rows.partials lawful.linked.bases);
     components =
         All-Match (PartialIs has) (λ p. HasSnapshot rows (p.target ++ 64 ∷ p.snapshot) → ⊥) (λ p. plain.HasSnapshot pool (p.target ++ 64 ∷ p.component) → ⊥)
-        (λ x y is none found. none (subst (λ (t : List ℕ). HasSnapshot rows (t ++ 64 ∷ x.snapshot)) is.target
-        (subst (λ (s : List ℕ). HasSnapshot rows (y.target ++ 64 ∷ s)) is.component (snapshot_back (y.target ++ 64 ∷ y.component) found)))) kept pool.partials are.partials
+        (λ x y is none found. none (subst (λ (t : List ℕ). HasSnapshot rows (t ++ 64 ∷ x.snapshot)) is.named.target
+        (subst (λ (s : List ℕ). HasSnapshot rows (y.target ++ 64 ∷ s)) is.named.component (snapshot_back (y.target ++ 64 ∷ y.component) found)))) kept pool.partials are.partials
         (All-filter (λ (row : Partial). row.keep) (λ p. HasSnapshot rows (p.target ++ 64 ∷ p.snapshot) → ⊥) rows.partials lawful.linked.components);
   }
 
@@ -143,10 +143,10 @@ module _ (has : Blocks) (rows : Rows) (pool : Pool) (lawful : IsLawful rows) (ar
     linked = linked;
     datasets =
         All-Match (DatasetIs has) IsDatasetRow (λ d. IsKind d.kind × IsGuidSet d.redact × IsState d.head.state)
-        (λ x y is row. (subst IsKind (sym is.kind) row.kind, subst IsGuidSet (sym is.redact) row.redact, is.head.lawful)) rows.datasets pool.datasets are.datasets lawful.datasets;
+        (λ x y is row. (subst IsKind (sym is.named.kind) row.kind, subst IsGuidSet (sym is.named.redact) row.redact, is.head.lawful)) rows.datasets pool.datasets are.datasets lawful.datasets;
     snapshots =
         All-Match (SnapshotIs has) IsSnapshotRow (λ s. IsGuid s.guid × IsGuidSet s.redact × IsState s.objects.state × (s.time < 2 ^ 64))
-        (λ x y is row. (subst IsGuid (sym is.guid) row.guid, subst IsGuidSet (sym is.redact) row.redact, is.objects.lawful, subst (λ (t : ℕ). t < 2 ^ 64) (sym is.time) row.time))
+        (λ x y is row. (subst IsGuid (sym is.named.guid) row.guid, subst IsGuidSet (sym is.named.redact) row.redact, is.objects.lawful, subst (λ (t : ℕ). t < 2 ^ 64) (sym is.named.time) row.time))
         rows.snapshots pool.snapshots are.snapshots lawful.snapshots;
     bookmarks =
         All-Match BookmarkIs IsBookmarkRow (λ b. IsGuid b.guid × IsGuidSet b.redact × IsRunList b.runs × (b.time < 2 ^ 64))
@@ -154,5 +154,5 @@ module _ (has : Blocks) (rows : Rows) (pool : Pool) (lawful : IsLawful rows) (ar
         rows.bookmarks pool.bookmarks are.bookmarks lawful.bookmarks;
     partials =
         All-Match (PartialIs has) IsPartialRow (λ p. IsStated p.header × IsState p.objects.state)
-        (λ x y is row. (subst IsStated (sym is.header) row.header, is.objects.lawful)) kept pool.partials are.partials kept_rows;
+        (λ x y is row. (subst IsStated (sym is.named.header) row.header, is.objects.lawful)) kept pool.partials are.partials kept_rows;
   }

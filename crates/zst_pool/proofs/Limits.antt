@@ -21,14 +21,14 @@ module _ (has : Blocks) (rows : Rows) (pool : Pool) (are : RunsBy has rows pool)
   dataset_found name =
       is_some-position (λ (dataset : Dataset). bytes_eq dataset.name name) rows.datasets
       ∙ list_any-Match (DatasetIs has) (λ dataset. bytes_eq dataset.name name) (λ dataset. bytes_eq dataset.name name)
-      (λ x y is. ap (λ n. bytes_eq n name) (sym is.name)) rows.datasets pool.datasets are.datasets
+      (λ x y is. ap (λ n. bytes_eq n name) (sym is.named.name)) rows.datasets pool.datasets are.datasets
 
   -- partial states of absent datasets are as many
   targets_counted : count_by (λ partial. is_none (position (λ dataset. bytes_eq dataset.name partial.target) rows.datasets)) rows.partials
       ≡ count_by (λ partial. not (is_some (dataset_named partial.target pool))) pool.partials
   targets_counted =
       count_by-Match (PartialIs has) (λ partial. is_none (position (λ dataset. bytes_eq dataset.name partial.target) rows.datasets)) (λ partial. not (is_some (dataset_named partial.target pool)))
-      (λ x y is. ap not (dataset_found x.target ∙ ap (λ n. is_some (dataset_named n pool)) (sym is.target))) rows.partials pool.partials are.partials
+      (λ x y is. ap not (dataset_found x.target ∙ ap (λ n. is_some (dataset_named n pool)) (sym is.named.target))) rows.partials pool.partials are.partials
 
   pub datasets_counted : (targets : ℕ) → targets ≡ count_by (λ partial. is_none (position (λ dataset. bytes_eq dataset.name partial.target) rows.datasets)) rows.partials
       → length rows.datasets + targets ≡ count_datasets pool
