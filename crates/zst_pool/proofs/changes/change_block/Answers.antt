@@ -10,6 +10,7 @@ use Rattle.zst_model.specs.pools.Step.{filled, written}
 use Rattle.zst_model.specs.states.Dated.{DatedState, size_at}
 use Rattle.zst_objset.specs.Answers.{Changes}
 use Rattle.zst_objset.specs.Changes.{block_written}
+use Rattle.zst_tree.specs.Sets.{SetFits}
 use Rattle.zst_objset.specs.Sets.{SetHolds}
 use Rattle.zst_objset.proofs.SetGrows.{SetHolds-grows}
 use Rattle.zst_pool.specs.Heads.{ChangesHead, Works, stop_of}
@@ -24,7 +25,7 @@ use Rattle.zst_pool.proofs.Judging.{err_is}
 use Rattle.zst_pool.proofs.Damaged.{damaged_call, damaged_err}
 use Rattle.zst_pool.proofs.Room.{block-sectors}
 use Rattle.zst_pool.proofs.Taking.{works_looks, works_then, works_wider}
-use Rattle.zst_pool.proofs.Writing.{call_changes, call_works, stop_same}
+use Rattle.zst_pool.proofs.Writing.{call_changes, call_ok, call_works, stop_same}
 use Rattle.zst_pool.proofs.changes.change_block.Given.{Over}
 use Rattle.zst_pool.proofs.changes.change_block.Goals as goal
 use Rattle.zst_pool.proofs.changes.change_block.Goals.{After-answer}
@@ -108,3 +109,6 @@ returns-in_err-block-clause-works g c =
     let works = λ (stop : Option BlockFault). Works 1 0 (g.D.Disk.state c.args.io.now.disk.now) c.args.io.now.space c.args.io.now.failed (g.D.Disk.state c.find_size.new.io.disk.now) c.find_size.new.io.space c.find_size.new.io.failed stop in
     let stop = ap (λ (r : Result (Unit {0}) HeadFault). stop_of r) (sym (err_is fell.result Memory fell.ensures.1)) in
     (0, omega arith, subst works stop (works_looks (0 + 640 * 1) 0 c.requires.fits c.in_ok-size.ensures.looks))
+
+pub returns-clause-levels : goal.returns-clause-levels
+returns-clause-levels g c = call_ok c.write_block.result c.answer.result c.answer.ensures (SetFits c.write_block.new.self) c.write_block.ensures.levels
