@@ -1,5 +1,5 @@
 -- What a command answers whose head couldn't be changed, and at what block fault it stopped.
-use Rattle.std.specs.Prelude.{Option, Some, None, Result, Ok, Err, IfErr, OnOk}
+use Rattle.std.specs.Prelude.{Option, Some, None, Result, Ok, Err, IfErr, OnOk, is_ok}
 use Rattle.std.proofs.Common.{◌≡◌, ℕ, true, false, List, refl, sym, ap, ◌∙◌, subst}
 use Rattle.zst_block.specs.Working as blocks
 use Rattle.zst_block.specs.declared.fault.BlockFault.{BlockFault}
@@ -46,9 +46,6 @@ plan_stops stop plan apart = record { fails = apart; disk = λ is. absurd (cc); 
 
 pub memory_stops : (stop : Option BlockFault) → blocks.fails stop ≡ false → Stops stop faults.OutOfMemory
 memory_stops stop apart = record { fails = apart; disk = λ is. absurd (cc); full = λ need largest is. absurd (cc); open_still = λ is. cc }
-
-pub damage_stops : (stop : Option BlockFault) (sector : ℕ) (stated found : List ℕ) → blocks.fails stop ≡ false → Stops stop (faults.Damaged sector stated found)
-damage_stops stop sector stated found apart = record { fails = apart; disk = λ is. absurd (cc); full = λ need largest is. absurd (cc); open_still = λ is. cc }
 
 -- where the definition accepts, the disk didn't fail
 pub accepted_fails : (changed : Result (Unit {0}) HeadFault) → is_accepted changed ≡ true → blocks.fails (stop_of changed) ≡ false
@@ -132,3 +129,37 @@ module _ (has : Blocks) (set : ObjSet) (name : List ℕ) (pool : Pool) (change :
   judged_last plan none (Err (Set (Block (Damaged sector stated found)))) accepted is = absurd (cc)
   judged_last plan none (Err (Set (Block DiskFault))) accepted is = absurd (cc)
   judged_last plan none (Err Memory) accepted is = absurd (cc)
+
+-- where the answer is no refusal, none was the change's
+pub answer_well : (changed : Result (Unit {0}) HeadFault) (answer : Result (Unit {0}) PoolFault) → answer ≡ of_change changed → OnOk answer (is_ok changed ≡ true)
+answer_well changed answer same = subst (λ (r : Result (Unit {0}) PoolFault). OnOk r (is_ok changed ≡ true)) (sym same) (go changed)
+  where
+    go : (c : Result (Unit {0}) HeadFault) → OnOk (of_change c) (is_ok c ≡ true)
+    go (Ok done) = refl
+    go (Err fault) = tt
+
+pub well_is : (changed : Result (Unit {0}) HeadFault) (P : Type 0) → is_ok changed ≡ true → OnOk changed P → P
+well_is (Ok done) P well is = is
+well_is (Err fault) P well is = absurd (cc)
+
+-- a damage that is answered is the change's
+pub damage_is : (fault : HeadFault) (sector : ℕ) (stated found : List ℕ) → of_head fault ≡ faults.Damaged sector stated found → fault ≡ Set (Block (Damaged sector stated found))
+damage_is (Set (CannotApply fault)) sector stated found is = absurd (cc)
+damage_is (Set (Redacted object block)) sector stated found is = absurd (cc)
+damage_is (Set (Limit which number)) sector stated found is = absurd (cc)
+damage_is (Set (Block (Full need largest))) sector stated found is = absurd (cc)
+damage_is (Set (Block (Damaged s a b))) sector stated found is = cc
+damage_is (Set (Block DiskFault)) sector stated found is = absurd (cc)
+damage_is Memory sector stated found is = absurd (cc)
+
+pub answer_damaged : (changed : Result (Unit {0}) HeadFault) (answer : Result (Unit {0}) PoolFault) → answer ≡ of_change changed
+    → (sector : ℕ) (stated found : List ℕ) → answer ≡ Err (faults.Damaged sector stated found) → changed ≡ Err (Set (Block (Damaged sector stated found)))
+answer_damaged changed answer same sector stated found is = go changed (sym same ∙ is)
+  where
+    go : (c : Result (Unit {0}) HeadFault) → of_change c ≡ Err (faults.Damaged sector stated found) → c ≡ Err (Set (Block (Damaged sector stated found)))
+    go (Ok done) is = absurd (cc)
+    go (Err fault) is = ap (λ (f : HeadFault). Err f) (damage_is fault sector stated found (cc))
+
+pub always : (changed : Result (Unit {0}) HeadFault) (P : Type 0) → P → OnOk changed P
+always (Ok done) P is = is
+always (Err fault) P is = tt

@@ -1,5 +1,5 @@
 -- What a command does, from what its parts do.
-use Rattle.std.specs.Prelude.{Option, None, Result, Ok, Err, IfOk, OnErr}
+use Rattle.std.specs.Prelude.{Option, None, Result, Ok, Err, IfErr, IfOk, OnErr}
 use Rattle.std.proofs.Common.{◌≡◌, ℕ, ◌+◌, ◌*◌, ◌≤◌, ◌^◌, Bool, false, ◌||◌, List, length, refl, sym, ap, ◌∙◌, subst, arith}
 use Rattle.zst_outside.specs.Causes.{Rose-earlier}
 use Rattle.zst_outside.specs.Images.{DiskState}
@@ -19,15 +19,23 @@ use Rattle.zst_objset.specs.Sets.{SetHolds}
 use Rattle.zst_dir.specs.Rows.{Rows}
 use Rattle.zst_dir.specs.Spelling.{dir_bytes}
 use Rattle.zst_pool.specs.Checks.{FindsHead, with_head_of}
+use Rattle.zst_block.specs.declared.fault.BlockFault.TheVariants as block_faults
+use Rattle.zst_objset.specs.Damage.{DamageFact}
+use Rattle.zst_objset.specs.declared.fault.ObjFault.TheVariants as set_faults
+use Rattle.zst_model.specs.declared.refusals.plan_fault.PlanFault.{PlanFault}
+use Rattle.zst_model.specs.refusals.Refusal.{refusal_of}
 use Rattle.zst_pool.specs.Cost.{Cost, HasNoRoom, Spends}
+use Rattle.zst_pool.specs.Damage.{HasHead, IfHeadDamaged, IsOf, OfHead}
+use Rattle.zst_pool.specs.declared.head_fault.HeadFault.TheVariants.{Set}
+use Rattle.zst_pool.proofs.Judged.{memory_stops, plan_stops}
 use Rattle.zst_pool.specs.Faults.{StepFault, is_disk_fault, of_committed}
 use Rattle.zst_pool.specs.Heads.{ChangedHead, ChangesHead, Stops, Works, stop_of}
 use Rattle.zst_image.specs.Reads.{AreNamed, DatasetIs, Rests, RowsAre, dir_sectors, free_by}
 use Rattle.zst_image.specs.Committing.{IsDirFull}
-use Rattle.zst_pool.specs.Runs.{Did, Runs, as_kept}
+use Rattle.zst_pool.specs.Runs.{Did, Ran, Runs, as_kept}
 use Rattle.zst_image.specs.Committing.{Ready}
 use Rattle.zst_pool.specs.declared.fault.PoolFault.{PoolFault}
-use Rattle.zst_pool.specs.declared.fault.PoolFault.TheVariants.{DiskFault}
+use Rattle.zst_pool.specs.declared.fault.PoolFault.TheVariants.{Damaged, DiskFault, OutOfMemory, Plan}
 use Rattle.zst_pool.specs.declared.head_fault.HeadFault.{HeadFault}
 use Rattle.zst_image.specs.Faults as images
 use Rattle.zst_image.specs.Faults.{stop_of_commit}
@@ -52,11 +60,11 @@ module _ (definition : Pool → Result Stepped Refusal) (cost : Cost) (kept : Ke
   -- a command that fell once it had written into free sectors alone
   pub runs_fell : {old : DiskState} {old_failed : Bool} {new : DiskState} {less : FreeSectors} {new_failed : Bool} {stop : Option BlockFault} (fault : PoolFault) {answer : Result Kept PoolFault} → answer ≡ Err fault → Ready new kept.body
       → Stops stop fault → Wrote kept cost old old_failed new less new_failed stop
-      → ((pool : Pool) → new.honest → Rests old kept.body kept.dir pool → StepFault (Unit {0}) (definition pool) fault) → Runs definition cost kept old old_failed new less new_failed answer
+      → ((pool : Pool) → new.honest → Rests old kept.body kept.dir pool → StepFault (Unit {0}) (definition pool) fault) → Ran definition cost kept old old_failed new less new_failed answer
   runs_fell {old = old} {old_failed = old_failed} {new = new} {less = less} {new_failed = new_failed} {stop = stop} fault same ready stops wrote refused =
       let one = wrote.0 in
       let works = one.2 in
-      let fell_so : Runs definition cost kept old old_failed new less new_failed (Err fault) = record {
+      let fell_so : Ran definition cost kept old old_failed new less new_failed (Err fault) = record {
         did = λ pool told rests. fell old new less kept.body kept.dir pool (taken old kept.body kept.dir pool rests) rests works.fills (definition pool) fault (refused pool told rests);
         open_still = λ is. stops.open_still (cc);
         spends = (one.0, one.1, spends_fell kept cost.cells one.0 fault stops works);
@@ -68,7 +76,7 @@ module _ (definition : Pool → Result Stepped Refusal) (cost : Cost) (kept : Ke
         cause = record { later = works.cause.later; fault = λ is. works.cause.fault (stops.disk (cc)) };
         honest = works.fills.honest;
       } in
-      subst (Runs definition cost kept old old_failed new less new_failed) (sym same) fell_so
+      subst (Ran definition cost kept old old_failed new less new_failed) (sym same) fell_so
 
   -- one that came to its commit
   pub runs_committed : {old : DiskState} {old_failed : Bool} {new : DiskState} {less : FreeSectors} {new_failed : Bool} {last : DiskState} {least : FreeSectors} {last_failed : Bool} (dir : Rows) (made : Result Kept CommitFault) {answer : Result Kept PoolFault} → answer ≡ of_committed made
@@ -79,13 +87,13 @@ module _ (definition : Pool → Result Stepped Refusal) (cost : Cost) (kept : Ke
       → TakesAtMost (dir_sectors (length (dir_bytes dir))) less least → IfOk made (λ next. (next.body.end ≡ least.end) × (next.body.sectors ≡ kept.body.sectors))
       → (¬ (made ≡ Err commits.DiskFault) → OnErr made (FillsFree new less last least))
       → IfOk made (λ kept. Ready last kept.body) → (last_failed ≡ false → OnErr made (Ready last kept.body))
-      → last_failed ≡ (new_failed || blocks.fails (stop_of_commit made)) → images.HasDiskCause commits.DiskFault new.faults last.faults made → (last.honest → new.honest) → Runs definition cost kept old old_failed last least last_failed answer
+      → last_failed ≡ (new_failed || blocks.fails (stop_of_commit made)) → images.HasDiskCause commits.DiskFault new.faults last.faults made → (last.honest → new.honest) → Ran definition cost kept old old_failed last least last_failed answer
   runs_committed {old = old} {old_failed = old_failed} {new = new} {less = less} {new_failed = new_failed} {last = last} {least = least} {last_failed = last_failed} dir made same old_ready wrote did grows full takes ends fills ready stays failed cause falls =
       let one = wrote.0 in
       let works = one.2 in
       let answer = of_committed made in
       let disk = committed_cause new.faults last.faults made cause in
-      let runs : Runs definition cost kept old old_failed last least last_failed answer = record {
+      let runs : Ran definition cost kept old old_failed last least last_failed answer = record {
         did = did;
         open_still = committed_open made;
         spends = (one.0, one.1, spends made full ends fills ready one.0 works);
@@ -97,7 +105,7 @@ module _ (definition : Pool → Result Stepped Refusal) (cost : Cost) (kept : Ke
         cause = record { later = omega (arith, works.cause.later, disk.later); fault = λ is. Rose-earlier old.faults new.faults last.faults works.cause.later (disk.fault is) };
         honest = λ told. works.fills.honest (falls told);
       } in
-      subst (Runs definition cost kept old old_failed last least last_failed) (sym same) runs
+      subst (Ran definition cost kept old old_failed last least last_failed) (sym same) runs
     where
       spends : (r : Result Kept CommitFault) → ((need largest : ℕ) → r ≡ Err (commits.Full need largest) → IsDirFull less least dir need largest)
           → IfOk r (λ next. (next.body.end ≡ least.end) × (next.body.sectors ≡ kept.body.sectors)) → (¬ (r ≡ Err commits.DiskFault) → OnErr r (FillsFree new less last least)) → IfOk r (λ kept. Ready last kept.body)
@@ -136,9 +144,43 @@ idle_wrote kept cost disk space failed stop none free ready =
 module _ (definition : Pool → Result Stepped Refusal) (cost : Cost) (kept : Kept) where
   -- one that fell before it did anything
   pub runs_idle : {disk : DiskState} {space : FreeSectors} {failed : Bool} (fault : PoolFault) {answer : Result Kept PoolFault} → answer ≡ Err fault → space ≡ free_by kept.body → Ready disk kept.body → Stops None fault
-      → ((pool : Pool) → Rests disk kept.body kept.dir pool → StepFault (Unit {0}) (definition pool) fault) → Runs definition cost kept disk failed disk space failed answer
+      → ((pool : Pool) → Rests disk kept.body kept.dir pool → StepFault (Unit {0}) (definition pool) fault) → Ran definition cost kept disk failed disk space failed answer
   runs_idle {disk = disk} {space = space} {failed = failed} fault same free ready stops refused =
       runs_fell definition cost kept fault same ready stops (idle_wrote kept cost disk space failed None refl free ready) (λ pool told rests. refused pool rests)
+
+-- what is so of each damage that is answered
+pub told_of : (Is : DamageFact) (answer : Result Kept PoolFault) → ((sector : ℕ) (stated found : List ℕ) → answer ≡ Err (Damaged sector stated found) → Is sector stated found) → IfErr answer (IsOf Is)
+told_of Is (Ok kept) is = tt
+told_of Is (Err fault) is = λ sector stated found same. is sector stated found (ap (λ (f : PoolFault). Err f) same)
+
+module _ (definition : Pool → Result Stepped Refusal) (cost : Cost) (damage : DamageFact) (kept : Kept) where
+  -- a command that tells no damage
+  pub runs_sound : {old : DiskState} {old_failed : Bool} {new : DiskState} {less : FreeSectors} {new_failed : Bool} (answer : Result Kept PoolFault) → ((sector : ℕ) (stated found : List ℕ) → ¬ (answer ≡ Err (Damaged sector stated found)))
+      → Ran definition cost kept old old_failed new less new_failed answer → Runs definition cost damage kept old old_failed new less new_failed answer
+  runs_sound answer never ran = record { ran = ran; damaged = λ told. told_of damage answer (λ sector stated found is. absurd (never sector stated found is)) }
+
+  -- one that fell before it did anything, for a plan or for memory
+  pub runs_planned : {disk : DiskState} {space : FreeSectors} {failed : Bool} (plan : PlanFault) {answer : Result Kept PoolFault} → answer ≡ Err (Plan plan) → space ≡ free_by kept.body → Ready disk kept.body
+      → ((pool : Pool) → Rests disk kept.body kept.dir pool → definition pool ≡ Err (refusal_of plan)) → Runs definition cost damage kept disk failed disk space failed answer
+  runs_planned plan {answer = answer} same free ready refused =
+      runs_sound answer (λ sector stated found is. cc) (runs_idle definition cost kept (Plan plan) same free ready (plan_stops None plan refl) (λ pool rests. (refused pool rests, tt)))
+
+  pub runs_starved : {disk : DiskState} {space : FreeSectors} {failed : Bool} {answer : Result Kept PoolFault} → answer ≡ Err OutOfMemory → space ≡ free_by kept.body → Ready disk kept.body
+      → Runs definition cost damage kept disk failed disk space failed answer
+  runs_starved {answer = answer} same free ready =
+      runs_sound answer (λ sector stated found is. cc) (runs_idle definition cost kept OutOfMemory same free ready (memory_stops None refl) (λ pool rests. tt))
+
+-- one that changed the head of a dataset, or fell as that did
+pub runs_head : (definition : Pool → Result Stepped Refusal) (cost : Cost) (kept : Kept) (name : List ℕ) (Is : FreeSectors → ObjSet → DamageFact) {old : DiskState} {old_failed : Bool} {new : DiskState} {less : FreeSectors} {new_failed : Bool} (mid : DiskState) (space : FreeSectors) (set : ObjSet) (changed : Result (Unit {0}) HeadFault) (answer : Result Kept PoolFault)
+    → space ≡ free_by kept.body → HasHead kept.dir name set → (mid.honest → IfHeadDamaged changed (Is space set)) → (new.honest → mid.honest)
+    → ((sector : ℕ) (stated found : List ℕ) → answer ≡ Err (Damaged sector stated found) → changed ≡ Err (Set (set_faults.Block (block_faults.Damaged sector stated found))))
+    → Ran definition cost kept old old_failed new less new_failed answer → Runs definition cost (OfHead kept.dir name (Is (free_by kept.body))) kept old old_failed new less new_failed answer
+runs_head definition cost kept name Is mid space set changed answer free there tells falls same ran = record {
+  ran = ran;
+  damaged = λ told. told_of (OfHead kept.dir name (Is (free_by kept.body))) answer (λ sector stated found is.
+      let over = subst (λ (s : FreeSectors). IfHeadDamaged changed (Is s set)) free (tells (falls told)) in
+      (set, there, subst (λ (r : Result (Unit {0}) HeadFault). IfHeadDamaged r (Is (free_by kept.body) set)) (same sector stated found is) over));
+}
 
 -- the number of the next commit, of a pool
 number_is : (number next : ℕ) (pool : Pool) → IsPool pool → pool.number ≡ number → (number ≤ 2 ^ 63 → next ≡ number + 1) → pool.number + 1 ≡ next

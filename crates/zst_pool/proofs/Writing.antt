@@ -1,5 +1,5 @@
 -- What a call of an object set does, as a part of a command.
-use Rattle.std.specs.Prelude.{Result, Ok, Err}
+use Rattle.std.specs.Prelude.{Result, Ok, Err, OnOk}
 use Rattle.std.proofs.Common.{◌≡◌, ℕ, Bool, refl, sym, ap, ◌∙◌, subst}
 use Rattle.zst_outside.specs.Images.{DiskState}
 use Rattle.zst_space.specs.FreeSectors.{FreeSectors}
@@ -54,3 +54,18 @@ module _ (called : Result (Unit {0}) ObjFault) (answer : Result (Unit {0}) HeadF
       go : (c : Result (Unit {0}) ObjFault) → sets.Changes (SetHolds has set) definition c → ChangesHead has set definition (of_call c)
       go (Ok done) is = is
       go (Err fault) is = is
+
+  -- what holds where the call went well does where the part did
+  pub call_ok : (P : Type 0) → OnOk called P → OnOk answer P
+  call_ok P is = subst (λ (r : Result (Unit {0}) HeadFault). OnOk r P) (sym same) (go called is)
+    where
+      go : (c : Result (Unit {0}) ObjFault) → OnOk c P → OnOk (of_call c) P
+      go (Ok done) is = is
+      go (Err fault) is = tt
+
+  pub went_well : (P : Type 0) (value : Unit {0}) → answer ≡ Ok value → OnOk called P → P
+  went_well P value well is = go called (sym same ∙ well) is
+    where
+      go : (c : Result (Unit {0}) ObjFault) → of_call c ≡ Ok value → OnOk c P → P
+      go (Ok done) well is = is
+      go (Err fault) well is = absurd (cc (well))

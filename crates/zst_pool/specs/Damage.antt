@@ -6,8 +6,12 @@ use Rattle.zst_block.specs.Blocks.{SparesTaken}
 use Rattle.zst_tree.specs.Damage.{IsSeen, NamesNode, SumsUp}
 use Rattle.zst_tree.specs.declared.tree.ObjSet.{ObjSet}
 use Rattle.zst_objset.specs.Damage.{DamageFact, IfSetDamaged, IsDamagedObject, IsDamagedSet}
+use Rattle.zst_model.specs.declared.pools.command.Command.{Command}
+use Rattle.zst_model.specs.declared.pools.command.Command.TheVariants as commands
 use Rattle.zst_dir.specs.Rows.{Rows}
 use Rattle.zst_dir.specs.declared.rows.Dataset.{Dataset}
+use Rattle.zst_pool.specs.declared.fault.PoolFault.{PoolFault}
+use Rattle.zst_pool.specs.declared.fault.PoolFault.TheVariants.{Damaged}
 use Rattle.zst_pool.specs.declared.head_fault.HeadFault.{HeadFault}
 use Rattle.zst_pool.specs.declared.head_fault.HeadFault.TheVariants.{Set, Memory}
 
@@ -31,9 +35,34 @@ block_damage disk space set sector stated found =
     IsDamagedSet (IsSeen disk.seen) disk.size set sector stated found
     ⊎ IsDamagedObject (SparesTaken space disk.seen) disk.size NamesNode set sector stated found
 
--- so it is of the object set of a dataset that has a row
-pub record OfHead (rows : Rows) (name : List ℕ) (Is : ObjSet → DamageFact) (sector : ℕ) (stated found : List ℕ) : Type 0 where
+-- the directory has a row of this dataset, with this object set
+pub record HasHead (rows : Rows) (name : List ℕ) (set : ObjSet) : Type 0 where
   pub row : Dataset
   pub among : Contains rows.datasets row
   pub named : row.name ≡ name
-  pub told : Is row.head sector stated found
+  pub head : row.head ≡ set
+
+-- a damage of the object set of a dataset that has a row
+abbrev pub OfHead : Rows → List ℕ → (ObjSet → DamageFact) → DamageFact
+OfHead rows name Is sector stated found = (set : ObjSet) × HasHead rows name set × Is set sector stated found
+
+-- what a command tells that looks at no object set
+abbrev pub NoDamage : DamageFact
+NoDamage sector stated found = ⊥
+
+-- what a command may tell: of the object set of its dataset, as the disk had it when the command began, with these sectors free
+abbrev pub TellsDamage : Command → Rows → DiskState → FreeSectors → DamageFact
+TellsDamage (commands.Fs dataset) rows disk space = NoDamage
+TellsDamage (commands.Volume dataset) rows disk space = NoDamage
+TellsDamage (commands.Object dataset k head bonus spill) rows disk space = OfHead rows dataset (slots_damage disk space)
+TellsDamage (commands.Write dataset k i bytes) rows disk space = OfHead rows dataset (block_damage disk space)
+TellsDamage (commands.Punch dataset k first count) rows disk space = OfHead rows dataset (range_damage disk space)
+TellsDamage (commands.Free dataset first count) rows disk space = OfHead rows dataset (slots_damage disk space)
+TellsDamage (commands.Snapshot name) rows disk space = NoDamage
+TellsDamage (commands.Read name k i) rows disk space = NoDamage
+TellsDamage commands.List rows disk space = NoDamage
+TellsDamage (commands.ListObjects name) rows disk space = NoDamage
+
+-- E25 comes only of such a damage
+abbrev pub IsOf : DamageFact → PoolFault → Type 0
+IsOf Is fault = (sector : ℕ) (stated found : List ℕ) → fault ≡ Damaged sector stated found → Is sector stated found

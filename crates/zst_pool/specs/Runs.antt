@@ -1,5 +1,5 @@
 -- What running a command does.
-use Rattle.std.specs.Prelude.{◌≡◌, ◌||◌, ◌≤◌, ℕ, Bool, false, Result, Ok, Err, IfOk, OnErr}
+use Rattle.std.specs.Prelude.{◌≡◌, ◌||◌, ◌≤◌, ℕ, Bool, false, Result, Ok, Err, IfOk, OnErr, IfErr}
 use Rattle.zst_outside.specs.Images.{DiskState, Leaves}
 use Rattle.zst_space.specs.FreeSectors.{FreeSectors}
 use Rattle.zst_block.specs.Blocks.{SparesTaken}
@@ -8,7 +8,9 @@ use Rattle.zst_model.specs.declared.refusals.refusal.Refusal.{Refusal}
 use Rattle.zst_model.specs.pools.Pool.{Pool}
 use Rattle.zst_model.specs.pools.Step.{Stepped}
 use Rattle.zst_dir.specs.Rows.{Rows}
+use Rattle.zst_objset.specs.Damage.{DamageFact}
 use Rattle.zst_pool.specs.Cost.{Cost, Spends}
+use Rattle.zst_pool.specs.Damage.{IsOf}
 use Rattle.zst_pool.specs.Faults.{HasDiskCause, is_disk_fault, StepFault}
 use Rattle.zst_image.specs.Reads.{Rests, free_by}
 use Rattle.zst_pool.specs.Stepping.{BeforeOrAfter}
@@ -31,8 +33,8 @@ pub record Did (start now : DiskState) (uber : Uber) (rows : Rows) (pool : Pool)
 abbrev pub as_kept : Kept → Kept
 as_kept kept = kept
 
--- what running a command at this cost did: by its definition where the image read as a pool, and what stands then whatever the image was
-pub record Runs (definition : Pool → Result Stepped Refusal) (cost : Cost) (kept : Kept) (old : DiskState) (old_failed : Bool) (new : DiskState) (left : FreeSectors) (new_failed : Bool) (result : Result Kept PoolFault) : Type 0 where
+-- what a command at this cost did: by its definition where the image read as a pool, and what stands then whatever the image was
+pub record Ran (definition : Pool → Result Stepped Refusal) (cost : Cost) (kept : Kept) (old : DiskState) (old_failed : Bool) (new : DiskState) (left : FreeSectors) (new_failed : Bool) (result : Result Kept PoolFault) : Type 0 where
   pub did : (pool : Pool) → new.honest → Rests old kept.body kept.dir pool → Did old new kept.body kept.dir pool (definition pool) result
   pub open_still : ¬ (result ≡ Err Failed)
   -- it takes no more than the cost at most, and no more than the cost in the pool
@@ -45,3 +47,8 @@ pub record Runs (definition : Pool → Result Stepped Refusal) (cost : Cost) (ke
   pub failed : new_failed ≡ (old_failed || is_disk_fault result)
   pub cause : HasDiskCause old.faults new.faults result
   pub honest : new.honest → old.honest
+
+-- and which damage it told
+pub record Runs (definition : Pool → Result Stepped Refusal) (cost : Cost) (damage : DamageFact) (kept : Kept) (old : DiskState) (old_failed : Bool) (new : DiskState) (left : FreeSectors) (new_failed : Bool) (result : Result Kept PoolFault) : Type 0 where
+  pub ran : Ran definition cost kept old old_failed new left new_failed result
+  pub damaged : new.honest → IfErr result (IsOf damage)

@@ -1,5 +1,5 @@
 // What a command makes of the object set of a head.
-ghost use Rattle.std.specs.Prelude.{◌≡◌, ◌+◌, ◌/◌, ◌<◌, ◌≤◌, ℕ, true, length, Err, IfErr, IfOk, IfSome};
+ghost use Rattle.std.specs.Prelude.{◌≡◌, ◌+◌, ◌/◌, ◌<◌, ◌≤◌, ℕ, true, length, Err, IfErr, IfOk, IfSome, OnOk};
 ghost use Rattle.zst_block.specs.Blocks.{FitsDisk, Has};
 ghost use Rattle.zst_block.specs.Working.{Looks};
 ghost use Rattle.zst_model.specs.declared.refusals.plan_fault.PlanFault.{PlanFault};
@@ -16,6 +16,7 @@ ghost use Rattle.zst_objset.specs.Damage.{IsDamagedSet};
 ghost use Rattle.zst_tree.specs.Damage.{IsSeen};
 ghost use Rattle.zst_pool.specs.Plans.{IsPast};
 ghost use Rattle.zst_pool.specs.declared.fault.PoolFault.{PoolFault};
+ghost use Rattle.zst_tree.specs.Sets.{SetFits};
 
 use crate::head_fault::HeadFault;
 use std::alloc::{AllocError, Global};
@@ -53,6 +54,8 @@ pub fn change_object<D: Disk>(
     ensures changed { (pool : Pool) (old : DatedState) → (D.state io.new.disk.now).honest → pool.number + 1 ≡ number → SetHolds (Has (D.state io.old.disk.now).seen io.old.space) set.old old
         → ChangesHead (Has (D.state io.new.disk.now).seen io.new.space) set.new (put_in pool object head bonus spill old) result }
     ensures works { Works (object_cells spill) (spill_sectors spill) (D.state io.old.disk.now) io.old.space io.old.failed (D.state io.new.disk.now) io.new.space io.new.failed (stop_of result) }
+    ensures damaged { (D.state io.new.disk.now).honest → IfHeadDamaged result (slots_damage (D.state io.old.disk.now) io.old.space set.old) }
+    ensures levels { OnOk result (SetFits set.new) }
     ensures limits { (fault : PlanFault) → of_change result ≡ Err (PoolFault.Plan fault) → IsPast (object + 1) 0 fault }
     ensures same { io.new.disk.ghost_name ≡ io.old.disk.ghost_name }
 {
@@ -122,6 +125,7 @@ pub fn change_block<D: Disk>(
     ensures exact { (head : DatedState) → (D.state io.new.disk.now).honest → SetHolds (Has (D.state io.old.disk.now).seen io.old.space) set.old head
         → Works 1 (size_at (head.state object) / 512) (D.state io.old.disk.now) io.old.space io.old.failed (D.state io.new.disk.now) io.new.space io.new.failed (stop_of result) }
     ensures damaged { (D.state io.new.disk.now).honest → IfHeadDamaged result (block_damage (D.state io.old.disk.now) io.old.space set.old) }
+    ensures levels { OnOk result (SetFits set.new) }
     ensures limits { (fault : PlanFault) → of_change result ≡ Err (PoolFault.Plan fault) → IsPast 0 (index + 1) fault }
     ensures same { io.new.disk.ghost_name ≡ io.old.disk.ghost_name }
 {
@@ -146,6 +150,7 @@ pub fn change_holes<D: Disk>(
         → ChangesHead (Has (D.state io.new.disk.now).seen io.new.space) set.new (punched pool object first count head) result }
     ensures works { Works 2 0 (D.state io.old.disk.now) io.old.space io.old.failed (D.state io.new.disk.now) io.new.space io.new.failed (stop_of result) }
     ensures damaged { (D.state io.new.disk.now).honest → IfHeadDamaged result (range_damage (D.state io.old.disk.now) io.old.space set.old) }
+    ensures levels { OnOk result (SetFits set.new) }
     ensures limits { (fault : PlanFault) → of_change result ≡ Err (PoolFault.Plan fault) → IsPast 0 (first + count) fault }
     ensures same { io.new.disk.ghost_name ≡ io.old.disk.ghost_name }
 {
@@ -167,6 +172,7 @@ pub fn change_numbers<D: Disk>(
         → ChangesHead (Has (D.state io.new.disk.now).seen io.new.space) set.new (freed pool first count head) result }
     ensures works { Works 2 0 (D.state io.old.disk.now) io.old.space io.old.failed (D.state io.new.disk.now) io.new.space io.new.failed (stop_of result) }
     ensures damaged { (D.state io.new.disk.now).honest → IfHeadDamaged result (slots_damage (D.state io.old.disk.now) io.old.space set.old) }
+    ensures levels { SetFits set.old → SetFits set.new }
     ensures limits { (fault : PlanFault) → of_change result ≡ Err (PoolFault.Plan fault) → IsPast (first + count) 0 fault }
     ensures same { io.new.disk.ghost_name ≡ io.old.disk.ghost_name }
 {

@@ -9,6 +9,7 @@ ghost use Rattle.zst_dir.specs.Spelling.{dir_bytes};
 ghost use Rattle.zst_pool.specs.Plans.{Plans};
 ghost use Rattle.zst_image.specs.Reads.{free_by};
 ghost use Rattle.zst_pool.specs.Cost.{cells_only};
+ghost use Rattle.zst_pool.specs.Damage.{NoDamage};
 ghost use Rattle.zst_pool.specs.Runs.{Runs};
 ghost use Rattle.zst_image.specs.Committing.{Ready};
 
@@ -51,7 +52,7 @@ pub fn make_dataset<D: Disk>(
     requires kind { (kind ≡ 2) ⊎ (kind ≡ 3) }
     requires space { io.old.space ≡ free_by kept.now.body }
     requires ready { Ready (D.state io.old.disk.now) kept.now.body }
-    ensures runs { Runs (λ pool. with_dataset kind name.now pool) (cells_only 0) kept.now (D.state io.old.disk.now) io.old.failed (D.state io.new.disk.now) io.new.space io.new.failed result }
+    ensures runs { Runs (λ pool. with_dataset kind name.now pool) (cells_only 0) NoDamage kept.now (D.state io.old.disk.now) io.old.failed (D.state io.new.disk.now) io.new.space io.new.failed result }
     ensures plans { Plans (λ pool. with_dataset kind name.now pool) 0 0 kept.now result }
     ensures same { io.new.disk.ghost_name ≡ io.old.disk.ghost_name }
 {
@@ -108,7 +109,7 @@ pub fn take_snapshot<D: Disk>(
 ) -> Result<Kept, PoolFault>
     requires space { io.old.space ≡ free_by kept.now.body }
     requires ready { Ready (D.state io.old.disk.now) kept.now.body }
-    ensures runs { Runs (λ pool. with_snapshot now name.now pool) (cells_only 0) kept.now (D.state io.old.disk.now) io.old.failed (D.state io.new.disk.now) io.new.space io.new.failed result }
+    ensures runs { Runs (λ pool. with_snapshot now name.now pool) (cells_only 0) NoDamage kept.now (D.state io.old.disk.now) io.old.failed (D.state io.new.disk.now) io.new.space io.new.failed result }
     ensures plans { Plans (λ pool. with_snapshot now name.now pool) 0 0 kept.now result }
     ensures same { io.new.disk.ghost_name ≡ io.old.disk.ghost_name }
 {

@@ -3,7 +3,7 @@ ghost use Rattle.zst_pool.specs.Faults.{of_committed};
 
 use crate::head_fault::HeadFault;
 use std::alloc::AllocError;
-use zst_block::{BlockFault, Ptr};
+use zst_block::BlockFault;
 use zst_image::{CommitFault, Kept};
 use zst_model::{ApplyFault, PlanFault, Refusal};
 use zst_objset::ObjFault;
@@ -38,22 +38,6 @@ pub enum PoolFault {
     Failed,
     /// E32: no memory was left.
     OutOfMemory,
-}
-
-impl PoolFault {
-    ghost use Rattle.std.specs.Prelude.{◌≡◌};
-    ghost use Rattle.zst_fletcher.specs.WeightSum.{parts_of};
-
-    /// E25 of a block that isn't of its layout: both sums are those that its pointer states.
-    pub(crate) fn of_layout(ptr: &Ptr) -> PoolFault
-        ensures { result ≡ PoolFault.Damaged ptr.now.sector (parts_of ptr.now.sum) (parts_of ptr.now.sum) }
-    {
-        PoolFault::Damaged {
-            sector: ptr.sector,
-            stated: ptr.sum.parts(),
-            found: ptr.sum.parts(),
-        }
-    }
 }
 
 impl From<AllocError> for PoolFault {

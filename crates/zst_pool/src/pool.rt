@@ -1,4 +1,4 @@
-ghost use Rattle.std.specs.Prelude.{◌≡◌, ◌≤◌, ◌∷◌, ◌||◌, [], ℕ, false, true, not, IfOk, OnErr, Err};
+ghost use Rattle.std.specs.Prelude.{◌≡◌, ◌≤◌, ◌∷◌, ◌||◌, [], ℕ, false, true, not, IfErr, IfOk, OnErr, Err};
 ghost use Rattle.zst_outside.specs.Images.{Leaves};
 ghost use Rattle.zst_block.specs.Blocks.{SparesTaken};
 ghost use Rattle.zst_model.specs.pools.Lines.{ok_line};
@@ -8,9 +8,9 @@ ghost use Rattle.zst_model.specs.pools.Step.{Stepped, stepped, IsCommand};
 ghost use Rattle.zst_pool.specs.Faults.{HasDiskCause, is_disk_fault};
 ghost use Rattle.zst_pool.specs.Plans.{Plans, indices_end, numbers_end};
 ghost use Rattle.zst_image.specs.Reads.{Rests, free_by};
-ghost use Rattle.zst_pool.specs.Stepping.{BeforeOrAfter};
+ghost use Rattle.zst_pool.specs.Stepping.{BeforeOrAfter, is_built, StepAnswer};
 ghost use Rattle.zst_pool.specs.Cost.{Spends, cost_of};
-ghost use Rattle.zst_pool.specs.Stepping.{is_built, StepAnswer};
+ghost use Rattle.zst_pool.specs.Damage.{IsOf, TellsDamage};
 ghost use Rattle.zst_pool.specs.Runs.{Runs};
 ghost use Rattle.zst_image.specs.Committing.{Ready};
 
@@ -85,6 +85,8 @@ impl<'d, D: Disk> Pool<'d, D> {
         // Where it reads as a pool, no more is taken than the command costs there.
         ensures exact { (pool : Plain) → (D.state self.new.io.disk.now).honest → self.old.io.failed ≡ false → Rests (D.state self.old.io.disk.now) self.old.kept.body self.old.kept.dir pool
             → Spends (cost_of command).cells ((cost_of command).block pool) self.old.kept self.new.io.space (λ reply. self.new.kept) result }
+        // E25 tells a damage of the object set of the command's dataset, also where the image reads as no pool.
+        ensures damaged { (D.state self.new.io.disk.now).honest → IfErr result (IsOf (TellsDamage command self.old.kept.dir (D.state self.old.io.disk.now) (free_by self.old.kept.body))) }
         // What is refused changes nothing that is kept, and free sectors alone, unless the disk failed.
         ensures kept { OnErr result (self.new.kept ≡ self.old.kept) }
         ensures spares { ¬ (result ≡ Err PoolFault.DiskFault) → OnErr result (SparesTaken (free_by self.old.kept.body) (D.state self.old.io.disk.now).seen (D.state self.new.io.disk.now).seen) }
@@ -152,7 +154,7 @@ fn run<D: Disk>(
     requires built { is_built command ≡ true }
     requires space { io.old.space ≡ free_by kept.now.body }
     requires ready { Ready (D.state io.old.disk.now) kept.now.body }
-    ensures runs { Runs (λ pool. stepped [] now command pool) (cost_of command) kept.now (D.state io.old.disk.now) io.old.failed (D.state io.new.disk.now) io.new.space io.new.failed result }
+    ensures runs { Runs (λ pool. stepped [] now command pool) (cost_of command) (TellsDamage command kept.now.dir (D.state io.old.disk.now) (free_by kept.now.body)) kept.now (D.state io.old.disk.now) io.old.failed (D.state io.new.disk.now) io.new.space io.new.failed result }
     ensures plans { Plans (λ pool. stepped [] now command pool) (numbers_end command) (indices_end command) kept.now result }
     ensures same { io.new.disk.ghost_name ≡ io.old.disk.ghost_name }
 {

@@ -3,20 +3,20 @@ use Rattle.zst_block.specs.declared.fault.BlockFault.{BlockFault}
 use Rattle.zst_pool.specs.declared.head_fault.HeadFault.{HeadFault}
 use Rattle.zst_pool.specs.declared.head_fault.HeadFault.TheVariants.{Memory}
 use Rattle.std.proofs.Common.{◌≡◌, inl, inr, ℕ, ◌+◌, ◌*◌, ◌/◌, List, length, sym, ap, ◌∙◌, subst, arith}
-use Rattle.zst_block.specs.Blocks.{Has}
+use Rattle.zst_block.specs.Blocks.{Has, SparesTaken}
 use Rattle.zst_block.proofs.BlocksLaws.{KeepsBlocks-fills}
 use Rattle.zst_model.specs.declared.refusals.refusal.Refusal.{Refusal}
 use Rattle.zst_model.specs.pools.Step.{filled, written}
 use Rattle.zst_model.specs.states.Dated.{DatedState, size_at}
 use Rattle.zst_objset.specs.Answers.{Changes}
 use Rattle.zst_objset.specs.Changes.{block_written}
+use Rattle.zst_tree.specs.Sets.{SetFits}
 use Rattle.zst_objset.specs.Sets.{SetHolds}
 use Rattle.zst_objset.proofs.SetGrows.{SetHolds-grows}
 use Rattle.zst_pool.specs.Heads.{ChangesHead, Works, of_change, of_head, stop_of}
 use Rattle.zst_pool.specs.Damage.{block_damage}
 use Rattle.zst_image.specs.Reads.{new_pool}
 use Rattle.zst_space.specs.FreeSectors.{FreeSectors}
-use Rattle.zst_block.specs.Blocks.{SparesTaken}
 use Rattle.zst_tree.specs.Damage.{IsSeen, NamesNode}
 use Rattle.zst_objset.specs.Damage.{IsDamagedObject, IsDamagedSet}
 use Rattle.zst_pool.proofs.Changing.{filled_length}
@@ -24,7 +24,7 @@ use Rattle.zst_pool.proofs.Judging.{err_is}
 use Rattle.zst_pool.proofs.Damaged.{damaged_call, damaged_err}
 use Rattle.zst_pool.proofs.Room.{block-sectors}
 use Rattle.zst_pool.proofs.Taking.{works_looks, works_then, works_wider}
-use Rattle.zst_pool.proofs.Writing.{call_changes, call_works, stop_same}
+use Rattle.zst_pool.proofs.Writing.{call_changes, call_ok, call_works, stop_same}
 use Rattle.zst_pool.proofs.changes.change_block.Given.{Over}
 use Rattle.zst_pool.specs.declared.fault.PoolFault.TheVariants.{Plan}
 use Rattle.zst_pool.proofs.Planned.{past_indices}
@@ -110,6 +110,9 @@ returns-in_err-block-clause-works g c =
     let works = λ (stop : Option BlockFault). Works 1 0 (g.D.Disk.state c.args.io.now.disk.now) c.args.io.now.space c.args.io.now.failed (g.D.Disk.state c.find_size.new.io.disk.now) c.find_size.new.io.space c.find_size.new.io.failed stop in
     let stop = ap (λ (r : Result (Unit {0}) HeadFault). stop_of r) (sym (err_is fell.result Memory fell.ensures.1)) in
     (0, omega arith, subst works stop (works_looks (0 + 640 * 1) 0 c.requires.fits c.in_ok-size.ensures.looks))
+
+pub returns-clause-levels : goal.returns-clause-levels
+returns-clause-levels g c = call_ok c.write_block.result c.answer.result c.answer.ensures (SetFits c.write_block.new.self) c.write_block.ensures.levels
 
 pub returns-in_err-size-clause-limits : goal.returns-in_err-size-clause-limits
 returns-in_err-size-clause-limits g c = λ fault is.

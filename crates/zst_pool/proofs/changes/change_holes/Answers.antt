@@ -5,11 +5,12 @@ use Rattle.zst_model.specs.declared.refusals.refusal.Refusal.{Refusal}
 use Rattle.zst_model.specs.states.Dated.{DatedState}
 use Rattle.zst_objset.specs.Answers.{Changes}
 use Rattle.zst_objset.specs.Changes.{holes_made}
+use Rattle.zst_tree.specs.Sets.{SetFits}
 use Rattle.zst_objset.specs.Sets.{SetHolds}
 use Rattle.zst_pool.specs.Damage.{range_damage}
 use Rattle.zst_pool.proofs.Damaged.{damaged_call}
 use Rattle.zst_pool.proofs.Taking.{tree_blocks, works_wider}
-use Rattle.zst_pool.proofs.Writing.{call_changes, call_works}
+use Rattle.zst_pool.proofs.Writing.{call_changes, call_works, call_ok}
 use Rattle.zst_pool.proofs.Planned.{past_indices}
 use Rattle.zst_pool.proofs.changes.change_holes.Goals as goal
 
@@ -28,6 +29,9 @@ pub returns-clause-damaged : goal.returns-clause-damaged
 returns-clause-damaged g c = λ told.
     let Is = range_damage (g.D.Disk.state c.args.io.now.disk.now) c.args.io.now.space c.args.set.now in
     damaged_call Is Is (λ sector stated found is. is) c.punch.result c.answer.result c.answer.ensures (c.punch.ensures.damaged told)
+
+pub returns-clause-levels : goal.returns-clause-levels
+returns-clause-levels g c = call_ok c.punch.result c.answer.result c.answer.ensures (SetFits c.punch.new.self) c.punch.ensures.levels
 
 pub returns-clause-limits : goal.returns-clause-limits
 returns-clause-limits g c = past_indices (c.args.first + c.args.count) c.punch.result c.answer.ensures c.punch.ensures.limits

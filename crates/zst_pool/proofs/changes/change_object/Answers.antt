@@ -1,11 +1,15 @@
 use Rattle.std.specs.Prelude.{Option, Some, None, Result, Ok, Err}
 use Rattle.std.proofs.Common.{◌≡◌, ◌⊎◌, ℕ, ◌+◌, ◌*◌, ◌/◌, ◌≤◌, List, false, length, sym, ap, ◌∙◌, subst, arith}
-use Rattle.zst_block.specs.Blocks.{Has}
+use Rattle.zst_block.specs.Blocks.{Has, SparesTaken}
 use Rattle.zst_model.specs.declared.refusals.refusal.Refusal.{Refusal}
 use Rattle.zst_model.specs.pools.Pool.{Pool}
 use Rattle.zst_model.specs.states.Dated.{DatedState}
 use Rattle.zst_objset.specs.Changes.{object_made, object_put, spill_put}
+use Rattle.zst_objset.specs.Damage.{IsDamagedSet, IsSetWithin}
+use Rattle.zst_tree.specs.Sets.{SetFits}
 use Rattle.zst_objset.specs.Sets.{SetHolds}
+use Rattle.zst_pool.specs.Damage.{IfHeadDamaged, slots_damage}
+use Rattle.zst_pool.proofs.Damaged.{damaged_call, damaged_err}
 use Rattle.zst_pool.specs.Checks.{put_in}
 use Rattle.zst_pool.specs.Heads.{ChangesHead, Works, of_change, stop_of}
 use Rattle.zst_pool.specs.declared.head_fault.HeadFault.{HeadFault}
@@ -13,7 +17,7 @@ use Rattle.zst_pool.specs.Cost.{object_cells, spill_sectors}
 use Rattle.zst_pool.proofs.Changing.{put_fault, then_spilled}
 use Rattle.zst_pool.proofs.Judging.{err_is}
 use Rattle.zst_pool.proofs.Taking.{tree_blocks, works_then, works_wider}
-use Rattle.zst_pool.proofs.Writing.{call_changes, call_works}
+use Rattle.zst_pool.proofs.Writing.{call_changes, call_ok, call_works, went_well}
 use Rattle.zst_pool.proofs.changes.change_object.Given.{Over}
 use Rattle.zst_pool.proofs.Planned.{no_plan, past_numbers}
 use Rattle.zst_pool.proofs.changes.change_object.Goals as goal
@@ -116,6 +120,39 @@ returns-clause-works g c =
     let is : Some bytes ≡ c.args.spill = ap (λ (b : List ℕ). Some b) c.as_slice-in-Some.ensures ∙ sym c.in-Some.is in
     subst (λ (s : Option (List ℕ)). Works (object_cells s) (spill_sectors s) (g.D.Disk.state c.args.io.now.disk.now) c.args.io.now.space c.args.io.now.failed (g.D.Disk.state c.put_spill.new.io.disk.now) c.put_spill.new.io.space c.put_spill.new.io.failed (stop_of answered)) is
     (works_wider (block + 640 * 2) block (omega arith) (same_blocks block) (works_then first second))
+
+-- what it tells as damaged is told of the set as it was
+tells : (g : Over) (c : After-answer g) → (g.D.Disk.state c.put_object.new.io.disk.now).honest → IfHeadDamaged c.answer.result (slots_damage (g.D.Disk.state c.args.io.now.disk.now) c.args.io.now.space c.args.set.now)
+tells g c told =
+    let Is = slots_damage (g.D.Disk.state c.args.io.now.disk.now) c.args.io.now.space c.args.set.now in
+    damaged_call Is Is (λ sector stated found is. is) c.put_object.result c.answer.result c.answer.ensures (c.put_object.ensures.damaged told)
+
+pub returns-in_err-answer-clause-damaged : goal.returns-in_err-answer-clause-damaged
+returns-in_err-answer-clause-damaged g c = λ told.
+    let at = (goal.at.returns-in_err-answer-clause-damaged g c).After-answer in
+    let fault = c.in_err-answer.field-0.0 in
+    let Is = slots_damage (g.D.Disk.state c.args.io.now.disk.now) c.args.io.now.space c.args.set.now in
+    damaged_err Is Is (λ sector stated found is. is) (Unit {0}) fault c.from_residual.result (err_is c.from_residual.result fault c.from_residual.ensures.1)
+    (subst (λ (r : Result (Unit {0}) HeadFault). IfHeadDamaged r Is) c.in_err-answer.was (tells g at told))
+
+pub returns-clause-damaged : goal.returns-clause-damaged
+returns-clause-damaged g c = λ told.
+    let old = g.D.Disk.state c.args.io.now.disk.now in
+    let mid = g.D.Disk.state c.put_object.new.io.disk.now in
+    let less = c.put_object.new.io.space in
+    let was = c.put_object.new.self in
+    let first = c.put_object.ensures.works in
+    let within = went_well c.put_object.result c.answer.result c.answer.ensures (IsSetWithin (SparesTaken c.args.io.now.space old.seen) old.size c.args.set.now (SparesTaken less mid.seen) was) c.in_ok-answer.field-0 c.in_ok-answer.was
+    (c.put_object.ensures.within (c.put_spill.ensures.works.fills.honest told)) in
+    damaged_call (IsDamagedSet (SparesTaken less mid.seen) mid.size was) (slots_damage old c.args.io.now.space c.args.set.now)
+    (λ sector stated found is. within sector stated found (subst (λ (size : ℕ). IsDamagedSet (SparesTaken less mid.seen) size was sector stated found) first.fills.size is))
+    c.put_spill.result c.answer-in-Some.result c.answer-in-Some.ensures (c.put_spill.ensures.damaged told)
+
+pub returns-in-None-clause-levels : goal.returns-in-None-clause-levels
+returns-in-None-clause-levels g c = went_well c.put_object.result c.answer.result c.answer.ensures (SetFits c.put_object.new.self) c.in_ok-answer.field-0 c.in_ok-answer.was c.put_object.ensures.levels
+
+pub returns-clause-levels : goal.returns-clause-levels
+returns-clause-levels g c = call_ok c.put_spill.result c.answer-in-Some.result c.answer-in-Some.ensures (SetFits c.put_spill.new.self) c.put_spill.ensures.levels
 
 pub returns-in_err-answer-clause-limits : goal.returns-in_err-answer-clause-limits
 returns-in_err-answer-clause-limits g c = λ fault is.
