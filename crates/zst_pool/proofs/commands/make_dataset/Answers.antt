@@ -122,3 +122,8 @@ returns-in_err-check_number-clause-runs g c =
     let named = described_is_named kept.body kept.dir pool (Has (g.D.Disk.state c.args.io.now.disk.now).seen (free_by kept.body)) rests.reads.described in (
     c.in_ok-check_new_dataset.ensures.judged c.args.kind pool named.are_named
     ∙ c.in_err-check_number.ensures.judged (with_new c.args.kind c.args.name.now pool) named.number))
+
+pub returns-in_err-dir-clause-runs : goal.returns-in_err-dir-clause-runs
+returns-in_err-dir-clause-runs g c =
+    let fell = c.from_residual-in_err-dir in
+    runs_starved (λ pool. with_dataset c.args.kind c.args.name.now pool) (cells_only 0) NoDamage c.args.kept.now (err_is fell.result OutOfMemory fell.ensures.1) c.requires.space c.requires.ready

@@ -103,7 +103,6 @@ returns-in_err-reply-clause-damaged g c = λ told.
     let fell = c.from_residual in
     let Is = TellsDamage c.args.command c.args.self.now.kept.dir (g.D.Disk.state c.args.self.now.io.disk.now) (free_by c.args.self.now.kept.body) in
     subst (λ (r : Result (List (List ℕ)) PoolFault). IfErr r (IsOf Is)) (sym (err_is fell.result OutOfMemory fell.ensures.1)) (λ sector stated found is. absurd (cc))
-    spares_err _ fault fell.result (err_is fell.result fault fell.ensures.1) c.in_err-kept.ensures.runs.spares
 
 pub returns-clause-planned : goal.returns-clause-planned
 returns-clause-planned g c = λ standing built left.
