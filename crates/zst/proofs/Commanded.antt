@@ -5,6 +5,7 @@ use Rattle.zst_outside.specs.Causes.{Rose-earlier}
 use Rattle.zst_outside.specs.Images.{DiskState, Leaves, Leaves-weaker, Leaves-then, OnlyReads}
 use Rattle.zst_outside.specs.States.{SinkState}
 use Rattle.zst_bytes.specs.Bytes.{number_at}
+use Rattle.zst_space.specs.FreeSectors.{FreeSectors}
 use Rattle.zst_uber.proofs.BodyLaws.{uber_at-body_bytes}
 use Rattle.zst_uber.specs.Body.{IsBody}
 use Rattle.zst_uber.specs.declared.TheConstants.{VERSION}
@@ -26,8 +27,8 @@ use Rattle.zst_image.specs.Reads.{Reads, ReadsAs, Rests}
 use Rattle.zst_image.specs.declared.kept.Kept.{Kept}
 use Rattle.zst_image.specs.declared.open_fault.OpenFault.{OpenFault}
 use Rattle.zst_image.specs.declared.open_fault.OpenFault.TheVariants as opens
-use Rattle.zst_pool.specs.Faults.{HasDiskCause, IsStepFault, StepFault, pool_refusal}
-use Rattle.zst_pool.specs.Room.{HasNoRoom, most_sectors}
+use Rattle.zst_pool.specs.Faults.{HasDiskCause, StepFault, pool_refusal}
+use Rattle.zst_pool.specs.Cost.{HasNoRoom, cost_of}
 use Rattle.zst_pool.specs.Stepping.{BeforeOrAfter, StepAnswer}
 use Rattle.zst_pool.specs.declared.fault.PoolFault.{PoolFault}
 use Rattle.zst_pool.specs.declared.fault.PoolFault.TheVariants as faults
@@ -190,16 +191,16 @@ opened_refused here opens.OutOfMemory is = tt
 pub opened_done : (here : DiskState) (kept : Kept) (lines : List (List ℕ)) → OpenAnswers here (Ok kept) → Opened here (Ok lines)
 opened_done here kept lines is = (is.0, kept.body, kept.dir, is.1, is.2)
 
-pub opened_then : (here : DiskState) (kept : Kept) (fault : PoolFault) → OpenAnswers here (Ok kept) → IsStepFault fault → Opened here (Err (pool_refusal fault))
-opened_then here kept (faults.Plan fault) is known =
+pub opened_then : (here : DiskState) (kept : Kept) (fault : PoolFault) → OpenAnswers here (Ok kept) → Opened here (Err (pool_refusal fault))
+opened_then here kept (faults.Plan fault) is =
     of_plan (λ r. Opened here (Err r)) (λ f. (is.0, kept.body, kept.dir, is.1, is.2)) (λ w n. (is.0, kept.body, kept.dir, is.1, is.2)) fault
-opened_then here kept (faults.CannotApply fault) is known = (is.0, kept.body, kept.dir, is.1, is.2)
-opened_then here kept (faults.Redacted object block) is known = (is.0, kept.body, kept.dir, is.1, is.2)
-opened_then here kept (faults.Full need largest) is known = (is.0, kept.body, kept.dir, is.1, is.2)
-opened_then here kept (faults.Damaged sector stated found) is known = (is.0, is.1, version_is here.size kept.body is.0 is.2.is_body)
-opened_then here kept faults.DiskFault is known = tt
-opened_then here kept faults.Failed is known = (is.0, kept.body, kept.dir, is.1, is.2)
-opened_then here kept faults.OutOfMemory is known = tt
+opened_then here kept (faults.CannotApply fault) is = (is.0, kept.body, kept.dir, is.1, is.2)
+opened_then here kept (faults.Redacted object block) is = (is.0, kept.body, kept.dir, is.1, is.2)
+opened_then here kept (faults.Full need largest) is = (is.0, kept.body, kept.dir, is.1, is.2)
+opened_then here kept (faults.Damaged sector stated found) is = (is.0, is.1, version_is here.size kept.body is.0 is.2.is_body)
+opened_then here kept faults.DiskFault is = tt
+opened_then here kept faults.Failed is = (is.0, kept.body, kept.dir, is.1, is.2)
+opened_then here kept faults.OutOfMemory is = tt
 
 -- ---- one command
 
@@ -254,19 +255,19 @@ module _ (now : ℕ) (command : Command) (here mid here' : DiskState) (kept kept
     later = omega (arith, later, after);
   }
 
-  pub stepping_refused : (fault : PoolFault) → HasDiskCause {T = List (List ℕ)} mid.faults here'.faults (Err fault) → IsStepFault fault
-      → ((pool : Pool) (need largest : ℕ) → here'.honest → Rests mid kept.body kept.dir pool → fault ≡ faults.Full need largest → HasNoRoom (most_sectors command) kept.body kept.dir need largest)
+  pub stepping_refused : (fault : PoolFault) → HasDiskCause {T = List (List ℕ)} mid.faults here'.faults (Err fault) → fault ≢ faults.Failed
+      → ((pool : Pool) (need largest : ℕ) → here'.honest → Rests mid kept.body kept.dir pool → fault ≡ faults.Full need largest → (left : FreeSectors) × HasNoRoom (cost_of command).cells ((cost_of command).block pool) kept.body kept.dir left need largest)
       → ((pool : Pool) → here'.honest → Rests mid kept.body kept.dir pool → StepAnswer here' kept'.body kept'.dir pool (stepped [] now command pool) (Err fault))
       → Stepping now command here here' (Err (pool_refusal fault))
-  stepping_refused fault cause known room did = record {
+  stepping_refused fault cause alive room did = record {
     moments = moments;
     images = images;
     answers = λ pool told holds. answers_refused here' kept'.body kept'.dir pool (stepped [] now command pool) fault (did pool told (rests pool (falls told) holds));
-    opened = λ told. opened_then here kept fault (answer (falls told)) known;
+    opened = λ told. opened_then here kept fault (answer (falls told));
     full = λ uber rows pool need largest told is_pool is.
         let same = there uber rows pool (falls told) is_pool in
         rw (← same.0, ← same.1) (room pool need largest told (stands uber rows pool (falls told) is_pool) (full_only fault need largest (cc is)));
-    refused = refused_step here mid here' fault later cause (λ is. subst IsStepFault is known);
+    refused = refused_step here mid here' fault later cause alive;
     later = omega (arith, later, cause.later);
   }
 

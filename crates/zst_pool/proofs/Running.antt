@@ -1,5 +1,5 @@
 -- What a command does, from what its parts do.
-use Rattle.std.specs.Prelude.{Option, None, Result, Ok, Err, IfOk, OnErr, IfErr}
+use Rattle.std.specs.Prelude.{Option, None, Result, Ok, Err, IfErr, IfOk, OnErr}
 use Rattle.std.proofs.Common.{◌≡◌, ℕ, ◌+◌, ◌*◌, ◌≤◌, ◌^◌, Bool, false, ◌||◌, List, length, refl, sym, ap, ◌∙◌, subst, arith}
 use Rattle.zst_outside.specs.Causes.{Rose-earlier}
 use Rattle.zst_outside.specs.Images.{DiskState}

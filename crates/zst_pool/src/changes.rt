@@ -1,5 +1,5 @@
 // What a command makes of the object set of a head.
-ghost use Rattle.std.specs.Prelude.{◌≡◌, ◌+◌, ◌/◌, ◌<◌, ◌≤◌, ℕ, true, length, IfOk, IfSome, OnOk, Err, IfErr};
+ghost use Rattle.std.specs.Prelude.{◌≡◌, ◌+◌, ◌/◌, ◌<◌, ◌≤◌, ℕ, true, length, Err, IfErr, IfOk, IfSome, OnOk};
 ghost use Rattle.zst_block.specs.Blocks.{FitsDisk, Has};
 ghost use Rattle.zst_block.specs.Working.{Looks};
 ghost use Rattle.zst_model.specs.declared.refusals.plan_fault.PlanFault.{PlanFault};
@@ -14,9 +14,9 @@ ghost use Rattle.zst_pool.specs.Cost.{object_cells, spill_sectors};
 ghost use Rattle.zst_pool.specs.Damage.{IfHeadDamaged, block_damage, range_damage, slots_damage};
 ghost use Rattle.zst_objset.specs.Damage.{IsDamagedSet};
 ghost use Rattle.zst_tree.specs.Damage.{IsSeen};
-ghost use Rattle.zst_tree.specs.Sets.{SetFits};
 ghost use Rattle.zst_pool.specs.Plans.{IsPast};
 ghost use Rattle.zst_pool.specs.declared.fault.PoolFault.{PoolFault};
+ghost use Rattle.zst_tree.specs.Sets.{SetFits};
 
 use crate::head_fault::HeadFault;
 use std::alloc::{AllocError, Global};

@@ -1,5 +1,5 @@
 // The commands on a dataset's head, each over the Io of a pool that hasn't failed.
-ghost use Rattle.std.specs.Prelude.{◌≡◌, ◌⊎◌, ◌+◌, ◌<◌, ◌≤◌, ◌^◌, ℕ, Bool, List, Result, length, Err, IfErr, IfOk, IfSome, OnOk, is_ok, true, OnErr};
+ghost use Rattle.std.specs.Prelude.{◌≡◌, ◌⊎◌, ◌+◌, ◌<◌, ◌≤◌, ◌^◌, ℕ, Bool, true, List, Result, Err, length, IfErr, IfSome, OnOk, IfOk, is_ok};
 ghost use Rattle.zst_space.specs.FreeSectors.{FreeSectors};
 ghost use Rattle.zst_block.specs.Blocks.{FitsDisk, Has};
 ghost use Rattle.zst_names.specs.Names.{IsDataset};
@@ -15,9 +15,9 @@ ghost use Rattle.zst_pool.specs.Checks.{FindsHead, freed, put_in};
 ghost use Rattle.zst_pool.specs.Heads.{ChangedHead, ChangesHead, JudgesHead, Stops, is_accepted, of_change, stop_of};
 ghost use Rattle.zst_image.specs.Reads.{AreNamed, free_by};
 ghost use Rattle.zst_pool.specs.Cost.{Cost, cells_only, object_cost, write_cost};
-ghost use Rattle.zst_pool.specs.Damage.{HasHead, OfHead, block_damage, range_damage, slots_damage};
-ghost use Rattle.zst_pool.specs.Runs.{Ran, Runs};
+ghost use Rattle.zst_pool.specs.Runs.{Runs, Ran};
 ghost use Rattle.zst_pool.specs.Plans.{IsLast, Plans, is_by_rows};
+ghost use Rattle.zst_pool.specs.Damage.{HasHead, OfHead, block_damage, range_damage, slots_damage};
 ghost use Rattle.zst_image.specs.Committing.{Ready};
 
 use crate::changes::{change_block, change_holes, change_numbers, change_object};

@@ -10,7 +10,7 @@ use Rattle.zst_objset.specs.Sets.{SetHolds}
 use Rattle.zst_pool.specs.Damage.{range_damage}
 use Rattle.zst_pool.proofs.Damaged.{damaged_call}
 use Rattle.zst_pool.proofs.Taking.{tree_blocks, works_wider}
-use Rattle.zst_pool.proofs.Writing.{call_changes, call_ok, call_works}
+use Rattle.zst_pool.proofs.Writing.{call_changes, call_works, call_ok}
 use Rattle.zst_pool.proofs.Planned.{past_indices}
 use Rattle.zst_pool.proofs.changes.change_holes.Goals as goal
 

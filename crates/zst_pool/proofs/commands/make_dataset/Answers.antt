@@ -1,8 +1,5 @@
-use Rattle.std.proofs.Common.{sym, ◌∙◌, refl, ap, ◌≤◌, ◌+◌, subst, length, arith, inl, inr, ◌≡◌}
-use Rattle.zst_pool.specs.Damage.{NoDamage}
-use Rattle.zst_pool.proofs.Committed.{committed_sound}
-use Rattle.zst_pool.proofs.Running.{runs_planned, runs_sound, runs_starved, idle_wrote, runs_committed, runs_idle}
 use Rattle.std.specs.Prelude.{None, Ok}
+use Rattle.std.proofs.Common.{refl, ap, ◌∙◌, ◌≤◌, ◌+◌, subst, length, arith, inl, inr, ◌≡◌, sym}
 use Rattle.zst_block.specs.Blocks.{Has}
 use Rattle.zst_names.specs.Names.{IsDataset}
 use Rattle.zst_model.specs.pools.Pool.{is_before, inserted, Pool}
@@ -13,16 +10,18 @@ use Rattle.zst_dir.specs.declared.rows.Dataset.{Dataset}
 use Rattle.zst_pool.specs.Checks.{next_of, with_new}
 use Rattle.zst_pool.specs.declared.fault.PoolFault.TheVariants.{OutOfMemory, Plan}
 use Rattle.zst_pool.specs.Cost.{cells_only}
+use Rattle.zst_pool.specs.Damage.{NoDamage}
+use Rattle.zst_image.specs.Reads.{free_by, IsNamedBy}
 use Rattle.zst_pool.proofs.Doing.{did}
 use Rattle.zst_pool.proofs.Judging.{err_is}
-use Rattle.zst_pool.proofs.Judged.{memory_stops, plan_stops}
 use Rattle.zst_pool.proofs.NextPools.{dataset_is_next, dataset_is_lawful}
 use Rattle.zst_pool.proofs.Parts.{described_in, fills_none}
-use Rattle.zst_image.specs.Reads.{IsNamedBy, free_by}
-use Rattle.zst_pool.proofs.Naming.{described_is_named, rows_named}
+use Rattle.zst_pool.proofs.Running.{idle_wrote, runs_committed, runs_planned, runs_sound, runs_starved}
+use Rattle.zst_pool.proofs.Naming.{rows_named}
 use Rattle.zst_pool.proofs.Planned.{made_apart, no_plan-commit, plans_apart, plans_refused}
 use Rattle.zst_pool.proofs.commands.make_dataset.Given.{Over}
 use Rattle.zst_pool.proofs.commands.make_dataset.Goals.{In_ok-check_number}
+use Rattle.zst_pool.proofs.Committed.{committed_sound}
 use Rattle.zst_pool.proofs.commands.make_dataset.Goals as goal
 
 pub returns-clause-runs : goal.returns-clause-runs
@@ -53,6 +52,11 @@ returns-clause-runs g c =
 pub returns-in_err-add_dataset-clause-runs : goal.returns-in_err-add_dataset-clause-runs
 returns-in_err-add_dataset-clause-runs g c =
     let fell = c.from_residual-in_err-add_dataset in
+    runs_starved (λ pool. with_dataset c.args.kind c.args.name.now pool) (cells_only 0) NoDamage c.args.kept.now (err_is fell.result OutOfMemory fell.ensures.1) c.requires.space c.requires.ready
+
+pub returns-in_err-dir-clause-runs : goal.returns-in_err-dir-clause-runs
+returns-in_err-dir-clause-runs g c =
+    let fell = c.from_residual-in_err-dir in
     runs_starved (λ pool. with_dataset c.args.kind c.args.name.now pool) (cells_only 0) NoDamage c.args.kept.now (err_is fell.result OutOfMemory fell.ensures.1) c.requires.space c.requires.ready
 
 -- what the definition makes once both checks passed
@@ -106,24 +110,17 @@ returns-clause-plans g c =
 pub returns-in_err-check_new_dataset-clause-runs : goal.returns-in_err-check_new_dataset-clause-runs
 returns-in_err-check_new_dataset-clause-runs g c =
     let kept = c.args.kept.now in
-    let fault = c.in_err-check_new_dataset.field-0.0 in
-    runs_planned (λ pool. with_dataset c.args.kind c.args.name.now pool) (cells_only 0) NoDamage kept fault (err_is c.from_residual.result (Plan fault) c.from_residual.ensures.1) c.requires.space c.requires.ready
-    (λ pool rests.
-    let named = described_is_named kept.body kept.dir pool (Has (g.D.Disk.state c.args.io.now.disk.now).seen (free_by kept.body)) rests.reads.described in
-    (c.in_err-check_new_dataset.ensures.judged c.args.kind pool named.are_named))
+    let plan = c.in_err-check_new_dataset.field-0.0 in
+    runs_planned (λ pool. with_dataset c.args.kind c.args.name.now pool) (cells_only 0) NoDamage kept plan (err_is c.from_residual.result (Plan plan) c.from_residual.ensures.1) c.requires.space c.requires.ready
+    (λ pool rests. c.in_err-check_new_dataset.ensures.judged c.args.kind pool (rows_named (Has (g.D.Disk.state c.args.io.now.disk.now).seen (free_by kept.body)) kept.dir pool rests.reads.described.rows_are))
 
 pub returns-in_err-check_number-clause-runs : goal.returns-in_err-check_number-clause-runs
 returns-in_err-check_number-clause-runs g c =
     let kept = c.args.kept.now in
-    let fault = c.in_err-check_number.field-0.0 in
+    let plan = c.in_err-check_number.field-0.0 in
     let fell = c.from_residual-in_err-check_number in
-    runs_planned (λ pool. with_dataset c.args.kind c.args.name.now pool) (cells_only 0) NoDamage kept fault (err_is fell.result (Plan fault) fell.ensures.1) c.requires.space c.requires.ready
+    runs_planned (λ pool. with_dataset c.args.kind c.args.name.now pool) (cells_only 0) NoDamage kept plan (err_is fell.result (Plan plan) fell.ensures.1) c.requires.space c.requires.ready
     (λ pool rests.
-    let named = described_is_named kept.body kept.dir pool (Has (g.D.Disk.state c.args.io.now.disk.now).seen (free_by kept.body)) rests.reads.described in (
-    c.in_ok-check_new_dataset.ensures.judged c.args.kind pool named.are_named
-    ∙ c.in_err-check_number.ensures.judged (with_new c.args.kind c.args.name.now pool) named.number))
-
-pub returns-in_err-dir-clause-runs : goal.returns-in_err-dir-clause-runs
-returns-in_err-dir-clause-runs g c =
-    let fell = c.from_residual-in_err-dir in
-    runs_starved (λ pool. with_dataset c.args.kind c.args.name.now pool) (cells_only 0) NoDamage c.args.kept.now (err_is fell.result OutOfMemory fell.ensures.1) c.requires.space c.requires.ready
+    let described = rests.reads.described in
+    c.in_ok-check_new_dataset.ensures.judged c.args.kind pool (rows_named (Has (g.D.Disk.state c.args.io.now.disk.now).seen (free_by kept.body)) kept.dir pool described.rows_are)
+    ∙ c.in_err-check_number.ensures.judged (with_new c.args.kind c.args.name.now pool) described.number)

@@ -20,9 +20,11 @@ use Rattle.zst_pool.proofs.Judging.{err_is}
 use Rattle.zst_pool.proofs.Judged.{memory_stops, plan_stops}
 use Rattle.zst_pool.proofs.NextPools.{snapshot_is_next, snapshot_is_lawful}
 use Rattle.zst_pool.proofs.Parts.{described_in, fills_none}
+use Rattle.zst_pool.proofs.Running.{idle_wrote, runs_committed, runs_planned, runs_sound, runs_starved}
 use Rattle.zst_pool.proofs.Matching.{Match-alike}
 use Rattle.zst_pool.proofs.Naming.{rows_named}
 use Rattle.zst_pool.proofs.Planned.{made_apart, no_plan-commit, plans_apart, plans_refused, told_or_last}
+use Rattle.zst_pool.proofs.Committed.{committed_sound}
 use Rattle.zst_pool.proofs.commands.take_snapshot.Goals as goal
 
 pub new_snapshot-snapshot-requires-clause-row : goal.new_snapshot-snapshot-requires-clause-row
@@ -73,7 +75,7 @@ returns-in_err-dataset-clause-runs g c =
     runs_planned (λ pool. with_snapshot c.args.now c.args.name.now pool) (cells_only 0) NoDamage kept plan (err_is c.from_residual.result (Plan plan) c.from_residual.ensures.1) c.requires.space c.requires.ready
     (λ pool rests.
     let described = rests.reads.described in
-    (c.in_err-dataset.ensures.judged c.args.now pool (rows_named (Has (g.D.Disk.state c.args.io.now.disk.now).seen (free_by kept.body)) kept.dir pool described.rows_are) described.guids described.number))
+    c.in_err-dataset.ensures.judged c.args.now pool (rows_named (Has (g.D.Disk.state c.args.io.now.disk.now).seen (free_by kept.body)) kept.dir pool described.rows_are) described.guids described.number)
 
 pub returns-in_err-dir-clause-runs : goal.returns-in_err-dir-clause-runs
 returns-in_err-dir-clause-runs g c =

@@ -1,7 +1,7 @@
 use Rattle.std.proofs.Common.{sym, ◌∙◌, inr, subst, ◌≡◌}
 use Rattle.zst_block.specs.Blocks.{Has}
 use Rattle.zst_pool.specs.Checks.{with_head_of}
-use Rattle.zst_pool.proofs.Judged.{answer_damaged, answer_well, judged_accepted, judged_refused}
+use Rattle.zst_pool.proofs.Judged.{judged_accepted, judged_refused, answer_damaged, answer_well}
 use Rattle.zst_model.specs.declared.refusals.plan_fault.PlanFault.{PlanFault}
 use Rattle.zst_pool.specs.Plans.{IsLast}
 use Rattle.zst_pool.specs.declared.fault.PoolFault.TheVariants.{Plan}

@@ -1,8 +1,4 @@
-use Rattle.zst_model.specs.pools.Step.{on_head}
-use Rattle.zst_pool.specs.Damage.{OfHead, slots_damage}
-use Rattle.zst_pool.proofs.Running.{runs_head, runs_planned, changed_head, runs_idle}
-use Rattle.zst_pool.proofs.Judging.{err_is}
-use Rattle.std.proofs.Common.{None, refl, sym, subst, arith, ◌+◌, inl}
+use Rattle.std.proofs.Common.{sym, subst, arith, ◌+◌, inl}
 use Rattle.zst_block.specs.Blocks.{FitsDisk, Has}
 use Rattle.zst_model.specs.pools.Pool.{Pool}
 use Rattle.zst_pool.specs.Checks.{put_in}
@@ -13,6 +9,7 @@ use Rattle.zst_pool.specs.declared.fault.PoolFault.TheVariants.{Plan}
 use Rattle.zst_pool.proofs.Judged.{plan_stops}
 use Rattle.zst_pool.proofs.NextPools.{put_is_lawful}
 use Rattle.zst_pool.proofs.Parts.{ready_fills}
+use Rattle.zst_pool.proofs.Running.{changed_head, runs_head, runs_planned}
 use Rattle.zst_pool.proofs.Naming.{described_is_named}
 use Rattle.zst_pool.proofs.Planned.{put_apart, head_apart, head_limits, plans_apart, plans_refused}
 use Rattle.zst_pool.proofs.heads.put_object.Goals as goal
@@ -53,8 +50,8 @@ returns-in_err-set-clause-runs g c =
     let kept = c.args.kept.now in
     let make = λ (pool : Pool). put_in pool c.args.object c.args.head c.args.bonus c.args.spill in
     let plan = c.in_err-set.field-0.0 in
-    let space = free_by kept.body in
-    runs_planned (λ pool. on_head c.args.name.now pool (make pool)) (object_cost c.args.spill) (OfHead kept.dir c.args.name.now (slots_damage (g.D.Disk.state c.args.io.now.disk.now) space)) kept plan (err_is c.from_residual.result (Plan plan) c.from_residual.ensures.1) c.requires.space c.requires.ready
+    let space = free_by c.args.kept.now.body in
+    runs_planned (λ pool. on_head c.args.name.now pool (make pool)) (object_cost c.args.spill) (OfHead c.args.kept.now.dir c.args.name.now (slots_damage (g.D.Disk.state c.args.io.now.disk.now) space)) c.args.kept.now plan (err_is c.from_residual.result (Plan plan) c.from_residual.ensures.1) c.requires.space c.requires.ready
     (λ pool rests.
-    let named = described_is_named kept.body kept.dir pool (Has (g.D.Disk.state c.args.io.now.disk.now).seen space) rests.reads.described in
+    let named = described_is_named c.args.kept.now.body c.args.kept.now.dir pool (Has (g.D.Disk.state c.args.io.now.disk.now).seen space) rests.reads.described in
     c.in_err-set.ensures.found pool named.are_named (make pool))

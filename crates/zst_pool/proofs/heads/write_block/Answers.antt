@@ -1,21 +1,19 @@
-use Rattle.zst_model.specs.pools.Step.{on_head, written}
-use Rattle.zst_pool.specs.Damage.{OfHead, block_damage}
-use Rattle.zst_pool.proofs.Running.{runs_head, runs_planned, changed_head, runs_idle}
-use Rattle.zst_pool.proofs.Judging.{err_is}
-use Rattle.std.proofs.Common.{ℕ, sym, subst, ◌+◌, None, inl, refl}
+use Rattle.std.proofs.Common.{ℕ, sym, subst, ◌+◌, inl}
 use Rattle.zst_block.specs.Blocks.{FitsDisk, Has}
 use Rattle.zst_model.specs.pools.Pool.{Pool}
 use Rattle.zst_pool.specs.Cost.{write_cost}
 use Rattle.zst_pool.proofs.Doing.{free_by_fits}
+use Rattle.zst_image.specs.Reads.{free_by}
+use Rattle.zst_pool.specs.declared.fault.PoolFault.TheVariants.{Plan}
+use Rattle.zst_pool.proofs.Judging.{err_is}
+use Rattle.zst_pool.specs.Damage.{OfHead, block_damage}
 use Rattle.zst_pool.proofs.NextPools.{written_is_lawful}
 use Rattle.zst_pool.proofs.Parts.{ready_fills}
 use Rattle.zst_pool.specs.Heads.{Works, stop_of}
 use Rattle.zst_pool.proofs.Costing.{block_is}
-use Rattle.zst_pool.specs.declared.fault.PoolFault.TheVariants.{Plan}
-use Rattle.zst_image.specs.Reads.{free_by}
+use Rattle.zst_pool.proofs.Running.{changed_head, runs_head, runs_planned}
 use Rattle.zst_pool.proofs.Naming.{described_is_named}
 use Rattle.zst_pool.proofs.Planned.{written_apart, head_apart, head_limits, plans_apart, plans_refused}
-use Rattle.zst_pool.proofs.Judged.{plan_stops}
 use Rattle.zst_pool.proofs.heads.write_block.Goals as goal
 
 pub commit_head-requires-clause-ready : goal.commit_head-requires-clause-ready
@@ -35,6 +33,16 @@ returns-clause-runs g c =
     subst (λ (n : ℕ). Works 1 n (g.D.Disk.state c.args.io.now.disk.now) c.args.io.now.space c.args.io.now.failed (g.D.Disk.state c.change_block-changed.new.io.disk.now) c.change_block-changed.new.io.space c.change_block-changed.new.io.failed (stop_of c.change_block-changed.result))
     (sym (block_is c.args.name.now c.args.object pool head finds)) (c.change_block-changed.ensures.exact head told holds))))
 
+pub returns-in_err-set-clause-runs : goal.returns-in_err-set-clause-runs
+returns-in_err-set-clause-runs g c =
+    let make = λ (pool : Pool). written pool c.args.object c.args.index c.args.bytes.now in
+    let plan = c.in_err-set.field-0.0 in
+    let space = free_by c.args.kept.now.body in
+    runs_planned (λ pool. on_head c.args.name.now pool (make pool)) (write_cost c.args.name.now c.args.object) (OfHead c.args.kept.now.dir c.args.name.now (block_damage (g.D.Disk.state c.args.io.now.disk.now) space)) c.args.kept.now plan (err_is c.from_residual.result (Plan plan) c.from_residual.ensures.1) c.requires.space c.requires.ready
+    (λ pool rests.
+    let named = described_is_named c.args.kept.now.body c.args.kept.now.dir pool (Has (g.D.Disk.state c.args.io.now.disk.now).seen space) rests.reads.described in
+    c.in_err-set.ensures.found pool named.are_named (make pool))
+
 pub returns-in_err-set-clause-plans : goal.returns-in_err-set-clause-plans
 returns-in_err-set-clause-plans g c =
     let make = λ (pool : Pool). written pool c.args.object c.args.index c.args.bytes.now in
@@ -51,14 +59,3 @@ returns-clause-plans g c =
     plans_apart (λ pool. on_head name pool (make pool)) 0 (c.args.index + 1) kept c.commit_head.result
     (λ pool named. head_apart kept.dir name pool c.in_ok-set.set (make pool) (written_apart pool c.args.object c.args.index c.args.bytes.now) (c.in_ok-set.ensures.found pool named.are_named))
     (λ fault is. head_limits 0 (c.args.index + 1) kept.body changed.result changed.ensures.limits fault (c.commit_head.ensures.plans fault is))
-
-pub returns-in_err-set-clause-runs : goal.returns-in_err-set-clause-runs
-returns-in_err-set-clause-runs g c =
-    let kept = c.args.kept.now in
-    let make = λ (pool : Pool). written pool c.args.object c.args.index c.args.bytes.now in
-    let plan = c.in_err-set.field-0.0 in
-    let space = free_by kept.body in
-    runs_planned (λ pool. on_head c.args.name.now pool (make pool)) (write_cost c.args.name.now c.args.object) (OfHead kept.dir c.args.name.now (block_damage (g.D.Disk.state c.args.io.now.disk.now) space)) kept plan (err_is c.from_residual.result (Plan plan) c.from_residual.ensures.1) c.requires.space c.requires.ready
-    (λ pool rests.
-    let named = described_is_named kept.body kept.dir pool (Has (g.D.Disk.state c.args.io.now.disk.now).seen space) rests.reads.described in
-    c.in_err-set.ensures.found pool named.are_named (make pool))

@@ -1,4 +1,4 @@
-use Rattle.std.proofs.Common.{ℕ, List, [], sym, subst, ◌≡◌}
+use Rattle.std.proofs.Common.{[], sym, subst, ◌≡◌, ℕ, List}
 use Rattle.zst_model.specs.declared.pools.command.Command.{Command}
 use Rattle.zst_model.specs.declared.pools.command.Command.TheVariants.{Write}
 use Rattle.zst_model.specs.pools.Step.{stepped}
