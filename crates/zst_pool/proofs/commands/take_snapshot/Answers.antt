@@ -1,8 +1,5 @@
-use Rattle.std.proofs.Common.{sym, ◌∙◌, refl, ◌<◌, ◌^◌, ap, subst, not}
-use Rattle.zst_pool.specs.Damage.{NoDamage}
-use Rattle.zst_pool.proofs.Committed.{committed_sound}
-use Rattle.zst_pool.proofs.Running.{runs_planned, runs_sound, runs_starved, idle_wrote, runs_committed, runs_idle}
 use Rattle.std.specs.Prelude.{None}
+use Rattle.std.proofs.Common.{refl, ◌<◌, ◌^◌, sym, ap, ◌∙◌, subst, not}
 use Rattle.std.specs.List.{filter}
 use Rattle.std.specs.Str.{bytes_eq}
 use Rattle.zst_block.specs.Blocks.{Has}
@@ -15,9 +12,9 @@ use Rattle.zst_dir.specs.Rows.{HasSnapshot, IsDatasetRow, snapshot_is_before}
 use Rattle.zst_dir.specs.declared.rows.Snapshot.{Snapshot}
 use Rattle.zst_pool.specs.declared.fault.PoolFault.TheVariants.{OutOfMemory, Plan}
 use Rattle.zst_pool.specs.Cost.{cells_only}
+use Rattle.zst_pool.specs.Damage.{NoDamage}
 use Rattle.zst_pool.proofs.Doing.{did}
 use Rattle.zst_pool.proofs.Judging.{err_is}
-use Rattle.zst_pool.proofs.Judged.{memory_stops, plan_stops}
 use Rattle.zst_pool.proofs.NextPools.{snapshot_is_next, snapshot_is_lawful}
 use Rattle.zst_pool.proofs.Parts.{described_in, fills_none}
 use Rattle.zst_pool.proofs.Running.{idle_wrote, runs_committed, runs_planned, runs_sound, runs_starved}

@@ -4,6 +4,13 @@ use Rattle.zst_model.specs.pools.Pool.{Pool}
 use Rattle.zst_pool.specs.Checks.{freed}
 use Rattle.zst_pool.specs.Cost.{cells_only}
 use Rattle.zst_pool.proofs.Doing.{free_by_fits}
+use Rattle.zst_image.specs.Reads.{free_by}
+use Rattle.zst_pool.specs.declared.fault.PoolFault.TheVariants.{Plan}
+use Rattle.zst_model.specs.pools.Step.{on_head}
+use Rattle.zst_pool.proofs.Judging.{err_is}
+use Rattle.zst_pool.specs.Damage.{OfHead, slots_damage}
+use Rattle.zst_tree.specs.Sets.{SetFits}
+use Rattle.zst_pool.proofs.Judged.{always}
 use Rattle.zst_pool.proofs.NextPools.{freed_is_lawful}
 use Rattle.zst_pool.proofs.Parts.{ready_fills}
 use Rattle.zst_pool.proofs.Running.{changed_head, runs_head, runs_planned}

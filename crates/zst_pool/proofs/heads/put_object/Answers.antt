@@ -6,7 +6,9 @@ use Rattle.zst_pool.specs.Cost.{object_cost, spill_sectors}
 use Rattle.zst_pool.proofs.Doing.{free_by_fits}
 use Rattle.zst_image.specs.Reads.{free_by}
 use Rattle.zst_pool.specs.declared.fault.PoolFault.TheVariants.{Plan}
-use Rattle.zst_pool.proofs.Judged.{plan_stops}
+use Rattle.zst_model.specs.pools.Step.{on_head}
+use Rattle.zst_pool.proofs.Judging.{err_is}
+use Rattle.zst_pool.specs.Damage.{OfHead, slots_damage}
 use Rattle.zst_pool.proofs.NextPools.{put_is_lawful}
 use Rattle.zst_pool.proofs.Parts.{ready_fills}
 use Rattle.zst_pool.proofs.Running.{changed_head, runs_head, runs_planned}

@@ -1,6 +1,7 @@
 use Rattle.std.proofs.Common.{ℕ, sym, subst, ◌+◌, inl}
 use Rattle.zst_block.specs.Blocks.{FitsDisk, Has}
 use Rattle.zst_model.specs.pools.Pool.{Pool}
+use Rattle.zst_model.specs.pools.Step.{written, on_head}
 use Rattle.zst_pool.specs.Cost.{write_cost}
 use Rattle.zst_pool.proofs.Doing.{free_by_fits}
 use Rattle.zst_image.specs.Reads.{free_by}
