@@ -388,7 +388,7 @@ fn each_call_of_the_disk_may_fail(rt: HostRuntime) -> Result<(), Refused> {
 }
 
 // How many calls of the disk an opening makes, and then a command.
-fn calls_of(alloc: Global, disk: &mut MemDisk, command: Command) -> Result<(u64, u64), PoolFault>
+fn calls_of(alloc: Global, disk: &mut MemDisk, command: Command) -> Result<(u64, u64), Refused>
     requires { IsCommand command }
 {
     let start = disk.calls();
@@ -401,12 +401,12 @@ fn calls_of(alloc: Global, disk: &mut MemDisk, command: Command) -> Result<(u64,
 }
 
 #[test]
-fn a_small_write_makes_few_calls(rt: HostRuntime) -> Result<(), PoolFault> {
+fn a_small_write_makes_few_calls(rt: HostRuntime) -> Result<(), Refused> {
     let alloc = rt.alloc();
     let mut disk = with_small(alloc, 2)?;
     let first = calls_of(alloc, &mut disk, small(alloc, 2)?)?;
     let again = calls_of(alloc, &mut disk, small(alloc, 2)?)?;
-    assert_eq!(rt; (first, again), ((6, 17), (6, 17)));
+    assert_eq!(rt; (first, again), ((3, 13), (3, 13)));
     Ok(())
 }
 
