@@ -29,7 +29,7 @@ use Rattle.zst_pool.specs.Room.{HasNoRoom, most_sectors}
 use Rattle.zst_pool.specs.Stepping.{BeforeOrAfter, StepAnswer}
 use Rattle.zst_pool.specs.declared.fault.PoolFault.{PoolFault}
 use Rattle.zst_pool.specs.declared.fault.PoolFault.TheVariants as faults
-use Rattle.zst.specs.Commands.{Holds, IsPoolRefusal, OfStepping, Answers, Opened, Stepping, Steps}
+use Rattle.zst.specs.Commands.{Holds, OldOrReads, IsPoolRefusal, OfStepping, Answers, Opened, Opens, OpensOnly, Stepping, Steps}
 use Rattle.zst.specs.Replies.{Replied}
 
 -- ---- plans' faults as refusals
@@ -131,78 +131,68 @@ rests_opened here mid kept uber rows pool is reads synced same =
     let read : ReadsAs kept.body kept.dir pool mid.seen = rw (same.0, same.1, reads.seen) is in
     record { reads = read; each = λ c image. subst (λ (bytes : List ℕ). ReadsAs kept.body kept.dir pool bytes) (sym (synced c image)) read }
 
--- a disk that was only read holds what it held
-pub holds_read : (here mid : DiskState) (pool : Pool) → Holds here pool → OnlyReads here mid → Holds mid pool
-holds_read here mid pool holds reads = record {
-  seen = subst (λ (bytes : List ℕ). Reads pool bytes) (sym reads.seen) holds.seen;
-  images = λ c image. holds.images c (reads.crash c image);
-}
-
 pub holds_rests : (disk : DiskState) (uber : Uber) (rows : Rows) (pool : Pool) → Rests disk uber rows pool → Holds disk pool
-holds_rests disk uber rows pool rests = record { seen = (uber, rows, rests.reads); images = λ c image. (uber, rows, rests.each c image) }
+holds_rests disk uber rows pool rests = (uber, rows, rests)
 
 -- the moments of opening, and those of the command behind it
-pub moments_read : (here mid : DiskState) (pool : Pool) (after : Result Stepped Refusal) → Holds here pool → OnlyReads here mid → Leaves here mid (BeforeOrAfter pool after)
-moments_read here mid pool after holds reads = Leaves-weaker here mid here.images (BeforeOrAfter pool after) reads.time (λ c image. inl (holds.images c image))
+pub moments_read : (here mid : DiskState) (pool : Pool) (after : Result Stepped Refusal) → OnlyReads here mid → Leaves here mid (OldOrReads here pool after)
+moments_read here mid pool after reads = Leaves-weaker here mid here.images (OldOrReads here pool after) reads.time (λ c image. inl image)
 
-pub moments_then : (here mid here' : DiskState) (pool : Pool) (after : Result Stepped Refusal) → Holds here pool → OnlyReads here mid → Leaves mid here' (BeforeOrAfter pool after)
-    → Leaves here here' (BeforeOrAfter pool after)
-moments_then here mid here' pool after holds reads step =
-    Leaves-then here mid here' (BeforeOrAfter pool after) (BeforeOrAfter pool after) (moments_read here mid pool after holds reads) step (λ c is. is)
+pub moments_then : (here mid here' : DiskState) (pool : Pool) (after : Result Stepped Refusal) → OnlyReads here mid → Leaves mid here' (BeforeOrAfter pool after)
+    → Leaves here here' (OldOrReads here pool after)
+moments_then here mid here' pool after reads step =
+    Leaves-then here mid here' (OldOrReads here pool after) (BeforeOrAfter pool after) (moments_read here mid pool after reads) step (λ c is. inr is)
 
 -- ---- answers
 
 -- where the pool reads, opening is refused by the disk or by want of memory alone
-pub answers_unopened : (here mid : DiskState) (pool : Pool) (after : Result Stepped Refusal) (uber : Uber) (rows : Rows) (fault : OpenFault) → Holds here pool → OnlyReads here mid
-    → GivesPool uber rows (Err fault) → Answers mid pool after (Err (open_refusal fault))
-answers_unopened here mid pool after uber rows (opens.Damaged sector stated found) holds reads gives = absurd gives
-answers_unopened here mid pool after uber rows opens.NoPool holds reads gives = absurd gives
-answers_unopened here mid pool after uber rows (opens.BadVersion version) holds reads gives = absurd gives
-answers_unopened here mid pool after uber rows opens.DiskFault holds reads gives = tt
-answers_unopened here mid pool after uber rows opens.OutOfMemory holds reads gives = holds_read here mid pool holds reads
+pub answers_unopened : (here mid : DiskState) (pool : Pool) (after : Result Stepped Refusal) (uber : Uber) (rows : Rows) (fault : OpenFault) → OnlyReads here mid
+    → GivesPool uber rows (Err fault) → Answers here mid pool after (Err (open_refusal fault))
+answers_unopened here mid pool after uber rows (opens.Damaged sector stated found) reads gives = absurd gives
+answers_unopened here mid pool after uber rows opens.NoPool reads gives = absurd gives
+answers_unopened here mid pool after uber rows (opens.BadVersion version) reads gives = absurd gives
+answers_unopened here mid pool after uber rows opens.DiskFault reads gives = tt
+answers_unopened here mid pool after uber rows opens.OutOfMemory reads gives = inr reads
 
 -- what a refused command leaves
-pub answers_refused : (here' : DiskState) (uber : Uber) (rows : Rows) (pool : Pool) (after : Result Stepped Refusal) (fault : PoolFault)
-    → StepFault (Rests here' uber rows pool) after fault → Answers here' pool after (Err (pool_refusal fault))
-answers_refused here' uber rows pool after (faults.Plan fault) is =
-    of_plan (λ r. after ≡ Err r → Answers here' pool after (Err r)) (λ f e. (e, holds_rests here' uber rows pool is.1)) (λ w n e. (e, holds_rests here' uber rows pool is.1)) fault is.0
-answers_refused here' uber rows pool after (faults.CannotApply fault) is = (is.0, holds_rests here' uber rows pool is.1)
-answers_refused here' uber rows pool after (faults.Redacted object block) is = (is.0, holds_rests here' uber rows pool is.1)
-answers_refused here' uber rows pool after (faults.Full need largest) is = holds_rests here' uber rows pool is.1
-answers_refused here' uber rows pool after (faults.Damaged sector stated found) is = absurd is
-answers_refused here' uber rows pool after faults.DiskFault is = tt
-answers_refused here' uber rows pool after faults.Failed is = absurd is
-answers_refused here' uber rows pool after faults.OutOfMemory is = holds_rests here' uber rows pool is
+pub answers_refused : (here here' : DiskState) (uber : Uber) (rows : Rows) (pool : Pool) (after : Result Stepped Refusal) (fault : PoolFault)
+    → StepFault (Rests here' uber rows pool) after fault → Answers here here' pool after (Err (pool_refusal fault))
+answers_refused here here' uber rows pool after (faults.Plan fault) is =
+    of_plan (λ r. after ≡ Err r → Answers here here' pool after (Err r)) (λ f e. (e, holds_rests here' uber rows pool is.1)) (λ w n e. (e, holds_rests here' uber rows pool is.1)) fault is.0
+answers_refused here here' uber rows pool after (faults.CannotApply fault) is = (is.0, holds_rests here' uber rows pool is.1)
+answers_refused here here' uber rows pool after (faults.Redacted object block) is = (is.0, holds_rests here' uber rows pool is.1)
+answers_refused here here' uber rows pool after (faults.Full need largest) is = holds_rests here' uber rows pool is.1
+answers_refused here here' uber rows pool after (faults.Damaged sector stated found) is = absurd is
+answers_refused here here' uber rows pool after faults.DiskFault is = tt
+answers_refused here here' uber rows pool after faults.Failed is = absurd is
+answers_refused here here' uber rows pool after faults.OutOfMemory is = inl (holds_rests here' uber rows pool is)
 
 -- what an accepted command leaves
-pub answers_done : (here' : DiskState) (uber : Uber) (rows : Rows) (pool : Pool) (after : Result Stepped Refusal) (lines : List (List ℕ))
-    → StepAnswer here' uber rows pool after (Ok lines) → Answers here' pool after (Ok lines)
-answers_done here' uber rows pool after lines is = (is.0, is.1, is.2, holds_rests here' uber rows is.0.pool is.3)
+pub answers_done : (here here' : DiskState) (uber : Uber) (rows : Rows) (pool : Pool) (after : Result Stepped Refusal) (lines : List (List ℕ))
+    → StepAnswer here' uber rows pool after (Ok lines) → Answers here here' pool after (Ok lines)
+answers_done here here' uber rows pool after lines is = (is.0, is.1, is.2, holds_rests here' uber rows is.0.pool is.3)
 
--- ---- what answers say of the latest body
+-- ---- what answers say of any image
 
-pub opened_refused : (here : DiskState) (fault : OpenFault) → OpenAnswers here (Err fault) → Opened here (Err (open_refusal fault))
-opened_refused here (opens.Damaged sector stated found) is = (is.body, is.there, is.version)
-opened_refused here opens.NoPool is = is
-opened_refused here (opens.BadVersion version) is = is
-opened_refused here opens.DiskFault is = tt
-opened_refused here opens.OutOfMemory is = tt
+pub opened_refused : (here here' : DiskState) (fault : OpenFault) → OnlyReads here here' → OpenAnswers here (Err fault) → Opened here here' (Err (open_refusal fault))
+opened_refused here here' (opens.Damaged sector stated found) reads is = inl (is, reads)
+opened_refused here here' opens.NoPool reads is = (is, reads)
+opened_refused here here' (opens.BadVersion version) reads is = (record { body = is.0; there = is.1; version = is.2; other = is.3 }, reads)
+opened_refused here here' opens.DiskFault reads is = tt
+opened_refused here here' opens.OutOfMemory reads is = inl reads
 
-pub opened_done : (here : DiskState) (kept : Kept) (lines : List (List ℕ)) → OpenAnswers here (Ok kept) → Opened here (Ok lines)
-opened_done here kept lines is = (is.0, kept.body, kept.dir, is.1, is.2)
+pub opens_kept : (here : DiskState) (kept : Kept) → OpenAnswers here (Ok kept) → Opens here kept.body kept.dir
+opens_kept here kept is = (is.0, is.1, is.2)
 
-pub opened_then : (here : DiskState) (kept : Kept) (fault : PoolFault) → OpenAnswers here (Ok kept) → IsStepFault fault → Opened here (Err (pool_refusal fault))
-opened_then here kept (faults.Plan fault) is known =
-    of_plan (λ r. Opened here (Err r)) (λ f. (is.0, kept.body, kept.dir, is.1, is.2)) (λ w n. (is.0, kept.body, kept.dir, is.1, is.2)) fault
-opened_then here kept (faults.CannotApply fault) is known = (is.0, kept.body, kept.dir, is.1, is.2)
-opened_then here kept (faults.Redacted object block) is known = (is.0, kept.body, kept.dir, is.1, is.2)
-opened_then here kept (faults.Full need largest) is known = (is.0, kept.body, kept.dir, is.1, is.2)
-opened_then here kept (faults.Damaged sector stated found) is known =
-    let body = is.2.is_body in
-    (is.0, is.1, ap (λ (b : List ℕ). number_at b 8 4) body.spelled ∙ ap (λ (u : Uber). u.version) (uber_at-body_bytes kept.body body.fits) ∙ body.in_range.version)
-opened_then here kept faults.DiskFault is known = tt
-opened_then here kept faults.Failed is known = (is.0, kept.body, kept.dir, is.1, is.2)
-opened_then here kept faults.OutOfMemory is known = tt
+pub opened_then : (here here' : DiskState) (fault : PoolFault) → OpensOnly here here' → IsStepFault fault → Opened here here' (Err (pool_refusal fault))
+opened_then here here' (faults.Plan fault) is known = of_plan (λ r. Opened here here' (Err r)) (λ f. is) (λ w n. is) fault
+opened_then here here' (faults.CannotApply fault) is known = is
+opened_then here here' (faults.Redacted object block) is known = is
+opened_then here here' (faults.Full need largest) is known = is
+opened_then here here' (faults.Damaged sector stated found) is known = inr is
+opened_then here here' faults.DiskFault is known = tt
+opened_then here here' faults.Failed is known = absurd known
+opened_then here here' faults.OutOfMemory is known = inr is
 
 -- ---- one command
 
@@ -219,11 +209,10 @@ pub stepping_unopened : (now : ℕ) (command : Command) (here here' : DiskState)
     → (here'.honest → OpenAnswers here (Err fault)) → OnlyReads here here' → opening.HasDiskCause {T = Kept} opens.DiskFault here.faults here'.faults (Err fault)
     → Stepping now command here here' (Err (open_refusal fault))
 stepping_unopened now command here here' fault there answer reads cause = record {
-  moments = λ pool told holds. moments_read here here' pool (stepped [] now command pool) holds reads;
-  images = λ pool told holds c image. inl (holds.images c (reads.crash c image));
-  answers = λ pool told holds.
-      answers_unopened here here' pool (stepped [] now command pool) holds.seen.0 holds.seen.1 fault holds reads (there holds.seen.0 holds.seen.1 pool told holds.seen.2);
-  opened = λ told. opened_refused here fault (answer told);
+  moments = λ pool told is. moments_read here here' pool (stepped [] now command pool) reads;
+  images = λ pool told is c image. inl (reads.crash c image);
+  answers = λ pool told is. answers_unopened here here' pool (stepped [] now command pool) is.0 is.1 fault reads (there is.0 is.1 pool told is.2);
+  opened = λ told. opened_refused here here' fault reads (answer told);
   full = λ uber rows pool need largest told reads is. absurd (open_room fault need largest (cc is));
   refused = refused_open here here' fault cause;
   later = cause.later;
@@ -235,15 +224,17 @@ module _ (now : ℕ) (command : Command) (here mid here' : DiskState) (kept kept
     (falls : here'.honest → mid.honest) (answer : mid.honest → OpenAnswers here (Ok kept)) (reads : OnlyReads here mid) (synced : IsSynced mid) (later : here.faults ≤ mid.faults)
     (step : (pool : Pool) → here'.honest → Rests mid kept.body kept.dir pool → Leaves mid here' (BeforeOrAfter pool (stepped [] now command pool)))
     (only : (c : List ℕ) → here.left_since here.moment c → here.images c) (now_left : (t : ℕ) (c : List ℕ) → t ≤ here'.moment → here'.images c → here'.left_since t c) where
-  rests : (pool : Pool) → mid.honest → Holds here pool → Rests mid kept.body kept.dir pool
-  rests pool told holds =
-      rests_opened here mid kept holds.seen.0 holds.seen.1 pool holds.seen.2 reads synced (there holds.seen.0 holds.seen.1 pool told holds.seen.2)
+  rests : (pool : Pool) → here'.honest → Reads pool here.seen → Rests mid kept.body kept.dir pool
+  rests pool told is = rests_opened here mid kept is.0 is.1 pool is.2 reads synced (there is.0 is.1 pool (falls told) is.2)
 
-  moments : (pool : Pool) → here'.honest → Holds here pool → Leaves here here' (BeforeOrAfter pool (stepped [] now command pool))
-  moments pool told holds = moments_then here mid here' pool (stepped [] now command pool) holds reads (step pool told (rests pool (falls told) holds))
+  moments : (pool : Pool) → here'.honest → Reads pool here.seen → Leaves here here' (OldOrReads here pool (stepped [] now command pool))
+  moments pool told is = moments_then here mid here' pool (stepped [] now command pool) reads (step pool told (rests pool told is))
 
-  images : (pool : Pool) → here'.honest → Holds here pool → (c : List ℕ) → here'.images c → BeforeOrAfter pool (stepped [] now command pool) c
-  images pool told holds = images_after here here' (BeforeOrAfter pool (stepped [] now command pool)) (moments pool told holds) (λ c image. inl (holds.images c image)) only now_left
+  images : (pool : Pool) → here'.honest → Reads pool here.seen → (c : List ℕ) → here'.images c → OldOrReads here pool (stepped [] now command pool) c
+  images pool told is = images_after here here' (OldOrReads here pool (stepped [] now command pool)) (moments pool told is) (λ c image. inl image) only now_left
+
+  opened_as : here'.honest → Opens here kept.body kept.dir
+  opened_as told = opens_kept here kept (answer (falls told))
 
   pub stepping_done : (lines : List (List ℕ)) → mid.faults ≤ here'.faults
       → ((pool : Pool) → here'.honest → Rests mid kept.body kept.dir pool → StepAnswer here' kept'.body kept'.dir pool (stepped [] now command pool) (Ok lines))
@@ -251,8 +242,8 @@ module _ (now : ℕ) (command : Command) (here mid here' : DiskState) (kept kept
   stepping_done lines after did = record {
     moments = moments;
     images = images;
-    answers = λ pool told holds. answers_done here' kept'.body kept'.dir pool (stepped [] now command pool) lines (did pool told (rests pool (falls told) holds));
-    opened = λ told. opened_done here kept lines (answer (falls told));
+    answers = λ pool told is. answers_done here here' kept'.body kept'.dir pool (stepped [] now command pool) lines (did pool told (rests pool told is));
+    opened = λ told. (kept.body, kept.dir, opened_as told);
     full = λ uber rows pool need largest told reads is. absurd (cc is);
     refused = tt;
     later = omega (arith, later, after);
@@ -265,8 +256,8 @@ module _ (now : ℕ) (command : Command) (here mid here' : DiskState) (kept kept
   stepping_refused fault cause known room did = record {
     moments = moments;
     images = images;
-    answers = λ pool told holds. answers_refused here' kept'.body kept'.dir pool (stepped [] now command pool) fault (did pool told (rests pool (falls told) holds));
-    opened = λ told. opened_then here kept fault (answer (falls told)) known;
+    answers = λ pool told is. answers_refused here here' kept'.body kept'.dir pool (stepped [] now command pool) fault (did pool told (rests pool told is));
+    opened = λ told. opened_then here here' fault (kept.body, kept.dir, opened_as told) known;
     full = λ uber rows pool need largest told is_pool is.
         let same = there uber rows pool (falls told) is_pool in
         rw (← same.0, ← same.1) (room pool need largest told (rests_opened here mid kept uber rows pool is_pool reads synced same) (full_only fault need largest (cc is)));

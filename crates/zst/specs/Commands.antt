@@ -18,8 +18,8 @@ use Rattle.zst_model.specs.declared.refusals.refusal.Refusal.{Refusal}
 use Rattle.zst_model.specs.declared.refusals.refusal.Refusal.TheVariants as refusals
 use Rattle.zst_dir.specs.Rows.{Rows}
 use Rattle.zst_image.specs.Faults.{create_refusal, open_refusal}
-use Rattle.zst_image.specs.Opening.{IsOpened}
-use Rattle.zst_image.specs.Reads.{Reads, ReadsAs, new_pool}
+use Rattle.zst_image.specs.Opening.{IsDamagedPool, IsOpened}
+use Rattle.zst_image.specs.Reads.{Reads, ReadsAs, Rests, new_pool}
 use Rattle.zst_image.specs.declared.create_fault.CreateFault.{CreateFault}
 use Rattle.zst_image.specs.declared.open_fault.OpenFault.{OpenFault}
 use Rattle.zst_pool.specs.Faults.{pool_refusal}
@@ -28,10 +28,13 @@ use Rattle.zst_pool.specs.Stepping.{BeforeOrAfter}
 use Rattle.zst_pool.specs.declared.fault.PoolFault.{PoolFault}
 use Rattle.zst.specs.Replies.{Replied}
 
--- a read of the disk gives this pool, and so does each image that a crash may leave
-pub record Holds (disk : DiskState) (pool : Pool) : Type 0 where
-  pub seen : Reads pool disk.seen
-  pub images : (c : List ℕ) → disk.images c → Reads pool c
+-- by some body and some rows a read of the disk gives this pool, and so does each image that a crash may leave
+abbrev pub Holds : DiskState → Pool → Type 0
+Holds disk pool = (uber : Uber) × (rows : Rows) × Rests disk uber rows pool
+
+-- an image that stood before a command, or one that reads as the pool before it or as the pool after it
+abbrev pub OldOrReads : DiskState → Pool → Result Stepped Refusal → List ℕ → Type 0
+OldOrReads here pool after image = here.images image ⊎ BeforeOrAfter pool after image
 
 -- a refusal of making a pool, and one of opening it or of a command on it
 abbrev pub OfMaking : Refusal → Type 0
@@ -50,31 +53,46 @@ pub record IsPoolRefusal (Is : Refusal → Type 0) (here here' : DiskState) (ref
 
 -- What stands after a command: after Ok the pool is the definition's, and so are the lines. A refusal leaves the pool
 -- as it was, unless the disk failed, and is the definition's, unless the disk is full or no memory is left.
-abbrev pub Answers : DiskState → Pool → Result Stepped Refusal → Result (List (List ℕ)) Refusal → Type 0
-Answers here' pool after (Ok lines) = (done : Stepped) × (after ≡ Ok done) × (lines ≡ done.reply) × Holds here' done.pool
-Answers here' pool after (Err refusals.DiskFault) = Unit {0}
-Answers here' pool after (Err (refusals.Full need largest)) = Holds here' pool
-Answers here' pool after (Err refusals.OutOfMemory) = Holds here' pool
-Answers here' pool after (Err refusal) = (after ≡ Err refusal) × Holds here' pool
+abbrev pub Answers : DiskState → DiskState → Pool → Result Stepped Refusal → Result (List (List ℕ)) Refusal → Type 0
+Answers here here' pool after (Ok lines) = (done : Stepped) × (after ≡ Ok done) × (lines ≡ done.reply) × Holds here' done.pool
+Answers here here' pool after (Err refusals.DiskFault) = Unit {0}
+Answers here here' pool after (Err (refusals.Full need largest)) = Holds here' pool
+Answers here here' pool after (Err refusals.OutOfMemory) = Holds here' pool ⊎ OnlyReads here here'
+Answers here here' pool after (Err refusal) = (after ≡ Err refusal) × Holds here' pool
 
--- What an answer says of the latest body: E26 comes where there is none, E27 where it has another version, E25 where
--- it has this one; any other answer comes where it and its directory are of the layout.
-abbrev pub Opened : DiskState → Result (List (List ℕ)) Refusal → Type 0
-Opened here (Err refusals.NoPool) = latest here.seen ≡ None
-Opened here (Err (refusals.BadVersion number)) =
-    (body : List ℕ) × (latest here.seen ≡ Some body) × (number ≡ number_at body 8 4) × (number ≢ VERSION)
-Opened here (Err (refusals.Damaged sector stated found)) = (body : List ℕ) × (latest here.seen ≡ Some body) × (number_at body 8 4 ≡ VERSION)
-Opened here (Err refusals.DiskFault) = Unit {0}
-Opened here (Err refusals.OutOfMemory) = Unit {0}
-Opened here answer = (body : List ℕ) × (uber : Uber) × (rows : Rows) × (latest here.seen ≡ Some body) × IsOpened here body uber rows
+-- the latest body and its directory are of the layout, and say this
+abbrev pub Opens : DiskState → Uber → Rows → Type 0
+Opens here uber rows = (body : List ℕ) × (latest here.seen ≡ Some body) × IsOpened here body uber rows
 
--- One command on the pool of an image: at every moment, and in the end, each image reads as the pool before it or as
--- what the definition makes of it. E24 comes only where fewer sectors are free than the command may take.
+-- the latest body has another version, this one
+pub record HasVersion (here : DiskState) (number : ℕ) : Type 0 where
+  pub body : List ℕ
+  pub there : latest here.seen ≡ Some body
+  pub version : number ≡ number_at body 8 4
+  pub other : number ≢ VERSION
+
+-- the pool was opened
+abbrev pub OpensOnly : DiskState → DiskState → Type 0
+OpensOnly here here' = (uber : Uber) × (rows : Rows) × Opens here uber rows
+
+-- What an answer says of any image: E26 comes where there is no latest body, E27 where it has another version, E25 where
+-- it or its directory isn't of the layout; these three write nothing. Any other answer comes where both are.
+abbrev pub Opened : DiskState → DiskState → Result (List (List ℕ)) Refusal → Type 0
+Opened here here' (Err refusals.NoPool) = (latest here.seen ≡ None) × OnlyReads here here'
+Opened here here' (Err (refusals.BadVersion number)) = HasVersion here number × OnlyReads here here'
+Opened here here' (Err (refusals.Damaged sector stated found)) = (IsDamagedPool here × OnlyReads here here') ⊎ OpensOnly here here'
+Opened here here' (Err refusals.DiskFault) = Unit {0}
+Opened here here' (Err refusals.OutOfMemory) = OnlyReads here here' ⊎ OpensOnly here here'
+Opened here here' (Ok lines) = (uber : Uber) × (rows : Rows) × Opens here uber rows
+Opened here here' (Err refusal) = OpensOnly here here'
+
+-- One command on the pool of an image: at every moment, and in the end, each image stood before it, or reads as the pool
+-- before it or as what the definition makes of it.
 pub record Stepping (now : ℕ) (command : Command) (here here' : DiskState) (answer : Result (List (List ℕ)) Refusal) : Type 0 where
-  pub moments : (pool : Pool) → here'.honest → Holds here pool → Leaves here here' (BeforeOrAfter pool (stepped [] now command pool))
-  pub images : (pool : Pool) → here'.honest → Holds here pool → (c : List ℕ) → here'.images c → BeforeOrAfter pool (stepped [] now command pool) c
-  pub answers : (pool : Pool) → here'.honest → Holds here pool → Answers here' pool (stepped [] now command pool) answer
-  pub opened : here'.honest → Opened here answer
+  pub moments : (pool : Pool) → here'.honest → Reads pool here.seen → Leaves here here' (OldOrReads here pool (stepped [] now command pool))
+  pub images : (pool : Pool) → here'.honest → Reads pool here.seen → (c : List ℕ) → here'.images c → OldOrReads here pool (stepped [] now command pool) c
+  pub answers : (pool : Pool) → here'.honest → Reads pool here.seen → Answers here here' pool (stepped [] now command pool) answer
+  pub opened : here'.honest → Opened here here' answer
   pub full : (uber : Uber) (rows : Rows) (pool : Pool) (need largest : ℕ) → here'.honest → ReadsAs uber rows pool here.seen
       → answer ≡ Err (refusals.Full need largest) → HasNoRoom (most_sectors command) uber rows need largest
   pub refused : IfErr answer (IsPoolRefusal OfStepping here here')
