@@ -1,8 +1,8 @@
 // The commit of a directory: the one commit of an event.
-ghost use Rattle.std.specs.Prelude.{◌≡◌, ◌+◌, ◌<◌, ◌^◌, ◌||◌, false, ℕ, List, length, IfOk, IfErr, OnOk, OnErr};
+ghost use Rattle.std.specs.Prelude.{◌≡◌, ◌+◌, ◌<◌, ◌^◌, ◌||◌, false, ℕ, List, length, IfOk, IfErr, OnOk, OnErr, Err};
 ghost use Rattle.zst_block.specs.Blocks.{FitsDisk, FillsFree, Has};
 ghost use Rattle.zst_block.specs.Ptr.{hole_of};
-ghost use Rattle.zst_block.specs.Working.{Works, fails};
+ghost use Rattle.zst_block.specs.Working.{TakesAtMost, Works, fails};
 ghost use Rattle.zst_uber.specs.Slots.{latest};
 ghost use Rattle.zst_model.specs.pools.Pool.{Pool};
 ghost use Rattle.zst_dir.specs.Rows.{Rows};
@@ -49,6 +49,10 @@ pub fn commit_dir<D: Disk>(
         → CommitsOver (D.state io.old.disk.now) io.old.space (D.state io.new.disk.now) io.new.space next result }
     ensures number { IfOk result (λ kept. kept.body.number ≡ body.now.number + 1) }
     ensures full { (need largest : ℕ) → result ≡ Err (CommitFault.Full need largest) → IsDirFull io.old.space io.new.space dir need largest }
+    // So many sectors at most are taken, and the body ends where those that are left begin.
+    ensures takes { TakesAtMost (dir_sectors (length (dir_bytes dir))) io.old.space io.new.space }
+    ensures ends { IfOk result (λ kept. (kept.body.end ≡ io.new.space.end) × (kept.body.sectors ≡ body.now.sectors)) }
+    ensures fills { ¬ (result ≡ Err CommitFault.DiskFault) → OnErr result (FillsFree (D.state io.old.disk.now) io.old.space (D.state io.new.disk.now) io.new.space) }
     // After a refusal that isn't the disk's the latest body is the one from before.
     ensures refused { IfErr result (Stays (latest (D.state io.new.disk.now).seen ≡ latest (D.state io.old.disk.now).seen)) }
     ensures ready { IfOk result (λ kept. Ready (D.state io.new.disk.now) kept.body) }

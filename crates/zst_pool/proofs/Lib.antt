@@ -1,7 +1,10 @@
 pub mod Changing
 pub mod Committed
+pub mod Costing
+pub mod Damaged
 pub mod Doing
 pub mod Growing
+pub mod Judged
 pub mod Judging
 pub mod Matching
 pub mod NextPools
@@ -9,5 +12,7 @@ pub mod Parts
 pub mod Replying
 pub mod Room
 pub mod Running
+pub mod Stepped
+pub mod Taking
 pub mod Working
 pub mod Writing

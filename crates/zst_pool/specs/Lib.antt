@@ -1,6 +1,7 @@
 pub mod Checks
+pub mod Cost
+pub mod Damage
 pub mod Faults
 pub mod Heads
-pub mod Room
+pub mod Runs
 pub mod Stepping
-pub mod Work

@@ -5,6 +5,7 @@ mod changes;
 mod checks;
 mod commands;
 mod fault;
+mod head_fault;
 mod heads;
 mod pool;
 #[cfg(test)]

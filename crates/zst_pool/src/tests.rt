@@ -387,6 +387,29 @@ fn each_call_of_the_disk_may_fail(rt: HostRuntime) -> Result<(), Refused> {
     Ok(())
 }
 
+// How many calls of the disk an opening makes, and then a command.
+fn calls_of(alloc: Global, disk: &mut MemDisk, command: Command) -> Result<(u64, u64), PoolFault>
+    requires { IsCommand command }
+{
+    let start = disk.calls();
+    let kept = Kept::open(alloc, disk)?;
+    let opened = disk.calls();
+    let mut pool = Pool::new(alloc, disk, kept);
+    pool.step(alloc, NOW, command)?;
+    let end = pool.into_disk().calls();
+    Ok((opened.saturating_sub(start), end.saturating_sub(opened)))
+}
+
+#[test]
+fn a_small_write_makes_few_calls(rt: HostRuntime) -> Result<(), PoolFault> {
+    let alloc = rt.alloc();
+    let mut disk = with_small(alloc, 2)?;
+    let first = calls_of(alloc, &mut disk, small(alloc, 2)?)?;
+    let again = calls_of(alloc, &mut disk, small(alloc, 2)?)?;
+    assert_eq!(rt; (first, again), ((6, 17), (6, 17)));
+    Ok(())
+}
+
 // Turns one bit of the byte at this place, or turns it back.
 fn turn(disk: &mut MemDisk, at: u64) -> Result<(), Refused> {
     let mut byte = [0; 1];

@@ -1,4 +1,5 @@
-use Rattle.std.proofs.Common.{refl, ap, ◌∙◌, ◌≤◌, ◌+◌, subst, length, arith}
+use Rattle.std.specs.Prelude.{None}
+use Rattle.std.proofs.Common.{refl, sym, ap, ◌∙◌, ◌≤◌, ◌+◌, subst, length, arith}
 use Rattle.zst_block.specs.Blocks.{Has}
 use Rattle.zst_names.specs.Names.{IsDataset}
 use Rattle.zst_model.specs.pools.Pool.{is_before, inserted}
@@ -7,12 +8,16 @@ use Rattle.zst_dir.specs.Rows.{Rows}
 use Rattle.zst_dir.specs.Spelling.{dir_bytes}
 use Rattle.zst_dir.specs.declared.rows.Dataset.{Dataset}
 use Rattle.zst_pool.specs.Checks.{next_of, with_new}
-use Rattle.zst_pool.specs.declared.fault.PoolFault.TheVariants.{OutOfMemory}
+use Rattle.zst_pool.specs.declared.fault.PoolFault.TheVariants.{OutOfMemory, Plan}
+use Rattle.zst_pool.specs.Cost.{cells_only}
+use Rattle.zst_pool.specs.Damage.{NoDamage}
+use Rattle.zst_image.specs.Reads.{free_by}
 use Rattle.zst_pool.proofs.Doing.{did}
 use Rattle.zst_pool.proofs.Judging.{err_is}
 use Rattle.zst_pool.proofs.NextPools.{dataset_is_next, dataset_is_lawful}
 use Rattle.zst_pool.proofs.Parts.{described_in, fills_none}
-use Rattle.zst_pool.proofs.Running.{idle_writes, runs_committed, runs_idle}
+use Rattle.zst_pool.proofs.Committed.{committed_sound}
+use Rattle.zst_pool.proofs.Running.{idle_wrote, runs_committed, runs_planned, runs_sound, runs_starved}
 use Rattle.zst_pool.proofs.commands.make_dataset.Goals as goal
 
 pub returns-clause-runs : goal.returns-clause-runs
@@ -24,7 +29,8 @@ returns-clause-runs g c =
     let name = c.args.name.now in
     let commit = c.commit_dir.ensures in
     let grows : length (dir_bytes c.add_dataset.new.self) ≤ length (dir_bytes kept.dir) + 1024 = omega (arith, c.in_ok-add_dataset.ensures.grows, ap (λ (d : Rows). length (dir_bytes d)) c.in_ok-dir.ensures) in
-    runs_committed (λ pool. with_dataset kind name pool) 0 kept c.add_dataset.new.self c.commit_dir.result c.of_committed.ensures (idle_writes kept old space c.args.io.now.failed c.requires.space c.requires.ready)
+    runs_sound (λ pool. with_dataset kind name pool) (cells_only 0) NoDamage kept c.of_committed.result (λ sector stated found is. committed_sound c.commit_dir.result sector stated found (sym c.of_committed.ensures ∙ is))
+    (runs_committed (λ pool. with_dataset kind name pool) (cells_only 0) kept c.add_dataset.new.self c.commit_dir.result c.of_committed.ensures c.requires.ready (idle_wrote kept (cells_only 0) old space c.args.io.now.failed None refl c.requires.space c.requires.ready)
     (λ pool told rests.
     let done = next_of (with_new kind name pool) in
     let described = described_in old space kept.body kept.dir pool c.requires.space rests in
@@ -35,12 +41,34 @@ returns-clause-runs g c =
     ∙ ap (λ (d : Rows). record d { datasets = inserted (λ (a b : Dataset). is_before a.name b.name) c.new_dataset.result d.datasets }) c.in_ok-dir.ensures
     ∙ ap (λ (row : Dataset). record kept.dir { datasets = inserted (λ (a b : Dataset). is_before a.name b.name) row kept.dir.datasets }) c.new_dataset.ensures.same in
     let next = dataset_is_next (Has old.seen space) kept.body kept.dir c.add_dataset.new.self pool kind name described dir lawful in
-    did old (g.D.Disk.state c.commit_dir.new.io.disk.now) kept.body kept.dir pool (with_dataset kind name pool) done made c.commit_dir.result (λ need largest is. (commit.full need largest is).shorter)
+    did old (g.D.Disk.state c.commit_dir.new.io.disk.now) kept.body kept.dir pool (with_dataset kind name pool) done made c.commit_dir.result
     (commit.commits c.args.io.now.disk.now kept.dir pool done.pool told rests (fills_none old space kept.body c.requires.space) next))
-    grows commit.full commit.ready commit.stays commit.failed commit.cause commit.honest
+    grows commit.full commit.takes commit.ends commit.fills commit.ready commit.stays commit.failed commit.cause commit.honest)
 
 pub returns-in_err-add_dataset-clause-runs : goal.returns-in_err-add_dataset-clause-runs
 returns-in_err-add_dataset-clause-runs g c =
     let fell = c.from_residual-in_err-add_dataset in
-    runs_idle (λ pool. with_dataset c.args.kind c.args.name.now pool) 0 c.args.kept.now OutOfMemory (err_is fell.result OutOfMemory fell.ensures.1) c.requires.ready refl tt
-    (λ need largest is. absurd (cc)) (λ pool rests. tt)
+    runs_starved (λ pool. with_dataset c.args.kind c.args.name.now pool) (cells_only 0) NoDamage c.args.kept.now (err_is fell.result OutOfMemory fell.ensures.1) c.requires.space c.requires.ready
+
+pub returns-in_err-dir-clause-runs : goal.returns-in_err-dir-clause-runs
+returns-in_err-dir-clause-runs g c =
+    let fell = c.from_residual-in_err-dir in
+    runs_starved (λ pool. with_dataset c.args.kind c.args.name.now pool) (cells_only 0) NoDamage c.args.kept.now (err_is fell.result OutOfMemory fell.ensures.1) c.requires.space c.requires.ready
+
+pub returns-in_err-check_new_dataset-clause-runs : goal.returns-in_err-check_new_dataset-clause-runs
+returns-in_err-check_new_dataset-clause-runs g c =
+    let kept = c.args.kept.now in
+    let plan = c.in_err-check_new_dataset.field-0.0 in
+    runs_planned (λ pool. with_dataset c.args.kind c.args.name.now pool) (cells_only 0) NoDamage kept plan (err_is c.from_residual.result (Plan plan) c.from_residual.ensures.1) c.requires.space c.requires.ready
+    (λ pool rests. c.in_err-check_new_dataset.ensures.judged (g.D.Disk.state c.args.io.now.disk.now).seen (free_by kept.body) c.args.kind pool rests.reads.described.rows_are)
+
+pub returns-in_err-check_number-clause-runs : goal.returns-in_err-check_number-clause-runs
+returns-in_err-check_number-clause-runs g c =
+    let kept = c.args.kept.now in
+    let plan = c.in_err-check_number.field-0.0 in
+    let fell = c.from_residual-in_err-check_number in
+    runs_planned (λ pool. with_dataset c.args.kind c.args.name.now pool) (cells_only 0) NoDamage kept plan (err_is fell.result (Plan plan) fell.ensures.1) c.requires.space c.requires.ready
+    (λ pool rests.
+    let described = rests.reads.described in
+    c.in_ok-check_new_dataset.ensures.judged (g.D.Disk.state c.args.io.now.disk.now).seen (free_by kept.body) c.args.kind pool described.rows_are
+    ∙ c.in_err-check_number.ensures.judged (with_new c.args.kind c.args.name.now pool) described.number)

@@ -1,0 +1,14 @@
+use Rattle.std.proofs.Common.{refl, subst}
+use Rattle.zst_dir.specs.Rows.{IsDatasetRow}
+use Rattle.zst_pool.proofs.heads.open_head.Goals as goal
+
+pub returns-in-Ok-clause-there : goal.returns-in-Ok-clause-there
+returns-in-Ok-clause-there c =
+    let there = c.in-Ok.ensures.there in
+    record { row = c.in-Ok.dataset.now; among = there.0; named = there.1; head = refl }
+
+pub returns-in-Ok-clause-levels : goal.returns-in-Ok-clause-levels
+returns-in-Ok-clause-levels c =
+    let there = c.in-Ok.ensures.there in
+    let row = subst IsDatasetRow there.0.2 (c.in-Ok.ensures.lawful.datasets there.0.0 c.in-Ok.dataset.now there.0.1) in
+    row.head
