@@ -1,35 +1,39 @@
 -- What stands after a command on the pool of an image, from what opening and stepping say.
 use Rattle.std.specs.Prelude.{IsTrue, Bool, Result, Ok, Err}
-use Rattle.std.proofs.Common.{◌≡◌, ◌≢◌, inl, inr, ⊎_elim, ℕ, ◌≤◌, List, [], refl, sym, ap, ◌∙◌, subst, arith}
+use Rattle.std.proofs.Common.{◌≡◌, ◌≢◌, ◌⊎◌, inl, inr, ⊎_elim, ℕ, ◌≤◌, List, [], refl, sym, ap, ◌∙◌, subst, arith}
 use Rattle.zst_outside.specs.Causes.{Rose-earlier}
 use Rattle.zst_outside.specs.Images.{DiskState, Leaves, Leaves-weaker, Leaves-then, OnlyReads, IsSynced}
 use Rattle.zst_outside.specs.States.{SinkState}
-use Rattle.zst_bytes.specs.Bytes.{number_at}
-use Rattle.zst_uber.proofs.BodyLaws.{uber_at-body_bytes}
+use Rattle.zst_space.specs.FreeSectors.{FreeSectors}
+use Rattle.zst_block.specs.Blocks.{SparesTaken}
 use Rattle.zst_uber.specs.declared.uber.Uber.{Uber}
 use Rattle.zst_model.specs.pools.Pool.{Pool}
 use Rattle.zst_model.specs.refusals.Refusal.{refusal_of}
 use Rattle.zst_model.specs.pools.Step.{Stepped, stepped}
 use Rattle.zst_model.specs.declared.pools.command.Command.{Command}
+use Rattle.zst_model.specs.declared.pools.command.Command.TheVariants as commands
 use Rattle.zst_model.specs.declared.refusals.faults.Quantity.{Quantity}
 use Rattle.zst_model.specs.declared.refusals.plan_fault.PlanFault.{PlanFault}
 use Rattle.zst_model.specs.declared.refusals.plan_fault.PlanFault.TheVariants as plans
 use Rattle.zst_model.specs.declared.refusals.refusal.Refusal.{Refusal}
 use Rattle.zst_model.specs.declared.refusals.refusal.Refusal.TheVariants as refusals
+use Rattle.zst_tree.specs.Damage.{IsSeen, NamesNode, SumsUp}
+use Rattle.zst_objset.specs.Damage.{IsDamagedObject, IsDamagedSet}
 use Rattle.zst_dir.specs.Rows.{Rows}
 use Rattle.zst_image.specs.Faults.{open_refusal}
 use Rattle.zst_image.specs.Faults as opening
 use Rattle.zst_image.specs.Opening.{GivesPool, OpenAnswers}
-use Rattle.zst_image.specs.Reads.{Reads, ReadsAs, Rests}
+use Rattle.zst_image.specs.Reads.{Reads, ReadsAs, Rests, free_by}
 use Rattle.zst_image.specs.declared.kept.Kept.{Kept}
 use Rattle.zst_image.specs.declared.open_fault.OpenFault.{OpenFault}
 use Rattle.zst_image.specs.declared.open_fault.OpenFault.TheVariants as opens
-use Rattle.zst_pool.specs.Faults.{HasDiskCause, IsStepFault, StepFault, pool_refusal}
-use Rattle.zst_pool.specs.Room.{HasNoRoom, most_sectors}
+use Rattle.zst_pool.specs.Cost.{FindsNoRoom, Grows, cost_of}
+use Rattle.zst_pool.specs.Damage.{IsOf, OfHead, TellsDamage}
+use Rattle.zst_pool.specs.Faults.{HasDiskCause, StepFault, pool_refusal}
 use Rattle.zst_pool.specs.Stepping.{BeforeOrAfter, StepAnswer}
 use Rattle.zst_pool.specs.declared.fault.PoolFault.{PoolFault}
 use Rattle.zst_pool.specs.declared.fault.PoolFault.TheVariants as faults
-use Rattle.zst.specs.Commands.{Holds, OldOrReads, IsPoolRefusal, OfStepping, Answers, Opened, Opens, OpensOnly, Stepping, Steps}
+use Rattle.zst.specs.Commands.{OldOrReads, IsPoolRefusal, OfStepping, Answers, Opened, Opens, Spares, Stepping, Steps, most_of}
 use Rattle.zst.specs.Replies.{Replied}
 
 -- ---- plans' faults as refusals
@@ -76,18 +80,6 @@ failed_before faults.DiskFault is = absurd (cc is)
 failed_before faults.Failed is = refl
 failed_before faults.OutOfMemory is = absurd (cc is)
 
--- and a full disk's only as that
-pub full_only : (fault : PoolFault) (need largest : ℕ) → pool_refusal fault ≡ refusals.Full need largest → fault ≡ faults.Full need largest
-full_only (faults.Plan fault) need largest is =
-    absurd (of_plan (λ r. r ≡ refusals.Full need largest → ⊥) (λ f e. absurd (cc e)) (λ w n e. absurd (cc e)) fault is)
-full_only (faults.CannotApply fault) need largest is = absurd (cc is)
-full_only (faults.Redacted object block) need largest is = absurd (cc is)
-full_only (faults.Full n l) need largest is = cc is
-full_only (faults.Damaged sector stated found) need largest is = absurd (cc is)
-full_only faults.DiskFault need largest is = absurd (cc is)
-full_only faults.Failed need largest is = absurd (cc is)
-full_only faults.OutOfMemory need largest is = absurd (cc is)
-
 -- the fault of a command, as a refusal of the whole
 refused_step : {T : Type 0} → (here mid here' : DiskState) (fault : PoolFault) → here.faults ≤ mid.faults → HasDiskCause {T = T} mid.faults here'.faults (Err fault)
     → fault ≢ faults.Failed → IsPoolRefusal OfStepping here here' (pool_refusal fault)
@@ -97,7 +89,7 @@ refused_step here mid here' fault later cause alive = record {
   cause = λ is. Rose-earlier here.faults mid.faults here'.faults later (cause.fault (ap (λ f. Err f) (disk_fault fault is)));
 }
 
--- a fault of opening is the disk's only as that, and never that it had failed or is full
+-- a fault of opening is the disk's only as that, and never that it had failed
 open_disk : (fault : OpenFault) → open_refusal fault ≡ refusals.DiskFault → fault ≡ opens.DiskFault
 open_disk (opens.Damaged sector stated found) is = absurd (cc is)
 open_disk opens.NoPool is = absurd (cc is)
@@ -112,13 +104,6 @@ open_alive (opens.BadVersion version) is = absurd (cc is)
 open_alive opens.DiskFault is = absurd (cc is)
 open_alive opens.OutOfMemory is = absurd (cc is)
 
-open_room : (fault : OpenFault) (need largest : ℕ) → open_refusal fault ≢ refusals.Full need largest
-open_room (opens.Damaged sector stated found) need largest is = absurd (cc is)
-open_room opens.NoPool need largest is = absurd (cc is)
-open_room (opens.BadVersion version) need largest is = absurd (cc is)
-open_room opens.DiskFault need largest is = absurd (cc is)
-open_room opens.OutOfMemory need largest is = absurd (cc is)
-
 refused_open : {T : Type 0} → (here here' : DiskState) (fault : OpenFault) → opening.HasDiskCause {T = T} opens.DiskFault here.faults here'.faults (Err fault) → IsPoolRefusal OfStepping here here' (open_refusal fault)
 refused_open here here' fault cause = record { one = inl (fault, refl); alive = open_alive fault; cause = λ is. cause.fault (ap (λ f. Err f) (open_disk fault is)) }
 
@@ -131,8 +116,9 @@ rests_opened here mid kept uber rows pool is reads synced same =
     let read : ReadsAs kept.body kept.dir pool mid.seen = rw (same.0, same.1, reads.seen) is in
     record { reads = read; each = λ c image. subst (λ (bytes : List ℕ). ReadsAs kept.body kept.dir pool bytes) (sym (synced c image)) read }
 
-pub holds_rests : (disk : DiskState) (uber : Uber) (rows : Rows) (pool : Pool) → Rests disk uber rows pool → Holds disk pool
-holds_rests disk uber rows pool rests = (uber, rows, rests)
+-- what holds of what is kept holds of the body and the rows that it is
+for_kept : (P : Uber → Rows → Type 0) (kept : Kept) (uber : Uber) (rows : Rows) → GivesPool uber rows (Ok kept) → P kept.body kept.dir → P uber rows
+for_kept P kept uber rows same is = subst (λ (r : Rows). P uber r) same.1 (subst (λ (u : Uber). P u kept.dir) same.0 is)
 
 -- the moments of opening, and those of the command behind it
 pub moments_read : (here mid : DiskState) (pool : Pool) (after : Result Stepped Refusal) → OnlyReads here mid → Leaves here mid (OldOrReads here pool after)
@@ -146,53 +132,80 @@ moments_then here mid here' pool after reads step =
 -- ---- answers
 
 -- where the pool reads, opening is refused by the disk or by want of memory alone
-pub answers_unopened : (here mid : DiskState) (pool : Pool) (after : Result Stepped Refusal) (uber : Uber) (rows : Rows) (fault : OpenFault) → OnlyReads here mid
-    → GivesPool uber rows (Err fault) → Answers here mid pool after (Err (open_refusal fault))
-answers_unopened here mid pool after uber rows (opens.Damaged sector stated found) reads gives = absurd gives
-answers_unopened here mid pool after uber rows opens.NoPool reads gives = absurd gives
-answers_unopened here mid pool after uber rows (opens.BadVersion version) reads gives = absurd gives
-answers_unopened here mid pool after uber rows opens.DiskFault reads gives = tt
-answers_unopened here mid pool after uber rows opens.OutOfMemory reads gives = inr reads
+pub answers_unopened : (command : Command) (here mid : DiskState) (pool : Pool) (after : Result Stepped Refusal) (uber : Uber) (rows : Rows) (fault : OpenFault)
+    → OnlyReads here mid → GivesPool uber rows (Err fault) → Answers command uber rows pool here mid after (Err (open_refusal fault))
+answers_unopened command here mid pool after uber rows (opens.Damaged sector stated found) reads gives = absurd gives
+answers_unopened command here mid pool after uber rows opens.NoPool reads gives = absurd gives
+answers_unopened command here mid pool after uber rows (opens.BadVersion version) reads gives = absurd gives
+answers_unopened command here mid pool after uber rows opens.DiskFault reads gives = tt
+answers_unopened command here mid pool after uber rows opens.OutOfMemory reads gives = inr reads
 
 -- what a refused command leaves
-pub answers_refused : (here here' : DiskState) (uber : Uber) (rows : Rows) (pool : Pool) (after : Result Stepped Refusal) (fault : PoolFault)
-    → StepFault (Rests here' uber rows pool) after fault → Answers here here' pool after (Err (pool_refusal fault))
-answers_refused here here' uber rows pool after (faults.Plan fault) is =
-    of_plan (λ r. after ≡ Err r → Answers here here' pool after (Err r)) (λ f e. (e, holds_rests here' uber rows pool is.1)) (λ w n e. (e, holds_rests here' uber rows pool is.1)) fault is.0
-answers_refused here here' uber rows pool after (faults.CannotApply fault) is = (is.0, holds_rests here' uber rows pool is.1)
-answers_refused here here' uber rows pool after (faults.Redacted object block) is = (is.0, holds_rests here' uber rows pool is.1)
-answers_refused here here' uber rows pool after (faults.Full need largest) is = holds_rests here' uber rows pool is.1
-answers_refused here here' uber rows pool after (faults.Damaged sector stated found) is = absurd is
-answers_refused here here' uber rows pool after faults.DiskFault is = tt
-answers_refused here here' uber rows pool after faults.Failed is = absurd is
-answers_refused here here' uber rows pool after faults.OutOfMemory is = inl (holds_rests here' uber rows pool is)
-
--- what an accepted command leaves
-pub answers_done : (here here' : DiskState) (uber : Uber) (rows : Rows) (pool : Pool) (after : Result Stepped Refusal) (lines : List (List ℕ))
-    → StepAnswer here' uber rows pool after (Ok lines) → Answers here here' pool after (Ok lines)
-answers_done here here' uber rows pool after lines is = (is.0, is.1, is.2, holds_rests here' uber rows is.0.pool is.3)
+pub answers_refused : (command : Command) (here here' : DiskState) (kept : Kept) (left : FreeSectors) (pool : Pool) (after : Result Stepped Refusal) (fault : PoolFault)
+    → FindsNoRoom (cost_of command).cells ((cost_of command).block pool) kept left fault → StepFault (Rests here' kept.body kept.dir pool) after fault
+    → Answers command kept.body kept.dir pool here here' after (Err (pool_refusal fault))
+answers_refused command here here' kept left pool after (faults.Plan fault) room is =
+    of_plan (λ r. after ≡ Err r → Answers command kept.body kept.dir pool here here' after (Err r)) (λ f e. (e, is.1)) (λ w n e. (e, is.1)) fault is.0
+answers_refused command here here' kept left pool after (faults.CannotApply fault) room is = (is.0, is.1)
+answers_refused command here here' kept left pool after (faults.Redacted object block) room is = (is.0, is.1)
+answers_refused command here here' kept left pool after (faults.Full need largest) room is =
+    (record { done = is.0.0; accepts = is.0.1; left = left; room = room need largest refl }, is.1)
+answers_refused command here here' kept left pool after (faults.Damaged sector stated found) room is = absurd is
+answers_refused command here here' kept left pool after faults.DiskFault room is = tt
+answers_refused command here here' kept left pool after faults.Failed room is = absurd is
+answers_refused command here here' kept left pool after faults.OutOfMemory room is = inl is
 
 -- ---- what answers say of any image
 
-pub opened_refused : (here here' : DiskState) (fault : OpenFault) → OnlyReads here here' → OpenAnswers here (Err fault) → Opened here here' (Err (open_refusal fault))
-opened_refused here here' (opens.Damaged sector stated found) reads is = inl (is, reads)
-opened_refused here here' opens.NoPool reads is = (is, reads)
-opened_refused here here' (opens.BadVersion version) reads is = (record { body = is.0; there = is.1; version = is.2; other = is.3 }, reads)
-opened_refused here here' opens.DiskFault reads is = tt
-opened_refused here here' opens.OutOfMemory reads is = inl reads
+pub opened_refused : (command : Command) (here here' : DiskState) (fault : OpenFault) → OnlyReads here here' → OpenAnswers here (Err fault)
+    → Opened command here here' (Err (open_refusal fault))
+opened_refused command here here' (opens.Damaged sector stated found) reads is = inl (is, reads)
+opened_refused command here here' opens.NoPool reads is = (is, reads)
+opened_refused command here here' (opens.BadVersion version) reads is = (record { body = is.0; there = is.1; version = is.2; other = is.3 }, reads)
+opened_refused command here here' opens.DiskFault reads is = tt
+opened_refused command here here' opens.OutOfMemory reads is = inl reads
 
 pub opens_kept : (here : DiskState) (kept : Kept) → OpenAnswers here (Ok kept) → Opens here kept.body kept.dir
 opens_kept here kept is = (is.0, is.1, is.2)
 
-pub opened_then : (here here' : DiskState) (fault : PoolFault) → OpensOnly here here' → IsStepFault fault → Opened here here' (Err (pool_refusal fault))
-opened_then here here' (faults.Plan fault) is known = of_plan (λ r. Opened here here' (Err r)) (λ f. is) (λ w n. is) fault
-opened_then here here' (faults.CannotApply fault) is known = is
-opened_then here here' (faults.Redacted object block) is known = is
-opened_then here here' (faults.Full need largest) is known = is
-opened_then here here' (faults.Damaged sector stated found) is known = inr is
-opened_then here here' faults.DiskFault is known = tt
-opened_then here here' faults.Failed is known = absurd known
-opened_then here here' faults.OutOfMemory is known = inr is
+-- what a command tells of a disk that was only read, it tells of the disk from before
+told_before : (here mid : DiskState) (P : List ℕ → ℕ → Type 0) → OnlyReads here mid → P mid.seen mid.size → P here.seen here.size
+told_before here mid P reads is = subst (λ (n : ℕ). P here.seen n) reads.size (subst (λ (bytes : List ℕ). P bytes mid.size) reads.seen is)
+
+pub told_of_start : (here mid : DiskState) (rows : Rows) (space : FreeSectors) (sector : ℕ) (stated found : List ℕ) (command : Command) → OnlyReads here mid
+    → TellsDamage command rows mid space sector stated found → TellsDamage command rows here space sector stated found
+told_of_start here mid rows space sector stated found (commands.Fs dataset) reads is = is
+told_of_start here mid rows space sector stated found (commands.Volume dataset) reads is = is
+told_of_start here mid rows space sector stated found (commands.Object dataset k head bonus spill) reads is =
+    told_before here mid (λ seen size. OfHead rows dataset (IsDamagedSet (SparesTaken space seen) size) sector stated found) reads is
+told_of_start here mid rows space sector stated found (commands.Write dataset k i bytes) reads is =
+    told_before here mid (λ seen size. OfHead rows dataset (λ set at s f. IsDamagedSet (IsSeen seen) size set at s f
+        ⊎ IsDamagedObject (SparesTaken space seen) size NamesNode set at s f) sector stated found) reads is
+told_of_start here mid rows space sector stated found (commands.Punch dataset k first count) reads is =
+    told_before here mid (λ seen size. OfHead rows dataset (IsDamagedObject (SparesTaken space seen) size (SumsUp (SparesTaken space seen))) sector stated found) reads is
+told_of_start here mid rows space sector stated found (commands.Free dataset first count) reads is =
+    told_before here mid (λ seen size. OfHead rows dataset (IsDamagedSet (SparesTaken space seen) size) sector stated found) reads is
+told_of_start here mid rows space sector stated found (commands.Snapshot name) reads is = is
+told_of_start here mid rows space sector stated found (commands.Read name k i) reads is = is
+told_of_start here mid rows space sector stated found commands.List reads is = is
+told_of_start here mid rows space sector stated found (commands.ListObjects name) reads is = is
+
+-- the fault of a command on what was opened
+pub opened_then : (command : Command) (here mid here' : DiskState) (kept : Kept) (fault : PoolFault) → Opens here kept.body kept.dir → OnlyReads here mid
+    → (fault ≢ faults.DiskFault → SparesTaken (free_by kept.body) here.seen here'.seen)
+    → IsOf (TellsDamage command kept.dir mid (free_by kept.body)) fault → fault ≢ faults.Failed → Opened command here here' (Err (pool_refusal fault))
+opened_then command here mid here' kept (faults.Plan fault) is reads spares told alive =
+    let all : (uber : Uber) × (rows : Rows) × Spares here here' uber rows = (kept.body, kept.dir, (is, spares (λ e. absurd (cc e)))) in
+    of_plan (λ r. Opened command here here' (Err r)) (λ f. all) (λ w n. all) fault
+opened_then command here mid here' kept (faults.CannotApply fault) is reads spares told alive = (kept.body, kept.dir, (is, spares (λ e. absurd (cc e))))
+opened_then command here mid here' kept (faults.Redacted object block) is reads spares told alive = (kept.body, kept.dir, (is, spares (λ e. absurd (cc e))))
+opened_then command here mid here' kept (faults.Full need largest) is reads spares told alive = (kept.body, kept.dir, (is, spares (λ e. absurd (cc e))))
+opened_then command here mid here' kept (faults.Damaged sector stated found) is reads spares told alive =
+    inr (kept.body, kept.dir, (is, spares (λ e. absurd (cc e))),
+        told_of_start here mid kept.dir (free_by kept.body) sector stated found command reads (told sector stated found refl))
+opened_then command here mid here' kept faults.DiskFault is reads spares told alive = tt
+opened_then command here mid here' kept faults.Failed is reads spares told alive = absurd (alive refl)
+opened_then command here mid here' kept faults.OutOfMemory is reads spares told alive = inr (kept.body, kept.dir, (is, spares (λ e. absurd (cc e))))
 
 -- ---- one command
 
@@ -211,9 +224,8 @@ pub stepping_unopened : (now : ℕ) (command : Command) (here here' : DiskState)
 stepping_unopened now command here here' fault there answer reads cause = record {
   moments = λ pool told is. moments_read here here' pool (stepped [] now command pool) reads;
   images = λ pool told is c image. inl (reads.crash c image);
-  answers = λ pool told is. answers_unopened here here' pool (stepped [] now command pool) is.0 is.1 fault reads (there is.0 is.1 pool told is.2);
-  opened = λ told. opened_refused here here' fault reads (answer told);
-  full = λ uber rows pool need largest told reads is. absurd (open_room fault need largest (cc is));
+  answers = λ uber rows pool told is. answers_unopened command here here' pool (stepped [] now command pool) uber rows fault reads (there uber rows pool told is);
+  opened = λ told. opened_refused command here here' fault reads (answer told);
   refused = refused_open here here' fault cause;
   later = cause.later;
 }
@@ -224,11 +236,11 @@ module _ (now : ℕ) (command : Command) (here mid here' : DiskState) (kept kept
     (falls : here'.honest → mid.honest) (answer : mid.honest → OpenAnswers here (Ok kept)) (reads : OnlyReads here mid) (synced : IsSynced mid) (later : here.faults ≤ mid.faults)
     (step : (pool : Pool) → here'.honest → Rests mid kept.body kept.dir pool → Leaves mid here' (BeforeOrAfter pool (stepped [] now command pool)))
     (only : (c : List ℕ) → here.left_since here.moment c → here.images c) (now_left : (t : ℕ) (c : List ℕ) → t ≤ here'.moment → here'.images c → here'.left_since t c) where
-  rests : (pool : Pool) → here'.honest → Reads pool here.seen → Rests mid kept.body kept.dir pool
-  rests pool told is = rests_opened here mid kept is.0 is.1 pool is.2 reads synced (there is.0 is.1 pool (falls told) is.2)
+  rests : (uber : Uber) (rows : Rows) (pool : Pool) → here'.honest → ReadsAs uber rows pool here.seen → Rests mid kept.body kept.dir pool
+  rests uber rows pool told is = rests_opened here mid kept uber rows pool is reads synced (there uber rows pool (falls told) is)
 
   moments : (pool : Pool) → here'.honest → Reads pool here.seen → Leaves here here' (OldOrReads here pool (stepped [] now command pool))
-  moments pool told is = moments_then here mid here' pool (stepped [] now command pool) reads (step pool told (rests pool told is))
+  moments pool told is = moments_then here mid here' pool (stepped [] now command pool) reads (step pool told (rests is.0 is.1 pool told is.2))
 
   images : (pool : Pool) → here'.honest → Reads pool here.seen → (c : List ℕ) → here'.images c → OldOrReads here pool (stepped [] now command pool) c
   images pool told is = images_after here here' (OldOrReads here pool (stepped [] now command pool)) (moments pool told is) (λ c image. inl image) only now_left
@@ -236,32 +248,54 @@ module _ (now : ℕ) (command : Command) (here mid here' : DiskState) (kept kept
   opened_as : here'.honest → Opens here kept.body kept.dir
   opened_as told = opens_kept here kept (answer (falls told))
 
+  done : (uber : Uber) (rows : Rows) (pool : Pool) (lines : List (List ℕ)) → GivesPool uber rows (Ok kept)
+      → Grows (most_of command kept.dir pool) kept.body kept'.body → StepAnswer here' kept'.body kept'.dir pool (stepped [] now command pool) (Ok lines)
+      → Answers command uber rows pool here here' (stepped [] now command pool) (Ok lines)
+  done uber rows pool lines same grows is = for_kept (λ u r. Answers command u r pool here here' (stepped [] now command pool) (Ok lines)) kept uber rows same (record {
+    done = is.0;
+    accepts = is.1;
+    reply = is.2;
+    body = kept'.body;
+    directory = kept'.dir;
+    rests = is.3;
+    grows = grows;
+  })
+
   pub stepping_done : (lines : List (List ℕ)) → mid.faults ≤ here'.faults
+      → ((pool : Pool) → here'.honest → Rests mid kept.body kept.dir pool → Grows (most_of command kept.dir pool) kept.body kept'.body)
       → ((pool : Pool) → here'.honest → Rests mid kept.body kept.dir pool → StepAnswer here' kept'.body kept'.dir pool (stepped [] now command pool) (Ok lines))
       → Stepping now command here here' (Ok lines)
-  stepping_done lines after did = record {
+  stepping_done lines after grows did = record {
     moments = moments;
     images = images;
-    answers = λ pool told is. answers_done here here' kept'.body kept'.dir pool (stepped [] now command pool) lines (did pool told (rests pool told is));
+    answers = λ uber rows pool told is.
+        let before = rests uber rows pool told is in
+        done uber rows pool lines (there uber rows pool (falls told) is) (grows pool told before) (did pool told before);
     opened = λ told. (kept.body, kept.dir, opened_as told);
-    full = λ uber rows pool need largest told reads is. absurd (cc is);
     refused = tt;
     later = omega (arith, later, after);
   }
 
-  pub stepping_refused : (fault : PoolFault) → HasDiskCause {T = List (List ℕ)} mid.faults here'.faults (Err fault) → IsStepFault fault
-      → ((pool : Pool) (need largest : ℕ) → here'.honest → Rests mid kept.body kept.dir pool → fault ≡ faults.Full need largest → HasNoRoom (most_sectors command) kept.body kept.dir need largest)
+  left_as : (fault : PoolFault) (pool : Pool) → kept' ≡ kept → StepAnswer here' kept'.body kept'.dir pool (stepped [] now command pool) (Err fault)
+      → StepFault (Rests here' kept.body kept.dir pool) (stepped [] now command pool) fault
+  left_as fault pool same is = subst (λ (k : Kept). StepFault (Rests here' k.body k.dir pool) (stepped [] now command pool) fault) same is
+
+  pub stepping_refused : (fault : PoolFault) (left : FreeSectors) → kept' ≡ kept → HasDiskCause {T = List (List ℕ)} mid.faults here'.faults (Err fault) → fault ≢ faults.Failed
+      → (fault ≢ faults.DiskFault → SparesTaken (free_by kept.body) mid.seen here'.seen)
+      → (here'.honest → IsOf (TellsDamage command kept.dir mid (free_by kept.body)) fault)
+      → ((pool : Pool) → here'.honest → Rests mid kept.body kept.dir pool → FindsNoRoom (cost_of command).cells ((cost_of command).block pool) kept left fault)
       → ((pool : Pool) → here'.honest → Rests mid kept.body kept.dir pool → StepAnswer here' kept'.body kept'.dir pool (stepped [] now command pool) (Err fault))
       → Stepping now command here here' (Err (pool_refusal fault))
-  stepping_refused fault cause known room did = record {
+  stepping_refused fault left same cause alive spares damaged room did = record {
     moments = moments;
     images = images;
-    answers = λ pool told is. answers_refused here here' kept'.body kept'.dir pool (stepped [] now command pool) fault (did pool told (rests pool told is));
-    opened = λ told. opened_then here here' fault (kept.body, kept.dir, opened_as told) known;
-    full = λ uber rows pool need largest told is_pool is.
-        let same = there uber rows pool (falls told) is_pool in
-        rw (← same.0, ← same.1) (room pool need largest told (rests_opened here mid kept uber rows pool is_pool reads synced same) (full_only fault need largest (cc is)));
-    refused = refused_step here mid here' fault later cause (λ is. subst IsStepFault is known);
+    answers = λ uber rows pool told is.
+        let before = rests uber rows pool told is in
+        for_kept (λ u r. Answers command u r pool here here' (stepped [] now command pool) (Err (pool_refusal fault))) kept uber rows (there uber rows pool (falls told) is)
+            (answers_refused command here here' kept left pool (stepped [] now command pool) fault (room pool told before) (left_as fault pool same (did pool told before)));
+    opened = λ told. opened_then command here mid here' kept fault (opened_as told) reads
+        (λ not. subst (λ (bytes : List ℕ). SparesTaken (free_by kept.body) bytes here'.seen) reads.seen (spares not)) (damaged told) alive;
+    refused = refused_step here mid here' fault later cause alive;
     later = omega (arith, later, cause.later);
   }
 

@@ -15,11 +15,10 @@ use Rattle.zst_image.specs.declared.create_fault.CreateFault.TheVariants.{Exists
 use Rattle.zst_image.specs.declared.kept.Kept.{Kept}
 use Rattle.zst.specs.Commands.{Creates, IsPoolRefusal, Makes, OfMaking}
 use Rattle.zst.specs.Replies.{Replied}
-use Rattle.zst.proofs.Commanded.{holds_rests}
 
 pub makes_done : (sectors id : ℕ) (here here' : DiskState) (kept : Kept) → CreateAnswers here.size (latest here.seen) sectors (Ok kept)
     → Rests here' kept.body kept.dir (new_pool id) → Makes sectors id here here' (Ok (ok_line 1 ∷ []))
-makes_done sectors id here here' kept is rests = (refl, is.0, is.1, holds_rests here' kept.body kept.dir (new_pool id) rests)
+makes_done sectors id here here' kept is rests = (refl, is.0, is.1, (kept.body, kept.dir, rests))
 
 pub makes_refused : (sectors id : ℕ) (here here' : DiskState) (fault : CreateFault) → CreateAnswers here.size (latest here.seen) sectors (Err fault)
     → RefusedLeaves here here' fault → Makes sectors id here here' (Err (create_refusal fault))

@@ -4,6 +4,8 @@ use Rattle.zst_outside.specs.Causes.{Rose}
 use Rattle.zst_outside.specs.Images.{DiskState, Leaves, OnlyReads}
 use Rattle.zst_outside.specs.States.{SinkState}
 use Rattle.zst_bytes.specs.Bytes.{number_at}
+use Rattle.zst_space.specs.FreeSectors.{FreeSectors}
+use Rattle.zst_block.specs.Blocks.{SparesTaken}
 use Rattle.zst_uber.specs.Slots.{latest}
 use Rattle.zst_uber.specs.declared.TheConstants.{VERSION}
 use Rattle.zst_uber.specs.declared.uber.Uber.{Uber}
@@ -18,12 +20,14 @@ use Rattle.zst_model.specs.declared.refusals.refusal.Refusal.{Refusal}
 use Rattle.zst_model.specs.declared.refusals.refusal.Refusal.TheVariants as refusals
 use Rattle.zst_dir.specs.Rows.{Rows}
 use Rattle.zst_image.specs.Faults.{create_refusal, open_refusal}
-use Rattle.zst_image.specs.Opening.{IsDamagedPool, IsOpened}
-use Rattle.zst_image.specs.Reads.{Reads, ReadsAs, Rests, new_pool}
+use Rattle.zst_image.specs.Opening.{IsOpened, OpenAnswers}
+use Rattle.zst_image.specs.Reads.{Reads, ReadsAs, Rests, free_by, new_pool}
 use Rattle.zst_image.specs.declared.create_fault.CreateFault.{CreateFault}
 use Rattle.zst_image.specs.declared.open_fault.OpenFault.{OpenFault}
+use Rattle.zst_image.specs.declared.open_fault.OpenFault.TheVariants as opens
+use Rattle.zst_pool.specs.Cost.{Grows, HasNoRoom, cost_of, most_sectors}
+use Rattle.zst_pool.specs.Damage.{TellsDamage}
 use Rattle.zst_pool.specs.Faults.{pool_refusal}
-use Rattle.zst_pool.specs.Room.{HasNoRoom, most_sectors}
 use Rattle.zst_pool.specs.Stepping.{BeforeOrAfter}
 use Rattle.zst_pool.specs.declared.fault.PoolFault.{PoolFault}
 use Rattle.zst.specs.Replies.{Replied}
@@ -51,50 +55,74 @@ pub record IsPoolRefusal (Is : Refusal → Type 0) (here here' : DiskState) (ref
 
 -- ---- commands
 
--- What stands after a command: after Ok the pool is the definition's, and so are the lines. A refusal leaves the pool
--- as it was, unless the disk failed, and is the definition's, unless the disk is full or no memory is left.
-abbrev pub Answers : DiskState → DiskState → Pool → Result Stepped Refusal → Result (List (List ℕ)) Refusal → Type 0
-Answers here here' pool after (Ok lines) = (done : Stepped) × (after ≡ Ok done) × (lines ≡ done.reply) × Holds here' done.pool
-Answers here here' pool after (Err refusals.DiskFault) = Unit {0}
-Answers here here' pool after (Err (refusals.Full need largest)) = Holds here' pool
-Answers here here' pool after (Err refusals.OutOfMemory) = Holds here' pool ⊎ OnlyReads here here'
-Answers here here' pool after (Err refusal) = (after ≡ Err refusal) × Holds here' pool
+-- so many sectors a command takes at most in this pool, whose directory has these rows
+abbrev pub most_of : Command → Rows → Pool → ℕ
+most_of command rows pool = most_sectors (cost_of command).cells ((cost_of command).block pool) rows
 
--- the latest body and its directory are of the layout, and say this
-abbrev pub Opens : DiskState → Uber → Rows → Type 0
-Opens here uber rows = (body : List ℕ) × (latest here.seen ≡ Some body) × IsOpened here body uber rows
+-- The command was done: the lines and the pool are the definition's, and no more sectors are taken than it costs.
+pub record IsDone (command : Command) (uber : Uber) (rows : Rows) (pool : Pool) (here' : DiskState) (after : Result Stepped Refusal) (lines : List (List ℕ)) : Type 0 where
+  pub done : Stepped
+  pub accepts : after ≡ Ok done
+  pub reply : lines ≡ done.reply
+  pub body : Uber
+  pub directory : Rows
+  pub rests : Rests here' body directory done.pool
+  pub grows : Grows (most_of command rows pool) uber body
 
--- the latest body has another version, this one
+-- E24: the definition accepts, and there was less room than the command may cost
+pub record IsFull (command : Command) (uber : Uber) (rows : Rows) (pool : Pool) (after : Result Stepped Refusal) (need largest : ℕ) : Type 0 where
+  pub done : Stepped
+  pub accepts : after ≡ Ok done
+  pub left : FreeSectors
+  pub room : HasNoRoom (cost_of command).cells ((cost_of command).block pool) uber rows left need largest
+
+-- What stands after a command on the pool of this body and these rows. A refusal leaves the pool as it was, unless the
+-- disk failed, and is the definition's, unless the disk is full or no memory is left.
+abbrev pub Answers : Command → Uber → Rows → Pool → DiskState → DiskState → Result Stepped Refusal → Result (List (List ℕ)) Refusal → Type 0
+Answers command uber rows pool here here' after (Ok lines) = IsDone command uber rows pool here' after lines
+Answers command uber rows pool here here' after (Err refusals.DiskFault) = Unit {0}
+Answers command uber rows pool here here' after (Err (refusals.Full need largest)) = IsFull command uber rows pool after need largest × Rests here' uber rows pool
+Answers command uber rows pool here here' after (Err refusals.OutOfMemory) = Rests here' uber rows pool ⊎ OnlyReads here here'
+Answers command uber rows pool here here' after (Err refusal) = (after ≡ Err refusal) × Rests here' uber rows pool
+
+-- the latest body has this version, which is another
 pub record HasVersion (here : DiskState) (number : ℕ) : Type 0 where
   pub body : List ℕ
   pub there : latest here.seen ≡ Some body
   pub version : number ≡ number_at body 8 4
   pub other : number ≢ VERSION
 
--- the pool was opened
-abbrev pub OpensOnly : DiskState → DiskState → Type 0
-OpensOnly here here' = (uber : Uber) × (rows : Rows) × Opens here uber rows
+-- the latest body and its directory, with these rows, are of the layout
+abbrev pub Opens : DiskState → Uber → Rows → Type 0
+Opens here uber rows = (body : List ℕ) × (latest here.seen ≡ Some body) × IsOpened here body uber rows
 
--- What an answer says of any image: E26 comes where there is no latest body, E27 where it has another version, E25 where
--- it or its directory isn't of the layout; these three write nothing. Any other answer comes where both are.
-abbrev pub Opened : DiskState → DiskState → Result (List (List ℕ)) Refusal → Type 0
-Opened here here' (Err refusals.NoPool) = (latest here.seen ≡ None) × OnlyReads here here'
-Opened here here' (Err (refusals.BadVersion number)) = HasVersion here number × OnlyReads here here'
-Opened here here' (Err (refusals.Damaged sector stated found)) = (IsDamagedPool here × OnlyReads here here') ⊎ OpensOnly here here'
-Opened here here' (Err refusals.DiskFault) = Unit {0}
-Opened here here' (Err refusals.OutOfMemory) = OnlyReads here here' ⊎ OpensOnly here here'
-Opened here here' (Ok lines) = (uber : Uber) × (rows : Rows) × Opens here uber rows
-Opened here here' (Err refusal) = OpensOnly here here'
+-- they are, and nothing but sectors that the body leaves free was written
+abbrev pub Spares : DiskState → DiskState → Uber → Rows → Type 0
+Spares here here' uber rows = Opens here uber rows × SparesTaken (free_by uber) here.seen here'.seen
+
+-- What an answer says of any image, whether it reads as a pool or not. E26 comes where there is no latest body, E27 where
+-- it has another version, E25 where it or its directory isn't of the layout: then nothing is written. Any other answer comes
+-- where both are; if it is a refusal, but for E28, free sectors alone were written. E25 is then of a block that is damaged in
+-- the object set of the command's dataset.
+abbrev pub Opened : Command → DiskState → DiskState → Result (List (List ℕ)) Refusal → Type 0
+Opened command here here' (Err refusals.NoPool) = (latest here.seen ≡ None) × OnlyReads here here'
+Opened command here here' (Err (refusals.BadVersion number)) = HasVersion here number × OnlyReads here here'
+Opened command here here' (Err (refusals.Damaged sector stated found)) =
+    (OpenAnswers here (Err (opens.Damaged sector stated found)) × OnlyReads here here')
+    ⊎ ((uber : Uber) × (rows : Rows) × Spares here here' uber rows × TellsDamage command rows here (free_by uber) sector stated found)
+Opened command here here' (Err refusals.DiskFault) = Unit {0}
+Opened command here here' (Err refusals.OutOfMemory) = OnlyReads here here' ⊎ ((uber : Uber) × (rows : Rows) × Spares here here' uber rows)
+Opened command here here' (Ok lines) = (uber : Uber) × (rows : Rows) × Opens here uber rows
+Opened command here here' (Err refusal) = (uber : Uber) × (rows : Rows) × Spares here here' uber rows
 
 -- One command on the pool of an image: at every moment, and in the end, each image stood before it, or reads as the pool
 -- before it or as what the definition makes of it.
 pub record Stepping (now : ℕ) (command : Command) (here here' : DiskState) (answer : Result (List (List ℕ)) Refusal) : Type 0 where
   pub moments : (pool : Pool) → here'.honest → Reads pool here.seen → Leaves here here' (OldOrReads here pool (stepped [] now command pool))
   pub images : (pool : Pool) → here'.honest → Reads pool here.seen → (c : List ℕ) → here'.images c → OldOrReads here pool (stepped [] now command pool) c
-  pub answers : (pool : Pool) → here'.honest → Reads pool here.seen → Answers here here' pool (stepped [] now command pool) answer
-  pub opened : here'.honest → Opened here here' answer
-  pub full : (uber : Uber) (rows : Rows) (pool : Pool) (need largest : ℕ) → here'.honest → ReadsAs uber rows pool here.seen
-      → answer ≡ Err (refusals.Full need largest) → HasNoRoom (most_sectors command) uber rows need largest
+  pub answers : (uber : Uber) (rows : Rows) (pool : Pool) → here'.honest → ReadsAs uber rows pool here.seen
+      → Answers command uber rows pool here here' (stepped [] now command pool) answer
+  pub opened : here'.honest → Opened command here here' answer
   pub refused : IfErr answer (IsPoolRefusal OfStepping here here')
   pub later : here.faults ≤ here'.faults
 

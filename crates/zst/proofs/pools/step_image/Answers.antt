@@ -1,5 +1,5 @@
 use Rattle.std.specs.Prelude.{Ok, Err}
-use Rattle.std.proofs.Common.{rules, ap, subst}
+use Rattle.std.proofs.Common.{rules, ap, subst, ◌∙◌}
 use Rattle.std.proofs.lemmas.Result.{err_from_is_err_and}
 use Rattle.zst.specs.Commands.{Stepping}
 use Rattle.zst.proofs.Commanded.{stepping_unopened, stepping_done, stepping_refused}
@@ -21,8 +21,9 @@ returns-in_err-reply g c =
     c.in_ok-kept.kept c.step-reply.new.self.kept e.there (λ told. rw (n.disk) at (s.honest told)) e.answer e.reads e.synced e.cause.later
     (λ pool told rests. rw (n.disk) at (s.moments pool told (rw (n.disk, n.kept) rests)))
     (g.met.D.Disk.only_now c.args.here.now) (g.met.D.Disk.counts_now c.step-reply.new.self.io.disk.now)
-    c.in_err-reply.field-0.0 (rw (n.disk) at s.cause) (s.known n.failed)
-    (λ pool need largest told rests is. rw (n.kept) at (s.full pool need largest (rw (n.disk, n.kept) rests) (ap (λ f. Err f) is)))
+    c.in_err-reply.field-0.0 c.step-reply.new.self.io.space (s.kept ∙ n.kept) (rw (n.disk) at s.cause) (λ is. s.open_still n.failed (ap (λ f. Err f) is))
+    (λ not. rw (n.disk, n.kept) at (s.spares (λ is. not (cc is)))) (λ told. rw (n.disk, n.kept) at (s.damaged told))
+    (λ pool told rests. rw (n.kept) at ((s.exact pool told n.failed (rw (n.disk, n.kept) rests)).full))
     (λ pool told rests. s.answer pool told c.requires.built n.failed (rw (n.disk, n.kept) rests)) in
     rw (p.1, p.2) (search (rules, stepping))
 
@@ -35,5 +36,6 @@ returns g c =
     c.in_ok-kept.kept c.step-reply.new.self.kept e.there (λ told. rw (n.disk) at (s.honest told)) e.answer e.reads e.synced e.cause.later
     (λ pool told rests. rw (n.disk) at (s.moments pool told (rw (n.disk, n.kept) rests)))
     (g.met.D.Disk.only_now c.args.here.now) (g.met.D.Disk.counts_now c.step-reply.new.self.io.disk.now)
-    c.in_ok-reply.field-0 (rw (n.disk) at s.cause.later) (λ pool told rests. s.answer pool told c.requires.built n.failed (rw (n.disk, n.kept) rests)) in
+    c.in_ok-reply.field-0 (rw (n.disk) at s.cause.later) (λ pool told rests. rw (n.kept) at ((s.exact pool told n.failed (rw (n.disk, n.kept) rests)).grows))
+    (λ pool told rests. s.answer pool told c.requires.built n.failed (rw (n.disk, n.kept) rests)) in
     subst (λ d. Stepping c.args.now c.args.command (g.D.Disk.state c.args.here.now) (g.D.Disk.state d) (Ok c.in_ok-reply.field-0)) (search rules) stepping
