@@ -109,12 +109,11 @@ refused_open here here' fault cause = record { one = inl (fault, refl); alive = 
 
 -- ---- opening
 
--- a disk that reads as a pool and was opened rests as that pool, by what is kept of it
-pub rests_opened : (here mid : DiskState) (kept : Kept) (uber : Uber) (rows : Rows) (pool : Pool) → ReadsAs uber rows pool here.seen → OnlyReads here mid → IsSynced mid
-    → GivesPool uber rows (Ok kept) → Rests mid kept.body kept.dir pool
-rests_opened here mid kept uber rows pool is reads synced same =
-    let read : ReadsAs kept.body kept.dir pool mid.seen = rw (same.0, same.1, reads.seen) is in
-    record { reads = read; each = λ c image. subst (λ (bytes : List ℕ). ReadsAs kept.body kept.dir pool bytes) (sym (synced c image)) read }
+-- a disk that read as a pool and where nothing is pending rests as that pool
+pub rests_read : (here mid : DiskState) (uber : Uber) (rows : Rows) (pool : Pool) → ReadsAs uber rows pool here.seen → OnlyReads here mid → IsSynced mid → Rests mid uber rows pool
+rests_read here mid uber rows pool is reads synced =
+    let read : ReadsAs uber rows pool mid.seen = subst (λ (bytes : List ℕ). ReadsAs uber rows pool bytes) (sym reads.seen) is in
+    record { reads = read; each = λ c image. subst (λ (bytes : List ℕ). ReadsAs uber rows pool bytes) (sym (synced c image)) read }
 
 -- what holds of what is kept holds of the body and the rows that it is
 for_kept : (P : Uber → Rows → Type 0) (kept : Kept) (uber : Uber) (rows : Rows) → GivesPool uber rows (Ok kept) → P kept.body kept.dir → P uber rows
@@ -132,28 +131,28 @@ moments_then here mid here' pool after reads step =
 -- ---- answers
 
 -- where the pool reads, opening is refused by the disk or by want of memory alone
-pub answers_unopened : (command : Command) (here mid : DiskState) (pool : Pool) (after : Result Stepped Refusal) (uber : Uber) (rows : Rows) (fault : OpenFault)
-    → OnlyReads here mid → GivesPool uber rows (Err fault) → Answers command uber rows pool here mid after (Err (open_refusal fault))
-answers_unopened command here mid pool after uber rows (opens.Damaged sector stated found) reads gives = absurd gives
-answers_unopened command here mid pool after uber rows opens.NoPool reads gives = absurd gives
-answers_unopened command here mid pool after uber rows (opens.BadVersion version) reads gives = absurd gives
-answers_unopened command here mid pool after uber rows opens.DiskFault reads gives = tt
-answers_unopened command here mid pool after uber rows opens.OutOfMemory reads gives = inr reads
+pub answers_unopened : (command : Command) (mid : DiskState) (pool : Pool) (after : Result Stepped Refusal) (uber : Uber) (rows : Rows) (fault : OpenFault)
+    → (fault ≢ opens.DiskFault → Rests mid uber rows pool) → GivesPool uber rows (Err fault) → Answers command uber rows pool mid after (Err (open_refusal fault))
+answers_unopened command mid pool after uber rows (opens.Damaged sector stated found) rests gives = absurd gives
+answers_unopened command mid pool after uber rows opens.NoPool rests gives = absurd gives
+answers_unopened command mid pool after uber rows (opens.BadVersion version) rests gives = absurd gives
+answers_unopened command mid pool after uber rows opens.DiskFault rests gives = tt
+answers_unopened command mid pool after uber rows opens.OutOfMemory rests gives = rests (λ is. absurd (cc is))
 
 -- what a refused command leaves
-pub answers_refused : (command : Command) (here here' : DiskState) (kept : Kept) (left : FreeSectors) (pool : Pool) (after : Result Stepped Refusal) (fault : PoolFault)
+pub answers_refused : (command : Command) (here' : DiskState) (kept : Kept) (left : FreeSectors) (pool : Pool) (after : Result Stepped Refusal) (fault : PoolFault)
     → FindsNoRoom (cost_of command).cells ((cost_of command).block pool) kept left fault → StepFault (Rests here' kept.body kept.dir pool) after fault
-    → Answers command kept.body kept.dir pool here here' after (Err (pool_refusal fault))
-answers_refused command here here' kept left pool after (faults.Plan fault) room is =
-    of_plan (λ r. after ≡ Err r → Answers command kept.body kept.dir pool here here' after (Err r)) (λ f e. (e, is.1)) (λ w n e. (e, is.1)) fault is.0
-answers_refused command here here' kept left pool after (faults.CannotApply fault) room is = (is.0, is.1)
-answers_refused command here here' kept left pool after (faults.Redacted object block) room is = (is.0, is.1)
-answers_refused command here here' kept left pool after (faults.Full need largest) room is =
+    → Answers command kept.body kept.dir pool here' after (Err (pool_refusal fault))
+answers_refused command here' kept left pool after (faults.Plan fault) room is =
+    of_plan (λ r. after ≡ Err r → Answers command kept.body kept.dir pool here' after (Err r)) (λ f e. (e, is.1)) (λ w n e. (e, is.1)) fault is.0
+answers_refused command here' kept left pool after (faults.CannotApply fault) room is = (is.0, is.1)
+answers_refused command here' kept left pool after (faults.Redacted object block) room is = (is.0, is.1)
+answers_refused command here' kept left pool after (faults.Full need largest) room is =
     (record { done = is.0.0; accepts = is.0.1; left = left; room = room need largest refl }, is.1)
-answers_refused command here here' kept left pool after (faults.Damaged sector stated found) room is = absurd is
-answers_refused command here here' kept left pool after faults.DiskFault room is = tt
-answers_refused command here here' kept left pool after faults.Failed room is = absurd is
-answers_refused command here here' kept left pool after faults.OutOfMemory room is = inl is
+answers_refused command here' kept left pool after (faults.Damaged sector stated found) room is = absurd is
+answers_refused command here' kept left pool after faults.DiskFault room is = tt
+answers_refused command here' kept left pool after faults.Failed room is = absurd is
+answers_refused command here' kept left pool after faults.OutOfMemory room is = is
 
 -- ---- what answers say of any image
 
@@ -219,12 +218,13 @@ images_after old new P leaves before only now c image =
 -- opening was refused
 pub stepping_unopened : (now : ℕ) (command : Command) (here here' : DiskState) (fault : OpenFault)
     → ((uber : Uber) (rows : Rows) (pool : Pool) → here'.honest → ReadsAs uber rows pool here.seen → GivesPool uber rows (Err fault))
-    → (here'.honest → OpenAnswers here (Err fault)) → OnlyReads here here' → opening.HasDiskCause {T = Kept} opens.DiskFault here.faults here'.faults (Err fault)
+    → (here'.honest → OpenAnswers here (Err fault)) → OnlyReads here here' → (fault ≢ opens.DiskFault → IsSynced here') → opening.HasDiskCause {T = Kept} opens.DiskFault here.faults here'.faults (Err fault)
     → Stepping now command here here' (Err (open_refusal fault))
-stepping_unopened now command here here' fault there answer reads cause = record {
+stepping_unopened now command here here' fault there answer reads synced cause = record {
   moments = λ pool told is. moments_read here here' pool (stepped [] now command pool) reads;
   images = λ pool told is c image. inl (reads.crash c image);
-  answers = λ uber rows pool told is. answers_unopened command here here' pool (stepped [] now command pool) uber rows fault reads (there uber rows pool told is);
+  answers = λ uber rows pool told is. answers_unopened command here' pool (stepped [] now command pool) uber rows fault
+      (λ alive. rests_read here here' uber rows pool is reads (synced alive)) (there uber rows pool told is);
   opened = λ told. opened_refused command here here' fault reads (answer told);
   refused = refused_open here here' fault cause;
   later = cause.later;
@@ -233,11 +233,12 @@ stepping_unopened now command here here' fault there answer reads cause = record
 -- the command ran on what was opened
 module _ (now : ℕ) (command : Command) (here mid here' : DiskState) (kept kept' : Kept)
     (there : (uber : Uber) (rows : Rows) (pool : Pool) → mid.honest → ReadsAs uber rows pool here.seen → GivesPool uber rows (Ok kept))
-    (falls : here'.honest → mid.honest) (answer : mid.honest → OpenAnswers here (Ok kept)) (reads : OnlyReads here mid) (synced : IsSynced mid) (later : here.faults ≤ mid.faults)
+    (falls : here'.honest → mid.honest) (answer : mid.honest → OpenAnswers here (Ok kept)) (reads : OnlyReads here mid)
+    (stands : (uber : Uber) (rows : Rows) (pool : Pool) → mid.honest → ReadsAs uber rows pool here.seen → Rests mid kept.body kept.dir pool) (later : here.faults ≤ mid.faults)
     (step : (pool : Pool) → here'.honest → Rests mid kept.body kept.dir pool → Leaves mid here' (BeforeOrAfter pool (stepped [] now command pool)))
     (only : (c : List ℕ) → here.left_since here.moment c → here.images c) (now_left : (t : ℕ) (c : List ℕ) → t ≤ here'.moment → here'.images c → here'.left_since t c) where
   rests : (uber : Uber) (rows : Rows) (pool : Pool) → here'.honest → ReadsAs uber rows pool here.seen → Rests mid kept.body kept.dir pool
-  rests uber rows pool told is = rests_opened here mid kept uber rows pool is reads synced (there uber rows pool (falls told) is)
+  rests uber rows pool told is = stands uber rows pool (falls told) is
 
   moments : (pool : Pool) → here'.honest → Reads pool here.seen → Leaves here here' (OldOrReads here pool (stepped [] now command pool))
   moments pool told is = moments_then here mid here' pool (stepped [] now command pool) reads (step pool told (rests is.0 is.1 pool told is.2))
@@ -250,8 +251,8 @@ module _ (now : ℕ) (command : Command) (here mid here' : DiskState) (kept kept
 
   done : (uber : Uber) (rows : Rows) (pool : Pool) (lines : List (List ℕ)) → GivesPool uber rows (Ok kept)
       → Grows (most_of command kept.dir pool) kept.body kept'.body → StepAnswer here' kept'.body kept'.dir pool (stepped [] now command pool) (Ok lines)
-      → Answers command uber rows pool here here' (stepped [] now command pool) (Ok lines)
-  done uber rows pool lines same grows is = for_kept (λ u r. Answers command u r pool here here' (stepped [] now command pool) (Ok lines)) kept uber rows same (record {
+      → Answers command uber rows pool here' (stepped [] now command pool) (Ok lines)
+  done uber rows pool lines same grows is = for_kept (λ u r. Answers command u r pool here' (stepped [] now command pool) (Ok lines)) kept uber rows same (record {
     done = is.0;
     accepts = is.1;
     reply = is.2;
@@ -291,8 +292,8 @@ module _ (now : ℕ) (command : Command) (here mid here' : DiskState) (kept kept
     images = images;
     answers = λ uber rows pool told is.
         let before = rests uber rows pool told is in
-        for_kept (λ u r. Answers command u r pool here here' (stepped [] now command pool) (Err (pool_refusal fault))) kept uber rows (there uber rows pool (falls told) is)
-            (answers_refused command here here' kept left pool (stepped [] now command pool) fault (room pool told before) (left_as fault pool same (did pool told before)));
+        for_kept (λ u r. Answers command u r pool here' (stepped [] now command pool) (Err (pool_refusal fault))) kept uber rows (there uber rows pool (falls told) is)
+            (answers_refused command here' kept left pool (stepped [] now command pool) fault (room pool told before) (left_as fault pool same (did pool told before)));
     opened = λ told. opened_then command here mid here' kept fault (opened_as told) reads
         (λ not. subst (λ (bytes : List ℕ). SparesTaken (free_by kept.body) bytes here'.seen) reads.seen (spares not)) (damaged told) alive;
     refused = refused_step here mid here' fault later cause alive;

@@ -20,21 +20,18 @@ use Rattle.zst_model.specs.declared.refusals.refusal.Refusal.{Refusal}
 use Rattle.zst_model.specs.declared.refusals.refusal.Refusal.TheVariants as refusals
 use Rattle.zst_dir.specs.Rows.{Rows}
 use Rattle.zst_image.specs.Faults.{create_refusal, open_refusal}
-use Rattle.zst_image.specs.Opening.{IsOpened, OpenAnswers}
+use Rattle.zst_image.specs.Creating.{IsNew}
+use Rattle.zst_image.specs.Opening.{IsOpened, TellsBody, TellsDir}
 use Rattle.zst_image.specs.Reads.{Reads, ReadsAs, Rests, free_by, new_pool}
 use Rattle.zst_image.specs.declared.create_fault.CreateFault.{CreateFault}
 use Rattle.zst_image.specs.declared.open_fault.OpenFault.{OpenFault}
-use Rattle.zst_image.specs.declared.open_fault.OpenFault.TheVariants as opens
+use Rattle.zst_image.specs.declared.kept.Kept.{Kept}
 use Rattle.zst_pool.specs.Cost.{Grows, HasNoRoom, cost_of, most_sectors}
 use Rattle.zst_pool.specs.Damage.{TellsDamage}
 use Rattle.zst_pool.specs.Faults.{pool_refusal}
 use Rattle.zst_pool.specs.Stepping.{BeforeOrAfter}
 use Rattle.zst_pool.specs.declared.fault.PoolFault.{PoolFault}
 use Rattle.zst.specs.Replies.{Replied}
-
--- by some body and some rows a read of the disk gives this pool, and so does each image that a crash may leave
-abbrev pub Holds : DiskState → Pool → Type 0
-Holds disk pool = (uber : Uber) × (rows : Rows) × Rests disk uber rows pool
 
 -- an image that stood before a command, or one that reads as the pool before it or as the pool after it
 abbrev pub OldOrReads : DiskState → Pool → Result Stepped Refusal → List ℕ → Type 0
@@ -78,12 +75,12 @@ pub record IsFull (command : Command) (uber : Uber) (rows : Rows) (pool : Pool) 
 
 -- What stands after a command on the pool of this body and these rows. A refusal leaves the pool as it was, unless the
 -- disk failed, and is the definition's, unless the disk is full or no memory is left.
-abbrev pub Answers : Command → Uber → Rows → Pool → DiskState → DiskState → Result Stepped Refusal → Result (List (List ℕ)) Refusal → Type 0
-Answers command uber rows pool here here' after (Ok lines) = IsDone command uber rows pool here' after lines
-Answers command uber rows pool here here' after (Err refusals.DiskFault) = Unit {0}
-Answers command uber rows pool here here' after (Err (refusals.Full need largest)) = IsFull command uber rows pool after need largest × Rests here' uber rows pool
-Answers command uber rows pool here here' after (Err refusals.OutOfMemory) = Rests here' uber rows pool ⊎ OnlyReads here here'
-Answers command uber rows pool here here' after (Err refusal) = (after ≡ Err refusal) × Rests here' uber rows pool
+abbrev pub Answers : Command → Uber → Rows → Pool → DiskState → Result Stepped Refusal → Result (List (List ℕ)) Refusal → Type 0
+Answers command uber rows pool here' after (Ok lines) = IsDone command uber rows pool here' after lines
+Answers command uber rows pool here' after (Err refusals.DiskFault) = Unit {0}
+Answers command uber rows pool here' after (Err (refusals.Full need largest)) = IsFull command uber rows pool after need largest × Rests here' uber rows pool
+Answers command uber rows pool here' after (Err refusals.OutOfMemory) = Rests here' uber rows pool
+Answers command uber rows pool here' after (Err refusal) = (after ≡ Err refusal) × Rests here' uber rows pool
 
 -- the latest body has this version, which is another
 pub record HasVersion (here : DiskState) (number : ℕ) : Type 0 where
@@ -108,7 +105,7 @@ abbrev pub Opened : Command → DiskState → DiskState → Result (List (List �
 Opened command here here' (Err refusals.NoPool) = (latest here.seen ≡ None) × OnlyReads here here'
 Opened command here here' (Err (refusals.BadVersion number)) = HasVersion here number × OnlyReads here here'
 Opened command here here' (Err (refusals.Damaged sector stated found)) =
-    (OpenAnswers here (Err (opens.Damaged sector stated found)) × OnlyReads here here')
+    ((TellsBody here sector stated found ⊎ TellsDir here sector stated found) × OnlyReads here here')
     ⊎ ((uber : Uber) × (rows : Rows) × Spares here here' uber rows × TellsDamage command rows here (free_by uber) sector stated found)
 Opened command here here' (Err refusals.DiskFault) = Unit {0}
 Opened command here here' (Err refusals.OutOfMemory) = OnlyReads here here' ⊎ ((uber : Uber) × (rows : Rows) × Spares here here' uber rows)
@@ -121,7 +118,7 @@ pub record Stepping (now : ℕ) (command : Command) (here here' : DiskState) (an
   pub moments : (pool : Pool) → here'.honest → Reads pool here.seen → Leaves here here' (OldOrReads here pool (stepped [] now command pool))
   pub images : (pool : Pool) → here'.honest → Reads pool here.seen → (c : List ℕ) → here'.images c → OldOrReads here pool (stepped [] now command pool) c
   pub answers : (uber : Uber) (rows : Rows) (pool : Pool) → here'.honest → ReadsAs uber rows pool here.seen
-      → Answers command uber rows pool here here' (stepped [] now command pool) answer
+      → Answers command uber rows pool here' (stepped [] now command pool) answer
   pub opened : here'.honest → Opened command here here' answer
   pub refused : IfErr answer (IsPoolRefusal OfStepping here here')
   pub later : here.faults ≤ here'.faults
@@ -134,11 +131,15 @@ pub record Steps (now : ℕ) (command : Command) (here here' : DiskState) (out o
 
 -- ---- making a pool
 
+-- an empty pool with this id and so many sectors stands
+abbrev pub HasNew : ℕ → ℕ → DiskState → Type 0
+HasNew sectors id here' = (kept : Kept) × IsNew sectors kept × Rests here' kept.body kept.dir (new_pool id)
+
 -- What stands after making a pool, and why it is refused: E4 where one is there, also a damaged one or one of another
 -- version; E23 where the disk is too small. Both change nothing, and without memory there still is no pool.
 abbrev pub Makes : ℕ → ℕ → DiskState → DiskState → Result (List (List ℕ)) Refusal → Type 0
 Makes sectors id here here' (Ok lines) =
-    (lines ≡ ok_line 1 ∷ []) × (latest here.seen ≡ None) × ¬ (here.size < 512 * sectors) × Holds here' (new_pool id)
+    (lines ≡ ok_line 1 ∷ []) × (latest here.seen ≡ None) × ¬ (here.size < 512 * sectors) × HasNew sectors id here'
 Makes sectors id here here' (Err (refusals.Plan fault)) = (fault ≡ plans.Exists present.Pool) × (latest here.seen ≢ None) × OnlyReads here here'
 Makes sectors id here here' (Err (refusals.Limit which number)) =
     (which ≡ quantities.Device) × (number ≡ sectors) × (latest here.seen ≡ None) × (here.size < 512 * sectors) × OnlyReads here here'

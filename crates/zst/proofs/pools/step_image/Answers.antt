@@ -9,7 +9,7 @@ pub returns-in_err-kept : goal.returns-in_err-kept
 returns-in_err-kept g c =
     let e = c.in_err-kept.ensures in
     let p = err_from_is_err_and c.from_residual.result c.from_residual.ensures.1 in
-    rw (p.1, p.2) (stepping_unopened c.args.now c.args.command _ _ c.in_err-kept.field-0.0 e.there e.answer e.reads e.cause)
+    rw (p.1, p.2) (stepping_unopened c.args.now c.args.command _ _ c.in_err-kept.field-0.0 e.there e.answer e.reads (λ alive. e.synced (λ is. alive (cc is))) e.cause)
 
 pub returns-in_err-reply : goal.returns-in_err-reply
 returns-in_err-reply g c =
