@@ -33,7 +33,7 @@ use Rattle.zst_pool.specs.Faults.{HasDiskCause, StepFault, pool_refusal}
 use Rattle.zst_pool.specs.Stepping.{BeforeOrAfter, StepAnswer}
 use Rattle.zst_pool.specs.declared.fault.PoolFault.{PoolFault}
 use Rattle.zst_pool.specs.declared.fault.PoolFault.TheVariants as faults
-use Rattle.zst.specs.Commands.{OldOrReads, IsPoolRefusal, OfStepping, Answers, Opened, Opens, Spares, Stepping, Steps, most_of}
+use Rattle.zst.specs.Commands.{OldOrReads, IsPoolRefusal, OfStepping, Answers, Opened, Opens, Ran, Stepping, Steps, most_of}
 use Rattle.zst.specs.Replies.{Replied}
 
 -- ---- plans' faults as refusals
@@ -79,6 +79,31 @@ failed_before (faults.Damaged sector stated found) is = absurd (cc is)
 failed_before faults.DiskFault is = absurd (cc is)
 failed_before faults.Failed is = refl
 failed_before faults.OutOfMemory is = absurd (cc is)
+
+-- and a full disk's only as that
+pub full_only : (fault : PoolFault) (need largest : ℕ) → pool_refusal fault ≡ refusals.Full need largest → fault ≡ faults.Full need largest
+full_only (faults.Plan fault) need largest is =
+    absurd (of_plan (λ r. r ≡ refusals.Full need largest → ⊥) (λ f e. absurd (cc e)) (λ w n e. absurd (cc e)) fault is)
+full_only (faults.CannotApply fault) need largest is = absurd (cc is)
+full_only (faults.Redacted object block) need largest is = absurd (cc is)
+full_only (faults.Full n l) need largest is = cc is
+full_only (faults.Damaged sector stated found) need largest is = absurd (cc is)
+full_only faults.DiskFault need largest is = absurd (cc is)
+full_only faults.Failed need largest is = absurd (cc is)
+full_only faults.OutOfMemory need largest is = absurd (cc is)
+
+-- and a damaged block's only as that
+pub damaged_only : (fault : PoolFault) (sector : ℕ) (stated found : List ℕ) → pool_refusal fault ≡ refusals.Damaged sector stated found
+    → fault ≡ faults.Damaged sector stated found
+damaged_only (faults.Plan fault) sector stated found is =
+    absurd (of_plan (λ r. r ≡ refusals.Damaged sector stated found → ⊥) (λ f e. absurd (cc e)) (λ w n e. absurd (cc e)) fault is)
+damaged_only (faults.CannotApply fault) sector stated found is = absurd (cc is)
+damaged_only (faults.Redacted object block) sector stated found is = absurd (cc is)
+damaged_only (faults.Full need largest) sector stated found is = absurd (cc is)
+damaged_only (faults.Damaged a s f) sector stated found is = cc is
+damaged_only faults.DiskFault sector stated found is = absurd (cc is)
+damaged_only faults.Failed sector stated found is = absurd (cc is)
+damaged_only faults.OutOfMemory sector stated found is = absurd (cc is)
 
 -- the fault of a command, as a refusal of the whole
 refused_step : {T : Type 0} → (here mid here' : DiskState) (fault : PoolFault) → here.faults ≤ mid.faults → HasDiskCause {T = T} mid.faults here'.faults (Err fault)
@@ -148,7 +173,7 @@ answers_refused command here' kept left pool after (faults.Plan fault) room is =
 answers_refused command here' kept left pool after (faults.CannotApply fault) room is = (is.0, is.1)
 answers_refused command here' kept left pool after (faults.Redacted object block) room is = (is.0, is.1)
 answers_refused command here' kept left pool after (faults.Full need largest) room is =
-    (record { done = is.0.0; accepts = is.0.1; left = left; room = room need largest refl }, is.1)
+    (record { done = is.0.0; accepts = is.0.1; short = (left, room need largest refl) }, is.1)
 answers_refused command here' kept left pool after (faults.Damaged sector stated found) room is = absurd is
 answers_refused command here' kept left pool after faults.DiskFault room is = tt
 answers_refused command here' kept left pool after faults.Failed room is = absurd is
@@ -156,13 +181,13 @@ answers_refused command here' kept left pool after faults.OutOfMemory room is = 
 
 -- ---- what answers say of any image
 
-pub opened_refused : (command : Command) (here here' : DiskState) (fault : OpenFault) → OnlyReads here here' → OpenAnswers here (Err fault)
-    → Opened command here here' (Err (open_refusal fault))
-opened_refused command here here' (opens.Damaged sector stated found) reads is = inl (is, reads)
-opened_refused command here here' opens.NoPool reads is = (is, reads)
-opened_refused command here here' (opens.BadVersion version) reads is = (record { body = is.0; there = is.1; version = is.2; other = is.3 }, reads)
-opened_refused command here here' opens.DiskFault reads is = tt
-opened_refused command here here' opens.OutOfMemory reads is = inl reads
+pub opened_refused : (now : ℕ) (command : Command) (here here' : DiskState) (fault : OpenFault) → OnlyReads here here' → OpenAnswers here (Err fault)
+    → Opened now command here here' (Err (open_refusal fault))
+opened_refused now command here here' (opens.Damaged sector stated found) reads is = inl (is, reads)
+opened_refused now command here here' opens.NoPool reads is = (is, reads)
+opened_refused now command here here' (opens.BadVersion version) reads is = (record { body = is.0; there = is.1; version = is.2; other = is.3 }, reads)
+opened_refused now command here here' opens.DiskFault reads is = tt
+opened_refused now command here here' opens.OutOfMemory reads is = inl reads
 
 pub opens_kept : (here : DiskState) (kept : Kept) → OpenAnswers here (Ok kept) → Opens here kept.body kept.dir
 opens_kept here kept is = (is.0, is.1, is.2)
@@ -189,22 +214,40 @@ told_of_start here mid rows space sector stated found (commands.Read name k i) r
 told_of_start here mid rows space sector stated found commands.List reads is = is
 told_of_start here mid rows space sector stated found (commands.ListObjects name) reads is = is
 
--- the fault of a command on what was opened
-pub opened_then : (command : Command) (here mid here' : DiskState) (kept : Kept) (fault : PoolFault) → Opens here kept.body kept.dir → OnlyReads here mid
-    → (fault ≢ faults.DiskFault → SparesTaken (free_by kept.body) here.seen here'.seen)
-    → IsOf (TellsDamage command kept.dir mid (free_by kept.body)) fault → fault ≢ faults.Failed → Opened command here here' (Err (pool_refusal fault))
-opened_then command here mid here' kept (faults.Plan fault) is reads spares told alive =
-    let all : (uber : Uber) × (rows : Rows) × Spares here here' uber rows = (kept.body, kept.dir, (is, spares (λ e. absurd (cc e)))) in
-    of_plan (λ r. Opened command here here' (Err r)) (λ f. all) (λ w n. all) fault
-opened_then command here mid here' kept (faults.CannotApply fault) is reads spares told alive = (kept.body, kept.dir, (is, spares (λ e. absurd (cc e))))
-opened_then command here mid here' kept (faults.Redacted object block) is reads spares told alive = (kept.body, kept.dir, (is, spares (λ e. absurd (cc e))))
-opened_then command here mid here' kept (faults.Full need largest) is reads spares told alive = (kept.body, kept.dir, (is, spares (λ e. absurd (cc e))))
-opened_then command here mid here' kept (faults.Damaged sector stated found) is reads spares told alive =
-    inr (kept.body, kept.dir, (is, spares (λ e. absurd (cc e))),
-        told_of_start here mid kept.dir (free_by kept.body) sector stated found command reads (told sector stated found refl))
-opened_then command here mid here' kept faults.DiskFault is reads spares told alive = tt
-opened_then command here mid here' kept faults.Failed is reads spares told alive = absurd (alive refl)
-opened_then command here mid here' kept faults.OutOfMemory is reads spares told alive = inr (kept.body, kept.dir, (is, spares (λ e. absurd (cc e))))
+-- a command that was refused on what was opened
+ran_refused : (now : ℕ) (command : Command) (here mid here' : DiskState) (kept : Kept) (left : FreeSectors) (fault : PoolFault) → Opens here kept.body kept.dir → OnlyReads here mid
+    → SparesTaken (free_by kept.body) here.seen here'.seen → ((block : ℕ) × (block ≤ (cost_of command).most) × FindsNoRoom (cost_of command).cells block kept left fault)
+    → IsOf (TellsDamage command kept.dir mid (free_by kept.body)) fault
+    → Ran now command here here' (Err (pool_refusal fault)) kept.body kept.dir
+ran_refused now command here mid here' kept left fault opens reads spares room damaged = record {
+  opens = opens;
+  spares = spares;
+  full = λ need largest is. (room.0, room.1, (left, room.2 need largest (full_only fault need largest (cc is))));
+  damaged = λ sector stated found is.
+      told_of_start here mid kept.dir (free_by kept.body) sector stated found command reads (damaged sector stated found (damaged_only fault sector stated found (cc is)));
+}
+
+ran_done : (now : ℕ) (command : Command) (here here' : DiskState) (kept : Kept) (lines : List (List ℕ)) → Opens here kept.body kept.dir
+    → Ran now command here here' (Ok lines) kept.body kept.dir
+ran_done now command here here' kept lines opens = record {
+  opens = opens;
+  spares = tt;
+  full = λ need largest is. absurd (cc is);
+  damaged = λ sector stated found is. absurd (cc is);
+}
+
+opened_then : (now : ℕ) (command : Command) (here here' : DiskState) (kept : Kept) (fault : PoolFault) → fault ≢ faults.Failed
+    → (fault ≢ faults.DiskFault → Ran now command here here' (Err (pool_refusal fault)) kept.body kept.dir) → Opened now command here here' (Err (pool_refusal fault))
+opened_then now command here here' kept (faults.Plan fault) alive ran =
+    of_plan (λ r. Ran now command here here' (Err r) kept.body kept.dir → Opened now command here here' (Err r)) (λ f is. (kept.body, kept.dir, is))
+        (λ w n is. (kept.body, kept.dir, is)) fault (ran (λ e. absurd (cc e)))
+opened_then now command here here' kept (faults.CannotApply fault) alive ran = (kept.body, kept.dir, ran (λ e. absurd (cc e)))
+opened_then now command here here' kept (faults.Redacted object block) alive ran = (kept.body, kept.dir, ran (λ e. absurd (cc e)))
+opened_then now command here here' kept (faults.Full need largest) alive ran = (kept.body, kept.dir, ran (λ e. absurd (cc e)))
+opened_then now command here here' kept (faults.Damaged sector stated found) alive ran = inr (kept.body, kept.dir, ran (λ e. absurd (cc e)))
+opened_then now command here here' kept faults.DiskFault alive ran = tt
+opened_then now command here here' kept faults.Failed alive ran = absurd (alive refl)
+opened_then now command here here' kept faults.OutOfMemory alive ran = inr (kept.body, kept.dir, ran (λ e. absurd (cc e)))
 
 -- ---- one command
 
@@ -225,7 +268,7 @@ stepping_unopened now command here here' fault there answer reads synced cause =
   images = λ pool told is c image. inl (reads.crash c image);
   answers = λ uber rows pool told is. answers_unopened command here' pool (stepped [] now command pool) uber rows fault
       (λ alive. rests_read here here' uber rows pool is reads (synced alive)) (there uber rows pool told is);
-  opened = λ told. opened_refused command here here' fault reads (answer told);
+  opened = λ told. opened_refused now command here here' fault reads (answer told);
   refused = refused_open here here' fault cause;
   later = cause.later;
 }
@@ -272,7 +315,7 @@ module _ (now : ℕ) (command : Command) (here mid here' : DiskState) (kept kept
     answers = λ uber rows pool told is.
         let before = rests uber rows pool told is in
         done uber rows pool lines (there uber rows pool (falls told) is) (grows pool told before) (did pool told before);
-    opened = λ told. (kept.body, kept.dir, opened_as told);
+    opened = λ told. (kept.body, kept.dir, ran_done now command here here' kept lines (opened_as told));
     refused = tt;
     later = omega (arith, later, after);
   }
@@ -283,19 +326,20 @@ module _ (now : ℕ) (command : Command) (here mid here' : DiskState) (kept kept
 
   pub stepping_refused : (fault : PoolFault) (left : FreeSectors) → kept' ≡ kept → HasDiskCause {T = List (List ℕ)} mid.faults here'.faults (Err fault) → fault ≢ faults.Failed
       → (fault ≢ faults.DiskFault → SparesTaken (free_by kept.body) mid.seen here'.seen)
+      → ((block : ℕ) × (block ≤ (cost_of command).most) × FindsNoRoom (cost_of command).cells block kept left fault)
       → (here'.honest → IsOf (TellsDamage command kept.dir mid (free_by kept.body)) fault)
       → ((pool : Pool) → here'.honest → Rests mid kept.body kept.dir pool → FindsNoRoom (cost_of command).cells ((cost_of command).block pool) kept left fault)
       → ((pool : Pool) → here'.honest → Rests mid kept.body kept.dir pool → StepAnswer here' kept'.body kept'.dir pool (stepped [] now command pool) (Err fault))
       → Stepping now command here here' (Err (pool_refusal fault))
-  stepping_refused fault left same cause alive spares damaged room did = record {
+  stepping_refused fault left same cause alive spares bounded damaged room did = record {
     moments = moments;
     images = images;
     answers = λ uber rows pool told is.
         let before = rests uber rows pool told is in
         for_kept (λ u r. Answers command u r pool here' (stepped [] now command pool) (Err (pool_refusal fault))) kept uber rows (there uber rows pool (falls told) is)
             (answers_refused command here' kept left pool (stepped [] now command pool) fault (room pool told before) (left_as fault pool same (did pool told before)));
-    opened = λ told. opened_then command here mid here' kept fault (opened_as told) reads
-        (λ not. subst (λ (bytes : List ℕ). SparesTaken (free_by kept.body) bytes here'.seen) reads.seen (spares not)) (damaged told) alive;
+    opened = λ told. opened_then now command here here' kept fault alive (λ not. ran_refused now command here mid here' kept left fault (opened_as told) reads
+        (subst (λ (bytes : List ℕ). SparesTaken (free_by kept.body) bytes here'.seen) reads.seen (spares not)) bounded (damaged told));
     refused = refused_step here mid here' fault later cause alive;
     later = omega (arith, later, cause.later);
   }

@@ -1,5 +1,5 @@
 -- What a line that works on a pool leaves of its image, and what it answers.
-use Rattle.std.specs.Prelude.{ℕ, ◌≡◌, ◌≢◌, ◌⊎◌, ◌*◌, ◌<◌, ◌≤◌, Bool, IsTrue, IfErr, List, [], ◌∷◌, None, Some, Result, Ok, Err}
+use Rattle.std.specs.Prelude.{ℕ, ◌≡◌, ◌≢◌, ◌⊎◌, ◌*◌, ◌<◌, ◌≤◌, Bool, IsTrue, IfErr, OnErr, List, [], ◌∷◌, None, Some, Result, Ok, Err}
 use Rattle.zst_outside.specs.Causes.{Rose}
 use Rattle.zst_outside.specs.Images.{DiskState, Leaves, OnlyReads}
 use Rattle.zst_outside.specs.States.{SinkState}
@@ -66,12 +66,15 @@ pub record IsDone (command : Command) (uber : Uber) (rows : Rows) (pool : Pool) 
   pub rests : Rests here' body directory done.pool
   pub grows : Grows (most_of command rows pool) uber body
 
--- E24: the definition accepts, and there was less room than the command may cost
+-- there was no room for the sectors that are needed, by a command that costs so many cells and so many sectors of data
+abbrev pub IsShort : ℕ → ℕ → Uber → Rows → ℕ → ℕ → Type 0
+IsShort cells block uber rows need largest = (left : FreeSectors) × HasNoRoom cells block uber rows left need largest
+
+-- E24: the definition accepts, and there was less room than the command costs
 pub record IsFull (command : Command) (uber : Uber) (rows : Rows) (pool : Pool) (after : Result Stepped Refusal) (need largest : ℕ) : Type 0 where
   pub done : Stepped
   pub accepts : after ≡ Ok done
-  pub left : FreeSectors
-  pub room : HasNoRoom (cost_of command).cells ((cost_of command).block pool) uber rows left need largest
+  pub short : IsShort (cost_of command).cells ((cost_of command).block pool) uber rows need largest
 
 -- What stands after a command on the pool of this body and these rows. A refusal leaves the pool as it was, unless the
 -- disk failed, and is the definition's, unless the disk is full or no memory is left.
@@ -93,24 +96,29 @@ pub record HasVersion (here : DiskState) (number : ℕ) : Type 0 where
 abbrev pub Opens : DiskState → Uber → Rows → Type 0
 Opens here uber rows = (body : List ℕ) × (latest here.seen ≡ Some body) × IsOpened here body uber rows
 
--- they are, and nothing but sectors that the body leaves free was written
-abbrev pub Spares : DiskState → DiskState → Uber → Rows → Type 0
-Spares here here' uber rows = Opens here uber rows × SparesTaken (free_by uber) here.seen here'.seen
+-- A command on a pool that was opened by this body and these rows, whether or not the image reads as a pool: a refusal, but
+-- for E28, wrote into sectors alone that the body leaves free; E24 comes only where there is less room than the command may
+-- cost, and E25 only of a block that is damaged in the object set of the command's dataset.
+pub record Ran (now : ℕ) (command : Command) (here here' : DiskState) (answer : Result (List (List ℕ)) Refusal) (uber : Uber) (rows : Rows) : Type 0 where
+  pub opens : Opens here uber rows
+  pub spares : OnErr answer (SparesTaken (free_by uber) here.seen here'.seen)
+  pub full : (need largest : ℕ) → answer ≡ Err (refusals.Full need largest)
+      → (block : ℕ) × (block ≤ (cost_of command).most) × IsShort (cost_of command).cells block uber rows need largest
+  pub damaged : (sector : ℕ) (stated found : List ℕ) → answer ≡ Err (refusals.Damaged sector stated found)
+      → TellsDamage command rows here (free_by uber) sector stated found
 
--- What an answer says of any image, whether it reads as a pool or not. E26 comes where there is no latest body, E27 where
--- it has another version, E25 where it or its directory isn't of the layout: then nothing is written. Any other answer comes
--- where both are; if it is a refusal, but for E28, free sectors alone were written. E25 is then of a block that is damaged in
--- the object set of the command's dataset.
-abbrev pub Opened : Command → DiskState → DiskState → Result (List (List ℕ)) Refusal → Type 0
-Opened command here here' (Err refusals.NoPool) = (latest here.seen ≡ None) × OnlyReads here here'
-Opened command here here' (Err (refusals.BadVersion number)) = HasVersion here number × OnlyReads here here'
-Opened command here here' (Err (refusals.Damaged sector stated found)) =
+-- What an answer says of any image. E26 comes where there is no latest body, E27 where it has another version, E25 where it
+-- or its directory isn't of the layout: then nothing is written. Any other answer comes where both are, E28 and E32 aside.
+abbrev pub Opened : ℕ → Command → DiskState → DiskState → Result (List (List ℕ)) Refusal → Type 0
+Opened now command here here' (Err refusals.NoPool) = (latest here.seen ≡ None) × OnlyReads here here'
+Opened now command here here' (Err (refusals.BadVersion number)) = HasVersion here number × OnlyReads here here'
+Opened now command here here' (Err (refusals.Damaged sector stated found)) =
     ((TellsBody here sector stated found ⊎ TellsDir here sector stated found) × OnlyReads here here')
-    ⊎ ((uber : Uber) × (rows : Rows) × Spares here here' uber rows × TellsDamage command rows here (free_by uber) sector stated found)
-Opened command here here' (Err refusals.DiskFault) = Unit {0}
-Opened command here here' (Err refusals.OutOfMemory) = OnlyReads here here' ⊎ ((uber : Uber) × (rows : Rows) × Spares here here' uber rows)
-Opened command here here' (Ok lines) = (uber : Uber) × (rows : Rows) × Opens here uber rows
-Opened command here here' (Err refusal) = (uber : Uber) × (rows : Rows) × Spares here here' uber rows
+    ⊎ ((uber : Uber) × (rows : Rows) × Ran now command here here' (Err (refusals.Damaged sector stated found)) uber rows)
+Opened now command here here' (Err refusals.DiskFault) = Unit {0}
+Opened now command here here' (Err refusals.OutOfMemory) =
+    OnlyReads here here' ⊎ ((uber : Uber) × (rows : Rows) × Ran now command here here' (Err refusals.OutOfMemory) uber rows)
+Opened now command here here' answer = (uber : Uber) × (rows : Rows) × Ran now command here here' answer uber rows
 
 -- One command on the pool of an image: at every moment, and in the end, each image stood before it, or reads as the pool
 -- before it or as what the definition makes of it.
@@ -119,7 +127,7 @@ pub record Stepping (now : ℕ) (command : Command) (here here' : DiskState) (an
   pub images : (pool : Pool) → here'.honest → Reads pool here.seen → (c : List ℕ) → here'.images c → OldOrReads here pool (stepped [] now command pool) c
   pub answers : (uber : Uber) (rows : Rows) (pool : Pool) → here'.honest → ReadsAs uber rows pool here.seen
       → Answers command uber rows pool here' (stepped [] now command pool) answer
-  pub opened : here'.honest → Opened command here here' answer
+  pub opened : here'.honest → Opened now command here here' answer
   pub refused : IfErr answer (IsPoolRefusal OfStepping here here')
   pub later : here.faults ≤ here'.faults
 

@@ -22,7 +22,7 @@ returns-in_err-reply g c =
     (λ pool told rests. rw (n.disk) at (s.moments pool told (rw (n.disk, n.kept) rests)))
     (g.met.D.Disk.only_now c.args.here.now) (g.met.D.Disk.counts_now c.step-reply.new.self.io.disk.now)
     c.in_err-reply.field-0.0 c.step-reply.new.self.io.space (s.kept ∙ n.kept) (rw (n.disk) at s.cause) (λ is. s.open_still n.failed (ap (λ f. Err f) is))
-    (λ not. rw (n.disk, n.kept) at (s.spares (λ is. not (cc is)))) (λ told. rw (n.disk, n.kept) at (s.damaged told))
+    (λ not. rw (n.disk, n.kept) at (s.spares (λ is. not (cc is)))) (rw (n.kept) at ((s.spends n.failed).0, (s.spends n.failed).1, (s.spends n.failed).2.full)) (λ told. rw (n.disk, n.kept) at (s.damaged told))
     (λ pool told rests. rw (n.kept) at ((s.exact pool told n.failed (rw (n.disk, n.kept) rests)).full))
     (λ pool told rests. s.answer pool told c.requires.built n.failed (rw (n.disk, n.kept) rests)) in
     rw (p.1, p.2) (search (rules, stepping))
