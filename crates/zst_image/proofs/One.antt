@@ -72,17 +72,17 @@ module _ (one : SetsHoldOne) (image : List ℕ) (space : FreeSectors) where
   DatasetIs-one : (row : Dataset) (y z : plain.Dataset) → DatasetIs (Has image space) row y → DatasetIs (Has image space) row z → y ≡ z
   DatasetIs-one row y z first second =
       let head = one row.head image space y.head z.head first.head second.head in
-      one_dataset y z (first.name ∙ sym second.name) (first.kind ∙ sym second.kind) (first.origin ∙ sym second.origin) head (first.redact ∙ sym second.redact)
+      one_dataset y z (first.named.name ∙ sym second.named.name) (first.named.kind ∙ sym second.named.kind) (first.named.origin ∙ sym second.named.origin) head (first.named.redact ∙ sym second.named.redact)
 
   SnapshotIs-one : (row : Snapshot) (y z : plain.Snapshot) → SnapshotIs (Has image space) row y → SnapshotIs (Has image space) row z → y ≡ z
   SnapshotIs-one row y z first second =
       let objects = one row.objects image space y.objects z.objects first.objects second.objects in
-      one_snapshot y z (first.name ∙ sym second.name) (first.guid ∙ sym second.guid) (first.time ∙ sym second.time) (first.number ∙ sym second.number) objects (first.redact ∙ sym second.redact)
+      one_snapshot y z (first.named.name ∙ sym second.named.name) (first.named.guid ∙ sym second.named.guid) (first.named.time ∙ sym second.named.time) (first.named.number ∙ sym second.named.number) objects (first.named.redact ∙ sym second.named.redact)
 
   PartialIs-one : (row : Partial) (y z : plain.Partial) → PartialIs (Has image space) row y → PartialIs (Has image space) row z → y ≡ z
   PartialIs-one row y z first second =
       let objects = one row.objects image space y.objects z.objects first.objects second.objects in
-      one_partial y z (first.target ∙ sym second.target) (first.component ∙ sym second.component) (first.keep ∙ sym second.keep) (first.header ∙ sym second.header) (first.base ∙ sym second.base) objects (first.point ∙ sym second.point)
+      one_partial y z (first.named.target ∙ sym second.named.target) (first.named.component ∙ sym second.named.component) (first.named.keep ∙ sym second.named.keep) (first.named.header ∙ sym second.named.header) (first.named.base ∙ sym second.named.base) objects (first.named.point ∙ sym second.named.point)
 
 -- the pool by these rows
 pub one_pool : SetsHoldOne → (uber other : Uber) (rows : Rows) (pool another : Pool) (image : List ℕ) → ReadsAs uber rows pool image → ReadsAs other rows another image → pool ≡ another

@@ -1,6 +1,6 @@
 -- What the definition of a change finds at a head is the head of the pool's dataset.
-use Rattle.std.specs.Prelude.{Option, Some, None, Result, Ok, Err}
-use Rattle.std.proofs.Common.{◌≡◌, ℕ, ◌+◌, ◌/◌, Bool, true, false, List, is_some, refl, sym, ap, ◌∙◌}
+use Rattle.std.specs.Prelude.{Option, Some, None, Result, Err}
+use Rattle.std.proofs.Common.{◌≡◌, ℕ, ◌/◌, Bool, true, false, List, is_some, ap}
 use Rattle.zst_model.specs.declared.refusals.faults.Quantity.TheVariants as quantities
 use Rattle.zst_model.specs.declared.refusals.named.Name.TheVariants as names
 use Rattle.zst_model.specs.declared.refusals.refusal.Refusal.{Refusal}
@@ -9,7 +9,7 @@ use Rattle.zst_model.specs.states.Apply.{unless, ◌>>=◌}
 use Rattle.zst_model.specs.states.Dated.{DatedState, size_at}
 use Rattle.zst_model.specs.pools.Pool.{Pool, dataset_named, partial_of}
 use Rattle.zst_model.specs.pools.Pool as plain
-use Rattle.zst_model.specs.pools.Step.{Stepped, busy_partial, committed, no_such, on_head, or_else, with_head}
+use Rattle.zst_model.specs.pools.Step.{Stepped, busy_partial, committed, no_such, on_head, or_else}
 use Rattle.zst_pool.specs.Checks.{with_head_of}
 use Rattle.zst_pool.specs.Cost.{block_sectors}
 

@@ -7,8 +7,10 @@ pub mod Growing
 pub mod Judged
 pub mod Judging
 pub mod Matching
+pub mod Naming
 pub mod NextPools
 pub mod Parts
+pub mod Planned
 pub mod Replying
 pub mod Room
 pub mod Running

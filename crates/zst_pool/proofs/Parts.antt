@@ -1,17 +1,16 @@
 -- How the parts of a command follow one another.
-use Rattle.std.specs.Prelude.{Result, Ok, Err}
-use Rattle.std.proofs.Common.{◌≡◌, ℕ, ◌+◌, Bool, true, false, ◌||◌, refl, sym, ap, ◌∙◌, subst, length, arith}
-use Rattle.zst_outside.specs.Causes.{Rose-earlier}
+use Rattle.std.specs.Prelude.{Err}
+use Rattle.std.proofs.Common.{◌≡◌, ℕ, ◌+◌, Bool, true, false, ◌||◌, refl, sym, ap, ◌∙◌, subst, length}
 use Rattle.zst_outside.specs.Images.{DiskState, OnlyReads-none}
 use Rattle.zst_space.specs.FreeSectors.{FreeSectors}
 use Rattle.zst_block.specs.Blocks.{FitsDisk, FillsFree, Has, IsTaken}
-use Rattle.zst_block.proofs.BlocksLaws.{IsTaken-head, FillsFree-reads, FillsFree-then, KeepsBlocks-fills}
+use Rattle.zst_block.proofs.BlocksLaws.{IsTaken-head, FillsFree-reads, KeepsBlocks-fills}
 use Rattle.zst_uber.specs.Body.{InRange}
 use Rattle.zst_uber.specs.Slots.{IsNext}
 use Rattle.zst_uber.specs.declared.uber.Uber.{Uber}
 use Rattle.zst_model.specs.pools.Pool.{Pool}
 use Rattle.zst_dir.specs.Rows.{Rows}
-use Rattle.zst_pool.specs.Faults.{HasDiskCause, is_disk_fault}
+use Rattle.zst_pool.specs.Faults.{is_disk_fault}
 use Rattle.zst_image.specs.Reads.{Describes, Rests, free_by}
 use Rattle.zst_image.specs.Committing.{Ready}
 use Rattle.zst_pool.specs.declared.fault.PoolFault.{PoolFault}

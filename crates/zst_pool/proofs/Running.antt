@@ -1,6 +1,6 @@
 -- What a command does, from what its parts do.
-use Rattle.std.specs.Prelude.{Option, Some, None, Result, Ok, Err, IfErr, IfOk, OnErr}
-use Rattle.std.proofs.Common.{◌≡◌, ℕ, ◌+◌, ◌*◌, ◌/◌, ◌≤◌, ◌^◌, Bool, false, ◌||◌, List, length, refl, sym, ap, ◌∙◌, subst, arith}
+use Rattle.std.specs.Prelude.{Option, None, Result, Ok, Err, IfErr, IfOk, OnErr}
+use Rattle.std.proofs.Common.{◌≡◌, ℕ, ◌+◌, ◌*◌, ◌≤◌, ◌^◌, Bool, false, ◌||◌, List, length, refl, sym, ap, ◌∙◌, subst, arith}
 use Rattle.zst_outside.specs.Causes.{Rose-earlier}
 use Rattle.zst_outside.specs.Images.{DiskState}
 use Rattle.zst_space.specs.FreeSectors.{FreeSectors}
@@ -30,7 +30,7 @@ use Rattle.zst_pool.specs.declared.head_fault.HeadFault.TheVariants.{Set}
 use Rattle.zst_pool.proofs.Judged.{memory_stops, plan_stops}
 use Rattle.zst_pool.specs.Faults.{StepFault, is_disk_fault, of_committed}
 use Rattle.zst_pool.specs.Heads.{ChangedHead, ChangesHead, Stops, Works, stop_of}
-use Rattle.zst_image.specs.Reads.{Rests, RowsAre, dir_sectors, free_by}
+use Rattle.zst_image.specs.Reads.{AreNamed, DatasetIs, Rests, RowsAre, dir_sectors, free_by}
 use Rattle.zst_image.specs.Committing.{IsDirFull}
 use Rattle.zst_pool.specs.Runs.{Did, Ran, Runs, as_kept}
 use Rattle.zst_image.specs.Committing.{Ready}
@@ -44,6 +44,8 @@ use Rattle.zst_image.specs.declared.commit_fault.CommitFault.TheVariants as comm
 use Rattle.zst_image.specs.declared.kept.Kept.{Kept}
 use Rattle.zst_pool.proofs.Doing.{fell, free_by_fits}
 use Rattle.zst_pool.proofs.Committed.{committed_cause, committed_err, committed_fails, committed_ok, committed_open}
+use Rattle.zst_pool.proofs.Matching.{Match-alike}
+use Rattle.zst_pool.proofs.Naming.{rows_named}
 use Rattle.zst_pool.proofs.Parts.{described_in, disk_fault_same, failed_then, taken}
 use Rattle.zst_pool.proofs.Room.{spends_fell, spends_full, spends_grows}
 use Rattle.zst_pool.proofs.Taking.{works_none}
@@ -185,10 +187,18 @@ number_is : (number next : ℕ) (pool : Pool) → IsPool pool → pool.number �
 unfolding last_number
 number_is number next pool lawful same is = let le : number ≤ 2 ^ 63 = omega (arith, same, lawful.number) in omega (arith, same, is le)
 
+-- what a set holds that was opened
+head_there : (kept : Kept) (name : List ℕ) (old : DiskState) (space : FreeSectors) (was : ObjSet) (pool : Pool) → RowsAre (Has old.seen space) kept.dir pool → FindsHead kept.dir name pool (Ok was)
+    → (head : DatedState) × SetHolds (Has old.seen space) was head × ((change : DatedState → Result DatedState Refusal) → on_head name pool change ≡ (change head >>= λ after. committed (with_head_of name after pool)))
+head_there kept name old space was pool rows_are there =
+    let has = Has old.seen space in
+    let stands = Match-alike (DatasetIs has) kept.dir.datasets pool.datasets there.0 there.1 rows_are.datasets there.2 in
+    (there.1.head, subst (λ (set : ObjSet). SetHolds has set there.1.head) there.3 stands.head, there.4)
+
 -- a head that was opened and changed
 pub changed_head : (kept : Kept) (name : List ℕ) (make : Pool → DatedState → Result DatedState Refusal) (cost : Cost) {number : ℕ} {old : DiskState} {space : FreeSectors} {old_failed : Bool} {new : DiskState} {less : FreeSectors} {new_failed : Bool} {was set : ObjSet} {changed : Result (Unit {0}) HeadFault}
     → space ≡ free_by kept.body → (kept.body.number ≤ 2 ^ 63 → number ≡ kept.body.number + 1)
-    → ((image : List ℕ) (space : FreeSectors) (pool : Pool) → RowsAre (Has image space) kept.dir pool → FindsHead (Has image space) name pool (Ok was))
+    → ((pool : Pool) → AreNamed kept.dir pool → FindsHead kept.dir name pool (Ok was))
     → ((pool : Pool) (head : DatedState) → new.honest → pool.number + 1 ≡ number → SetHolds (Has old.seen space) was head → ChangesHead (Has new.seen less) set (make pool head) changed)
     → ((pool : Pool) (done : Stepped) → IsPool pool → on_head name pool (make pool) ≡ Ok done → IsPool done.pool)
     → ((block : ℕ) × (block ≤ cost.most) × Works cost.cells block old space old_failed new less new_failed (stop_of changed))
@@ -196,18 +206,18 @@ pub changed_head : (kept : Kept) (name : List ℕ) (make : Pool → DatedState �
     → ((change : DatedState → Result DatedState Refusal) → on_head name pool change ≡ (change head >>= λ after. committed (with_head_of name after pool)))
     → Works cost.cells (cost.block pool) old space old_failed new less new_failed (stop_of changed))
     → ChangedHead kept name make cost old old_failed new less new_failed set changed
-changed_head kept name make cost {number = number} {old = old} {space = space} {old_failed = old_failed} {new = new} {less = less} {new_failed = new_failed} {changed = changed} free next found changes lawful works exact =
+changed_head kept name make cost {number = number} {old = old} {space = space} {old_failed = old_failed} {new = new} {less = less} {new_failed = new_failed} {was = was} {changed = changed} free next found changes lawful works exact =
     let over = λ (block : ℕ) (w : Works cost.cells block old space old_failed new less new_failed (stop_of changed)).
     subst (λ (s : FreeSectors). Works cost.cells block old s old_failed new less new_failed (stop_of changed)) free w in
     record {
       made = λ pool told rests.
           let described = described_in old space kept.body kept.dir pool free rests in
-          let there = found old.seen space pool described.rows_are in
+          let there = head_there kept name old space was pool described.rows_are (found pool (rows_named (Has old.seen space) kept.dir pool described.rows_are)) in
           (there.0, changes pool there.0 told (number_is kept.body.number number pool described.lawful described.number next) there.1, there.2 (make pool));
       lawful = lawful;
       works = (works.0, works.1, over works.0 works.2);
       exact = λ pool told rests.
           let described = described_in old space kept.body kept.dir pool free rests in
-          let there = found old.seen space pool described.rows_are in
+          let there = head_there kept name old space was pool described.rows_are (found pool (rows_named (Has old.seen space) kept.dir pool described.rows_are)) in
           over (cost.block pool) (exact pool there.0 told there.1 there.2);
     }

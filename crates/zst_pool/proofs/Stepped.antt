@@ -1,8 +1,8 @@
 -- What a step spends and spares, from what its run did.
-use Rattle.std.specs.Prelude.{Result, Ok, Err, IfErr, IfOk, OnErr}
-use Rattle.std.proofs.Common.{◌≡◌, ℕ, List, sym, ap, ◌∙◌, subst}
+use Rattle.std.specs.Prelude.{Result, Ok, Err, OnErr}
+use Rattle.std.proofs.Common.{◌≡◌, ℕ, sym, ap, ◌∙◌, subst}
 use Rattle.zst_space.specs.FreeSectors.{FreeSectors}
-use Rattle.zst_pool.specs.Cost.{FindsNoRoom, Spends}
+use Rattle.zst_pool.specs.Cost.{Spends}
 use Rattle.zst_pool.specs.Runs.{as_kept}
 use Rattle.zst_pool.specs.declared.fault.PoolFault.{PoolFault}
 use Rattle.zst_pool.specs.declared.fault.PoolFault.TheVariants.{DiskFault, Full}

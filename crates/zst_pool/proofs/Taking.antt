@@ -1,6 +1,6 @@
 -- What the parts of a change take of the free sectors.
-use Rattle.std.specs.Prelude.{Option, Some, None}
-use Rattle.std.proofs.Common.{◌≡◌, ◌⊎◌, inl, inr, ⊎_elim, ℕ, ◌+◌, ◌-◌, ◌<◌, ◌≤◌, Bool, false, List, [], refl, sym, ap, ◌∙◌, subst, arith}
+use Rattle.std.specs.Prelude.{Option, None}
+use Rattle.std.proofs.Common.{◌≡◌, ◌⊎◌, inl, inr, ⊎_elim, ℕ, ◌+◌, ◌-◌, ◌≤◌, Bool, List, [], refl, sym, ap, ◌∙◌, subst, arith}
 use Rattle.zst_outside.specs.Causes.{Rose-earlier}
 use Rattle.zst_outside.specs.Images.{DiskState, OnlyReads-none}
 use Rattle.zst_space.specs.FreeSectors.{FreeSectors, IsFree, greatest, largest_of, total}
@@ -9,7 +9,6 @@ use Rattle.zst_block.specs.Blocks.{FitsDisk, FillsFree}
 use Rattle.zst_block.specs.Working as blocks
 use Rattle.zst_block.specs.Working.{TakesAtMost}
 use Rattle.zst_block.specs.declared.fault.BlockFault.{BlockFault}
-use Rattle.zst_block.specs.declared.fault.BlockFault.TheVariants as block_faults
 use Rattle.zst_block.proofs.BlocksLaws.{FillsFree-reads, FillsFree-then}
 use Rattle.zst_uber.specs.declared.uber.Uber.{Uber}
 use Rattle.zst_image.specs.Reads.{free_by}

@@ -1,10 +1,9 @@
 -- What a part that wrote into free sectors alone leaves of sectors 0 to 7.
-use Rattle.std.proofs.Common.{◌≡◌, ℕ, ◌+◌, ◌≤◌, List, sym, ◌∙◌, arith, Result, Bool, ◌||◌}
+use Rattle.std.proofs.Common.{◌≡◌, ℕ, ◌+◌, ◌≤◌, List, sym, ◌∙◌, arith}
 use Rattle.zst_outside.specs.Images.{DiskState}
 use Rattle.zst_outside.specs.Ranges.{bytes_at}
 use Rattle.zst_space.specs.FreeSectors.{FreeSectors}
-use Rattle.zst_block.specs.Blocks.{FitsDisk, FillsFree, IsTaken, SparesTaken}
-use Rattle.zst_block.proofs.BlocksLaws.{IsTaken-head}
+use Rattle.zst_block.specs.Blocks.{FillsFree, IsTaken, SparesTaken}
 use Rattle.zst_uber.specs.Commit.{HeadSettled}
 use Rattle.zst_uber.specs.Slots.{latest}
 use Rattle.zst_uber.proofs.SlotsLaws.{latest-head}

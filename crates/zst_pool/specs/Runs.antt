@@ -1,5 +1,5 @@
 -- What running a command does.
-use Rattle.std.specs.Prelude.{◌≡◌, ◌||◌, ◌≤◌, ℕ, Bool, false, List, Result, Ok, Err, IfErr, IfOk, OnErr}
+use Rattle.std.specs.Prelude.{◌≡◌, ◌||◌, ◌≤◌, ℕ, Bool, false, Result, Ok, Err, IfOk, OnErr, IfErr}
 use Rattle.zst_outside.specs.Images.{DiskState, Leaves}
 use Rattle.zst_space.specs.FreeSectors.{FreeSectors}
 use Rattle.zst_block.specs.Blocks.{SparesTaken}

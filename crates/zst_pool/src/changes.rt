@@ -1,18 +1,21 @@
 // What a command makes of the object set of a head.
-ghost use Rattle.std.specs.Prelude.{◌≡◌, ◌+◌, ◌/◌, ◌<◌, ◌≤◌, ℕ, true, length, IfOk, IfSome, OnOk};
+ghost use Rattle.std.specs.Prelude.{◌≡◌, ◌+◌, ◌/◌, ◌<◌, ◌≤◌, ℕ, true, length, Err, IfErr, IfOk, IfSome, OnOk};
 ghost use Rattle.zst_block.specs.Blocks.{FitsDisk, Has};
 ghost use Rattle.zst_block.specs.Working.{Looks};
+ghost use Rattle.zst_model.specs.declared.refusals.plan_fault.PlanFault.{PlanFault};
 ghost use Rattle.zst_model.specs.states.Dated.{DatedState, size_at};
 ghost use Rattle.zst_model.specs.states.State.{is_block_size, IsHead, IsBonus, IsSpill};
 ghost use Rattle.zst_model.specs.pools.Pool.{Pool};
 ghost use Rattle.zst_model.specs.pools.Step.{filled, punched, written};
 ghost use Rattle.zst_objset.specs.Sets.{SetHolds};
 ghost use Rattle.zst_pool.specs.Checks.{freed, put_in};
-ghost use Rattle.zst_pool.specs.Heads.{ChangesHead, FindsSize, Works, of_call, stop_of};
+ghost use Rattle.zst_pool.specs.Heads.{ChangesHead, FindsSize, Works, of_call, of_change, of_head, stop_of};
 ghost use Rattle.zst_pool.specs.Cost.{object_cells, spill_sectors};
 ghost use Rattle.zst_pool.specs.Damage.{IfHeadDamaged, block_damage, range_damage, slots_damage};
 ghost use Rattle.zst_objset.specs.Damage.{IsDamagedSet};
 ghost use Rattle.zst_tree.specs.Damage.{IsSeen};
+ghost use Rattle.zst_pool.specs.Plans.{IsPast};
+ghost use Rattle.zst_pool.specs.declared.fault.PoolFault.{PoolFault};
 ghost use Rattle.zst_tree.specs.Sets.{SetFits};
 
 use crate::head_fault::HeadFault;
@@ -53,6 +56,7 @@ pub fn change_object<D: Disk>(
     ensures works { Works (object_cells spill) (spill_sectors spill) (D.state io.old.disk.now) io.old.space io.old.failed (D.state io.new.disk.now) io.new.space io.new.failed (stop_of result) }
     ensures damaged { (D.state io.new.disk.now).honest → IfHeadDamaged result (slots_damage (D.state io.old.disk.now) io.old.space set.old) }
     ensures levels { OnOk result (SetFits set.new) }
+    ensures limits { (fault : PlanFault) → of_change result ≡ Err (PoolFault.Plan fault) → IsPast (object + 1) 0 fault }
     ensures same { io.new.disk.ghost_name ≡ io.old.disk.ghost_name }
 {
     changes_are_commands();
@@ -75,6 +79,7 @@ fn find_size<D: Disk>(
     requires object { 0 < object }
     ensures found { (pool : Pool) (index : ℕ) (head : DatedState) → (D.state io.new.disk.now).honest → SetHolds (Has (D.state io.old.disk.now).seen io.old.space) set.now head
         → FindsSize (written pool object index bytes.now head) (size_at (head.state object)) result }
+    ensures limits { IfErr result (λ fell. (fault : PlanFault) → of_head fell ≡ PoolFault.Plan fault → ⊥) }
     ensures size { IfOk result (λ size. is_block_size size ≡ true) }
     ensures room { IfOk result (λ size. length bytes.now ≤ size) }
     ensures looks { Looks (D.state io.old.disk.now) io.old.space io.old.failed (D.state io.new.disk.now) io.new.space io.new.failed (stop_of result) }
@@ -121,6 +126,7 @@ pub fn change_block<D: Disk>(
         → Works 1 (size_at (head.state object) / 512) (D.state io.old.disk.now) io.old.space io.old.failed (D.state io.new.disk.now) io.new.space io.new.failed (stop_of result) }
     ensures damaged { (D.state io.new.disk.now).honest → IfHeadDamaged result (block_damage (D.state io.old.disk.now) io.old.space set.old) }
     ensures levels { OnOk result (SetFits set.new) }
+    ensures limits { (fault : PlanFault) → of_change result ≡ Err (PoolFault.Plan fault) → IsPast 0 (index + 1) fault }
     ensures same { io.new.disk.ghost_name ≡ io.old.disk.ghost_name }
 {
     changes_are_commands();
@@ -145,6 +151,7 @@ pub fn change_holes<D: Disk>(
     ensures works { Works 2 0 (D.state io.old.disk.now) io.old.space io.old.failed (D.state io.new.disk.now) io.new.space io.new.failed (stop_of result) }
     ensures damaged { (D.state io.new.disk.now).honest → IfHeadDamaged result (range_damage (D.state io.old.disk.now) io.old.space set.old) }
     ensures levels { OnOk result (SetFits set.new) }
+    ensures limits { (fault : PlanFault) → of_change result ≡ Err (PoolFault.Plan fault) → IsPast 0 (first + count) fault }
     ensures same { io.new.disk.ghost_name ≡ io.old.disk.ghost_name }
 {
     changes_are_commands();
@@ -166,6 +173,7 @@ pub fn change_numbers<D: Disk>(
     ensures works { Works 2 0 (D.state io.old.disk.now) io.old.space io.old.failed (D.state io.new.disk.now) io.new.space io.new.failed (stop_of result) }
     ensures damaged { (D.state io.new.disk.now).honest → IfHeadDamaged result (slots_damage (D.state io.old.disk.now) io.old.space set.old) }
     ensures levels { SetFits set.old → SetFits set.new }
+    ensures limits { (fault : PlanFault) → of_change result ≡ Err (PoolFault.Plan fault) → IsPast (first + count) 0 fault }
     ensures same { io.new.disk.ghost_name ≡ io.old.disk.ghost_name }
 {
     changes_are_commands();

@@ -1,8 +1,9 @@
 // The commands on a dataset's head, each over the Io of a pool that hasn't failed.
-ghost use Rattle.std.specs.Prelude.{◌≡◌, ◌⊎◌, ◌+◌, ◌<◌, ◌≤◌, ◌^◌, ℕ, Bool, List, Result, length, Err, IfErr, IfOk, IfSome, OnOk, is_ok, true};
+ghost use Rattle.std.specs.Prelude.{◌≡◌, ◌⊎◌, ◌+◌, ◌<◌, ◌≤◌, ◌^◌, ℕ, Bool, true, List, Result, Err, length, IfErr, IfSome, OnOk, IfOk, is_ok};
 ghost use Rattle.zst_space.specs.FreeSectors.{FreeSectors};
 ghost use Rattle.zst_block.specs.Blocks.{FitsDisk, Has};
 ghost use Rattle.zst_names.specs.Names.{IsDataset};
+ghost use Rattle.zst_model.specs.declared.refusals.plan_fault.PlanFault.{PlanFault};
 ghost use Rattle.zst_model.specs.declared.refusals.refusal.Refusal.{Refusal};
 ghost use Rattle.zst_model.specs.states.State.{IsHead, IsBonus, IsSpill};
 ghost use Rattle.zst_model.specs.states.Dated.{DatedState};
@@ -12,10 +13,11 @@ ghost use Rattle.zst_tree.specs.Sets.{SetFits};
 ghost use Rattle.zst_tree.specs.declared.tree.ObjSet.{ObjSet as ObjectSet};
 ghost use Rattle.zst_pool.specs.Checks.{FindsHead, freed, put_in};
 ghost use Rattle.zst_pool.specs.Heads.{ChangedHead, ChangesHead, JudgesHead, Stops, is_accepted, of_change, stop_of};
-ghost use Rattle.zst_image.specs.Reads.{RowsAre, free_by};
+ghost use Rattle.zst_image.specs.Reads.{AreNamed, free_by};
 ghost use Rattle.zst_pool.specs.Cost.{Cost, cells_only, object_cost, write_cost};
+ghost use Rattle.zst_pool.specs.Runs.{Runs, Ran};
+ghost use Rattle.zst_pool.specs.Plans.{IsLast, Plans, is_by_rows};
 ghost use Rattle.zst_pool.specs.Damage.{HasHead, OfHead, block_damage, range_damage, slots_damage};
-ghost use Rattle.zst_pool.specs.Runs.{Ran, Runs};
 ghost use Rattle.zst_image.specs.Committing.{Ready};
 
 use crate::changes::{change_block, change_holes, change_numbers, change_object};
@@ -39,7 +41,8 @@ fn open_head(dir: &Dir, name: &DatasetName) -> Result<ObjSet, PlanFault>
     ensures named { OnOk result (IsDataset name.now) }
     ensures there { IfOk result (HasHead dir.now name.now) }
     ensures levels { IfOk result SetFits }
-    ensures found { (image : List ℕ) (space : FreeSectors) (pool : Pool) → RowsAre (Has image space) dir.now pool → FindsHead (Has image space) name.now pool result }
+    ensures rows { IfErr result (λ fault. is_by_rows fault ≡ true) }
+    ensures found { (pool : Pool) → AreNamed dir.now pool → FindsHead dir.now name.now pool result }
 {
     match open_dataset(dir, name) {
         Ok(dataset) => Ok(dataset.head),
@@ -83,6 +86,7 @@ fn judge(number: u64, changed: Result<(), HeadFault>) -> Result<(), PoolFault>
     ensures well { OnOk result (is_ok changed ≡ true) }
     ensures stops { IfErr result (Stops (stop_of changed)) }
     ensures damaged { (sector : ℕ) (stated found : List ℕ) → result ≡ Err (PoolFault.Damaged sector stated found) → changed ≡ Err (HeadFault.Set (ObjFault.Block (BlockFault.Damaged sector stated found))) }
+    ensures last { (fault : PlanFault) → result ≡ Err (PoolFault.Plan fault) → (of_change changed ≡ Err (PoolFault.Plan fault)) ⊎ IsLast number fault }
 {
     if !is_accepted(&changed) {
         return answer(changed);
@@ -110,6 +114,7 @@ fn commit_head<D: Disk>(
         → Ran (λ pool. on_head name.now pool (make pool)) cost kept.now (D.state start) start_failed (D.state io.new.disk.now) io.new.space io.new.failed result }
     ensures damaged { (sector : ℕ) (stated found : List ℕ) → result ≡ Err (PoolFault.Damaged sector stated found) → changed ≡ Err (HeadFault.Set (ObjFault.Block (BlockFault.Damaged sector stated found))) }
     ensures honest { (D.state io.new.disk.now).honest → (D.state io.old.disk.now).honest }
+    ensures plans { (fault : PlanFault) → result ≡ Err (PoolFault.Plan fault) → (of_change changed ≡ Err (PoolFault.Plan fault)) ⊎ IsLast kept.now.body.number fault }
     ensures same { io.new.disk.ghost_name ≡ io.old.disk.ghost_name }
 {
     judge(kept.body.number, changed)?;
@@ -136,6 +141,7 @@ pub fn put_object<D: Disk>(
     requires space { io.old.space ≡ free_by kept.now.body }
     requires ready { Ready (D.state io.old.disk.now) kept.now.body }
     ensures runs { Runs (λ pool. on_head name.now pool (put_in pool object head bonus spill)) (object_cost spill) (OfHead kept.now.dir name.now (slots_damage (D.state io.old.disk.now) (free_by kept.now.body))) kept.now (D.state io.old.disk.now) io.old.failed (D.state io.new.disk.now) io.new.space io.new.failed result }
+    ensures plans { Plans (λ pool. on_head name.now pool (put_in pool object head bonus spill)) (object + 1) 0 kept.now result }
     ensures same { io.new.disk.ghost_name ≡ io.old.disk.ghost_name }
 {
     let mut set = open_head(&kept.dir, name)?;
@@ -161,6 +167,7 @@ pub fn write_block<D: Disk>(
     requires space { io.old.space ≡ free_by kept.now.body }
     requires ready { Ready (D.state io.old.disk.now) kept.now.body }
     ensures runs { Runs (λ pool. on_head name.now pool (written pool object index bytes.now)) (write_cost name.now object) (OfHead kept.now.dir name.now (block_damage (D.state io.old.disk.now) (free_by kept.now.body))) kept.now (D.state io.old.disk.now) io.old.failed (D.state io.new.disk.now) io.new.space io.new.failed result }
+    ensures plans { Plans (λ pool. on_head name.now pool (written pool object index bytes.now)) 0 (index + 1) kept.now result }
     ensures same { io.new.disk.ghost_name ≡ io.old.disk.ghost_name }
 {
     let mut set = open_head(&kept.dir, name)?;
@@ -185,6 +192,7 @@ pub fn punch<D: Disk>(
     requires space { io.old.space ≡ free_by kept.now.body }
     requires ready { Ready (D.state io.old.disk.now) kept.now.body }
     ensures runs { Runs (λ pool. on_head name.now pool (punched pool object first count)) (cells_only 2) (OfHead kept.now.dir name.now (range_damage (D.state io.old.disk.now) (free_by kept.now.body))) kept.now (D.state io.old.disk.now) io.old.failed (D.state io.new.disk.now) io.new.space io.new.failed result }
+    ensures plans { Plans (λ pool. on_head name.now pool (punched pool object first count)) 0 (first + count) kept.now result }
     ensures same { io.new.disk.ghost_name ≡ io.old.disk.ghost_name }
 {
     let mut set = open_head(&kept.dir, name)?;
@@ -208,6 +216,7 @@ pub fn free_objects<D: Disk>(
     requires space { io.old.space ≡ free_by kept.now.body }
     requires ready { Ready (D.state io.old.disk.now) kept.now.body }
     ensures runs { Runs (λ pool. on_head name.now pool (freed pool first count)) (cells_only 2) (OfHead kept.now.dir name.now (slots_damage (D.state io.old.disk.now) (free_by kept.now.body))) kept.now (D.state io.old.disk.now) io.old.failed (D.state io.new.disk.now) io.new.space io.new.failed result }
+    ensures plans { Plans (λ pool. on_head name.now pool (freed pool first count)) (first + count) 0 kept.now result }
     ensures same { io.new.disk.ghost_name ≡ io.old.disk.ghost_name }
 {
     let mut set = open_head(&kept.dir, name)?;

@@ -6,11 +6,11 @@ ghost use Rattle.zst_model.specs.pools.Pool.{Pool as Plain};
 ghost use Rattle.zst_model.specs.pools.Sound.{Sound};
 ghost use Rattle.zst_model.specs.pools.Step.{Stepped, stepped, IsCommand};
 ghost use Rattle.zst_pool.specs.Faults.{HasDiskCause, is_disk_fault};
+ghost use Rattle.zst_pool.specs.Plans.{Plans, indices_end, numbers_end};
 ghost use Rattle.zst_image.specs.Reads.{Rests, free_by};
-ghost use Rattle.zst_pool.specs.Stepping.{BeforeOrAfter};
+ghost use Rattle.zst_pool.specs.Stepping.{BeforeOrAfter, is_built, StepAnswer};
 ghost use Rattle.zst_pool.specs.Cost.{Spends, cost_of};
 ghost use Rattle.zst_pool.specs.Damage.{IsOf, TellsDamage};
-ghost use Rattle.zst_pool.specs.Stepping.{is_built, StepAnswer};
 ghost use Rattle.zst_pool.specs.Runs.{Runs};
 ghost use Rattle.zst_image.specs.Committing.{Ready};
 
@@ -76,6 +76,9 @@ impl<'d, D: Disk> Pool<'d, D> {
         ensures answer { (pool : Plain) → (D.state self.new.io.disk.now).honest → is_built command ≡ true → self.old.io.failed ≡ false
             → Rests (D.state self.old.io.disk.now) self.old.kept.body self.old.kept.dir pool
             → StepAnswer (D.state self.new.io.disk.now) self.new.kept.body self.new.kept.dir pool (stepped [] now command pool) result }
+        // E3, E4, E5 and E23 of datasets, snapshots and guids come exactly where the directory says so, whatever the object sets hold, unless no memory is left before; E23 of numbers only past them.
+        ensures planned { self.old.io.failed ≡ false → is_built command ≡ true → ¬ (result ≡ Err PoolFault.OutOfMemory)
+            → Plans (λ pool. stepped [] now command pool) (numbers_end command) (indices_end command) self.old.kept result }
         ensures open_still { self.old.io.failed ≡ false → ¬ (result ≡ Err PoolFault.Failed) }
         // Whatever the image is, no more is taken than the command costs at most, and E24 comes only where that isn't there.
         ensures spends { self.old.io.failed ≡ false → (block : ℕ) × (block ≤ (cost_of command).most) × Spends (cost_of command).cells block self.old.kept self.new.io.space (λ reply. self.new.kept) result }
@@ -152,6 +155,7 @@ fn run<D: Disk>(
     requires space { io.old.space ≡ free_by kept.now.body }
     requires ready { Ready (D.state io.old.disk.now) kept.now.body }
     ensures runs { Runs (λ pool. stepped [] now command pool) (cost_of command) (TellsDamage command kept.now.dir (D.state io.old.disk.now) (free_by kept.now.body)) kept.now (D.state io.old.disk.now) io.old.failed (D.state io.new.disk.now) io.new.space io.new.failed result }
+    ensures plans { Plans (λ pool. stepped [] now command pool) (numbers_end command) (indices_end command) kept.now result }
     ensures same { io.new.disk.ghost_name ≡ io.old.disk.ghost_name }
 {
     match command {

@@ -1,9 +1,9 @@
-use Rattle.std.specs.Prelude.{Option, Result, Err}
+use Rattle.std.specs.Prelude.{Option, Result}
 use Rattle.zst_block.specs.declared.fault.BlockFault.{BlockFault}
 use Rattle.zst_pool.specs.declared.head_fault.HeadFault.{HeadFault}
 use Rattle.zst_pool.specs.declared.head_fault.HeadFault.TheVariants.{Memory}
-use Rattle.std.proofs.Common.{◌≡◌, inl, inr, ℕ, ◌+◌, ◌*◌, ◌/◌, ◌≤◌, List, length, sym, ap, ◌∙◌, subst, arith}
-use Rattle.zst_block.specs.Blocks.{Has}
+use Rattle.std.proofs.Common.{◌≡◌, inl, inr, ℕ, ◌+◌, ◌*◌, ◌/◌, List, length, sym, ap, ◌∙◌, subst, arith}
+use Rattle.zst_block.specs.Blocks.{Has, SparesTaken}
 use Rattle.zst_block.proofs.BlocksLaws.{KeepsBlocks-fills}
 use Rattle.zst_model.specs.declared.refusals.refusal.Refusal.{Refusal}
 use Rattle.zst_model.specs.pools.Step.{filled, written}
@@ -13,13 +13,12 @@ use Rattle.zst_objset.specs.Changes.{block_written}
 use Rattle.zst_tree.specs.Sets.{SetFits}
 use Rattle.zst_objset.specs.Sets.{SetHolds}
 use Rattle.zst_objset.proofs.SetGrows.{SetHolds-grows}
-use Rattle.zst_pool.specs.Heads.{ChangesHead, Works, stop_of}
+use Rattle.zst_pool.specs.Heads.{ChangesHead, Works, of_change, of_head, stop_of}
 use Rattle.zst_pool.specs.Damage.{block_damage}
 use Rattle.zst_image.specs.Reads.{new_pool}
 use Rattle.zst_space.specs.FreeSectors.{FreeSectors}
-use Rattle.zst_block.specs.Blocks.{SparesTaken}
 use Rattle.zst_tree.specs.Damage.{IsSeen, NamesNode}
-use Rattle.zst_objset.specs.Damage.{DamageFact, IsDamagedObject, IsDamagedSet}
+use Rattle.zst_objset.specs.Damage.{IsDamagedObject, IsDamagedSet}
 use Rattle.zst_pool.proofs.Changing.{filled_length}
 use Rattle.zst_pool.proofs.Judging.{err_is}
 use Rattle.zst_pool.proofs.Damaged.{damaged_call, damaged_err}
@@ -27,6 +26,8 @@ use Rattle.zst_pool.proofs.Room.{block-sectors}
 use Rattle.zst_pool.proofs.Taking.{works_looks, works_then, works_wider}
 use Rattle.zst_pool.proofs.Writing.{call_changes, call_ok, call_works, stop_same}
 use Rattle.zst_pool.proofs.changes.change_block.Given.{Over}
+use Rattle.zst_pool.specs.declared.fault.PoolFault.TheVariants.{Plan}
+use Rattle.zst_pool.proofs.Planned.{past_indices}
 use Rattle.zst_pool.proofs.changes.change_block.Goals as goal
 use Rattle.zst_pool.proofs.changes.change_block.Goals.{After-answer}
 
@@ -112,3 +113,19 @@ returns-in_err-block-clause-works g c =
 
 pub returns-clause-levels : goal.returns-clause-levels
 returns-clause-levels g c = call_ok c.write_block.result c.answer.result c.answer.ensures (SetFits c.write_block.new.self) c.write_block.ensures.levels
+
+pub returns-in_err-size-clause-limits : goal.returns-in_err-size-clause-limits
+returns-in_err-size-clause-limits g c = λ fault is.
+    let fell = c.in_err-size.field-0.0 in
+    let told = sym (ap of_change (err_is c.from_residual.result fell c.from_residual.ensures.1)) ∙ is in
+    let same : of_head fell ≡ Plan fault = cc (told) in
+    absurd (c.in_err-size.ensures.limits fault same)
+
+pub returns-in_err-block-clause-limits : goal.returns-in_err-block-clause-limits
+returns-in_err-block-clause-limits g c = λ fault is.
+    let fell = c.from_residual-in_err-block in
+    let told = sym (ap of_change (err_is fell.result Memory fell.ensures.1)) ∙ is in
+    absurd (cc (told))
+
+pub returns-clause-limits : goal.returns-clause-limits
+returns-clause-limits g c = past_indices (c.args.index + 1) c.write_block.result c.answer.ensures c.write_block.ensures.limits

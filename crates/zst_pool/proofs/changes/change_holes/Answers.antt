@@ -1,4 +1,4 @@
-use Rattle.std.proofs.Common.{ℕ, sym, ap, ◌∙◌, subst, arith}
+use Rattle.std.proofs.Common.{ℕ, sym, ap, ◌∙◌, subst, arith, ◌+◌}
 use Rattle.std.specs.Prelude.{Result}
 use Rattle.zst_block.specs.Blocks.{Has}
 use Rattle.zst_model.specs.declared.refusals.refusal.Refusal.{Refusal}
@@ -10,7 +10,8 @@ use Rattle.zst_objset.specs.Sets.{SetHolds}
 use Rattle.zst_pool.specs.Damage.{range_damage}
 use Rattle.zst_pool.proofs.Damaged.{damaged_call}
 use Rattle.zst_pool.proofs.Taking.{tree_blocks, works_wider}
-use Rattle.zst_pool.proofs.Writing.{call_changes, call_ok, call_works}
+use Rattle.zst_pool.proofs.Writing.{call_changes, call_works, call_ok}
+use Rattle.zst_pool.proofs.Planned.{past_indices}
 use Rattle.zst_pool.proofs.changes.change_holes.Goals as goal
 
 pub returns-clause-changed : goal.returns-clause-changed
@@ -31,3 +32,6 @@ returns-clause-damaged g c = λ told.
 
 pub returns-clause-levels : goal.returns-clause-levels
 returns-clause-levels g c = call_ok c.punch.result c.answer.result c.answer.ensures (SetFits c.punch.new.self) c.punch.ensures.levels
+
+pub returns-clause-limits : goal.returns-clause-limits
+returns-clause-limits g c = past_indices (c.args.first + c.args.count) c.punch.result c.answer.ensures c.punch.ensures.limits

@@ -1,4 +1,4 @@
-use Rattle.std.proofs.Common.{ℕ, sym, ap, ◌∙◌, subst, arith}
+use Rattle.std.proofs.Common.{ℕ, sym, ap, ◌∙◌, subst, arith, ◌+◌}
 use Rattle.std.specs.Prelude.{Result}
 use Rattle.zst_block.specs.Blocks.{Has}
 use Rattle.zst_model.specs.declared.refusals.refusal.Refusal.{Refusal}
@@ -10,6 +10,7 @@ use Rattle.zst_pool.specs.Damage.{slots_damage}
 use Rattle.zst_pool.proofs.Damaged.{damaged_call}
 use Rattle.zst_pool.proofs.Taking.{tree_blocks, works_wider}
 use Rattle.zst_pool.proofs.Writing.{call_changes, call_works}
+use Rattle.zst_pool.proofs.Planned.{past_numbers}
 use Rattle.zst_pool.proofs.changes.change_numbers.Goals as goal
 
 pub returns-clause-changed : goal.returns-clause-changed
@@ -27,3 +28,6 @@ pub returns-clause-damaged : goal.returns-clause-damaged
 returns-clause-damaged g c = λ told.
     let Is = slots_damage (g.D.Disk.state c.args.io.now.disk.now) c.args.io.now.space c.args.set.now in
     damaged_call Is Is (λ sector stated found is. is) c.free_objects.result c.answer.result c.answer.ensures (c.free_objects.ensures.damaged told)
+
+pub returns-clause-limits : goal.returns-clause-limits
+returns-clause-limits g c = past_numbers (c.args.first + c.args.count) c.free_objects.result c.answer.ensures c.free_objects.ensures.limits

@@ -11,7 +11,7 @@ use Rattle.zst_objset.specs.Sets.{SetHolds}
 use Rattle.zst_pool.specs.Damage.{IfHeadDamaged, slots_damage}
 use Rattle.zst_pool.proofs.Damaged.{damaged_call, damaged_err}
 use Rattle.zst_pool.specs.Checks.{put_in}
-use Rattle.zst_pool.specs.Heads.{ChangesHead, Works, stop_of}
+use Rattle.zst_pool.specs.Heads.{ChangesHead, Works, of_change, stop_of}
 use Rattle.zst_pool.specs.declared.head_fault.HeadFault.{HeadFault}
 use Rattle.zst_pool.specs.Cost.{object_cells, spill_sectors}
 use Rattle.zst_pool.proofs.Changing.{put_fault, then_spilled}
@@ -19,6 +19,7 @@ use Rattle.zst_pool.proofs.Judging.{err_is}
 use Rattle.zst_pool.proofs.Taking.{tree_blocks, works_then, works_wider}
 use Rattle.zst_pool.proofs.Writing.{call_changes, call_ok, call_works, went_well}
 use Rattle.zst_pool.proofs.changes.change_object.Given.{Over}
+use Rattle.zst_pool.proofs.Planned.{no_plan, past_numbers}
 use Rattle.zst_pool.proofs.changes.change_object.Goals as goal
 use Rattle.zst_pool.proofs.changes.change_object.Goals.{After-answer}
 
@@ -152,3 +153,11 @@ returns-in-None-clause-levels g c = went_well c.put_object.result c.answer.resul
 
 pub returns-clause-levels : goal.returns-clause-levels
 returns-clause-levels g c = call_ok c.put_spill.result c.answer-in-Some.result c.answer-in-Some.ensures (SetFits c.put_spill.new.self) c.put_spill.ensures.levels
+
+pub returns-in_err-answer-clause-limits : goal.returns-in_err-answer-clause-limits
+returns-in_err-answer-clause-limits g c = λ fault is.
+    past_numbers (c.args.object + 1) c.put_object.result c.answer.ensures c.put_object.ensures.limits fault
+    (ap of_change (c.in_err-answer.was ∙ sym (err_is c.from_residual.result c.in_err-answer.field-0.0 c.from_residual.ensures.1)) ∙ is)
+
+pub returns-clause-limits : goal.returns-clause-limits
+returns-clause-limits g c = λ fault is. absurd (no_plan c.put_spill.result c.answer-in-Some.ensures c.put_spill.ensures.limits fault is)

@@ -1,5 +1,5 @@
-use Rattle.std.specs.Prelude.{Result, Ok, Err}
-use Rattle.std.proofs.Common.{◌≡◌, ℕ, ◌+◌, ◌≤◌, Bool, length, refl, sym, ap, ◌∙◌, subst, arith}
+use Rattle.std.specs.Prelude.{Result, Err}
+use Rattle.std.proofs.Common.{◌≡◌, ◌+◌, ◌≤◌, Bool, length, sym, ap, ◌∙◌, subst, arith}
 use Rattle.zst_tree.specs.Sets.{SetFits}
 use Rattle.zst_outside.specs.Images.{DiskState}
 use Rattle.zst_block.specs.Blocks.{Has}
@@ -15,9 +15,8 @@ use Rattle.zst_pool.specs.Checks.{next_of, with_head_of}
 use Rattle.zst_pool.specs.Faults.{StepFault}
 use Rattle.zst_pool.specs.Heads.{ChangedHead, stop_of}
 use Rattle.zst_pool.specs.Cost.{Cost}
-use Rattle.zst_image.specs.Reads.{free_by}
 use Rattle.zst_pool.specs.declared.fault.PoolFault.{PoolFault}
-use Rattle.zst_pool.specs.declared.fault.PoolFault.TheVariants.{Damaged, OutOfMemory}
+use Rattle.zst_pool.specs.declared.fault.PoolFault.TheVariants.{Damaged, OutOfMemory, Plan}
 use Rattle.zst_pool.proofs.Doing.{did}
 use Rattle.zst_pool.proofs.Judging.{err_is}
 use Rattle.zst_pool.proofs.NextPools.{head_is_next}
@@ -26,6 +25,7 @@ use Rattle.zst_pool.proofs.Committed.{committed_sound}
 use Rattle.zst_pool.proofs.Judged.{memory_stops, well_is}
 use Rattle.zst_pool.proofs.Running.{Wrote, runs_committed, runs_fell}
 use Rattle.zst_pool.proofs.heads.commit_head.Given.{Over}
+use Rattle.zst_pool.proofs.Planned.{no_plan-commit}
 use Rattle.zst_pool.proofs.heads.commit_head.Goals as goal
 use Rattle.zst_pool.proofs.heads.commit_head.Goals.{After-judge}
 
@@ -104,3 +104,19 @@ returns-in_err-dir-clause-damaged g c = λ sector stated found is.
 
 pub returns-clause-damaged : goal.returns-clause-damaged
 returns-clause-damaged g c = λ sector stated found is. absurd (committed_sound c.commit_dir.result sector stated found (sym c.of_committed.ensures ∙ is))
+
+pub returns-in_err-judge-clause-plans : goal.returns-in_err-judge-clause-plans
+returns-in_err-judge-clause-plans g c = λ fault is.
+    let fell = c.in_err-judge.field-0.0 in
+    let answered = err_is c.from_residual.result fell c.from_residual.ensures.1 in
+    let same : fell ≡ Plan fault = cc (answered, is) in
+    c.in_err-judge.ensures.last fault (ap (λ f. Err f) same)
+
+pub returns-in_err-dir-clause-plans : goal.returns-in_err-dir-clause-plans
+returns-in_err-dir-clause-plans g c = λ fault is.
+    let fell = c.from_residual-in_err-dir in
+    let answered = err_is fell.result OutOfMemory fell.ensures.1 in
+    absurd (cc (answered, is))
+
+pub returns-clause-plans : goal.returns-clause-plans
+returns-clause-plans g c = λ fault is. absurd (no_plan-commit c.commit_dir.result c.of_committed.ensures fault is)

@@ -1,5 +1,5 @@
-use Rattle.std.proofs.Common.{◌≡◌, ◌≤◌, ℕ, sym, subst, arith}
-use Rattle.zst_block.specs.Blocks.{FitsDisk}
+use Rattle.std.proofs.Common.{sym, subst, arith, ◌+◌, inl}
+use Rattle.zst_block.specs.Blocks.{FitsDisk, Has}
 use Rattle.zst_model.specs.pools.Pool.{Pool}
 use Rattle.zst_pool.specs.Checks.{freed}
 use Rattle.zst_pool.specs.Cost.{cells_only}
@@ -14,6 +14,8 @@ use Rattle.zst_pool.proofs.Judged.{always}
 use Rattle.zst_pool.proofs.NextPools.{freed_is_lawful}
 use Rattle.zst_pool.proofs.Parts.{ready_fills}
 use Rattle.zst_pool.proofs.Running.{changed_head, runs_head, runs_planned}
+use Rattle.zst_pool.proofs.Naming.{described_is_named}
+use Rattle.zst_pool.proofs.Planned.{freed_apart, head_apart, head_limits, plans_apart, plans_refused}
 use Rattle.zst_pool.proofs.heads.free_objects.Goals as goal
 
 pub commit_head-requires-clause-ready : goal.commit_head-requires-clause-ready
@@ -36,7 +38,26 @@ returns-in_err-set-clause-runs g c =
     let plan = c.in_err-set.field-0.0 in
     let space = free_by c.args.kept.now.body in
     runs_planned (λ pool. on_head c.args.name.now pool (make pool)) (cells_only 2) (OfHead c.args.kept.now.dir c.args.name.now (slots_damage (g.D.Disk.state c.args.io.now.disk.now) space)) c.args.kept.now plan (err_is c.from_residual.result (Plan plan) c.from_residual.ensures.1) c.requires.space c.requires.ready
-    (λ pool rests. c.in_err-set.ensures.found (g.D.Disk.state c.args.io.now.disk.now).seen space pool rests.reads.described.rows_are (make pool))
+    (λ pool rests.
+    let named = described_is_named c.args.kept.now.body c.args.kept.now.dir pool (Has (g.D.Disk.state c.args.io.now.disk.now).seen space) rests.reads.described in
+    c.in_err-set.ensures.found pool named.are_named (make pool))
 
 pub commit_head-requires-clause-levels : goal.commit_head-requires-clause-levels
 commit_head-requires-clause-levels g c = always c.change_numbers-changed.result (SetFits c.change_numbers-changed.new.set) (c.change_numbers-changed.ensures.levels c.in_ok-set.ensures.levels)
+
+pub returns-in_err-set-clause-plans : goal.returns-in_err-set-clause-plans
+returns-in_err-set-clause-plans g c =
+    let make = λ (pool : Pool). freed pool c.args.first c.args.count in
+    let fault = c.in_err-set.field-0.0 in
+    plans_refused (λ pool. on_head c.args.name.now pool (make pool)) (c.args.first + c.args.count) 0 c.args.kept.now fault (err_is c.from_residual.result (Plan fault) c.from_residual.ensures.1) (inl c.in_err-set.ensures.rows)
+    (λ pool named. c.in_err-set.ensures.found pool named.are_named (make pool))
+
+pub returns-clause-plans : goal.returns-clause-plans
+returns-clause-plans g c =
+    let kept = c.args.kept.now in
+    let name = c.args.name.now in
+    let make = λ (pool : Pool). freed pool c.args.first c.args.count in
+    let changed = c.change_numbers-changed in
+    plans_apart (λ pool. on_head name pool (make pool)) (c.args.first + c.args.count) 0 kept c.commit_head.result
+    (λ pool named. head_apart kept.dir name pool c.in_ok-set.set (make pool) (freed_apart pool c.args.first c.args.count) (c.in_ok-set.ensures.found pool named.are_named))
+    (λ fault is. head_limits (c.args.first + c.args.count) 0 kept.body changed.result changed.ensures.limits fault (c.commit_head.ensures.plans fault is))

@@ -1,17 +1,18 @@
-use Rattle.std.proofs.Common.{◌≡◌, ◌≤◌, ℕ, sym, subst, arith}
-use Rattle.zst_block.specs.Blocks.{FitsDisk}
+use Rattle.std.proofs.Common.{sym, subst, arith, ◌+◌, inl}
+use Rattle.zst_block.specs.Blocks.{FitsDisk, Has}
 use Rattle.zst_model.specs.pools.Pool.{Pool}
-use Rattle.zst_model.specs.pools.Step.{punched}
+use Rattle.zst_model.specs.pools.Step.{punched, on_head}
 use Rattle.zst_pool.specs.Cost.{cells_only}
 use Rattle.zst_pool.proofs.Doing.{free_by_fits}
 use Rattle.zst_image.specs.Reads.{free_by}
 use Rattle.zst_pool.specs.declared.fault.PoolFault.TheVariants.{Plan}
-use Rattle.zst_model.specs.pools.Step.{on_head}
 use Rattle.zst_pool.proofs.Judging.{err_is}
 use Rattle.zst_pool.specs.Damage.{OfHead, range_damage}
 use Rattle.zst_pool.proofs.NextPools.{punched_is_lawful}
 use Rattle.zst_pool.proofs.Parts.{ready_fills}
 use Rattle.zst_pool.proofs.Running.{changed_head, runs_head, runs_planned}
+use Rattle.zst_pool.proofs.Naming.{described_is_named}
+use Rattle.zst_pool.proofs.Planned.{punched_apart, head_apart, head_limits, plans_apart, plans_refused}
 use Rattle.zst_pool.proofs.heads.punch.Goals as goal
 
 pub commit_head-requires-clause-ready : goal.commit_head-requires-clause-ready
@@ -34,4 +35,23 @@ returns-in_err-set-clause-runs g c =
     let plan = c.in_err-set.field-0.0 in
     let space = free_by c.args.kept.now.body in
     runs_planned (λ pool. on_head c.args.name.now pool (make pool)) (cells_only 2) (OfHead c.args.kept.now.dir c.args.name.now (range_damage (g.D.Disk.state c.args.io.now.disk.now) space)) c.args.kept.now plan (err_is c.from_residual.result (Plan plan) c.from_residual.ensures.1) c.requires.space c.requires.ready
-    (λ pool rests. c.in_err-set.ensures.found (g.D.Disk.state c.args.io.now.disk.now).seen space pool rests.reads.described.rows_are (make pool))
+    (λ pool rests.
+    let named = described_is_named c.args.kept.now.body c.args.kept.now.dir pool (Has (g.D.Disk.state c.args.io.now.disk.now).seen space) rests.reads.described in
+    c.in_err-set.ensures.found pool named.are_named (make pool))
+
+pub returns-in_err-set-clause-plans : goal.returns-in_err-set-clause-plans
+returns-in_err-set-clause-plans g c =
+    let make = λ (pool : Pool). punched pool c.args.object c.args.first c.args.count in
+    let fault = c.in_err-set.field-0.0 in
+    plans_refused (λ pool. on_head c.args.name.now pool (make pool)) 0 (c.args.first + c.args.count) c.args.kept.now fault (err_is c.from_residual.result (Plan fault) c.from_residual.ensures.1) (inl c.in_err-set.ensures.rows)
+    (λ pool named. c.in_err-set.ensures.found pool named.are_named (make pool))
+
+pub returns-clause-plans : goal.returns-clause-plans
+returns-clause-plans g c =
+    let kept = c.args.kept.now in
+    let name = c.args.name.now in
+    let make = λ (pool : Pool). punched pool c.args.object c.args.first c.args.count in
+    let changed = c.change_holes-changed in
+    plans_apart (λ pool. on_head name pool (make pool)) 0 (c.args.first + c.args.count) kept c.commit_head.result
+    (λ pool named. head_apart kept.dir name pool c.in_ok-set.set (make pool) (punched_apart pool c.args.object c.args.first c.args.count) (c.in_ok-set.ensures.found pool named.are_named))
+    (λ fault is. head_limits 0 (c.args.first + c.args.count) kept.body changed.result changed.ensures.limits fault (c.commit_head.ensures.plans fault is))

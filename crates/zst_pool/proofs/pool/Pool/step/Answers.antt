@@ -11,6 +11,8 @@ use Rattle.zst_pool.specs.declared.fault.PoolFault.TheVariants.{OutOfMemory}
 use Rattle.zst_pool.proofs.Judging.{err_is}
 use Rattle.zst_pool.proofs.Replying.{step_reply}
 use Rattle.zst_pool.proofs.Stepped.{spends_err, spends_ok, spares_err}
+use Rattle.zst_pool.specs.Plans.{indices_end, numbers_end}
+use Rattle.zst_pool.proofs.Planned.{plans_err, plans_ok}
 use Rattle.zst_pool.proofs.pool.Pool.step.Goals as goal
 
 pub returns-clause-moments : goal.returns-clause-moments
@@ -101,3 +103,17 @@ returns-in_err-reply-clause-damaged g c = λ told.
     let fell = c.from_residual in
     let Is = TellsDamage c.args.command c.args.self.now.kept.dir (g.D.Disk.state c.args.self.now.io.disk.now) (free_by c.args.self.now.kept.body) in
     subst (λ (r : Result (List (List ℕ)) PoolFault). IfErr r (IsOf Is)) (sym (err_is fell.result OutOfMemory fell.ensures.1)) (λ sector stated found is. absurd (cc))
+
+pub returns-clause-planned : goal.returns-clause-planned
+returns-clause-planned g c = λ standing built left.
+    plans_ok (stepped [] c.args.now c.args.command) (numbers_end c.args.command) (indices_end c.args.command) c.args.self.now.kept c.in_ok-kept.kept c.in_ok-reply.reply c.in_ok-kept.ensures.plans
+
+pub returns-in_err-kept-clause-planned : goal.returns-in_err-kept-clause-planned
+returns-in_err-kept-clause-planned g c = λ standing built left.
+    let fault = c.in_err-kept.field-0.0 in
+    let fell = c.from_residual-in_err-kept in
+    plans_err (stepped [] c.args.now c.args.command) (numbers_end c.args.command) (indices_end c.args.command) c.args.self.now.kept fault (err_is fell.result fault fell.ensures.1) c.in_err-kept.ensures.plans
+
+pub returns-in_err-reply-clause-planned : goal.returns-in_err-reply-clause-planned
+returns-in_err-reply-clause-planned g c = λ standing built left.
+    absurd (left (err_is c.from_residual.result OutOfMemory c.from_residual.ensures.1))
