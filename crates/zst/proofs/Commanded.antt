@@ -1,5 +1,5 @@
 -- What stands after a command on the pool of an image, from what opening and stepping say.
-use Rattle.std.specs.Prelude.{IsTrue, Bool, Result, Ok, Err}
+use Rattle.std.specs.Prelude.{IsTrue, Bool, Option, Some, None, Result, Ok, Err}
 use Rattle.std.proofs.Common.{◌≡◌, ◌≢◌, ◌⊎◌, inl, inr, ⊎_elim, ℕ, ◌≤◌, List, [], refl, sym, ap, ◌∙◌, subst, arith}
 use Rattle.zst_outside.specs.Causes.{Rose-earlier}
 use Rattle.zst_outside.specs.Images.{DiskState, Leaves, Leaves-weaker, Leaves-then, OnlyReads, IsSynced}
@@ -30,10 +30,11 @@ use Rattle.zst_image.specs.declared.open_fault.OpenFault.TheVariants as opens
 use Rattle.zst_pool.specs.Cost.{FindsNoRoom, Grows, cost_of}
 use Rattle.zst_pool.specs.Damage.{IsOf, OfHead, TellsDamage}
 use Rattle.zst_pool.specs.Faults.{HasDiskCause, StepFault, pool_refusal}
+use Rattle.zst_pool.specs.Plans.{Plans, indices_end, numbers_end}
 use Rattle.zst_pool.specs.Stepping.{BeforeOrAfter, StepAnswer}
 use Rattle.zst_pool.specs.declared.fault.PoolFault.{PoolFault}
 use Rattle.zst_pool.specs.declared.fault.PoolFault.TheVariants as faults
-use Rattle.zst.specs.Commands.{OldOrReads, IsPoolRefusal, OfStepping, Answers, Opened, Opens, Ran, Stepping, Steps, most_of}
+use Rattle.zst.specs.Commands.{OldOrReads, IsPoolRefusal, OfStepping, Answers, Opened, Opens, Planned, Ran, Stepping, Steps, most_of}
 use Rattle.zst.specs.Replies.{Replied}
 
 -- ---- plans' faults as refusals
@@ -104,6 +105,47 @@ damaged_only (faults.Damaged a s f) sector stated found is = cc is
 damaged_only faults.DiskFault sector stated found is = absurd (cc is)
 damaged_only faults.Failed sector stated found is = absurd (cc is)
 damaged_only faults.OutOfMemory sector stated found is = absurd (cc is)
+
+-- the plan's fault that a refusal is
+abbrev plan_of : Refusal → Option PlanFault
+plan_of (refusals.Plan fault) = Some fault
+plan_of (refusals.Limit which number) = Some (plans.Limit which number)
+plan_of refusal = None
+
+plan_is : (fault : PlanFault) → plan_of (refusal_of fault) ≡ Some fault
+plan_is (plans.BadName place) = refl
+plan_is (plans.NoSuch what) = refl
+plan_is (plans.Exists what) = refl
+plan_is (plans.Busy holder) = refl
+plan_is (plans.NotAncestor to from) = refl
+plan_is (plans.NotRedactionOf bookmark snapshot) = refl
+plan_is (plans.NotDescendant name) = refl
+plan_is (plans.Modified name) = refl
+plan_is (plans.NotLatest have want) = refl
+plan_is (plans.NoOrigin guid) = refl
+plan_is (plans.NotContained guid) = refl
+plan_is (plans.PartialExists name) = refl
+plan_is (plans.NoPartial name) = refl
+plan_is (plans.WrongResume have want) = refl
+plan_is (plans.Unsupported lack) = refl
+plan_is (plans.Limit which number) = refl
+
+no_plan : (refusal : Refusal) (fault : PlanFault) → plan_of refusal ≡ None → refusal ≡ refusal_of fault → ⊥
+no_plan refusal fault none is = let e : None ≡ Some fault = sym none ∙ ap plan_of is ∙ plan_is fault in absurd (cc e)
+
+-- and a plan's only as that
+pub plan_only : (fault : PoolFault) (plan : PlanFault) → pool_refusal fault ≡ refusal_of plan → fault ≡ faults.Plan plan
+plan_only (faults.Plan fault) plan is =
+    let e : Some fault ≡ Some plan = sym (plan_is fault) ∙ ap plan_of is ∙ plan_is plan in
+    let same : fault ≡ plan = cc e in
+    ap (λ (p : PlanFault). faults.Plan p) same
+plan_only (faults.CannotApply fault) plan is = absurd (no_plan (refusals.CannotApply 0 fault) plan refl is)
+plan_only (faults.Redacted object block) plan is = absurd (no_plan (refusals.Redacted object block) plan refl is)
+plan_only (faults.Full need largest) plan is = absurd (no_plan (refusals.Full need largest) plan refl is)
+plan_only (faults.Damaged sector stated found) plan is = absurd (no_plan (refusals.Damaged sector stated found) plan refl is)
+plan_only faults.DiskFault plan is = absurd (no_plan refusals.DiskFault plan refl is)
+plan_only faults.Failed plan is = absurd (no_plan refusals.Failed plan refl is)
+plan_only faults.OutOfMemory plan is = absurd (no_plan refusals.OutOfMemory plan refl is)
 
 -- the fault of a command, as a refusal of the whole
 refused_step : {T : Type 0} → (here mid here' : DiskState) (fault : PoolFault) → here.faults ≤ mid.faults → HasDiskCause {T = T} mid.faults here'.faults (Err fault)
@@ -214,26 +256,50 @@ told_of_start here mid rows space sector stated found (commands.Read name k i) r
 told_of_start here mid rows space sector stated found commands.List reads is = is
 told_of_start here mid rows space sector stated found (commands.ListObjects name) reads is = is
 
+-- what a plan refuses, as a refusal of the whole
+planned_refused : (now : ℕ) (command : Command) (kept : Kept) (fault : PoolFault)
+    → Plans {T = List (List ℕ)} (λ pool. stepped [] now command pool) (numbers_end command) (indices_end command) kept (Err fault)
+    → Planned now command kept.body kept.dir (Err (pool_refusal fault))
+planned_refused now command kept fault is = record {
+  exact = λ pool plan named told. (
+    λ refused. let was = (is.exact pool plan named told).0 refused in let same : fault ≡ faults.Plan plan = cc was in ap (λ f. Err (pool_refusal f)) same,
+    λ was. (is.exact pool plan named told).1 (ap (λ f. Err f) (plan_only fault plan (cc was))),
+  );
+  limits = λ plan was. is.limits plan (ap (λ f. Err f) (plan_only fault plan (cc was)));
+}
+
+planned_done : (now : ℕ) (command : Command) (kept : Kept) (lines : List (List ℕ))
+    → Plans {T = List (List ℕ)} (λ pool. stepped [] now command pool) (numbers_end command) (indices_end command) kept (Ok lines)
+    → Planned now command kept.body kept.dir (Ok lines)
+planned_done now command kept lines is = record {
+  exact = λ pool plan named told. (λ refused. let was = (is.exact pool plan named told).0 refused in absurd (cc was), λ was. absurd (cc was));
+  limits = λ plan was. absurd (cc was);
+}
+
 -- a command that was refused on what was opened
 ran_refused : (now : ℕ) (command : Command) (here mid here' : DiskState) (kept : Kept) (left : FreeSectors) (fault : PoolFault) → Opens here kept.body kept.dir → OnlyReads here mid
     → SparesTaken (free_by kept.body) here.seen here'.seen → ((block : ℕ) × (block ≤ (cost_of command).most) × FindsNoRoom (cost_of command).cells block kept left fault)
     → IsOf (TellsDamage command kept.dir mid (free_by kept.body)) fault
+    → (fault ≢ faults.OutOfMemory → Plans {T = List (List ℕ)} (λ pool. stepped [] now command pool) (numbers_end command) (indices_end command) kept (Err fault))
     → Ran now command here here' (Err (pool_refusal fault)) kept.body kept.dir
-ran_refused now command here mid here' kept left fault opens reads spares room damaged = record {
+ran_refused now command here mid here' kept left fault opens reads spares room damaged plan = record {
   opens = opens;
   spares = spares;
   full = λ need largest is. (room.0, room.1, (left, room.2 need largest (full_only fault need largest (cc is))));
   damaged = λ sector stated found is.
       told_of_start here mid kept.dir (free_by kept.body) sector stated found command reads (damaged sector stated found (damaged_only fault sector stated found (cc is)));
+  planned = λ memory. planned_refused now command kept fault (plan (λ is. memory (ap (λ f. Err (pool_refusal f)) is)));
 }
 
 ran_done : (now : ℕ) (command : Command) (here here' : DiskState) (kept : Kept) (lines : List (List ℕ)) → Opens here kept.body kept.dir
+    → Plans {T = List (List ℕ)} (λ pool. stepped [] now command pool) (numbers_end command) (indices_end command) kept (Ok lines)
     → Ran now command here here' (Ok lines) kept.body kept.dir
-ran_done now command here here' kept lines opens = record {
+ran_done now command here here' kept lines opens plan = record {
   opens = opens;
   spares = tt;
   full = λ need largest is. absurd (cc is);
   damaged = λ sector stated found is. absurd (cc is);
+  planned = λ memory. planned_done now command kept lines plan;
 }
 
 opened_then : (now : ℕ) (command : Command) (here here' : DiskState) (kept : Kept) (fault : PoolFault) → fault ≢ faults.Failed
@@ -306,16 +372,17 @@ module _ (now : ℕ) (command : Command) (here mid here' : DiskState) (kept kept
   })
 
   pub stepping_done : (lines : List (List ℕ)) → mid.faults ≤ here'.faults
+      → Plans {T = List (List ℕ)} (λ pool. stepped [] now command pool) (numbers_end command) (indices_end command) kept (Ok lines)
       → ((pool : Pool) → here'.honest → Rests mid kept.body kept.dir pool → Grows (most_of command kept.dir pool) kept.body kept'.body)
       → ((pool : Pool) → here'.honest → Rests mid kept.body kept.dir pool → StepAnswer here' kept'.body kept'.dir pool (stepped [] now command pool) (Ok lines))
       → Stepping now command here here' (Ok lines)
-  stepping_done lines after grows did = record {
+  stepping_done lines after plan grows did = record {
     moments = moments;
     images = images;
     answers = λ uber rows pool told is.
         let before = rests uber rows pool told is in
         done uber rows pool lines (there uber rows pool (falls told) is) (grows pool told before) (did pool told before);
-    opened = λ told. (kept.body, kept.dir, ran_done now command here here' kept lines (opened_as told));
+    opened = λ told. (kept.body, kept.dir, ran_done now command here here' kept lines (opened_as told) plan);
     refused = tt;
     later = omega (arith, later, after);
   }
@@ -328,10 +395,11 @@ module _ (now : ℕ) (command : Command) (here mid here' : DiskState) (kept kept
       → (fault ≢ faults.DiskFault → SparesTaken (free_by kept.body) mid.seen here'.seen)
       → ((block : ℕ) × (block ≤ (cost_of command).most) × FindsNoRoom (cost_of command).cells block kept left fault)
       → (here'.honest → IsOf (TellsDamage command kept.dir mid (free_by kept.body)) fault)
+      → (fault ≢ faults.OutOfMemory → Plans {T = List (List ℕ)} (λ pool. stepped [] now command pool) (numbers_end command) (indices_end command) kept (Err fault))
       → ((pool : Pool) → here'.honest → Rests mid kept.body kept.dir pool → FindsNoRoom (cost_of command).cells ((cost_of command).block pool) kept left fault)
       → ((pool : Pool) → here'.honest → Rests mid kept.body kept.dir pool → StepAnswer here' kept'.body kept'.dir pool (stepped [] now command pool) (Err fault))
       → Stepping now command here here' (Err (pool_refusal fault))
-  stepping_refused fault left same cause alive spares bounded damaged room did = record {
+  stepping_refused fault left same cause alive spares bounded damaged plan room did = record {
     moments = moments;
     images = images;
     answers = λ uber rows pool told is.
@@ -339,7 +407,7 @@ module _ (now : ℕ) (command : Command) (here mid here' : DiskState) (kept kept
         for_kept (λ u r. Answers command u r pool here' (stepped [] now command pool) (Err (pool_refusal fault))) kept uber rows (there uber rows pool (falls told) is)
             (answers_refused command here' kept left pool (stepped [] now command pool) fault (room pool told before) (left_as fault pool same (did pool told before)));
     opened = λ told. opened_then now command here here' kept fault alive (λ not. ran_refused now command here mid here' kept left fault (opened_as told) reads
-        (subst (λ (bytes : List ℕ). SparesTaken (free_by kept.body) bytes here'.seen) reads.seen (spares not)) bounded (damaged told));
+        (subst (λ (bytes : List ℕ). SparesTaken (free_by kept.body) bytes here'.seen) reads.seen (spares not)) bounded (damaged told) plan);
     refused = refused_step here mid here' fault later cause alive;
     later = omega (arith, later, cause.later);
   }

@@ -1,5 +1,5 @@
 -- What a line that works on a pool leaves of its image, and what it answers.
-use Rattle.std.specs.Prelude.{ℕ, ◌≡◌, ◌≢◌, ◌⊎◌, ◌*◌, ◌<◌, ◌≤◌, Bool, IsTrue, IfErr, OnErr, List, [], ◌∷◌, None, Some, Result, Ok, Err}
+use Rattle.std.specs.Prelude.{ℕ, ◌≡◌, ◌≢◌, ◌⊎◌, ◌↔◌, ◌*◌, ◌<◌, ◌≤◌, Bool, true, IsTrue, IfErr, OnErr, List, [], ◌∷◌, None, Some, Result, Ok, Err}
 use Rattle.zst_outside.specs.Causes.{Rose}
 use Rattle.zst_outside.specs.Images.{DiskState, Leaves, OnlyReads}
 use Rattle.zst_outside.specs.States.{SinkState}
@@ -12,9 +12,11 @@ use Rattle.zst_uber.specs.declared.uber.Uber.{Uber}
 use Rattle.zst_model.specs.pools.Lines.{ok_line}
 use Rattle.zst_model.specs.pools.Pool.{Pool}
 use Rattle.zst_model.specs.pools.Step.{Stepped, stepped}
+use Rattle.zst_model.specs.refusals.Refusal.{refusal_of}
 use Rattle.zst_model.specs.declared.pools.command.Command.{Command}
 use Rattle.zst_model.specs.declared.refusals.faults.Quantity.TheVariants as quantities
 use Rattle.zst_model.specs.declared.refusals.named.Present.TheVariants as present
+use Rattle.zst_model.specs.declared.refusals.plan_fault.PlanFault.{PlanFault}
 use Rattle.zst_model.specs.declared.refusals.plan_fault.PlanFault.TheVariants as plans
 use Rattle.zst_model.specs.declared.refusals.refusal.Refusal.{Refusal}
 use Rattle.zst_model.specs.declared.refusals.refusal.Refusal.TheVariants as refusals
@@ -22,13 +24,14 @@ use Rattle.zst_dir.specs.Rows.{Rows}
 use Rattle.zst_image.specs.Faults.{create_refusal, open_refusal}
 use Rattle.zst_image.specs.Creating.{IsNew}
 use Rattle.zst_image.specs.Opening.{IsOpened, TellsBody, TellsDir}
-use Rattle.zst_image.specs.Reads.{Reads, ReadsAs, Rests, free_by, new_pool}
+use Rattle.zst_image.specs.Reads.{IsNamedBy, Reads, ReadsAs, Rests, free_by, new_pool}
 use Rattle.zst_image.specs.declared.create_fault.CreateFault.{CreateFault}
 use Rattle.zst_image.specs.declared.open_fault.OpenFault.{OpenFault}
 use Rattle.zst_image.specs.declared.kept.Kept.{Kept}
 use Rattle.zst_pool.specs.Cost.{Grows, HasNoRoom, cost_of, most_sectors}
 use Rattle.zst_pool.specs.Damage.{TellsDamage}
 use Rattle.zst_pool.specs.Faults.{pool_refusal}
+use Rattle.zst_pool.specs.Plans.{IsLimitOf, indices_end, is_by_rows, numbers_end}
 use Rattle.zst_pool.specs.Stepping.{BeforeOrAfter}
 use Rattle.zst_pool.specs.declared.fault.PoolFault.{PoolFault}
 use Rattle.zst.specs.Replies.{Replied}
@@ -96,6 +99,14 @@ pub record HasVersion (here : DiskState) (number : ℕ) : Type 0 where
 abbrev pub Opens : DiskState → Uber → Rows → Type 0
 Opens here uber rows = (body : List ℕ) × (latest here.seen ≡ Some body) × IsOpened here body uber rows
 
+-- What the directory tells alone: E3, E4, E5, and E23 of datasets, snapshots and guids come exactly where the definition
+-- refuses a pool that the body and the rows name, whatever its object sets hold. Any other E23 is past a limit.
+pub record Planned (now : ℕ) (command : Command) (uber : Uber) (rows : Rows) (answer : Result (List (List ℕ)) Refusal) : Type 0 where
+  pub exact : (pool : Pool) (fault : PlanFault) → IsNamedBy uber rows pool → is_by_rows fault ≡ true
+      → (stepped [] now command pool ≡ Err (refusal_of fault)) ↔ (answer ≡ Err (refusal_of fault))
+  pub limits : (fault : PlanFault) → answer ≡ Err (refusal_of fault)
+      → (is_by_rows fault ≡ true) ⊎ IsLimitOf (numbers_end command) (indices_end command) uber fault
+
 -- A command on a pool that was opened by this body and these rows, whether or not the image reads as a pool: a refusal, but
 -- for E28, wrote into sectors alone that the body leaves free; E24 comes only where there is less room than the command may
 -- cost, and E25 only of a block that is damaged in the object set of the command's dataset.
@@ -106,6 +117,7 @@ pub record Ran (now : ℕ) (command : Command) (here here' : DiskState) (answer 
       → (block : ℕ) × (block ≤ (cost_of command).most) × IsShort (cost_of command).cells block uber rows need largest
   pub damaged : (sector : ℕ) (stated found : List ℕ) → answer ≡ Err (refusals.Damaged sector stated found)
       → TellsDamage command rows here (free_by uber) sector stated found
+  pub planned : answer ≢ Err refusals.OutOfMemory → Planned now command uber rows answer
 
 -- What an answer says of any image. E26 comes where there is no latest body, E27 where it has another version, E25 where it
 -- or its directory isn't of the layout: then nothing is written. Any other answer comes where both are, E28 and E32 aside.
