@@ -17,12 +17,13 @@ returns-in_err-reply g c =
     let s = c.in_err-reply.ensures in
     let n = c.new-pool.ensures in
     let p = err_from_is_err_and c.from_residual-in_err-reply.result c.from_residual-in_err-reply.ensures.1 in
+    let most = s.spends n.failed in
     let stepping = stepping_refused c.args.now c.args.command (g.D.Disk.state c.args.here.now) (g.D.Disk.state c.open.new.disk) (g.D.Disk.state c.step-reply.new.self.io.disk.now)
     c.in_ok-kept.kept c.step-reply.new.self.kept e.there (λ told. rw (n.disk) at (s.honest told)) e.answer e.reads e.rests e.cause.later
     (λ pool told rests. rw (n.disk) at (s.moments pool told (rw (n.disk, n.kept) rests)))
     (g.met.D.Disk.only_now c.args.here.now) (g.met.D.Disk.counts_now c.step-reply.new.self.io.disk.now)
     c.in_err-reply.field-0.0 c.step-reply.new.self.io.space (s.kept ∙ n.kept) (rw (n.disk) at s.cause) (λ is. s.open_still n.failed (ap (λ f. Err f) is))
-    (λ not. rw (n.disk, n.kept) at (s.spares (λ is. not (cc is)))) (rw (n.kept) at ((s.spends n.failed).0, (s.spends n.failed).1, (s.spends n.failed).2.full)) (λ told. rw (n.disk, n.kept) at (s.damaged told))
+    (λ not. rw (n.disk, n.kept) at (s.spares (λ is. not (cc is)))) (most.0, most.1, rw (n.kept) at most.2.full) (λ told. rw (n.disk, n.kept) at (s.damaged told))
     (λ memory. rw (n.kept) at (s.planned n.failed c.requires.built (λ is. memory (cc is))))
     (λ pool told rests. rw (n.kept) at ((s.exact pool told n.failed (rw (n.disk, n.kept) rests)).full))
     (λ pool told rests. s.answer pool told c.requires.built n.failed (rw (n.disk, n.kept) rests)) in
