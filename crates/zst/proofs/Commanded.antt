@@ -1,5 +1,5 @@
 -- What stands after a command on the pool of an image, from what opening and stepping say.
-use Rattle.std.specs.Prelude.{IsTrue, Bool, Option, Some, None, Result, Ok, Err}
+use Rattle.std.specs.Prelude.{Option, Some, None, Result, Ok, Err}
 use Rattle.std.proofs.Common.{◌≡◌, ◌≢◌, ◌⊎◌, inl, inr, ⊎_elim, ℕ, ◌≤◌, List, [], refl, sym, ap, ◌∙◌, subst, arith}
 use Rattle.zst_outside.specs.Causes.{Rose-earlier}
 use Rattle.zst_outside.specs.Images.{DiskState, Leaves, Leaves-weaker, Leaves-then, OnlyReads, IsSynced}
@@ -246,7 +246,7 @@ told_of_start here mid rows space sector stated found (commands.Object dataset k
     told_before here mid (λ seen size. OfHead rows dataset (IsDamagedSet (SparesTaken space seen) size) sector stated found) reads is
 told_of_start here mid rows space sector stated found (commands.Write dataset k i bytes) reads is =
     told_before here mid (λ seen size. OfHead rows dataset (λ set at s f. IsDamagedSet (IsSeen seen) size set at s f
-        ⊎ IsDamagedObject (SparesTaken space seen) size NamesNode set at s f) sector stated found) reads is
+    ⊎ IsDamagedObject (SparesTaken space seen) size NamesNode set at s f) sector stated found) reads is
 told_of_start here mid rows space sector stated found (commands.Punch dataset k first count) reads is =
     told_before here mid (λ seen size. OfHead rows dataset (IsDamagedObject (SparesTaken space seen) size (SumsUp (SparesTaken space seen))) sector stated found) reads is
 told_of_start here mid rows space sector stated found (commands.Free dataset first count) reads is =
@@ -306,7 +306,7 @@ opened_then : (now : ℕ) (command : Command) (here here' : DiskState) (kept : K
     → (fault ≢ faults.DiskFault → Ran now command here here' (Err (pool_refusal fault)) kept.body kept.dir) → Opened now command here here' (Err (pool_refusal fault))
 opened_then now command here here' kept (faults.Plan fault) alive ran =
     of_plan (λ r. Ran now command here here' (Err r) kept.body kept.dir → Opened now command here here' (Err r)) (λ f is. (kept.body, kept.dir, is))
-        (λ w n is. (kept.body, kept.dir, is)) fault (ran (λ e. absurd (cc e)))
+    (λ w n is. (kept.body, kept.dir, is)) fault (ran (λ e. absurd (cc e)))
 opened_then now command here here' kept (faults.CannotApply fault) alive ran = (kept.body, kept.dir, ran (λ e. absurd (cc e)))
 opened_then now command here here' kept (faults.Redacted object block) alive ran = (kept.body, kept.dir, ran (λ e. absurd (cc e)))
 opened_then now command here here' kept (faults.Full need largest) alive ran = (kept.body, kept.dir, ran (λ e. absurd (cc e)))
@@ -405,7 +405,7 @@ module _ (now : ℕ) (command : Command) (here mid here' : DiskState) (kept kept
     answers = λ uber rows pool told is.
         let before = rests uber rows pool told is in
         for_kept (λ u r. Answers command u r pool here' (stepped [] now command pool) (Err (pool_refusal fault))) kept uber rows (there uber rows pool (falls told) is)
-            (answers_refused command here' kept left pool (stepped [] now command pool) fault (room pool told before) (left_as fault pool same (did pool told before)));
+        (answers_refused command here' kept left pool (stepped [] now command pool) fault (room pool told before) (left_as fault pool same (did pool told before)));
     opened = λ told. opened_then now command here here' kept fault alive (λ not. ran_refused now command here mid here' kept left fault (opened_as told) reads
         (subst (λ (bytes : List ℕ). SparesTaken (free_by kept.body) bytes here'.seen) reads.seen (spares not)) bounded (damaged told) plan);
     refused = refused_step here mid here' fault later cause alive;

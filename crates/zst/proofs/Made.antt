@@ -1,5 +1,5 @@
 -- What stands after a pool was made in an image, from what making it says.
-use Rattle.std.specs.Prelude.{IsTrue, Bool, Result, Ok, Err}
+use Rattle.std.specs.Prelude.{Result, Ok, Err}
 use Rattle.std.proofs.Common.{◌≡◌, ◌≢◌, ◌⊎◌, ℕ, ◌≤◌, List, [], ◌∷◌, refl, ◌∙◌, ap}
 use Rattle.zst_outside.specs.Images.{DiskState, Leaves}
 use Rattle.zst_outside.specs.States.{SinkState}

@@ -1,5 +1,5 @@
 -- What a line does.
-use Rattle.std.specs.Prelude.{ℕ, ◌≡◌, Bool, true, Result, Ok, Err}
+use Rattle.std.specs.Prelude.{ℕ, ◌≡◌, true, Result, Ok, Err}
 use Rattle.zst_outside.specs.Images.{DiskState}
 use Rattle.zst_model.specs.pools.Step.{IsCommand}
 use Rattle.zst_model.specs.declared.refusals.refusal.Refusal.{Refusal}

@@ -1,5 +1,5 @@
 -- What a run does: the status, and what is noted.
-use Rattle.std.specs.Prelude.{ℕ, ◌≡◌, ◌⊎◌, ◌==◌, if◌then◌else◌, Bool, List, [], ◌++◌, Result, Ok, Err, codes, decimal}
+use Rattle.std.specs.Prelude.{ℕ, ◌≡◌, ◌⊎◌, ◌==◌, if◌then◌else◌, List, [], ◌++◌, Result, Ok, Err, codes, decimal}
 use Rattle.zst_outside.specs.Causes.{Rose}
 use Rattle.zst_outside.specs.Images.{DiskState}
 use Rattle.zst_outside.specs.States.{SinkState, HandedOn}

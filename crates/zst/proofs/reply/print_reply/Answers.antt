@@ -1,5 +1,5 @@
 use Rattle.std.proofs.Common.{◌≡◌, ◌∙◌, List, ℕ, get_or, ap}
-use Rattle.zst_outside.specs.Printing.{Prints-flush, Prints-stop, Wrote-then}
+use Rattle.zst_outside.specs.Printing.{Prints-stop, Wrote-then}
 use Rattle.zst.proofs.Replying.{reply_at, reply_more}
 use Rattle.zst.proofs.reply.print_reply.Goals as goal
 
