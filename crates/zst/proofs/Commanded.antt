@@ -2,10 +2,13 @@
 use Rattle.std.specs.Prelude.{IsTrue, Bool, Result, Ok, Err}
 use Rattle.std.proofs.Common.{◌≡◌, ◌≢◌, inl, inr, ⊎_elim, ℕ, ◌≤◌, List, [], refl, sym, ap, ◌∙◌, subst, arith}
 use Rattle.zst_outside.specs.Causes.{Rose-earlier}
-use Rattle.zst_outside.specs.Images.{DiskState, Leaves, Leaves-weaker, Leaves-then, OnlyReads, IsSynced}
+use Rattle.zst_outside.specs.Images.{DiskState, Leaves, Leaves-weaker, Leaves-then, OnlyReads}
 use Rattle.zst_outside.specs.States.{SinkState}
 use Rattle.zst_bytes.specs.Bytes.{number_at}
+use Rattle.zst_space.specs.FreeSectors.{FreeSectors}
 use Rattle.zst_uber.proofs.BodyLaws.{uber_at-body_bytes}
+use Rattle.zst_uber.specs.Body.{IsBody}
+use Rattle.zst_uber.specs.declared.TheConstants.{VERSION}
 use Rattle.zst_uber.specs.declared.uber.Uber.{Uber}
 use Rattle.zst_model.specs.pools.Pool.{Pool}
 use Rattle.zst_model.specs.refusals.Refusal.{refusal_of}
@@ -24,8 +27,8 @@ use Rattle.zst_image.specs.Reads.{Reads, ReadsAs, Rests}
 use Rattle.zst_image.specs.declared.kept.Kept.{Kept}
 use Rattle.zst_image.specs.declared.open_fault.OpenFault.{OpenFault}
 use Rattle.zst_image.specs.declared.open_fault.OpenFault.TheVariants as opens
-use Rattle.zst_pool.specs.Faults.{HasDiskCause, IsStepFault, StepFault, pool_refusal}
-use Rattle.zst_pool.specs.Room.{HasNoRoom, most_sectors}
+use Rattle.zst_pool.specs.Faults.{HasDiskCause, StepFault, pool_refusal}
+use Rattle.zst_pool.specs.Cost.{HasNoRoom, cost_of}
 use Rattle.zst_pool.specs.Stepping.{BeforeOrAfter, StepAnswer}
 use Rattle.zst_pool.specs.declared.fault.PoolFault.{PoolFault}
 use Rattle.zst_pool.specs.declared.fault.PoolFault.TheVariants as faults
@@ -124,13 +127,6 @@ refused_open here here' fault cause = record { one = inl (fault, refl); alive = 
 
 -- ---- opening
 
--- a disk that reads as a pool and was opened rests as that pool, by what is kept of it
-pub rests_opened : (here mid : DiskState) (kept : Kept) (uber : Uber) (rows : Rows) (pool : Pool) → ReadsAs uber rows pool here.seen → OnlyReads here mid → IsSynced mid
-    → GivesPool uber rows (Ok kept) → Rests mid kept.body kept.dir pool
-rests_opened here mid kept uber rows pool is reads synced same =
-    let read : ReadsAs kept.body kept.dir pool mid.seen = rw (same.0, same.1, reads.seen) is in
-    record { reads = read; each = λ c image. subst (λ (bytes : List ℕ). ReadsAs kept.body kept.dir pool bytes) (sym (synced c image)) read }
-
 -- a disk that was only read holds what it held
 pub holds_read : (here mid : DiskState) (pool : Pool) → Holds here pool → OnlyReads here mid → Holds mid pool
 holds_read here mid pool holds reads = record {
@@ -181,8 +177,12 @@ answers_done here' uber rows pool after lines is = (is.0, is.1, is.2, holds_rest
 
 -- ---- what answers say of the latest body
 
+-- a body of the layout is of this version
+version_is : (size : ℕ) (uber : Uber) (body : List ℕ) → IsBody size uber body → number_at body 8 4 ≡ VERSION
+version_is size uber body is = ap (λ (b : List ℕ). number_at b 8 4) is.spelled ∙ ap (λ (u : Uber). u.version) (uber_at-body_bytes uber is.fits) ∙ is.in_range.version
+
 pub opened_refused : (here : DiskState) (fault : OpenFault) → OpenAnswers here (Err fault) → Opened here (Err (open_refusal fault))
-opened_refused here (opens.Damaged sector stated found) is = (is.body, is.there, is.version)
+opened_refused here (opens.Damaged sector stated found) is = ⊎_elim (λ tells. (tells.body, tells.there, tells.version)) (λ tells. (tells.body, tells.there, version_is here.size tells.uber tells.body tells.is_body)) is
 opened_refused here opens.NoPool is = is
 opened_refused here (opens.BadVersion version) is = is
 opened_refused here opens.DiskFault is = tt
@@ -191,18 +191,16 @@ opened_refused here opens.OutOfMemory is = tt
 pub opened_done : (here : DiskState) (kept : Kept) (lines : List (List ℕ)) → OpenAnswers here (Ok kept) → Opened here (Ok lines)
 opened_done here kept lines is = (is.0, kept.body, kept.dir, is.1, is.2)
 
-pub opened_then : (here : DiskState) (kept : Kept) (fault : PoolFault) → OpenAnswers here (Ok kept) → IsStepFault fault → Opened here (Err (pool_refusal fault))
-opened_then here kept (faults.Plan fault) is known =
+pub opened_then : (here : DiskState) (kept : Kept) (fault : PoolFault) → OpenAnswers here (Ok kept) → Opened here (Err (pool_refusal fault))
+opened_then here kept (faults.Plan fault) is =
     of_plan (λ r. Opened here (Err r)) (λ f. (is.0, kept.body, kept.dir, is.1, is.2)) (λ w n. (is.0, kept.body, kept.dir, is.1, is.2)) fault
-opened_then here kept (faults.CannotApply fault) is known = (is.0, kept.body, kept.dir, is.1, is.2)
-opened_then here kept (faults.Redacted object block) is known = (is.0, kept.body, kept.dir, is.1, is.2)
-opened_then here kept (faults.Full need largest) is known = (is.0, kept.body, kept.dir, is.1, is.2)
-opened_then here kept (faults.Damaged sector stated found) is known =
-    let body = is.2.is_body in
-    (is.0, is.1, ap (λ (b : List ℕ). number_at b 8 4) body.spelled ∙ ap (λ (u : Uber). u.version) (uber_at-body_bytes kept.body body.fits) ∙ body.in_range.version)
-opened_then here kept faults.DiskFault is known = tt
-opened_then here kept faults.Failed is known = (is.0, kept.body, kept.dir, is.1, is.2)
-opened_then here kept faults.OutOfMemory is known = tt
+opened_then here kept (faults.CannotApply fault) is = (is.0, kept.body, kept.dir, is.1, is.2)
+opened_then here kept (faults.Redacted object block) is = (is.0, kept.body, kept.dir, is.1, is.2)
+opened_then here kept (faults.Full need largest) is = (is.0, kept.body, kept.dir, is.1, is.2)
+opened_then here kept (faults.Damaged sector stated found) is = (is.0, is.1, version_is here.size kept.body is.0 is.2.is_body)
+opened_then here kept faults.DiskFault is = tt
+opened_then here kept faults.Failed is = (is.0, kept.body, kept.dir, is.1, is.2)
+opened_then here kept faults.OutOfMemory is = tt
 
 -- ---- one command
 
@@ -232,12 +230,11 @@ stepping_unopened now command here here' fault there answer reads cause = record
 -- the command ran on what was opened
 module _ (now : ℕ) (command : Command) (here mid here' : DiskState) (kept kept' : Kept)
     (there : (uber : Uber) (rows : Rows) (pool : Pool) → mid.honest → ReadsAs uber rows pool here.seen → GivesPool uber rows (Ok kept))
-    (falls : here'.honest → mid.honest) (answer : mid.honest → OpenAnswers here (Ok kept)) (reads : OnlyReads here mid) (synced : IsSynced mid) (later : here.faults ≤ mid.faults)
+    (falls : here'.honest → mid.honest) (answer : mid.honest → OpenAnswers here (Ok kept)) (reads : OnlyReads here mid) (stands : (uber : Uber) (rows : Rows) (pool : Pool) → mid.honest → ReadsAs uber rows pool here.seen → Rests mid kept.body kept.dir pool) (later : here.faults ≤ mid.faults)
     (step : (pool : Pool) → here'.honest → Rests mid kept.body kept.dir pool → Leaves mid here' (BeforeOrAfter pool (stepped [] now command pool)))
     (only : (c : List ℕ) → here.left_since here.moment c → here.images c) (now_left : (t : ℕ) (c : List ℕ) → t ≤ here'.moment → here'.images c → here'.left_since t c) where
   rests : (pool : Pool) → mid.honest → Holds here pool → Rests mid kept.body kept.dir pool
-  rests pool told holds =
-      rests_opened here mid kept holds.seen.0 holds.seen.1 pool holds.seen.2 reads synced (there holds.seen.0 holds.seen.1 pool told holds.seen.2)
+  rests pool told holds = stands holds.seen.0 holds.seen.1 pool told holds.seen.2
 
   moments : (pool : Pool) → here'.honest → Holds here pool → Leaves here here' (BeforeOrAfter pool (stepped [] now command pool))
   moments pool told holds = moments_then here mid here' pool (stepped [] now command pool) holds reads (step pool told (rests pool (falls told) holds))
@@ -258,19 +255,19 @@ module _ (now : ℕ) (command : Command) (here mid here' : DiskState) (kept kept
     later = omega (arith, later, after);
   }
 
-  pub stepping_refused : (fault : PoolFault) → HasDiskCause {T = List (List ℕ)} mid.faults here'.faults (Err fault) → IsStepFault fault
-      → ((pool : Pool) (need largest : ℕ) → here'.honest → Rests mid kept.body kept.dir pool → fault ≡ faults.Full need largest → HasNoRoom (most_sectors command) kept.body kept.dir need largest)
+  pub stepping_refused : (fault : PoolFault) → HasDiskCause {T = List (List ℕ)} mid.faults here'.faults (Err fault) → fault ≢ faults.Failed
+      → ((pool : Pool) (need largest : ℕ) → here'.honest → Rests mid kept.body kept.dir pool → fault ≡ faults.Full need largest → (left : FreeSectors) × HasNoRoom (cost_of command).cells ((cost_of command).block pool) kept.body kept.dir left need largest)
       → ((pool : Pool) → here'.honest → Rests mid kept.body kept.dir pool → StepAnswer here' kept'.body kept'.dir pool (stepped [] now command pool) (Err fault))
       → Stepping now command here here' (Err (pool_refusal fault))
-  stepping_refused fault cause known room did = record {
+  stepping_refused fault cause alive room did = record {
     moments = moments;
     images = images;
     answers = λ pool told holds. answers_refused here' kept'.body kept'.dir pool (stepped [] now command pool) fault (did pool told (rests pool (falls told) holds));
-    opened = λ told. opened_then here kept fault (answer (falls told)) known;
+    opened = λ told. opened_then here kept fault (answer (falls told));
     full = λ uber rows pool need largest told is_pool is.
         let same = there uber rows pool (falls told) is_pool in
-        rw (← same.0, ← same.1) (room pool need largest told (rests_opened here mid kept uber rows pool is_pool reads synced same) (full_only fault need largest (cc is)));
-    refused = refused_step here mid here' fault later cause (λ is. subst IsStepFault is known);
+        rw (← same.0, ← same.1) (room pool need largest told (stands uber rows pool (falls told) is_pool) (full_only fault need largest (cc is)));
+    refused = refused_step here mid here' fault later cause alive;
     later = omega (arith, later, cause.later);
   }
 

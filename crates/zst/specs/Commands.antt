@@ -4,6 +4,7 @@ use Rattle.zst_outside.specs.Causes.{Rose}
 use Rattle.zst_outside.specs.Images.{DiskState, Leaves, OnlyReads}
 use Rattle.zst_outside.specs.States.{SinkState}
 use Rattle.zst_bytes.specs.Bytes.{number_at}
+use Rattle.zst_space.specs.FreeSectors.{FreeSectors}
 use Rattle.zst_uber.specs.Slots.{latest}
 use Rattle.zst_uber.specs.declared.TheConstants.{VERSION}
 use Rattle.zst_uber.specs.declared.uber.Uber.{Uber}
@@ -23,7 +24,7 @@ use Rattle.zst_image.specs.Reads.{Reads, ReadsAs, new_pool}
 use Rattle.zst_image.specs.declared.create_fault.CreateFault.{CreateFault}
 use Rattle.zst_image.specs.declared.open_fault.OpenFault.{OpenFault}
 use Rattle.zst_pool.specs.Faults.{pool_refusal}
-use Rattle.zst_pool.specs.Room.{HasNoRoom, most_sectors}
+use Rattle.zst_pool.specs.Cost.{HasNoRoom, cost_of}
 use Rattle.zst_pool.specs.Stepping.{BeforeOrAfter}
 use Rattle.zst_pool.specs.declared.fault.PoolFault.{PoolFault}
 use Rattle.zst.specs.Replies.{Replied}
@@ -69,14 +70,14 @@ Opened here (Err refusals.OutOfMemory) = Unit {0}
 Opened here answer = (body : List ℕ) × (uber : Uber) × (rows : Rows) × (latest here.seen ≡ Some body) × IsOpened here body uber rows
 
 -- One command on the pool of an image: at every moment, and in the end, each image reads as the pool before it or as
--- what the definition makes of it. E24 comes only where fewer sectors are free than the command may take.
+-- what the definition makes of it. E24 comes only where fewer sectors are free than the command may take in that pool.
 pub record Stepping (now : ℕ) (command : Command) (here here' : DiskState) (answer : Result (List (List ℕ)) Refusal) : Type 0 where
   pub moments : (pool : Pool) → here'.honest → Holds here pool → Leaves here here' (BeforeOrAfter pool (stepped [] now command pool))
   pub images : (pool : Pool) → here'.honest → Holds here pool → (c : List ℕ) → here'.images c → BeforeOrAfter pool (stepped [] now command pool) c
   pub answers : (pool : Pool) → here'.honest → Holds here pool → Answers here' pool (stepped [] now command pool) answer
   pub opened : here'.honest → Opened here answer
   pub full : (uber : Uber) (rows : Rows) (pool : Pool) (need largest : ℕ) → here'.honest → ReadsAs uber rows pool here.seen
-      → answer ≡ Err (refusals.Full need largest) → HasNoRoom (most_sectors command) uber rows need largest
+      → answer ≡ Err (refusals.Full need largest) → (left : FreeSectors) × HasNoRoom (cost_of command).cells ((cost_of command).block pool) uber rows left need largest
   pub refused : IfErr answer (IsPoolRefusal OfStepping here here')
   pub later : here.faults ≤ here'.faults
 

@@ -1,13 +1,17 @@
 -- What a fault of leaves or of a commit says of the disk.
 use Rattle.std.specs.Prelude.{Result, Err}
-use Rattle.std.proofs.Common.{ℕ, List, refl, sym, ap, subst}
+use Rattle.std.proofs.Common.{◌≡◌, inl, inr, ℕ, List, refl, sym, ap, subst}
 use Rattle.zst_block.specs.Working as blocks
 use Rattle.zst_block.specs.declared.fault.BlockFault.TheVariants as block_faults
+use Rattle.zst_fletcher.specs.WeightSum.{parts_of}
+use Rattle.zst_outside.specs.Images.{DiskState}
+use Rattle.zst_uber.specs.declared.uber.Uber.{Uber}
+use Rattle.zst_leaves.specs.Damage.{TellsText}
 use Rattle.zst_leaves.specs.Leaves.{GivesText, stop_of_leaves}
 use Rattle.zst_leaves.specs.declared.fault.LeavesFault.{LeavesFault}
 use Rattle.zst_leaves.specs.declared.fault.LeavesFault.TheVariants.{Block, Memory}
 use Rattle.zst_image.specs.Faults.{HasDiskCause, stop_of_commit}
-use Rattle.zst_image.specs.Opening.{IsOpenFault, LoadFault, ReadFault}
+use Rattle.zst_image.specs.Opening.{IsOpenFault, LoadFault, ReadFault, TellsFault}
 use Rattle.zst_image.specs.declared.open_fault.OpenFault.{OpenFault}
 use Rattle.zst_image.specs.declared.open_fault.OpenFault.TheVariants as opens
 use Rattle.zst_image.specs.declared.commit_fault.CommitFault.{CommitFault}
@@ -37,3 +41,15 @@ leaves_read T text items Memory answer is gives = subst ReadFault (sym is) tt
 -- and so did a commit
 pub commit_cause : {T : Type 0} (before now : ℕ) (result : Result T CommitFault) → blocks.HasCause before now (stop_of_commit result) → HasDiskCause commits.DiskFault before now result
 commit_cause {T = T} before now result cause = record { later = cause.later; fault = λ is. cause.fault (ap (λ (r : Result T CommitFault). stop_of_commit r) is) }
+
+-- E25 of a directory that isn't of its layout tells its root
+pub tells_root : (disk : DiskState) (uber : Uber) (answer : OpenFault) → answer ≡ opens.Damaged uber.dir_root.sector (parts_of uber.dir_root.sum) (parts_of uber.dir_root.sum) → TellsFault disk uber answer
+tells_root disk uber answer is = subst (TellsFault disk uber) (sym is) (inr (refl, refl, refl))
+
+-- and E25 of its leaves what their read tells
+pub tells_leaves : (T : Type 0) (disk : DiskState) (uber : Uber) (fault : LeavesFault) (answer : OpenFault) → IsOpenFault fault answer
+    → TellsText {T = T} uber.end disk.seen disk.size uber.dir_levels uber.dir_root uber.dir_bytes (Err fault) → TellsFault disk uber answer
+tells_leaves T disk uber (Block (block_faults.Full need largest)) answer is tells = absurd is
+tells_leaves T disk uber (Block (block_faults.Damaged sector stated found)) answer is tells = subst (TellsFault disk uber) (sym is) (inl tells)
+tells_leaves T disk uber (Block block_faults.DiskFault) answer is tells = subst (TellsFault disk uber) (sym is) tt
+tells_leaves T disk uber Memory answer is tells = subst (TellsFault disk uber) (sym is) tt

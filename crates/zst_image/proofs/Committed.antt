@@ -64,7 +64,7 @@ pub IsTaken-free_by : (size : ℕ) (uber : Uber) → InRange size uber → IsTak
 IsTaken-free_by size uber is = λ byte starts ends free. ⊎_elim (λ none. absurd none) (λ past. omega (arith, ends, past, is.end.0)) free
 
 -- what is written into free sectors alone leaves the reading
-ReadsAs-spared : (uber : Uber) (rows : Rows) (pool : Pool) (d c : List ℕ) → SparesTaken (free_by uber) d c → ReadsAs uber rows pool d → ReadsAs uber rows pool c
+pub ReadsAs-spared : (uber : Uber) (rows : Rows) (pool : Pool) (d c : List ℕ) → SparesTaken (free_by uber) d c → ReadsAs uber rows pool d → ReadsAs uber rows pool c
 ReadsAs-spared uber rows pool d c spares reads =
     ReadsAs-keeps (free_by uber) uber rows pool d c (λ sector free. free) (KeepsImage-spared (free_by uber) d c (IsTaken-free_by (length d) uber reads.in_range) spares) reads
 

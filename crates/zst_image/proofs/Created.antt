@@ -1,10 +1,11 @@
 -- What making a pool leaves.
-use Rattle.std.specs.Prelude.{Option, None, Result, Ok, Err, IfOk, IfErr}
-use Rattle.std.proofs.Common.{◌≡◌, ◌⊎◌, inl, inr, ⊎_elim, ℕ, ◌-◌, ◌*◌, ◌<◌, ◌≤◌, ◌^◌, List, [], length, refl, sym, ◌∙◌, ap, subst, arith}
+use Rattle.std.specs.Prelude.{Option, None, Result, Ok, Err, IfOk, IfErr, OnOk}
+use Rattle.std.proofs.Common.{◌≡◌, ◌⊎◌, inl, inr, ⊎_elim, ℕ, ◌+◌, ◌-◌, ◌*◌, ◌<◌, ◌≤◌, ◌^◌, List, [], length, refl, sym, ◌∙◌, ap, subst, arith}
 use Rattle.std.proofs.lemmas.List.Elements.{All-nil}
 use Rattle.zst_outside.specs.Causes.{Rose-earlier}
 use Rattle.zst_outside.specs.Images.{DiskState, Leaves, OnlyReads, Leaves-weaker, Leaves-then}
-use Rattle.zst_space.specs.FreeSectors.{FreeSectors, largest_of}
+use Rattle.zst_space.specs.FreeSectors.{FreeSectors, largest_of, room}
+use Rattle.zst_block.specs.Working.{TakesAtMost}
 use Rattle.zst_uber.specs.Slots.{latest}
 use Rattle.zst_uber.specs.declared.uber.Uber.{Uber}
 use Rattle.zst_model.specs.pools.Limits.{last_number, last_guid}
@@ -12,8 +13,8 @@ use Rattle.zst_model.specs.pools.Pool.{Pool, IsPool}
 use Rattle.zst_dir.specs.Rows.{Rows, no_rows}
 use Rattle.zst_dir.specs.Spelling.{dir_bytes}
 use Rattle.zst_tree.specs.Indices.{Blocks}
-use Rattle.zst_image.specs.Committing.{CommitAnswer, IsDirFull, NextIs, OldOrNext, Stays}
-use Rattle.zst_image.specs.Creating.{CreateAnswers, IsMade, RefusedLeaves}
+use Rattle.zst_image.specs.Committing.{CommitAnswer, IsDirFull, NextIs, OldOrNext, Ready, Stays}
+use Rattle.zst_image.specs.Creating.{CreateAnswers, IsMade, IsNew, RefusedLeaves}
 use Rattle.zst_image.specs.Faults.{HasDiskCause}
 use Rattle.zst_image.specs.Reads.{Reads, RowsAre, dir_sectors, new_pool}
 use Rattle.zst_image.specs.declared.commit_fault.CommitFault.{CommitFault}
@@ -21,7 +22,8 @@ use Rattle.zst_image.specs.declared.commit_fault.CommitFault.TheVariants as comm
 use Rattle.zst_image.specs.declared.create_fault.CreateFault.{CreateFault}
 use Rattle.zst_image.specs.declared.create_fault.CreateFault.TheVariants.{Exists, TooSmall, DiskFault, OutOfMemory}
 use Rattle.zst_image.specs.declared.kept.Kept.{Kept}
-use Rattle.zst_image.proofs.Directories.{dir_sectors-none}
+use Rattle.zst_image.proofs.Directories.{dir_sectors-none, length-no_rows}
+use Rattle.zst_image.proofs.Taking.{end_moved}
 
 IsPool-new : (id : ℕ) → (0 < id) × (id < 2 ^ 31) → IsPool (new_pool id)
 unfolding last_number last_guid
@@ -124,3 +126,18 @@ create-moments old mid new last space pool same reads leaves =
     subst (λ (now : DiskState). Leaves old now Fits) same (Leaves-then old mid new Fits (OldOrNext space mid pool)
     (Leaves-weaker old mid old.images Fits reads.time (λ c image. inl (c, image, refl))) leaves
     (λ c is. ⊎_elim (λ past. inl (past.0, reads.crash past.0 past.1, past.2.latest_stays)) (λ next. inr next) is))
+
+-- what is kept of the new pool
+pub new-made : (disk : DiskState) (sectors : ℕ) (space less : FreeSectors) (body : Uber) (rows : Rows) (made : Result Kept CommitFault) → space ≡ record { end = 8; sectors = sectors; free = [] } → rows ≡ no_rows → 128 ≤ sectors
+    → body.sectors ≡ sectors → TakesAtMost (dir_sectors (length (dir_bytes rows))) space less → (length (dir_bytes rows) ≤ 8192 → OnOk made (room less + 16 ≡ room space)) → IfOk made (λ kept. (kept.body.end ≡ less.end) × (kept.body.sectors ≡ body.sectors))
+    → IfOk made (λ kept. Ready disk kept.body) → IfOk made (IsNew sectors)
+new-made disk sectors space less body rows (Err fault) same none many all takes one ends ready = tt
+new-made disk sectors space less body rows (Ok kept) same none many all takes one ends ready =
+    let end = ends.0 in
+    let as_body = ends.1 in
+    let small : length (dir_bytes rows) ≤ 8192 = omega (arith, ap (λ (r : Rows). length (dir_bytes r)) none, length-no_rows) in
+    let was_end : space.end ≡ 8 = ap (λ (s : FreeSectors). s.end) same in
+    let was_all : space.sectors ≡ sectors = ap (λ (s : FreeSectors). s.sectors) same in
+    let inside : less.end ≤ less.sectors = omega (arith, end, as_body, all, takes.sectors, was_all, ready.in_range.end.1) in
+    let moved = end_moved 16 _ space less (ap (λ (s : FreeSectors). s.free) same) takes inside (one small) (omega (arith, many, was_end, was_all)) in
+    record { sectors_are = as_body ∙ all; end = omega (arith, end, moved, was_end) }

@@ -52,7 +52,7 @@ lawful-below has (suc level) ptr text some (inr (any, (node, over, parts))) = la
 pub DirStands-lawful : (has : Blocks) (levels : ℕ) (root : Ptr) (count : ℕ) (rows : Rows) → DirStands has levels root count rows → IsTrue (is_lawful root)
 DirStands-lawful has levels root count rows is = lawful-below has levels root (dir_bytes rows) is.leaves.some is.leaves.below
 
-length-no_rows : length (dir_bytes no_rows) ≡ 24
+pub length-no_rows : length (dir_bytes no_rows) ≡ 24
 unfolding dir_bytes
 length-no_rows =
     let none = word 0 ++ [] in

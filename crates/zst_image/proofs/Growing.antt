@@ -23,32 +23,20 @@ AreMore has more = (ptr : Ptr) (bytes : List ℕ) → has ptr bytes → more ptr
 
 DatasetIs-grows : (has more : Blocks) → AreMore has more → (row : Dataset) (dataset : plain.Dataset) → DatasetIs has row dataset → DatasetIs more row dataset
 DatasetIs-grows has more up row dataset is = record {
-  name = is.name;
-  kind = is.kind;
-  origin = is.origin;
+  named = is.named;
   head = SetHolds-grows has more up row.head dataset.head is.head;
-  redact = is.redact;
 }
 
 SnapshotIs-grows : (has more : Blocks) → AreMore has more → (row : Snapshot) (snapshot : plain.Snapshot) → SnapshotIs has row snapshot → SnapshotIs more row snapshot
 SnapshotIs-grows has more up row snapshot is = record {
-  name = is.name;
-  guid = is.guid;
-  time = is.time;
-  number = is.number;
+  named = is.named;
   objects = SetHolds-grows has more up row.objects snapshot.objects is.objects;
-  redact = is.redact;
 }
 
 PartialIs-grows : (has more : Blocks) → AreMore has more → (row : Partial) (partial : plain.Partial) → PartialIs has row partial → PartialIs more row partial
 PartialIs-grows has more up row partial is = record {
-  target = is.target;
-  component = is.component;
-  keep = is.keep;
-  header = is.header;
-  base = is.base;
+  named = is.named;
   objects = SetHolds-grows has more up row.objects partial.objects is.objects;
-  point = is.point;
 }
 
 -- lists that match by a relation match by a weaker one

@@ -3,5 +3,7 @@ pub mod Committed
 pub mod Created
 pub mod Directories
 pub mod Growing
+pub mod One
 pub mod Opened
 pub mod Settled
+pub mod Taking

@@ -1,11 +1,14 @@
 -- What opening a pool answers, from what its body and its directory are.
-use Rattle.std.specs.Prelude.{Option, Some, None, Err}
-use Rattle.std.proofs.Common.{◌≡◌, ◌≢◌, List, ℕ, length, refl, sym, ◌∙◌, ap, subst}
+use Rattle.std.specs.Prelude.{Option, Some, None, Result, Err}
+use Rattle.std.proofs.Common.{inl, inr, ⊎_elim, ◌≡◌, ◌≢◌, List, ℕ, length, refl, sym, subst}
 use Rattle.zst_bytes.specs.Bytes.{number_at}
-use Rattle.zst_outside.specs.Images.{DiskState}
+use Rattle.zst_outside.specs.Images.{DiskState, IsSynced, OnlyReads}
 use Rattle.zst_block.specs.Blocks.{Has}
-use Rattle.zst_uber.specs.Body.{IsBody, InRange, body_bytes, uber_at}
-use Rattle.zst_uber.proofs.BodyLaws.{uber_at-body_bytes, version-back}
+use Rattle.zst_block.specs.declared.fault.BlockFault.TheVariants as block_faults
+use Rattle.zst_leaves.specs.Damage.{TellsText}
+use Rattle.zst_leaves.specs.declared.fault.LeavesFault.{LeavesFault}
+use Rattle.zst_leaves.specs.declared.fault.LeavesFault.TheVariants.{Block}
+use Rattle.zst_uber.specs.Body.{IsBody, InRange, body_bytes}
 use Rattle.zst_uber.specs.Opening.{Answers, Opens, IsLatest}
 use Rattle.zst_uber.specs.Slots.{latest}
 use Rattle.zst_uber.specs.declared.TheConstants.{VERSION}
@@ -15,8 +18,8 @@ use Rattle.zst_uber.specs.declared.uber.Uber.{Uber}
 use Rattle.zst_model.specs.pools.Pool.{Pool}
 use Rattle.zst_dir.specs.Rows.{Rows}
 use Rattle.zst_image.specs.Faults.{of_uber}
-use Rattle.zst_image.specs.Opening.{OpenAnswers, IsDamagedPool, LoadFault, ReadFault}
-use Rattle.zst_image.specs.Reads.{ReadsAs, HasDir, free_by}
+use Rattle.zst_image.specs.Opening.{LoadFault, OpenAnswers, ReadFault, TellsFault, TellsBlock, TellsBody}
+use Rattle.zst_image.specs.Reads.{ReadsAs, HasDir, Rests, free_by}
 use Rattle.zst_image.specs.declared.open_fault.OpenFault.{OpenFault}
 use Rattle.zst_image.specs.declared.open_fault.OpenFault.TheVariants.{Damaged, NoPool, BadVersion, DiskFault, OutOfMemory}
 
@@ -33,36 +36,40 @@ pub HasDir-same : (uber body : Uber) (rows : Rows) (image seen : List ℕ) → b
 HasDir-same uber body rows image seen same_body same has =
     subst (λ (u : Uber). HasDir (Has seen (free_by u)) u rows) (sym same_body) (subst (λ (l : List ℕ). HasDir (Has l (free_by uber)) uber rows) (sym same) has)
 
--- two bodies that an image has as its latest are one
-pub latest-one : (size : ℕ) (body uber : Uber) (bytes image : List ℕ) → IsLatest size body image → latest image ≡ Some bytes → IsBody size uber bytes → body ≡ uber
-latest-one size body uber bytes image is last other =
-    let same : body_bytes body ≡ body_bytes uber = cc (is.stands, last, other.spelled) in
-    sym (uber_at-body_bytes body is.fits) ∙ ap uber_at same ∙ uber_at-body_bytes uber other.fits
-
 -- a body that is read, and what it is a body of
 pub IsBody-latest : (size : ℕ) (uber : Uber) (image : List ℕ) → IsLatest size uber image → IsBody size uber (body_bytes uber)
 IsBody-latest size uber image is = record { spelled = refl; fits = is.fits; in_range = is.in_range }
 
--- what the latest body names is damaged where no directory is there by it
-damaged-by : (disk : DiskState) (uber : Uber) → IsLatest disk.size uber disk.seen
-    → ((rows : Rows) → uber.free_count ≡ 0 → HasDir (Has disk.seen (free_by uber)) uber rows → ⊥) → IsDamagedPool disk
-damaged-by disk uber is none = record {
-  body = body_bytes uber;
-  there = is.stands;
-  version = version-back uber is.fits.version ∙ is.in_range.version;
-  damaged = λ other rows opened.
-      let same : uber ≡ other = latest-one disk.size uber other (body_bytes uber) disk.seen is is.stands opened.is_body in
-      none rows (ap (λ (u : Uber). u.free_count) same ∙ opened.extents) (HasDir-same other uber rows disk.seen disk.seen same refl opened.directory);
-}
+-- what is told of the blocks of a disk is told of those of an equal one
+TellsBlock-same : (old new : DiskState) (uber : Uber) (sector : ℕ) (stated found : List ℕ) → new.seen ≡ old.seen → new.size ≡ old.size → TellsBlock new uber sector stated found → TellsBlock old uber sector stated found
+TellsBlock-same old new uber sector stated found seen size tells =
+    let fault : Result (Unit {0}) LeavesFault = Err (Block (block_faults.Damaged sector stated found)) in
+    ⊎_elim
+    (λ text. inl (subst (λ (n : ℕ). TellsText uber.end old.seen n uber.dir_levels uber.dir_root uber.dir_bytes fault) size (subst (λ (l : List ℕ). TellsText uber.end l new.size uber.dir_levels uber.dir_root uber.dir_bytes fault) seen text)))
+    (λ root. inr root) tells
+
+pub TellsFault-reads : (old new : DiskState) (uber : Uber) (fault : OpenFault) → OnlyReads old new → TellsFault new uber fault → TellsFault old uber fault
+TellsFault-reads old new uber (Damaged sector stated found) reads tells = TellsBlock-same old new uber sector stated found reads.seen reads.size tells
+TellsFault-reads old new uber NoPool reads tells = tt
+TellsFault-reads old new uber (BadVersion number) reads tells = tt
+TellsFault-reads old new uber DiskFault reads tells = tt
+TellsFault-reads old new uber OutOfMemory reads tells = tt
 
 -- a directory is damaged only where none is there
-pub OpenAnswers-refused : (disk : DiskState) (uber : Uber) (fault : OpenFault) → IsLatest disk.size uber disk.seen → LoadFault fault
+pub OpenAnswers-refused : (disk : DiskState) (uber : Uber) (fault : OpenFault) → IsLatest disk.size uber disk.seen → LoadFault fault → TellsFault disk uber fault
     → ((rows : Rows) → uber.free_count ≡ 0 → HasDir (Has disk.seen (free_by uber)) uber rows → ReadFault fault) → OpenAnswers disk (Err fault)
-OpenAnswers-refused disk uber (Damaged sector stated found) last is read = damaged-by disk uber last read
-OpenAnswers-refused disk uber NoPool last is read = absurd is
-OpenAnswers-refused disk uber (BadVersion number) last is read = absurd is
-OpenAnswers-refused disk uber DiskFault last is read = tt
-OpenAnswers-refused disk uber OutOfMemory last is read = tt
+OpenAnswers-refused disk uber (Damaged sector stated found) last is tells read = inr (record {
+  uber = uber;
+  body = body_bytes uber;
+  there = last.stands;
+  is_body = IsBody-latest disk.size uber disk.seen last;
+  no_dir = λ rows none has. read rows none has;
+  block = tells;
+})
+OpenAnswers-refused disk uber NoPool last is tells read = absurd is
+OpenAnswers-refused disk uber (BadVersion number) last is tells read = absurd is
+OpenAnswers-refused disk uber DiskFault last is tells read = tt
+OpenAnswers-refused disk uber OutOfMemory last is tells read = tt
 
 -- where the latest body gives no answer but that there is none
 module _ (disk : DiskState) where
@@ -74,13 +81,19 @@ module _ (disk : DiskState) where
   bad_version version None is = absurd (cc)
   bad_version version (Some body) is = (body, refl, is.0, is.1)
 
-  damaged_body : (sector : ℕ) (stated parts : List ℕ) (found : Option (List ℕ)) → latest disk.seen ≡ found → Opens disk found (Err (ubers.Damaged sector stated parts)) → IsDamagedPool disk
+  damaged_body : (sector : ℕ) (stated parts : List ℕ) (found : Option (List ℕ)) → latest disk.seen ≡ found → Opens disk found (Err (ubers.Damaged sector stated parts)) → TellsBody disk sector stated parts
   damaged_body sector stated parts None same is = absurd (cc)
-  damaged_body sector stated parts (Some body) same is = record { body = body; there = same; version = is.1; damaged = λ uber rows opened. is.4 uber opened.is_body }
+  damaged_body sector stated parts (Some body) same is = record { body = body; there = same; version = is.1; no_body = is.4; sector_is = is.0; stated_is = is.2; found_is = is.3 }
 
   -- what a body that can't be read answers
   pub OpenAnswers-body : (fault : UberFault) → Answers disk (Err fault) → OpenAnswers disk (Err (of_uber fault))
-  OpenAnswers-body (ubers.Damaged sector stated parts) is = damaged_body sector stated parts (latest disk.seen) refl is
+  OpenAnswers-body (ubers.Damaged sector stated parts) is = inl (damaged_body sector stated parts (latest disk.seen) refl is)
   OpenAnswers-body ubers.NoPool is = no_body (latest disk.seen) is
   OpenAnswers-body (ubers.BadVersion version) is = bad_version version (latest disk.seen) is
   OpenAnswers-body ubers.DiskFault is = tt
+
+-- a disk that reads as a pool and was opened rests as that pool, by what is kept of it
+pub Rests-opened : (old new : DiskState) (uber body : Uber) (rows dir : Rows) (pool : Pool) → ReadsAs uber rows pool old.seen → OnlyReads old new → IsSynced new → (body ≡ uber) × (dir ≡ rows) → Rests new body dir pool
+Rests-opened old new uber body rows dir pool is reads synced same =
+    let read : ReadsAs body dir pool new.seen = rw (same.0, same.1, reads.seen) is in
+    record { reads = read; each = λ c image. subst (λ (bytes : List ℕ). ReadsAs body dir pool bytes) (sym (synced c image)) read }

@@ -24,6 +24,11 @@ CreateAnswers size body sectors (Err (TooSmall asked)) = (body ≡ None) × (siz
 CreateAnswers size body sectors (Err DiskFault) = Unit {0}
 CreateAnswers size body sectors (Err OutOfMemory) = (body ≡ None) × (¬ (size < 512 * sectors))
 
+-- what is kept of a pool that was just made: it has so many sectors, and 24 of them are taken, the first 8 and the one leaf of a directory without rows
+pub record IsNew (sectors : ℕ) (kept : Kept) : Type 0 where
+  pub sectors_are : kept.body.sectors ≡ sectors
+  pub end : kept.body.end ≡ 24
+
 -- what stands after making a pool was refused: after its checks all is as it was; without memory there still is no pool
 abbrev pub RefusedLeaves : DiskState → DiskState → CreateFault → Type 0
 RefusedLeaves old new Exists = OnlyReads old new

@@ -1,5 +1,5 @@
 -- What an image reads as: the pool that its latest body, its directory and its object sets describe.
-use Rattle.std.specs.Prelude.{◌≡◌, ◌+◌, ◌*◌, ◌/◌, ℕ, List, [], ◌∷◌, length, filter}
+use Rattle.std.specs.Prelude.{◌≡◌, ◌⊎◌, ◌+◌, ◌*◌, ◌/◌, ℕ, List, [], ◌∷◌, length, filter}
 use Rattle.zst_outside.specs.Images.{DiskState}
 use Rattle.zst_space.specs.FreeSectors.{FreeSectors}
 use Rattle.zst_block.specs.Blocks.{Has}
@@ -26,22 +26,36 @@ Match Is [] (y ∷ ys) = ⊥
 Match Is (x ∷ xs) [] = ⊥
 Match Is (x ∷ xs) (y ∷ ys) = Is x y × Match Is xs ys
 
--- a dataset's row stands for this dataset
-pub record DatasetIs (has : Blocks) (row : Dataset) (dataset : plain.Dataset) : Type 0 where
+-- two elements stand at the same place of two lists
+abbrev pub StandAlike : {A B : Type 0} → List A → List B → A → B → Type 0
+StandAlike [] ys a b = ⊥
+StandAlike (x ∷ xs) [] a b = ⊥
+StandAlike (x ∷ xs) (y ∷ ys) a b = ((x ≡ a) × (y ≡ b)) ⊎ StandAlike xs ys a b
+
+-- a dataset's row names this dataset, whatever its object set holds
+pub record NamesDataset (row : Dataset) (dataset : plain.Dataset) : Type 0 where
   pub name : dataset.name ≡ row.name
   pub kind : dataset.kind ≡ row.kind
   pub origin : dataset.origin ≡ row.origin
-  pub head : SetHolds has row.head dataset.head
   pub redact : dataset.redact ≡ row.redact
 
--- a snapshot's row stands for this snapshot
-pub record SnapshotIs (has : Blocks) (row : Snapshot) (snapshot : plain.Snapshot) : Type 0 where
+-- a dataset's row stands for this dataset: it names it, and its set holds the head
+pub record DatasetIs (has : Blocks) (row : Dataset) (dataset : plain.Dataset) : Type 0 where
+  pub named : NamesDataset row dataset
+  pub head : SetHolds has row.head dataset.head
+
+-- a snapshot's row names this snapshot, whatever its object set holds
+pub record NamesSnapshot (row : Snapshot) (snapshot : plain.Snapshot) : Type 0 where
   pub name : snapshot.name ≡ row.name
   pub guid : snapshot.guid ≡ row.guid
   pub time : snapshot.time ≡ row.time
   pub number : snapshot.number ≡ row.number
-  pub objects : SetHolds has row.objects snapshot.objects
   pub redact : snapshot.redact ≡ row.redact
+
+-- a snapshot's row stands for this snapshot: it names it, and its set holds the objects
+pub record SnapshotIs (has : Blocks) (row : Snapshot) (snapshot : plain.Snapshot) : Type 0 where
+  pub named : NamesSnapshot row snapshot
+  pub objects : SetHolds has row.objects snapshot.objects
 
 -- a bookmark's row stands for this bookmark; none has a list as long as lists aren't built
 pub record BookmarkIs (row : Bookmark) (bookmark : plain.Bookmark) : Type 0 where
@@ -53,15 +67,33 @@ pub record BookmarkIs (row : Bookmark) (bookmark : plain.Bookmark) : Type 0 wher
   pub no_runs : row.runs ≡ 0
   pub runs : bookmark.runs ≡ []
 
--- a partial state's row stands for this partial state
-pub record PartialIs (has : Blocks) (row : Partial) (partial : plain.Partial) : Type 0 where
+-- a partial state's row names this partial state, whatever its object set holds
+pub record NamesPartial (row : Partial) (partial : plain.Partial) : Type 0 where
   pub target : partial.target ≡ row.target
   pub component : partial.component ≡ row.snapshot
   pub keep : partial.keep ≡ row.keep
   pub header : partial.header ≡ row.header
   pub base : partial.base ≡ row.base
-  pub objects : SetHolds has row.objects partial.objects
   pub point : partial.point ≡ row.point
+
+-- a partial state's row stands for this partial state: it names it, and its set holds the objects
+pub record PartialIs (has : Blocks) (row : Partial) (partial : plain.Partial) : Type 0 where
+  pub named : NamesPartial row partial
+  pub objects : SetHolds has row.objects partial.objects
+
+-- the rows name what the pool lists, whatever the object sets hold; partial states that aren't kept are no part of it
+pub record AreNamed (rows : Rows) (pool : Pool) : Type 0 where
+  pub datasets : Match NamesDataset rows.datasets pool.datasets
+  pub snapshots : Match NamesSnapshot rows.snapshots pool.snapshots
+  pub bookmarks : Match BookmarkIs rows.bookmarks pool.bookmarks
+  pub partials : Match NamesPartial (filter (λ row. row.keep) rows.partials) pool.partials
+
+-- the body has the pool's id, number and guid counter, and the rows name what the pool lists
+pub record IsNamedBy (uber : Uber) (rows : Rows) (pool : Pool) : Type 0 where
+  pub id : pool.id ≡ uber.id
+  pub number : pool.number ≡ uber.number
+  pub guids : pool.guids ≡ uber.guids
+  pub are_named : AreNamed rows pool
 
 -- the rows stand for what the pool lists; partial states that aren't kept are no part of it
 pub record RowsAre (has : Blocks) (rows : Rows) (pool : Pool) : Type 0 where

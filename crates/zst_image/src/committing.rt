@@ -1,8 +1,9 @@
 // The commit of a directory: the one commit of an event.
-ghost use Rattle.std.specs.Prelude.{◌≡◌, ◌+◌, ◌<◌, ◌^◌, ◌||◌, false, ℕ, List, length, IfOk, IfErr, OnOk, OnErr};
+ghost use Rattle.std.specs.Prelude.{◌≡◌, ◌+◌, ◌<◌, ◌≤◌, ◌^◌, ◌||◌, false, ℕ, List, [], length, IfOk, IfErr, OnOk, OnErr, Err};
+ghost use Rattle.zst_space.specs.FreeSectors.{room};
 ghost use Rattle.zst_block.specs.Blocks.{FitsDisk, FillsFree, Has};
 ghost use Rattle.zst_block.specs.Ptr.{hole_of};
-ghost use Rattle.zst_block.specs.Working.{Works, fails};
+ghost use Rattle.zst_block.specs.Working.{TakesAtMost, Works, fails};
 ghost use Rattle.zst_uber.specs.Slots.{latest};
 ghost use Rattle.zst_model.specs.pools.Pool.{Pool};
 ghost use Rattle.zst_dir.specs.Rows.{Rows};
@@ -49,7 +50,14 @@ pub fn commit_dir<D: Disk>(
         → CommitsOver (D.state io.old.disk.now) io.old.space (D.state io.new.disk.now) io.new.space next result }
     ensures number { IfOk result (λ kept. kept.body.number ≡ body.now.number + 1) }
     ensures full { (need largest : ℕ) → result ≡ Err (CommitFault.Full need largest) → IsDirFull io.old.space io.new.space dir need largest }
-    // After a refusal that isn't the disk's the latest body is the one from before.
+    // So many sectors at most are taken, and for a directory of one leaf exactly its 16; the body ends where those that
+    // are left begin.
+    ensures takes { TakesAtMost (dir_sectors (length (dir_bytes dir))) io.old.space io.new.space }
+    ensures one_leaf { length (dir_bytes dir) ≤ 8192 → OnOk result (room io.new.space + 16 ≡ room io.old.space) }
+    ensures ends { IfOk result (λ kept. (kept.body.end ≡ io.new.space.end) × (kept.body.sectors ≡ body.now.sectors)) }
+    ensures bounded { io.old.space.free ≡ [] → IfOk result (λ kept. kept.body.end ≤ io.old.space.end + dir_sectors (length (dir_bytes dir))) }
+    // After a refusal that isn't the disk's free sectors alone were written, and the latest body is the one from before.
+    ensures fills { ¬ (result ≡ Err CommitFault.DiskFault) → OnErr result (FillsFree (D.state io.old.disk.now) io.old.space (D.state io.new.disk.now) io.new.space) }
     ensures refused { IfErr result (Stays (latest (D.state io.new.disk.now).seen ≡ latest (D.state io.old.disk.now).seen)) }
     ensures ready { IfOk result (λ kept. Ready (D.state io.new.disk.now) kept.body) }
     ensures stays { io.new.failed ≡ false → OnErr result (Ready (D.state io.new.disk.now) body.now) }
@@ -77,6 +85,7 @@ fn write_dir<D: Disk>(
 ) -> Result<(Tree, u64), CommitFault>
     requires fits { FitsDisk (D.state io.old.disk.now).size io.old.space }
     ensures there { IfOk result (λ written. DirStands (Has (D.state io.new.disk.now).seen io.new.space) written.0.levels written.0.root written.1 dir.now) }
+    ensures one_leaf { length (dir_bytes dir.now) ≤ 8192 → OnOk result (room io.new.space + 16 ≡ room io.old.space) }
     ensures works { Works (dir_sectors (length (dir_bytes dir.now))) 16 (D.state io.old.disk.now) io.old.space io.old.failed (D.state io.new.disk.now) io.new.space io.new.failed (stop_of_commit result) }
     ensures same { io.new.disk.ghost_name ≡ io.old.disk.ghost_name }
 {
@@ -91,6 +100,7 @@ fn write_bytes<D: Disk>(io: &mut Io<'_, D>, bytes: &[u8], number: u64) -> Result
     requires fits { FitsDisk (D.state io.old.disk.now).size io.old.space }
     requires some { 0 < length bytes.now }
     ensures there { IfOk result (λ tree. HasLeaves (Has (D.state io.new.disk.now).seen io.new.space) tree.levels tree.root bytes.now) }
+    ensures one_leaf { length bytes.now ≤ 8192 → OnOk result (room io.new.space + 16 ≡ room io.old.space) }
     ensures works { Works (dir_sectors (length bytes.now)) 16 (D.state io.old.disk.now) io.old.space io.old.failed (D.state io.new.disk.now) io.new.space io.new.failed (stop_of_commit result) }
     ensures same { io.new.disk.ghost_name ≡ io.old.disk.ghost_name }
 {

@@ -5,7 +5,7 @@ ghost use Rattle.zst_block.specs.Ptr.{hole_of};
 ghost use Rattle.zst_uber.specs.Commit.{HeadSettled};
 ghost use Rattle.zst_uber.specs.Slots.{latest as latest_of};
 ghost use Rattle.zst_image.specs.Committing.{Ready};
-ghost use Rattle.zst_image.specs.Creating.{CreateAnswers, IsMade, NoneAnswers, RefusedLeaves};
+ghost use Rattle.zst_image.specs.Creating.{CreateAnswers, IsMade, IsNew, NoneAnswers, RefusedLeaves};
 ghost use Rattle.zst_image.specs.Faults.{HasDiskCause};
 ghost use Rattle.zst_image.specs.Reads.{Reads, Rests, new_pool};
 
@@ -36,6 +36,7 @@ impl Kept {
         requires id { (0 < id) × (id < 2 ^ 31) }
         ensures answer { (D.state disk.new).honest → CreateAnswers (D.state disk.old).size (latest_of (D.state disk.old).seen) sectors result }
         ensures made { (D.state disk.new).honest → IfOk result (λ kept. Rests (D.state disk.new) kept.body kept.dir (new_pool id)) }
+        ensures new { IfOk result (IsNew sectors) }
         ensures ready { IfOk result (λ kept. Ready (D.state disk.new) kept.body) }
         // At every moment each image has the latest body that one had before, or reads as the new pool.
         ensures moments { (D.state disk.new).honest → Leaves (D.state disk.old) (D.state disk.new) (λ c. ((d : List ℕ) × (D.state disk.old).images d × (latest_of c ≡ latest_of d)) ⊎ Reads (new_pool id) c) }

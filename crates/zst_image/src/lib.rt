@@ -6,6 +6,7 @@ mod committing;
 mod create_fault;
 mod creating;
 mod kept;
+mod laws;
 mod open_fault;
 mod opening;
 #[cfg(test)]
@@ -15,4 +16,5 @@ pub use commit_fault::CommitFault;
 pub use committing::commit_dir;
 pub use create_fault::CreateFault;
 pub use kept::Kept;
+pub use laws::{reads_are_kept, reads_as_one};
 pub use open_fault::OpenFault;

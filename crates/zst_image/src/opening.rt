@@ -9,8 +9,8 @@ ghost use Rattle.zst_dir.specs.Rows.{Rows};
 ghost use Rattle.zst_leaves.specs.Leaves.{HasLeaves};
 ghost use Rattle.zst_image.specs.Committing.{Ready};
 ghost use Rattle.zst_image.specs.Faults.{HasDiskCause};
-ghost use Rattle.zst_image.specs.Opening.{GivesPool, IsOpenFault, LoadFault, OpenAnswers, ReadAnswer};
-ghost use Rattle.zst_image.specs.Reads.{HasDir, ReadsAs, free_by};
+ghost use Rattle.zst_image.specs.Opening.{GivesPool, IsOpenFault, LoadFault, OpenAnswers, ReadAnswer, TellsFault};
+ghost use Rattle.zst_image.specs.Reads.{HasDir, ReadsAs, Rests, free_by};
 
 use crate::kept::Kept;
 use crate::open_fault::OpenFault;
@@ -32,6 +32,8 @@ impl Kept {
         // An image that reads as a pool is opened as it, unless the disk or the memory fails.
         ensures there { (uber : Uber) (rows : Rows) (pool : Pool) → (D.state disk.new).honest → ReadsAs uber rows pool (D.state disk.old).seen → GivesPool uber rows result }
         ensures answer { (D.state disk.new).honest → OpenAnswers (D.state disk.old) result }
+        // And of the one image that there is now it is what stands.
+        ensures rests { (uber : Uber) (rows : Rows) (pool : Pool) → (D.state disk.new).honest → ReadsAs uber rows pool (D.state disk.old).seen → IfOk result (λ kept. Rests (D.state disk.new) kept.body kept.dir pool) }
         ensures ready { IfOk result (λ kept. Ready (D.state disk.new) kept.body) }
         ensures synced { OnOk result (IsSynced (D.state disk.new)) }
         ensures reads { OnlyReads (D.state disk.old) (D.state disk.new) }
@@ -71,6 +73,7 @@ fn read_dir<D: Disk>(alloc: Global, disk: &mut D, body: &Uber) -> Result<Dir, Op
     requires { InRange (D.state disk.old).size body.now }
     ensures there { (rows : Rows) → (D.state disk.new).honest → body.now.free_count ≡ 0 → HasDir (Has (D.state disk.old).seen (free_by body.now)) body.now rows → ReadAnswer (λ dir. dir ≡ rows) result }
     ensures only { (D.state disk.new).honest → IfOk result (λ dir. (body.now.free_count ≡ 0) × HasDir (Has (D.state disk.old).seen (free_by body.now)) body.now dir) }
+    ensures damaged { (D.state disk.new).honest → IfErr result (TellsFault (D.state disk.old) body.now) }
     ensures fault { IfErr result LoadFault }
     ensures reads { OnlyReads (D.state disk.old) (D.state disk.new) }
     ensures cause { HasDiskCause OpenFault.DiskFault (D.state disk.old).faults (D.state disk.new).faults result }
@@ -92,6 +95,7 @@ fn read_bytes<D: Disk>(alloc: Global, disk: &mut D, body: &Uber) -> Result<Vec<u
         → ReadAnswer (λ bytes. bytes.items ≡ text) result }
     ensures only { (D.state disk.new).honest → IfOk result (λ bytes. HasLeaves (Has (D.state disk.old).seen (free_by body.now)) body.now.dir_levels body.now.dir_root bytes.items) }
     ensures length { IfOk result (λ bytes. length bytes.items ≡ body.now.dir_bytes) }
+    ensures damaged { (D.state disk.new).honest → IfErr result (TellsFault (D.state disk.old) body.now) }
     ensures fault { IfErr result LoadFault }
     ensures reads { OnlyReads (D.state disk.old) (D.state disk.new) }
     ensures cause { HasDiskCause OpenFault.DiskFault (D.state disk.old).faults (D.state disk.new).faults result }

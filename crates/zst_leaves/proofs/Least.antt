@@ -47,3 +47,10 @@ two_levels size levels least small = elim (cases_lt 2 levels) [
   | inl more ↦ (let le : span 2 ≤ span (levels - 1) = span_le 2 (levels - 1) (omega arith) in absurd (omega (arith, span_two, le, least.no_fewer (omega arith))))
   | inr few ↦ few
 ]
+
+-- and up to 8,192 bytes none
+pub one_level : (size levels : ℕ) → IsLeast levels size → size ≤ 8192 → levels ≡ 0
+one_level size levels least small = elim (cases_lt 0 levels) [
+  | inl more ↦ (let le : span 0 ≤ span (levels - 1) = span_le 0 (levels - 1) (omega arith) in absurd (omega (arith, span_zero, le, least.no_fewer (omega arith))))
+  | inr none ↦ omega arith
+]

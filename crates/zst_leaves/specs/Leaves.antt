@@ -4,7 +4,6 @@ use Rattle.zst_bytes.specs.Bytes.{bytes_at}
 use Rattle.zst_bytes.specs.Fields.{zeros}
 use Rattle.zst_block.specs.Blocks.{IsBlock}
 use Rattle.zst_block.specs.Ptr.{hole_of}
-use Rattle.zst_block.specs.Working.{TellsDamage}
 use Rattle.zst_block.specs.declared.fault.BlockFault.{BlockFault}
 use Rattle.zst_block.specs.declared.ptr.Ptr.{Ptr}
 use Rattle.zst_tree.specs.Indices.{Blocks, IsNoDamage, child, span}
@@ -98,18 +97,6 @@ abbrev pub TellsNone : {T : Type 0} → Result T LeavesFault → Type 0
 TellsNone (Ok value) = Unit {0}
 TellsNone (Err (Block fault)) = IsNoDamage fault
 TellsNone (Err Memory) = Unit {0}
-
--- a pointer leads to itself, and to what a pointer of the block that it names leads to, one level below
-unfoldable pub LeadsTo : List ℕ → ℕ → Ptr → Ptr → Type 0
-LeadsTo image zero ptr found = found ≡ ptr
-LeadsTo image (suc level) ptr found = (found ≡ ptr)
-    ⊎ ((node : List ℕ) × IsBlock image ptr node × (k : ℕ) × (k < 128) × LeadsTo image level (child node k) found)
-
--- a refusal of damage tells a pointer to which this one leads
-abbrev pub TellsBelow : {T : Type 0} → List ℕ → ℕ → ℕ → Ptr → Result T LeavesFault → Type 0
-TellsBelow image size level ptr (Ok value) = Unit {0}
-TellsBelow image size level ptr (Err (Block fault)) = (found : Ptr) × LeadsTo image level ptr found × TellsDamage {T = Unit {0}} image size found (Err fault)
-TellsBelow image size level ptr (Err Memory) = Unit {0}
 
 -- a text of so many bytes that stands below the pointer was appended
 pub record Appends (has : Blocks) (level : ℕ) (ptr : Ptr) (long : ℕ) (old new : List ℕ) : Type 0 where

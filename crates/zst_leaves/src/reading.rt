@@ -1,9 +1,10 @@
 // A text is read from its leaves.
-ghost use Rattle.std.specs.Prelude.{◌≡◌, ◌↔◌, ◌+◌, ◌/◌, ◌<◌, ◌≤◌, ℕ, List, [], All, IsTrue, IfOk, OnOk, Vec, length};
+ghost use Rattle.std.specs.Prelude.{◌≡◌, ◌↔◌, ◌+◌, ◌/◌, ◌<◌, ◌≤◌, ℕ, List, [], All, IsTrue, IfErr, IfOk, OnOk, Vec, length};
 ghost use Rattle.zst_block.specs.Blocks.{FitsDisk, Has};
 ghost use Rattle.zst_block.specs.Reading.{GivesBlock};
-ghost use Rattle.zst_block.specs.Working.{Looks, TellsDamage, stop_of};
-ghost use Rattle.zst_leaves.specs.Leaves.{Appends, BlocksBefore, GivesText, HasLeaves, LeavesBelow, StandsBefore, TellsBelow, TellsNone, blocks_for, bytes_below, leaves_for, stop_of_leaves};
+ghost use Rattle.zst_block.specs.Working.{Looks, stop_of};
+ghost use Rattle.zst_leaves.specs.Damage.{Names, TellsBelow, TellsPtr, TellsText};
+ghost use Rattle.zst_leaves.specs.Leaves.{Appends, BlocksBefore, GivesText, HasLeaves, LeavesBelow, StandsBefore, TellsNone, blocks_for, bytes_below, leaves_for, stop_of_leaves};
 
 use crate::fault::LeavesFault;
 use crate::sizes::{is_least, length_of};
@@ -29,7 +30,7 @@ fn load_named<D: Disk>(io: &mut Io<'_, D>, kind: u8, level: u8, ptr: Ptr) -> Res
     ensures kind { OnOk result (ptr.kind ≡ kind) }
     ensures level { OnOk result (ptr.level ≡ level) }
     ensures there { (bytes : List ℕ) → (D.state io.new.disk.now).honest → ptr.kind ≡ kind → ptr.level ≡ level → Has (D.state io.old.disk.now).seen io.old.space ptr bytes → length bytes ≡ 8192 → GivesBlock bytes io.new.node result }
-    ensures damaged { (D.state io.new.disk.now).honest → TellsDamage (D.state io.old.disk.now).seen (D.state io.old.disk.now).size ptr result }
+    ensures damaged { (D.state io.new.disk.now).honest → IfErr result (TellsPtr (D.state io.old.disk.now).seen (D.state io.old.disk.now).size (¬ Names kind level io.old.space.end ptr) ptr) }
     ensures long { OnOk result (length io.new.node ≡ 8192) }
     ensures looks { Looks (D.state io.old.disk.now) io.old.space io.old.failed (D.state io.new.disk.now) io.new.space io.new.failed (stop_of result) }
     ensures calls { (D.state io.new.disk.now).calls ≤ (D.state io.old.disk.now).calls + 1 }
@@ -60,7 +61,7 @@ fn read_leaf<D: Disk>(
     requires fits { FitsDisk (D.state io.old.disk.now).size io.old.space }
     ensures there { (leaf : List ℕ) → (D.state io.new.disk.now).honest → LeavesBelow (Has (D.state io.old.disk.now).seen io.old.space) 0 ptr leaf → length leaf ≡ count → TellsNone result }
     ensures only { (D.state io.new.disk.now).honest → OnOk result (Appends (BlocksBefore io.old.space.end (D.state io.old.disk.now).seen) 0 ptr count text.old.items text.new.items) }
-    ensures damaged { (D.state io.new.disk.now).honest → TellsBelow (D.state io.old.disk.now).seen (D.state io.old.disk.now).size 0 ptr result }
+    ensures damaged { (D.state io.new.disk.now).honest → TellsBelow io.old.space.end (D.state io.old.disk.now).seen (D.state io.old.disk.now).size 0 ptr count result }
     ensures long { OnOk result (length text.new.items ≡ length text.old.items + count) }
     ensures looks { Looks (D.state io.old.disk.now) io.old.space io.old.failed (D.state io.new.disk.now) io.new.space io.new.failed (stop_of_leaves result) }
     ensures calls { (D.state io.new.disk.now).calls ≤ (D.state io.old.disk.now).calls + 1 }
@@ -89,7 +90,7 @@ fn read_below<D: Disk>(
     requires fits { FitsDisk (D.state io.old.disk.now).size io.old.space }
     ensures there { (leaves : List ℕ) → (D.state io.new.disk.now).honest → LeavesBelow (Has (D.state io.old.disk.now).seen io.old.space) level ptr leaves → length leaves ≡ count → TellsNone result }
     ensures only { (D.state io.new.disk.now).honest → OnOk result (Appends (BlocksBefore io.old.space.end (D.state io.old.disk.now).seen) level ptr count text.old.items text.new.items) }
-    ensures damaged { (D.state io.new.disk.now).honest → TellsBelow (D.state io.old.disk.now).seen (D.state io.old.disk.now).size level ptr result }
+    ensures damaged { (D.state io.new.disk.now).honest → TellsBelow io.old.space.end (D.state io.old.disk.now).seen (D.state io.old.disk.now).size level ptr count result }
     ensures long { OnOk result (length text.new.items ≡ length text.old.items + count) }
     ensures looks { Looks (D.state io.old.disk.now) io.old.space io.old.failed (D.state io.new.disk.now) io.new.space io.new.failed (stop_of_leaves result) }
     ensures calls { (D.state io.new.disk.now).calls ≤ (D.state io.old.disk.now).calls + blocks_for level count }
@@ -130,12 +131,12 @@ pub fn read_leaves<D: Disk>(
     requires fits { FitsDisk (D.state io.old.disk.now).size io.old.space }
 
     // A text that is there is read, unless the disk or the memory fails, and what is read is there.
-    // What is damaged is a block to which the root leads.
+    // What is damaged is a block to which the root leads: with other sums, or of a pointer that is wrong.
     ensures there { (text : List ℕ) → (D.state io.new.disk.now).honest → HasLeaves (Has (D.state io.old.disk.now).seen io.old.space) levels root text → length text ≡ count → GivesText text (λ read. read.items) result }
     ensures only { (D.state io.new.disk.now).honest → IfOk result (λ text. HasLeaves (BlocksBefore io.old.space.end (D.state io.old.disk.now).seen) levels root text.items) }
     ensures stands { (D.state io.new.disk.now).honest → io.old.space.free ≡ [] → IfOk result (λ text. HasLeaves (Has (D.state io.old.disk.now).seen io.old.space) levels root text.items) }
     ensures long { IfOk result (λ text. length text.items ≡ count) }
-    ensures damaged { (D.state io.new.disk.now).honest → TellsBelow (D.state io.old.disk.now).seen (D.state io.old.disk.now).size levels root result }
+    ensures damaged { (D.state io.new.disk.now).honest → TellsText io.old.space.end (D.state io.old.disk.now).seen (D.state io.old.disk.now).size levels root count result }
 
     // It only reads, each block once.
     ensures looks { Looks (D.state io.old.disk.now) io.old.space io.old.failed (D.state io.new.disk.now) io.new.space io.new.failed (stop_of_leaves result) }

@@ -1,5 +1,6 @@
 // A text is written into leaves.
-ghost use Rattle.std.specs.Prelude.{◌≡◌, ◌+◌, ◌*◌, ◌/◌, ◌^◌, ◌<◌, ◌≤◌, ℕ, List, IfOk, length};
+ghost use Rattle.std.specs.Prelude.{◌≡◌, ◌+◌, ◌*◌, ◌/◌, ◌^◌, ◌<◌, ◌≤◌, ℕ, List, IfOk, OnOk, length};
+ghost use Rattle.zst_space.specs.FreeSectors.{room};
 ghost use Rattle.zst_block.specs.Blocks.{FitsDisk, Has};
 ghost use Rattle.zst_block.specs.Working.{Works, stop_of};
 ghost use Rattle.zst_leaves.specs.Leaves.{HasLeaves, IsLeaf, IsOver, LeavesBelow, Numbered, blocks_for, bytes_below, leaves_for};
@@ -17,6 +18,7 @@ fn write_leaf<D: Disk>(io: &mut Io<'_, D>, bytes: &[u8], number: u64) -> Result<
     requires fits { FitsDisk (D.state io.old.disk.now).size io.old.space }
     ensures leaf { IfOk result (λ ptr. IsLeaf (Numbered number (Has (D.state io.new.disk.now).seen io.new.space)) ptr bytes.now) }
     ensures works { Works 16 16 (D.state io.old.disk.now) io.old.space io.old.failed (D.state io.new.disk.now) io.new.space io.new.failed (stop_of result) }
+    ensures takes { OnOk result (room io.new.space + 16 ≡ room io.old.space) }
     ensures never_damaged { (sector : ℕ) (stated found : List ℕ) → ¬ (result ≡ Err (BlockFault.Damaged sector stated found)) }
     ensures calls { (D.state io.new.disk.now).calls ≤ (D.state io.old.disk.now).calls + 1 }
     ensures same { io.new.disk.ghost_name ≡ io.old.disk.ghost_name }
@@ -51,6 +53,7 @@ fn write_below<D: Disk>(
     requires fits { FitsDisk (D.state io.old.disk.now).size io.old.space }
     ensures below { IfOk result (λ ptr. LeavesBelow (Numbered number (Has (D.state io.new.disk.now).seen io.new.space)) level ptr bytes.now) }
     ensures works { Works (16 * blocks_for level (length bytes.now)) 16 (D.state io.old.disk.now) io.old.space io.old.failed (D.state io.new.disk.now) io.new.space io.new.failed (stop_of result) }
+    ensures one_leaf { level ≡ 0 → 0 < length bytes.now → OnOk result (room io.new.space + 16 ≡ room io.old.space) }
     ensures never_damaged { (sector : ℕ) (stated found : List ℕ) → ¬ (result ≡ Err (BlockFault.Damaged sector stated found)) }
     ensures calls { (D.state io.new.disk.now).calls ≤ (D.state io.old.disk.now).calls + blocks_for level (length bytes.now) }
     ensures same { io.new.disk.ghost_name ≡ io.old.disk.ghost_name }
@@ -89,6 +92,7 @@ pub fn write_leaves<D: Disk>(
     // Free sectors alone are written: 16 for each leaf and for each node above.
     ensures works { Works (16 * (leaves_for (length bytes.now) + leaves_for (length bytes.now) / 127 + 3)) 16 (D.state io.old.disk.now) io.old.space io.old.failed (D.state io.new.disk.now) io.new.space io.new.failed (stop_of result) }
     ensures two_levels { length bytes.now ≤ 8192 * 128 ^ 2 → Works (16 * (leaves_for (length bytes.now) + leaves_for (length bytes.now) / 128 + 3)) 16 (D.state io.old.disk.now) io.old.space io.old.failed (D.state io.new.disk.now) io.new.space io.new.failed (stop_of result) }
+    ensures one_leaf { length bytes.now ≤ 8192 → OnOk result (room io.new.space + 16 ≡ room io.old.space) }
     ensures never_damaged { (sector : ℕ) (stated found : List ℕ) → ¬ (result ≡ Err (BlockFault.Damaged sector stated found)) }
     ensures calls { (D.state io.new.disk.now).calls ≤ (D.state io.old.disk.now).calls + (leaves_for (length bytes.now) + leaves_for (length bytes.now) / 127 + 3) }
     ensures same { io.new.disk.ghost_name ≡ io.old.disk.ghost_name }

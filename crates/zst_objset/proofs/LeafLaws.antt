@@ -6,7 +6,9 @@ use Rattle.std.proofs.lemmas.Bool.Decides.{nat_tests}
 use Rattle.zst_bytes.specs.Bytes.{bytes_at}
 use Rattle.zst_outside.specs.Images.{DiskState}
 use Rattle.zst_space.specs.FreeSectors.{FreeSectors}
+use Rattle.zst_block.specs.Blocks.{FillsFree, Has, KeepsBlocks}
 use Rattle.zst_block.specs.Working.{Looks}
+use Rattle.zst_block.proofs.BlocksLaws.{KeepsBlocks-fills}
 use Rattle.zst_block.specs.declared.fault.BlockFault.{BlockFault}
 use Rattle.zst_block.specs.declared.ptr.Ptr.{Ptr}
 use Rattle.zst_dnode.specs.Slot.{slot_bytes, SlotFits}
@@ -27,6 +29,12 @@ module _ (P : List ℕ → FreeSectors → Type 0) (old : DiskState) (space : Fr
 
   pub look_back : P new.seen less → P old.seen space
   look_back is = subst (λ (s : FreeSectors). P old.seen s) looks.space (subst (λ (bytes : List ℕ). P bytes less) looks.reads.seen is)
+
+-- a call that reads, and then one that writes into free sectors, leave the blocks that were there
+pub keeps_on : (old : DiskState) (space : FreeSectors) (failed : Bool) (mid : DiskState) (between : FreeSectors) (fails : Bool) (stop : Option BlockFault) (new : DiskState) (less : FreeSectors) → Looks old space failed mid between fails stop
+    → FillsFree mid between new less → KeepsBlocks old.seen space new.seen less
+keeps_on old space failed mid between fails stop new less looks fills ptr bytes has =
+    KeepsBlocks-fills mid new between less fills ptr bytes (look_on (λ (seen : List ℕ) (s : FreeSectors). Has seen s ptr bytes) old space failed mid between fails stop looks has)
 
 -- a pointer that isn't a hole is that of a leaf
 pub leaf_of : (has : Blocks) (snap : DatedState) (j : ℕ) (ptr : Ptr) → LeafIs has snap j ptr → (ptr.kind ≡ 0 → ⊥) → IsLeaf has snap j ptr

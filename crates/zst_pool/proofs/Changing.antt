@@ -22,8 +22,10 @@ use Rattle.zst_tree.specs.Indices.{Blocks}
 use Rattle.zst_tree.specs.declared.tree.ObjSet.{ObjSet}
 use Rattle.zst_objset.specs.Changes.{changed, object_made, object_put, spill_put}
 use Rattle.zst_pool.specs.Heads.{ChangeFault, ChangesHead}
-use Rattle.zst_pool.specs.declared.fault.PoolFault.{PoolFault}
-use Rattle.zst_pool.specs.declared.fault.PoolFault.TheVariants.{Plan, CannotApply, Redacted, Full, Damaged, DiskFault, Failed, OutOfMemory}
+use Rattle.zst_block.specs.declared.fault.BlockFault.TheVariants.{Full, Damaged, DiskFault}
+use Rattle.zst_objset.specs.declared.fault.ObjFault.TheVariants.{CannotApply, Redacted, Limit, Block}
+use Rattle.zst_pool.specs.declared.head_fault.HeadFault.{HeadFault}
+use Rattle.zst_pool.specs.declared.head_fault.HeadFault.TheVariants.{Set, Memory}
 
 -- one item that can't be applied
 applied_fault : (pool : Pool) (item : Item) (head : DatedState) (fault : ApplyFault) → apply_dated (pool.number + 1) item head ≡ Err fault → applied pool (item ∷ []) head ≡ Err (cannot_apply fault)
@@ -142,26 +144,23 @@ put_then number k head bonus bytes old mid is =
 
 -- what refuses the first of two changes refuses both; where the first finds no room, the second is possible too
 first_fault : (first : Result DatedState Refusal) (second : DatedState → Result DatedState Refusal) → ((mid : DatedState) → first ≡ Ok mid → (after : DatedState) × (second mid ≡ Ok after))
-    → (fault : PoolFault) → ChangeFault first fault → ChangeFault (first >>= second) fault
-first_fault first second goes (Plan fault) is = ap (λ (r : Result DatedState Refusal). r >>= second) is
-first_fault first second goes (CannotApply fault) is = ap (λ (r : Result DatedState Refusal). r >>= second) is
-first_fault first second goes (Redacted object block) is = ap (λ (r : Result DatedState Refusal). r >>= second) is
-first_fault first second goes (Full need largest) is =
-    let after = goes is.1.0 is.1.1 in
-    (is.0, (after.0, ap (λ (r : Result DatedState Refusal). r >>= second) is.1.1 ∙ after.1))
-first_fault first second goes (Damaged sector stated found) is = is
-first_fault first second goes DiskFault is = is
-first_fault first second goes Failed is = is
-first_fault first second goes OutOfMemory is = is
+    → (fault : HeadFault) → ChangeFault first fault → ChangeFault (first >>= second) fault
+first_fault first second goes (Set (CannotApply fault)) is = ap (λ (r : Result DatedState Refusal). r >>= second) is
+first_fault first second goes (Set (Redacted object block)) is = ap (λ (r : Result DatedState Refusal). r >>= second) is
+first_fault first second goes (Set (Limit which number)) is = ap (λ (r : Result DatedState Refusal). r >>= second) is
+first_fault first second goes (Set (Block (Full need largest))) is = let after = goes is.0 is.1 in (after.0, ap (λ (r : Result DatedState Refusal). r >>= second) is.1 ∙ after.1)
+first_fault first second goes (Set (Block (Damaged sector stated found))) is = is
+first_fault first second goes (Set (Block DiskFault)) is = is
+first_fault first second goes Memory is = is
 
 -- why an object isn't put, whose spill block would come next
-pub put_fault : (number k : ℕ) (head : ObjectHead) (bonus : List ℕ) (spill : Option (List ℕ)) (old : DatedState) (fault : PoolFault)
+pub put_fault : (number k : ℕ) (head : ObjectHead) (bonus : List ℕ) (spill : Option (List ℕ)) (old : DatedState) (fault : HeadFault)
     → ChangeFault (object_put number k head bonus false old) fault → ChangeFault (object_made number k head bonus spill old) fault
 put_fault number k head bonus None old fault is = is
 put_fault number k head bonus (Some bytes) old fault is = first_fault (object_put number k head bonus false old) (spill_put number k bytes) (put_then number k head bonus bytes old) fault is
 
 -- where it was put, what is made of it then
-pub then_spilled : (has : Blocks) (set : ObjSet) (number k : ℕ) (head : ObjectHead) (bonus bytes : List ℕ) (old mid : DatedState) (answer : Result (Unit {0}) PoolFault)
+pub then_spilled : (has : Blocks) (set : ObjSet) (number k : ℕ) (head : ObjectHead) (bonus bytes : List ℕ) (old mid : DatedState) (answer : Result (Unit {0}) HeadFault)
     → object_put number k head bonus false old ≡ Ok mid → ChangesHead has set (spill_put number k bytes mid) answer → ChangesHead has set (object_made number k head bonus (Some bytes) old) answer
 then_spilled has set number k head bonus bytes old mid answer put is =
     subst (λ (r : Result DatedState Refusal). ChangesHead has set r answer) (sym (ap (λ (r : Result DatedState Refusal). r >>= spill_put number k bytes) put)) is

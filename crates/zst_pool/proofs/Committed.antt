@@ -1,19 +1,20 @@
 -- What a commit answers, as a command's answer.
-use Rattle.std.specs.Prelude.{Result, Ok, Err, IfErr, IfOk, OnErr}
-use Rattle.std.proofs.Common.{◌≡◌, ℕ, ◌<◌, refl}
+use Rattle.std.specs.Prelude.{Result, Ok, Err, IfOk, OnErr}
+use Rattle.std.proofs.Common.{◌≡◌, ℕ, List, refl}
 use Rattle.zst_block.specs.Working as blocks
 use Rattle.zst_image.specs.Faults.{stop_of_commit}
 use Rattle.zst_image.specs.Faults as images
 use Rattle.zst_image.specs.declared.commit_fault.CommitFault.{CommitFault}
 use Rattle.zst_image.specs.declared.commit_fault.CommitFault.TheVariants.{Full, DiskFault, OutOfMemory}
 use Rattle.zst_image.specs.declared.kept.Kept.{Kept}
-use Rattle.zst_pool.specs.Faults.{HasDiskCause, IsStepFault, is_disk_fault, of_committed}
+use Rattle.zst_pool.specs.Faults.{HasDiskCause, is_disk_fault, of_committed}
+use Rattle.zst_pool.specs.declared.fault.PoolFault.TheVariants.{Damaged, Failed}
 
-pub committed_known : (made : Result Kept CommitFault) → ((need largest : ℕ) → made ≡ Err (Full need largest) → largest < need) → IfErr (of_committed made) IsStepFault
-committed_known (Ok kept) shorter = tt
-committed_known (Err (Full need largest)) shorter = shorter need largest refl
-committed_known (Err DiskFault) shorter = tt
-committed_known (Err OutOfMemory) shorter = tt
+pub committed_open : (made : Result Kept CommitFault) → ¬ (of_committed made ≡ Err Failed)
+committed_open (Ok kept) = λ is. cc
+committed_open (Err (Full need largest)) = λ is. cc
+committed_open (Err DiskFault) = λ is. cc
+committed_open (Err OutOfMemory) = λ is. cc
 
 pub committed_ok : (P : Kept → Type 0) (made : Result Kept CommitFault) → IfOk made P → IfOk (of_committed made) P
 committed_ok P (Ok kept) is = is
@@ -35,3 +36,9 @@ committed_cause before now (Ok kept) cause = record { later = cause.later; fault
 committed_cause before now (Err (Full need largest)) cause = record { later = cause.later; fault = λ is. absurd (cc (is)) }
 committed_cause before now (Err DiskFault) cause = record { later = cause.later; fault = λ is. cause.fault refl }
 committed_cause before now (Err OutOfMemory) cause = record { later = cause.later; fault = λ is. absurd (cc (is)) }
+
+pub committed_sound : (made : Result Kept CommitFault) (sector : ℕ) (stated found : List ℕ) → ¬ (of_committed made ≡ Err (Damaged sector stated found))
+committed_sound (Ok kept) sector stated found = λ is. cc
+committed_sound (Err (Full need largest)) sector stated found = λ is. cc
+committed_sound (Err DiskFault) sector stated found = λ is. cc
+committed_sound (Err OutOfMemory) sector stated found = λ is. cc

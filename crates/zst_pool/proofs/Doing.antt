@@ -1,6 +1,6 @@
 -- What a command did, from what its parts did.
 use Rattle.std.specs.Prelude.{Result, Ok, Err}
-use Rattle.std.proofs.Common.{◌≡◌, ◌<◌, ◌⊎◌, inl, inr, ⊎_elim, ℕ, List, refl, sym, ap, ◌∙◌, subst}
+use Rattle.std.proofs.Common.{◌≡◌, ◌⊎◌, inl, inr, ⊎_elim, ℕ, List, sym, ◌∙◌, subst}
 use Rattle.zst_outside.specs.Images.{DiskState, Leaves, Leaves-weaker}
 use Rattle.zst_space.specs.FreeSectors.{FreeSectors}
 use Rattle.zst_block.specs.Blocks.{Has, FitsDisk, FillsFree, IsTaken, SparesTaken, Spared}
@@ -17,7 +17,7 @@ use Rattle.zst_pool.specs.Faults.{StepFault, of_commit, of_committed}
 use Rattle.zst_image.specs.Reads.{ReadsAs, Reads, Rests, free_by}
 use Rattle.zst_pool.specs.Stepping.{BeforeOrAfter}
 use Rattle.zst_image.specs.Committing.{Commits, Stays}
-use Rattle.zst_pool.specs.Work.{Did}
+use Rattle.zst_pool.specs.Runs.{Did}
 use Rattle.zst_pool.specs.declared.fault.PoolFault.{PoolFault}
 use Rattle.zst_pool.specs.declared.fault.PoolFault.TheVariants.{Plan, CannotApply, Redacted, Full, Damaged, DiskFault, Failed, OutOfMemory}
 use Rattle.zst_image.specs.declared.kept.Kept.{Kept}
@@ -48,12 +48,11 @@ keeps before definition still DiskFault is = tt
 keeps before definition still Failed is = is
 keeps before definition still OutOfMemory is = still
 
--- and so it does after each fault of a commit
-commit_fault : (before : Type 0) (definition : Result Stepped Refusal) (fault : CommitFault) → ((need largest : ℕ) → fault ≡ commits.Full need largest → largest < need) → Stays before fault
-    → StepFault before definition (of_commit fault)
-commit_fault before definition (commits.Full need largest) shorter still = (shorter need largest refl, still)
-commit_fault before definition commits.DiskFault shorter still = tt
-commit_fault before definition commits.OutOfMemory shorter still = still
+-- and so it does after each fault of a commit, which comes only where the definition accepts
+commit_fault : (before : Type 0) (definition : Result Stepped Refusal) (done : Stepped) → definition ≡ Ok done → (fault : CommitFault) → Stays before fault → StepFault before definition (of_commit fault)
+commit_fault before definition done made (commits.Full need largest) still = ((done, made), still)
+commit_fault before definition done made commits.DiskFault still = tt
+commit_fault before definition done made commits.OutOfMemory still = still
 
 module _ (start now : DiskState) (space : FreeSectors) (uber : Uber) (rows : Rows) (pool : Pool) (head : IsTaken (free_by uber) 0 4096)
     (rests : Rests start uber rows pool) (fills : FillsFree start (free_by uber) now space) where
@@ -81,10 +80,6 @@ module _ (start now : DiskState) (uber : Uber) (rows : Rows) (pool : Pool) (defi
       Leaves-weaker start now (λ c. Reads pool c ⊎ Reads done.pool c) (BeforeOrAfter pool definition) commits.moments
       (λ c either. ⊎_elim (λ before. inl before) (λ after. inr (done, is, after)) either)
 
-  pub did : (made : Result Kept CommitFault) → ((need largest : ℕ) → made ≡ Err (commits.Full need largest) → largest < need) → Commits start now uber rows pool done.pool made
-      → Did start now uber rows pool definition (of_committed made)
-  did (Ok kept) shorter commits = record { moments = moments_of (Ok kept) commits; answer = (done, is, commits.answer) }
-  did (Err fault) shorter commits = record {
-    moments = moments_of (Err fault) commits;
-    answer = commit_fault (Rests now uber rows pool) definition fault (λ need largest full. shorter need largest (ap (λ (f : CommitFault). Err f) full)) commits.answer;
-  }
+  pub did : (made : Result Kept CommitFault) → Commits start now uber rows pool done.pool made → Did start now uber rows pool definition (of_committed made)
+  did (Ok kept) commits = record { moments = moments_of (Ok kept) commits; answer = (done, is, commits.answer) }
+  did (Err fault) commits = record { moments = moments_of (Err fault) commits; answer = commit_fault (Rests now uber rows pool) definition done is fault commits.answer }

@@ -16,8 +16,7 @@ use Rattle.zst_model.specs.pools.Pool as plain
 use Rattle.zst_model.specs.pools.Step.{Stepped, limited, committed, count_datasets, exists_already, no_such, busy_partial, on_dataset, last_number, last_guid, most_datasets, most_snapshots, with_dataset}
 use Rattle.zst_pool.specs.Checks.{next_of, with_new, if_new_snapshot, if_guid_left}
 use Rattle.zst_dir.specs.Rows.{Rows, HasDataset, HasSnapshot}
-use Rattle.zst_image.specs.Reads.{RowsAre, DatasetIs, SnapshotIs, PartialIs}
-use Rattle.zst_tree.specs.Indices.{Blocks}
+use Rattle.zst_image.specs.Reads.{AreNamed, NamesDataset, NamesSnapshot, NamesPartial, StandAlike}
 use Rattle.zst_dir.specs.declared.rows.Dataset.{Dataset}
 use Rattle.zst_dir.specs.declared.rows.Partial.{Partial}
 use Rattle.zst_dir.specs.declared.rows.Snapshot.{Snapshot}
@@ -47,19 +46,19 @@ none_there : {A : Type 0} (o : Option A) → is_some o ≡ false → o ≡ None
 none_there None h = refl
 none_there (Some x) h = absurd (cc)
 
-module _ (has : Blocks) (rows : Rows) (pool : Pool) (are : RowsAre has rows pool) where
+module _ (rows : Rows) (pool : Pool) (are : AreNamed rows pool) where
   -- a dataset is found among the rows exactly where the pool has it
   pub dataset_is_there : (name : List ℕ) → is_some (position (λ dataset. bytes_eq dataset.name name) rows.datasets) ≡ is_some (dataset_named name pool)
   dataset_is_there name =
       is_some-position (λ (dataset : Dataset). bytes_eq dataset.name name) rows.datasets
-      ∙ list_any-Match (DatasetIs has) (λ dataset. bytes_eq dataset.name name) (λ dataset. bytes_eq dataset.name name)
+      ∙ list_any-Match NamesDataset (λ dataset. bytes_eq dataset.name name) (λ dataset. bytes_eq dataset.name name)
       (λ x y is. ap (λ n. bytes_eq n name) (sym is.name)) rows.datasets pool.datasets are.datasets
 
   -- a partial state is, among those that are kept
   pub partial_is_there : (name : List ℕ) → list_any (λ partial. partial.keep && bytes_eq partial.target name) rows.partials ≡ is_some (partial_of name pool)
   partial_is_there name =
       sym (list_any-filter (λ (partial : Partial). partial.keep) (λ partial. bytes_eq partial.target name) rows.partials)
-      ∙ list_any-Match (PartialIs has) (λ partial. bytes_eq partial.target name) (λ partial. bytes_eq partial.target name)
+      ∙ list_any-Match NamesPartial (λ partial. bytes_eq partial.target name) (λ partial. bytes_eq partial.target name)
       (λ x y is. ap (λ n. bytes_eq n name) (sym is.target)) (filter (λ row. row.keep) rows.partials) pool.partials are.partials
 
   -- partial states of absent datasets are as many
@@ -67,31 +66,31 @@ module _ (has : Blocks) (rows : Rows) (pool : Pool) (are : RowsAre has rows pool
       ≡ count_by (λ partial. not (is_some (dataset_named partial.target pool))) pool.partials
   absent_are_counted =
       sym (count_by-filter (λ (partial : Partial). partial.keep) (λ partial. is_none (position (λ dataset. bytes_eq dataset.name partial.target) rows.datasets)) rows.partials)
-      ∙ count_by-Match (PartialIs has) (λ partial. is_none (position (λ dataset. bytes_eq dataset.name partial.target) rows.datasets)) (λ partial. not (is_some (dataset_named partial.target pool)))
+      ∙ count_by-Match NamesPartial (λ partial. is_none (position (λ dataset. bytes_eq dataset.name partial.target) rows.datasets)) (λ partial. not (is_some (dataset_named partial.target pool)))
       (λ x y is. ap not (dataset_is_there x.target ∙ ap (λ n. is_some (dataset_named n pool)) (sym is.target))) (filter (λ row. row.keep) rows.partials) pool.partials are.partials
 
   pub datasets_are_counted : (absent : ℕ) → absent ≡ count_by (λ partial. partial.keep && is_none (position (λ dataset. bytes_eq dataset.name partial.target) rows.datasets)) rows.partials
       → length rows.datasets + absent ≡ count_datasets pool
-  datasets_are_counted absent is = ap (λ n. n + absent) (length-Match (DatasetIs has) rows.datasets pool.datasets are.datasets) ∙ ap (λ n. length pool.datasets + n) (is ∙ absent_are_counted)
+  datasets_are_counted absent is = ap (λ n. n + absent) (length-Match NamesDataset rows.datasets pool.datasets are.datasets) ∙ ap (λ n. length pool.datasets + n) (is ∙ absent_are_counted)
 
   -- the snapshots are, too
   pub snapshot_is_there : (name : List ℕ) → is_some (position (λ snapshot. bytes_eq snapshot.name name) rows.snapshots) ≡ is_some (snapshot_named name pool)
   snapshot_is_there name =
       is_some-position (λ (snapshot : Snapshot). bytes_eq snapshot.name name) rows.snapshots
-      ∙ list_any-Match (SnapshotIs has) (λ snapshot. bytes_eq snapshot.name name) (λ snapshot. bytes_eq snapshot.name name)
+      ∙ list_any-Match NamesSnapshot (λ snapshot. bytes_eq snapshot.name name) (λ snapshot. bytes_eq snapshot.name name)
       (λ x y is. ap (λ n. bytes_eq n name) (sym is.name)) rows.snapshots pool.snapshots are.snapshots
 
   pub snapshots_are_counted : (kept : ℕ) → kept ≡ count_by (λ partial. partial.keep) rows.partials → length rows.snapshots + kept ≡ length pool.snapshots + length pool.partials
   snapshots_are_counted kept is =
-      ap (λ n. n + kept) (length-Match (SnapshotIs has) rows.snapshots pool.snapshots are.snapshots)
+      ap (λ n. n + kept) (length-Match NamesSnapshot rows.snapshots pool.snapshots are.snapshots)
       ∙ ap (λ n. length pool.snapshots + n) (is ∙ sym (length-filter (λ (partial : Partial). partial.keep) rows.partials)
-      ∙ length-Match (PartialIs has) (filter (λ row. row.keep) rows.partials) pool.partials are.partials)
+      ∙ length-Match NamesPartial (filter (λ row. row.keep) rows.partials) pool.partials are.partials)
 
-  -- the row of a dataset at its place stands for the pool's
+  -- the row of a dataset stands at the place of the pool's
   pub dataset_at : (name : List ℕ) (place : ℕ) (d : Dataset) → position (λ dataset. bytes_eq dataset.name name) rows.datasets ≡ Some place
-      → (dataset : plain.Dataset) × (dataset_named name pool ≡ Some dataset) × DatasetIs has (get_or rows.datasets place d) dataset
+      → (dataset : plain.Dataset) × (dataset_named name pool ≡ Some dataset) × StandAlike rows.datasets pool.datasets (get_or rows.datasets place d) dataset
   dataset_at name place d is =
-      find-Match (DatasetIs has) (λ dataset. bytes_eq dataset.name name) (λ dataset. bytes_eq dataset.name name)
+      find-Match NamesDataset (λ dataset. bytes_eq dataset.name name) (λ dataset. bytes_eq dataset.name name)
       (λ x y is. ap (λ n. bytes_eq n name) (sym is.name)) d rows.datasets pool.datasets are.datasets place is
 
   -- what a new snapshot is refused for

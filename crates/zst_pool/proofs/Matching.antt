@@ -1,5 +1,5 @@
 -- Rows that match: what a look-up, a count and a change of both lists have in common.
-use Rattle.std.proofs.Common.{◌≡◌, ℕ, zero, suc, ◌<◌, Bool, true, false, cond, ◌&&◌, ◌||◌, not, List, [], ◌∷◌, length, map, Some, None, is_some, if◌then◌else◌, get_or, refl, sym, ap, ◌∙◌, arith}
+use Rattle.std.proofs.Common.{◌≡◌, ℕ, zero, suc, ◌<◌, Bool, true, false, cond, ◌&&◌, ◌||◌, not, List, [], ◌∷◌, length, map, Some, None, is_some, if◌then◌else◌, get_or, inl, inr, refl, sym, ap, ◌∙◌, subst, arith}
 use Rattle.std.specs.List.{find, position, list_any, filter, count_by, position_or_len, Contains}
 use Rattle.std.proofs.Math.Numerals.{one-add}
 use Prim.Native.Nat.compare.{suc-suc}
@@ -12,7 +12,7 @@ use Rattle.std.proofs.lemmas.List.Folds.{list_any_at}
 use Rattle.std.proofs.lemmas.List.Sums.{length-filter}
 use Rattle.std.proofs.lemmas.List.Quantifiers.{position-Some}
 use Rattle.zst_model.specs.pools.Pool.{inserted}
-use Rattle.zst_image.specs.Reads.{Match}
+use Rattle.zst_image.specs.Reads.{Match, StandAlike}
 
 -- lists that match have equal lengths
 pub length-Match : {A B : Type 0} (Is : A → B → Type 0) (xs : List A) (ys : List B) → Match Is xs ys → length xs ≡ length ys
@@ -130,21 +130,28 @@ none_named name_of name xs none x has same =
     let at : bytes_eq (name_of (get_or xs has.0 x)) name ≡ true = (bytes_eq-Decides (name_of (get_or xs has.0 x)) name).1 (ap name_of has.2 ∙ same) in
     true≢false (sym (list_any_at (λ y. bytes_eq (name_of y) name) xs has.0 x has.1 at) ∙ none)
 
--- what is found is matched by what is found
+-- what is found stands at the place of what is found
 pub find-Match : {A B : Type 0} (Is : A → B → Type 0) (p : A → Bool) (q : B → Bool) → ((x : A) (y : B) → Is x y → p x ≡ q y)
-    → (d : A) (xs : List A) (ys : List B) → Match Is xs ys → (i : ℕ) → position p xs ≡ Some i → (y : B) × (find q ys ≡ Some y) × Is (get_or xs i d) y
+    → (d : A) (xs : List A) (ys : List B) → Match Is xs ys → (i : ℕ) → position p xs ≡ Some i → (y : B) × (find q ys ≡ Some y) × StandAlike xs ys (get_or xs i d) y
 find-Match {A = A} {B = B} Is p q same d xs ys m i is =
     let at = position-Some p xs i d is in
     first xs ys m i at.0 at.1 at.2
   where
     first : (xs : List A) (ys : List B) → Match Is xs ys → (i : ℕ) → i < length xs → p (get_or xs i d) ≡ true → ((k : ℕ) → k < i → p (get_or xs k d) ≡ false)
-        → (y : B) × (find q ys ≡ Some y) × Is (get_or xs i d) y
+        → (y : B) × (find q ys ≡ Some y) × StandAlike xs ys (get_or xs i d) y
     first [] ys m i below here before = absurd (omega (arith, below))
     first (x ∷ xs) [] m i below here before = absurd m
-    first (x ∷ xs) (y ∷ ys) m zero below here before = (y, ap (λ b. cond b (Some y) (find q ys)) (sym (same x y m.0) ∙ here), m.0)
+    first (x ∷ xs) (y ∷ ys) m zero below here before = (y, ap (λ b. cond b (Some y) (find q ys)) (sym (same x y m.0) ∙ here), inl (refl, refl))
     first (x ∷ xs) (y ∷ ys) m (suc i) below here before =
         let rest = first xs ys m.1 i (omega (arith, below)) here (λ k lt. before (suc k) (omega (arith, lt))) in
-        (rest.0, ap (λ b. cond b (Some y) (find q ys)) (sym (same x y m.0) ∙ before 0 (omega arith)) ∙ rest.1, rest.2)
+        (rest.0, ap (λ b. cond b (Some y) (find q ys)) (sym (same x y m.0) ∙ before 0 (omega arith)) ∙ rest.1, inr rest.2)
+
+-- what stands at the same place of lists that match matches
+pub Match-alike : {A B : Type 0} (Is : A → B → Type 0) (xs : List A) (ys : List B) (a : A) (b : B) → Match Is xs ys → StandAlike xs ys a b → Is a b
+Match-alike Is [] ys a b m at = absurd at
+Match-alike Is (x ∷ xs) [] a b m at = absurd at
+Match-alike {A = A} {B = B} Is (x ∷ xs) (y ∷ ys) a b m (inl same) = subst (λ (z : A). Is z b) same.0 (subst (λ (z : B). Is x z) same.1 m.0)
+Match-alike Is (x ∷ xs) (y ∷ ys) a b m (inr rest) = Match-alike Is xs ys a b m.1 rest
 
 -- what passes one test and not the other passes the first alone, where nothing passes both
 pub filter_rest : {A : Type 0} (k e : A → Bool) (xs : List A) → list_any (λ x. k x && e x) xs ≡ false → filter k (filter (λ x. not (e x)) xs) ≡ filter k xs

@@ -39,11 +39,8 @@ new_row kind name = record { name = name; kind = kind; origin = None; head = set
 
 new_row_is_new : (has : Blocks) (kind : ℕ) (name : List ℕ) → DatasetIs has (new_row kind name) (new_dataset kind name)
 new_row_is_new has kind name = record {
-  name = refl;
-  kind = refl;
-  origin = refl;
+  named = record { name = refl; kind = refl; origin = refl; redact = refl };
   head = empty has;
-  redact = refl;
 }
 
 -- a directory with the row of a new dataset
@@ -56,7 +53,7 @@ dataset_is_next has uber rows dir pool kind name is same lawful = record {
   guid_counter = is.guids;
   rows_are = rw same (record {
     datasets = inserted-Match (DatasetIs has) (λ a b. is_before a.name b.name) (λ a b. is_before a.name b.name) (new_row kind name) (new_dataset kind name)
-        (λ x y matches. ap (is_before name) (sym matches.name)) (new_row_is_new has kind name) rows.datasets pool.datasets is.rows_are.datasets;
+        (λ x y matches. ap (is_before name) (sym matches.named.name)) (new_row_is_new has kind name) rows.datasets pool.datasets is.rows_are.datasets;
     snapshots = is.rows_are.snapshots;
     bookmarks = is.rows_are.bookmarks;
     partials = is.rows_are.partials;
@@ -82,12 +79,14 @@ stands_before n k m l = is_before (dataset_of 64 n) (dataset_of 64 m) || (bytes_
 taken_row_is_taken : (has : Blocks) (uber : Uber) (rows : Rows) (pool : Pool) (now : ℕ) (name : List ℕ) (row : Dataset) (dataset : plain.Dataset)
     → Describes uber rows pool has → DatasetIs has row dataset → SnapshotIs has (taken_row uber now name row) (snapshot_of now name pool dataset)
 taken_row_is_taken has uber rows pool now name row dataset is matches = record {
-  name = refl;
-  guid = ap (λ i. i * 2 ^ 32 + (pool.guids + 1)) is.id ∙ ap (λ g. uber.id * 2 ^ 32 + (g + 1)) is.guids;
-  time = refl;
-  number = ap (λ n. n + 1) is.number;
+  named = record {
+    name = refl;
+    guid = ap (λ i. i * 2 ^ 32 + (pool.guids + 1)) is.id ∙ ap (λ g. uber.id * 2 ^ 32 + (g + 1)) is.guids;
+    time = refl;
+    number = ap (λ n. n + 1) is.number;
+    redact = matches.named.redact;
+  };
   objects = matches.head;
-  redact = matches.redact;
 }
 
 taken_stands_alike : (has : Blocks) (uber : Uber) (pool : Pool) (now : ℕ) (name : List ℕ) (row : Dataset) (dataset : plain.Dataset) (x : Snapshot) (y : plain.Snapshot)
@@ -95,8 +94,8 @@ taken_stands_alike : (has : Blocks) (uber : Uber) (pool : Pool) (now : ℕ) (nam
 unfolding stands_before
 taken_stands_alike has uber pool now name row dataset x y number is =
     ap (λ (k : ℕ). stands_before name (k + 1) x.name x.number) (sym number)
-    ∙ ap (λ (n : List ℕ). stands_before name (pool.number + 1) n x.number) (sym is.name)
-    ∙ ap (λ (k : ℕ). stands_before name (pool.number + 1) y.name k) (sym is.number)
+    ∙ ap (λ (n : List ℕ). stands_before name (pool.number + 1) n x.number) (sym is.named.name)
+    ∙ ap (λ (k : ℕ). stands_before name (pool.number + 1) y.name k) (sym is.named.number)
 
 -- a directory with the row of a new snapshot, and without a partial state of its dataset
 pub snapshot_is_next : (has : Blocks) (uber : Uber) (rows dir : Rows) (pool : Pool) (now : ℕ) (name : List ℕ) (row : Dataset) (dataset : plain.Dataset)
@@ -146,10 +145,10 @@ no_snapshot_stays rows dir name same none has = none (has.0, subst (λ (xs : Lis
 head_at_is : (has : Blocks) (name : List ℕ) (set : ObjSet) (head : DatedState) (x : Dataset) (y : plain.Dataset) → SetHolds has set head → DatasetIs has x y
     → DatasetIs has (dir_rows.with_head_at name set x) (with_head_at name head y)
 head_at_is has name set head x y is_head is =
-    subst (λ (n : List ℕ). DatasetIs has (dir_rows.with_head_at name set x) (if bytes_eq n name then record y { head = head } else y)) (sym is.name) (go (bytes_eq x.name name))
+    subst (λ (n : List ℕ). DatasetIs has (dir_rows.with_head_at name set x) (if bytes_eq n name then record y { head = head } else y)) (sym is.named.name) (go (bytes_eq x.name name))
   where
     go : (b : Bool) → DatasetIs has (if b then record x { head = set } else x) (if b then record y { head = head } else y)
-    go true = record { name = is.name; kind = is.kind; origin = is.origin; head = is_head; redact = is.redact }
+    go true = record { named = record { name = is.named.name; kind = is.named.kind; origin = is.named.origin; redact = is.named.redact }; head = is_head }
     go false = is
 
 -- a directory with another head of a dataset

@@ -1,18 +1,22 @@
--- How many sectors the parts of a command take, and where it finds no room.
-use Rattle.std.specs.Prelude.{Result, Ok, Err, IfErr}
-use Rattle.std.proofs.Common.{◌≡◌, ℕ, ◌+◌, ◌/◌, ◌≤◌, true, length, refl, subst, arith}
-use Rattle.zst_space.specs.FreeSectors.{FreeSectors, largest_of}
+-- Where a command finds no room, and what it takes otherwise.
+use Rattle.std.specs.Prelude.{Option, None, Err}
+use Rattle.std.proofs.Common.{◌≡◌, inl, ℕ, ◌+◌, ◌/◌, ◌≤◌, Bool, true, length, arith}
+use Rattle.zst_outside.specs.Images.{DiskState}
+use Rattle.zst_space.specs.FreeSectors.{FreeSectors}
+use Rattle.zst_block.specs.Blocks.{FillsFree}
+use Rattle.zst_block.specs.Working.{TakesAtMost}
+use Rattle.zst_block.specs.declared.fault.BlockFault.{BlockFault}
 use Rattle.zst_model.specs.states.State.{is_block_size, largest_block}
 use Rattle.zst_dir.specs.Rows.{Rows}
 use Rattle.zst_dir.specs.Spelling.{dir_bytes}
-use Rattle.zst_pool.specs.Faults.{IsStepFault, of_committed}
+use Rattle.zst_pool.specs.Cost.{Grows, HasNoRoom, Spends, most_sectors}
+use Rattle.zst_pool.specs.Heads.{Stops, Works}
 use Rattle.zst_image.specs.Reads.{dir_sectors, free_by}
 use Rattle.zst_image.specs.Committing.{IsDirFull}
-use Rattle.zst_pool.specs.Room.{FindsNoRoom, FullBelow}
+use Rattle.zst_pool.specs.Runs.{as_kept}
 use Rattle.zst_pool.specs.declared.fault.PoolFault.{PoolFault}
-use Rattle.zst_image.specs.declared.commit_fault.CommitFault.{CommitFault}
-use Rattle.zst_image.specs.declared.commit_fault.CommitFault.TheVariants as commits
 use Rattle.zst_image.specs.declared.kept.Kept.{Kept}
+use Rattle.zst_pool.proofs.Taking.{ends_later, takes_then, was_free}
 
 -- a block of data has 256 sectors at most
 pub block-sectors : (size : ℕ) → is_block_size size ≡ true → size / 512 ≤ 256
@@ -20,24 +24,33 @@ unfolding is_block_size largest_block
 block-sectors size is = grind arith
 
 -- a longer directory takes no fewer sectors
-dir-more : (count more : ℕ) → count ≤ more → dir_sectors count ≤ dir_sectors more
+pub dir-more : (count more : ℕ) → count ≤ more → dir_sectors count ≤ dir_sectors more
 dir-more count more le = omega (arith, le)
 
-module _ (most : ℕ) (kept : Kept) where
-  -- one whose change of an object set finds no room
-  pub no_room-part : (fault : PoolFault) → IsStepFault fault → FullBelow (free_by kept.body) most fault → FindsNoRoom most kept fault
-  no_room-part fault known full = λ need largest same. record { shorter = subst IsStepFault same known; room = omega (arith, full need largest same) }
+module _ (kept : Kept) (cells block : ℕ) {old : DiskState} {old_failed : Bool} {new : DiskState} {less : FreeSectors} {new_failed : Bool} where
+  -- what a command spends that stopped at a block's fault, or at none
+  pub spends_fell : {stop : Option BlockFault} (fault : PoolFault) → Stops stop fault → Works cells block old (free_by kept.body) old_failed new less new_failed stop
+      → Spends cells block kept less as_kept (Err fault)
+  spends_fell {stop = stop} fault stops works = record {
+    full = λ need largest same.
+        let full = works.full need largest (stops.full need largest same) in
+        let was = was_free kept.body less works.takes works.fills.fewer in
+        record { shorter = full.shorter; needed = full.needed; is_longest = full.is_longest; was_free = omega (arith, full.is_longest, was); room = omega (arith, full.before) };
+    grows = tt;
+  }
 
-  -- one that doesn't find room for the directory then, which has one more row at most
-  pub no_room-commit : (space last : FreeSectors) (dir : Rows) (made : Result Kept CommitFault) → largest_of (free_by kept.body) ≤ largest_of space + most
-      → length (dir_bytes dir) ≤ length (dir_bytes kept.dir) + 1024
-      → ((need largest : ℕ) → made ≡ Err (commits.Full need largest) → IsDirFull space last dir need largest) → IfErr (of_committed made) (FindsNoRoom most kept)
-  no_room-commit space last dir (Ok value) took grows full = tt
-  no_room-commit space last dir (Err (commits.Full need largest)) took grows full = λ n l same.
-      let is = full need largest refl in
-      let more = dir-more (length (dir_bytes dir)) (length (dir_bytes kept.dir) + 1024) grows in
-      let need_is : need ≡ n = cc in
-      let largest_is : largest ≡ l = cc in
-      record { shorter = rw (← need_is, ← largest_is) is.shorter; room = omega (arith, took, is.before, more) }
-  no_room-commit space last dir (Err commits.DiskFault) took grows full = λ n l same. absurd (cc)
-  no_room-commit space last dir (Err commits.OutOfMemory) took grows full = λ n l same. absurd (cc)
+  -- what a command spends that came to its commit
+  module _ {least : FreeSectors} (dir : Rows) (works : Works cells block old (free_by kept.body) old_failed new less new_failed None)
+      (takes : TakesAtMost (dir_sectors (length (dir_bytes dir))) less least) (grows : length (dir_bytes dir) ≤ length (dir_bytes kept.dir) + 1024) where
+    pub spends_full : {last : DiskState} (need largest : ℕ) → FillsFree new less last least → IsDirFull less least dir need largest → HasNoRoom cells block kept.body kept.dir least need largest
+    spends_full need largest fills told =
+        let more = dir-more (length (dir_bytes dir)) (length (dir_bytes kept.dir) + 1024) grows in
+        let was = was_free kept.body least (takes_then (free_by kept.body) less least works.takes takes) (λ sector free. works.fills.fewer sector (fills.fewer sector free)) in
+        record { shorter = told.shorter; needed = inl told.needed; is_longest = told.is_longest; was_free = omega (arith, told.is_longest, was); room = omega (arith, told.before, works.takes.longest, more) }
+
+    pub spends_grows : (next : Kept) → kept.body.end ≤ kept.body.sectors → next.body.end ≤ next.body.sectors → next.body.end ≡ least.end → next.body.sectors ≡ kept.body.sectors
+        → Grows (most_sectors cells block kept.dir) kept.body next.body
+    spends_grows next inside within end sectors =
+        let more = dir-more (length (dir_bytes dir)) (length (dir_bytes kept.dir) + 1024) grows in
+        let later = ends_later kept.body least (takes_then (free_by kept.body) less least works.takes takes) inside (omega (arith, within, end, sectors)) in
+        record { sectors = sectors; end = omega (arith, later, end, more) }

@@ -1,110 +1,223 @@
 -- What a command does, from what its parts do.
-use Rattle.std.specs.Prelude.{Result, Ok, Err, IfOk, OnErr}
-use Rattle.std.proofs.Common.{◌≡◌, ℕ, ◌+◌, ◌≤◌, ◌^◌, Bool, false, ◌||◌, List, length, refl, sym, ap, ◌∙◌, subst, arith}
+use Rattle.std.specs.Prelude.{Option, None, Result, Ok, Err, IfErr, IfOk, OnErr}
+use Rattle.std.proofs.Common.{◌≡◌, ℕ, ◌+◌, ◌*◌, ◌≤◌, ◌^◌, Bool, false, ◌||◌, List, length, refl, sym, ap, ◌∙◌, subst, arith}
+use Rattle.zst_outside.specs.Causes.{Rose-earlier}
 use Rattle.zst_outside.specs.Images.{DiskState}
 use Rattle.zst_space.specs.FreeSectors.{FreeSectors}
-use Rattle.zst_block.specs.Blocks.{Has}
+use Rattle.zst_block.specs.Blocks.{Has, FillsFree, SparesTaken}
+use Rattle.zst_block.specs.Working as blocks
+use Rattle.zst_block.specs.Working.{TakesAtMost}
+use Rattle.zst_block.specs.declared.fault.BlockFault.{BlockFault}
+use Rattle.zst_block.proofs.BlocksLaws.{FillsFree-then}
 use Rattle.zst_model.specs.declared.refusals.refusal.Refusal.{Refusal}
 use Rattle.zst_model.specs.states.Dated.{DatedState}
+use Rattle.zst_model.specs.states.Apply.{◌>>=◌}
 use Rattle.zst_model.specs.pools.Pool.{Pool, IsPool}
-use Rattle.zst_model.specs.pools.Step.{Stepped, last_number, on_head}
+use Rattle.zst_model.specs.pools.Step.{Stepped, committed, last_number, on_head}
 use Rattle.zst_tree.specs.declared.tree.ObjSet.{ObjSet}
 use Rattle.zst_objset.specs.Sets.{SetHolds}
 use Rattle.zst_dir.specs.Rows.{Rows}
 use Rattle.zst_dir.specs.Spelling.{dir_bytes}
-use Rattle.zst_pool.specs.Checks.{FindsHead}
-use Rattle.zst_pool.specs.Faults.{IsStepFault, StepFault, is_disk_fault, of_committed}
-use Rattle.zst_pool.specs.Heads.{ChangedHead, ChangesHead}
-use Rattle.zst_image.specs.Reads.{Rests, RowsAre, free_by}
+use Rattle.zst_pool.specs.Checks.{FindsHead, with_head_of}
+use Rattle.zst_block.specs.declared.fault.BlockFault.TheVariants as block_faults
+use Rattle.zst_objset.specs.Damage.{DamageFact}
+use Rattle.zst_objset.specs.declared.fault.ObjFault.TheVariants as set_faults
+use Rattle.zst_model.specs.declared.refusals.plan_fault.PlanFault.{PlanFault}
+use Rattle.zst_model.specs.refusals.Refusal.{refusal_of}
+use Rattle.zst_pool.specs.Cost.{Cost, HasNoRoom, Spends}
+use Rattle.zst_pool.specs.Damage.{HasHead, IfHeadDamaged, IsOf, OfHead}
+use Rattle.zst_pool.specs.declared.head_fault.HeadFault.TheVariants.{Set}
+use Rattle.zst_pool.proofs.Judged.{memory_stops, plan_stops}
+use Rattle.zst_pool.specs.Faults.{StepFault, is_disk_fault, of_committed}
+use Rattle.zst_pool.specs.Heads.{ChangedHead, ChangesHead, Stops, Works, stop_of}
+use Rattle.zst_image.specs.Reads.{AreNamed, DatasetIs, Rests, RowsAre, dir_sectors, free_by}
 use Rattle.zst_image.specs.Committing.{IsDirFull}
-use Rattle.zst_pool.specs.Room.{NotFull}
+use Rattle.zst_pool.specs.Runs.{Did, Ran, Runs, as_kept}
 use Rattle.zst_image.specs.Committing.{Ready}
-use Rattle.zst_pool.specs.Work.{Did, Runs, Writes}
 use Rattle.zst_pool.specs.declared.fault.PoolFault.{PoolFault}
-use Rattle.zst_block.specs.Working.{fails}
-use Rattle.zst_image.specs.Faults.{stop_of_commit}
+use Rattle.zst_pool.specs.declared.fault.PoolFault.TheVariants.{Damaged, DiskFault, OutOfMemory, Plan}
+use Rattle.zst_pool.specs.declared.head_fault.HeadFault.{HeadFault}
 use Rattle.zst_image.specs.Faults as images
+use Rattle.zst_image.specs.Faults.{stop_of_commit}
 use Rattle.zst_image.specs.declared.commit_fault.CommitFault.{CommitFault}
 use Rattle.zst_image.specs.declared.commit_fault.CommitFault.TheVariants as commits
 use Rattle.zst_image.specs.declared.kept.Kept.{Kept}
 use Rattle.zst_pool.proofs.Doing.{fell, free_by_fits}
-use Rattle.zst_pool.proofs.Committed.{committed_cause, committed_err, committed_fails, committed_known, committed_ok}
-use Rattle.zst_pool.proofs.Parts.{cause_then, described_in, failed_then, taken}
-use Rattle.zst_pool.proofs.Room.{no_room-commit, no_room-part}
-use Rattle.zst_pool.proofs.Writing.{writes_err, writes_none}
+use Rattle.zst_pool.proofs.Committed.{committed_cause, committed_err, committed_fails, committed_ok, committed_open}
+use Rattle.zst_pool.proofs.Matching.{Match-alike}
+use Rattle.zst_pool.proofs.Naming.{rows_named}
+use Rattle.zst_pool.proofs.Parts.{described_in, disk_fault_same, failed_then, taken}
+use Rattle.zst_pool.proofs.Room.{spends_fell, spends_full, spends_grows}
+use Rattle.zst_pool.proofs.Taking.{works_none}
 
-module _ (definition : Pool → Result Stepped Refusal) (most : ℕ) (kept : Kept) where
+-- what a command wrote before it fell or came to its commit: at most so much, and in a pool as much as it costs there
+abbrev pub Wrote : Kept → Cost → DiskState → Bool → DiskState → FreeSectors → Bool → Option BlockFault → Type 0
+Wrote kept cost old old_failed new less new_failed stop =
+    ((block : ℕ) × (block ≤ cost.most) × Works cost.cells block old (free_by kept.body) old_failed new less new_failed stop)
+    × ((pool : Pool) → new.honest → Rests old kept.body kept.dir pool → Works cost.cells (cost.block pool) old (free_by kept.body) old_failed new less new_failed stop)
+
+module _ (definition : Pool → Result Stepped Refusal) (cost : Cost) (kept : Kept) where
   -- a command that fell once it had written into free sectors alone
-  pub runs_fell : {old : DiskState} {old_failed : Bool} {new : DiskState} {less : FreeSectors} {new_failed : Bool} (fault : PoolFault) {answer : Result Kept PoolFault} → answer ≡ Err fault → Ready new kept.body → Writes {T = Unit {0}} most old (free_by kept.body) old_failed new less new_failed (Err fault)
-      → ((pool : Pool) → new.honest → Rests old kept.body kept.dir pool → StepFault (Unit {0}) (definition pool) fault) → Runs definition most kept old old_failed new new_failed answer
-  runs_fell {old = old} {old_failed = old_failed} {new = new} {less = less} {new_failed = new_failed} fault same ready writes refused =
-      let own = writes_err {T = Unit {0}} {U = Kept} fault (Err fault) refl writes in
-      let fills = writes.works.fills in
-      let fell_so : Runs definition most kept old old_failed new new_failed (Err fault) = record {
-        did = λ pool told rests. fell old new less kept.body kept.dir pool (taken old kept.body kept.dir pool rests) rests fills (definition pool) fault (refused pool told rests);
-        known = own.known;
-        full = no_room-part most kept fault writes.known writes.full;
+  pub runs_fell : {old : DiskState} {old_failed : Bool} {new : DiskState} {less : FreeSectors} {new_failed : Bool} {stop : Option BlockFault} (fault : PoolFault) {answer : Result Kept PoolFault} → answer ≡ Err fault → Ready new kept.body
+      → Stops stop fault → Wrote kept cost old old_failed new less new_failed stop
+      → ((pool : Pool) → new.honest → Rests old kept.body kept.dir pool → StepFault (Unit {0}) (definition pool) fault) → Ran definition cost kept old old_failed new less new_failed answer
+  runs_fell {old = old} {old_failed = old_failed} {new = new} {less = less} {new_failed = new_failed} {stop = stop} fault same ready stops wrote refused =
+      let one = wrote.0 in
+      let works = one.2 in
+      let fell_so : Ran definition cost kept old old_failed new less new_failed (Err fault) = record {
+        did = λ pool told rests. fell old new less kept.body kept.dir pool (taken old kept.body kept.dir pool rests) rests works.fills (definition pool) fault (refused pool told rests);
+        open_still = λ is. stops.open_still (cc);
+        spends = (one.0, one.1, spends_fell kept cost.cells one.0 fault stops works);
+        exact = λ pool told rests. spends_fell kept cost.cells (cost.block pool) fault stops (wrote.1 pool told rests);
+        spares = λ apart. works.fills.seen;
         ready = tt;
         stays = λ standing. ready;
-        failed = own.works.failed;
-        cause = own.works.cause;
-        honest = fills.honest;
+        failed = works.failed ∙ ap (λ (b : Bool). old_failed || b) (stops.fails ∙ disk_fault_same (Unit {0}) Kept fault);
+        cause = record { later = works.cause.later; fault = λ is. works.cause.fault (stops.disk (cc)) };
+        honest = works.fills.honest;
       } in
-      subst (Runs definition most kept old old_failed new new_failed) (sym same) fell_so
-
-  -- one that fell before it did anything
-  pub runs_idle : {disk : DiskState} {failed : Bool} (fault : PoolFault) {answer : Result Kept PoolFault} → answer ≡ Err fault → Ready disk kept.body → is_disk_fault {T = Unit {0}} (Err fault) ≡ false
-      → IsStepFault fault → NotFull fault → ((pool : Pool) → Rests disk kept.body kept.dir pool → StepFault (Unit {0}) (definition pool) fault) → Runs definition most kept disk failed disk failed answer
-  runs_idle {disk = disk} {failed = failed} fault same ready apart known never refused =
-      runs_fell fault same ready (writes_none {T = Unit {0}} most disk (free_by kept.body) failed (Err fault) (free_by_fits disk.size kept.body ready.in_range) apart known never)
-      (λ pool told rests. refused pool rests)
+      subst (Ran definition cost kept old old_failed new less new_failed) (sym same) fell_so
 
   -- one that came to its commit
-  pub runs_committed : {old : DiskState} {old_failed : Bool} {new : DiskState} {less : FreeSectors} {new_failed : Bool} {value : Unit {0}} {last : DiskState} {least : FreeSectors} {last_failed : Bool} (dir : Rows) (made : Result Kept CommitFault) {answer : Result Kept PoolFault} → answer ≡ of_committed made
-      → Writes most old (free_by kept.body) old_failed new less new_failed (Ok value)
+  pub runs_committed : {old : DiskState} {old_failed : Bool} {new : DiskState} {less : FreeSectors} {new_failed : Bool} {last : DiskState} {least : FreeSectors} {last_failed : Bool} (dir : Rows) (made : Result Kept CommitFault) {answer : Result Kept PoolFault} → answer ≡ of_committed made
+      → Ready new kept.body → Wrote kept cost old old_failed new less new_failed None
       → ((pool : Pool) → last.honest → Rests old kept.body kept.dir pool → Did old last kept.body kept.dir pool (definition pool) (of_committed made))
       → length (dir_bytes dir) ≤ length (dir_bytes kept.dir) + 1024
       → ((need largest : ℕ) → made ≡ Err (commits.Full need largest) → IsDirFull less least dir need largest)
+      → TakesAtMost (dir_sectors (length (dir_bytes dir))) less least → IfOk made (λ next. (next.body.end ≡ least.end) × (next.body.sectors ≡ kept.body.sectors))
+      → (¬ (made ≡ Err commits.DiskFault) → OnErr made (FillsFree new less last least))
       → IfOk made (λ kept. Ready last kept.body) → (last_failed ≡ false → OnErr made (Ready last kept.body))
-      → last_failed ≡ (new_failed || fails (stop_of_commit made)) → images.HasDiskCause commits.DiskFault new.faults last.faults made → (last.honest → new.honest) → Runs definition most kept old old_failed last last_failed answer
-  runs_committed {old = old} {old_failed = old_failed} {new = new} {less = less} {new_failed = new_failed} {value = value} {last = last} {least = least} {last_failed = last_failed} dir made same writes did grows full ready stays failed cause falls =
+      → last_failed ≡ (new_failed || blocks.fails (stop_of_commit made)) → images.HasDiskCause commits.DiskFault new.faults last.faults made → (last.honest → new.honest) → Ran definition cost kept old old_failed last least last_failed answer
+  runs_committed {old = old} {old_failed = old_failed} {new = new} {less = less} {new_failed = new_failed} {last = last} {least = least} {last_failed = last_failed} dir made same old_ready wrote did grows full takes ends fills ready stays failed cause falls =
+      let one = wrote.0 in
+      let works = one.2 in
       let answer = of_committed made in
-      let runs : Runs definition most kept old old_failed last last_failed answer = record {
+      let disk = committed_cause new.faults last.faults made cause in
+      let runs : Ran definition cost kept old old_failed last least last_failed answer = record {
         did = did;
-        known = committed_known made (λ need largest is. (full need largest is).shorter);
-        full = no_room-commit most kept less least dir made writes.took grows full;
+        open_still = committed_open made;
+        spends = (one.0, one.1, spends made full ends fills ready one.0 works);
+        exact = λ pool told rests. spends made full ends fills ready (cost.block pool) (wrote.1 pool (falls told) rests);
+        spares = λ apart. spares made works.fills fills apart;
         ready = committed_ok (λ kept. Ready last kept.body) made ready;
         stays = λ standing. committed_err (Ready last kept.body) made (stays standing);
-        failed = failed_then old_failed new_failed last_failed (is_disk_fault answer) writes.works.failed (failed ∙ ap (λ b. new_failed || b) (committed_fails made));
-        cause = cause_then old.faults new.faults last.faults value answer writes.works.cause (committed_cause new.faults last.faults made cause);
-        honest = λ told. writes.works.fills.honest (falls told);
+        failed = failed_then old_failed new_failed last_failed (is_disk_fault answer) works.failed (failed ∙ ap (λ (b : Bool). new_failed || b) (committed_fails made));
+        cause = record { later = omega (arith, works.cause.later, disk.later); fault = λ is. Rose-earlier old.faults new.faults last.faults works.cause.later (disk.fault is) };
+        honest = λ told. works.fills.honest (falls told);
       } in
-      subst (Runs definition most kept old old_failed last last_failed) (sym same) runs
+      subst (Ran definition cost kept old old_failed last least last_failed) (sym same) runs
+    where
+      spends : (r : Result Kept CommitFault) → ((need largest : ℕ) → r ≡ Err (commits.Full need largest) → IsDirFull less least dir need largest)
+          → IfOk r (λ next. (next.body.end ≡ least.end) × (next.body.sectors ≡ kept.body.sectors)) → (¬ (r ≡ Err commits.DiskFault) → OnErr r (FillsFree new less last least)) → IfOk r (λ kept. Ready last kept.body)
+          → (block : ℕ) → Works cost.cells block old (free_by kept.body) old_failed new less new_failed None → Spends cost.cells block kept least as_kept (of_committed r)
+      spends (Ok next) full ends fills ready block works =
+          record { full = tt; grows = spends_grows kept cost.cells block dir works takes grows next old_ready.in_range.end.1 ready.in_range.end.1 ends.0 ends.1 }
+      spends (Err (commits.Full need largest)) full ends fills ready block works =
+          let apart : ¬ (◌≡◌ {A = Result Kept CommitFault} (Err (commits.Full need largest)) (Err commits.DiskFault)) = λ is. cc in
+          let told = spends_full kept cost.cells block dir works takes grows need largest (fills apart) (full need largest refl) in
+          record {
+            full = λ n l same.
+                let needed : need ≡ n = cc in
+                let left : largest ≡ l = cc in
+                subst (λ (m : ℕ). HasNoRoom cost.cells block kept.body kept.dir least m l) needed (subst (λ (m : ℕ). HasNoRoom cost.cells block kept.body kept.dir least need m) left told);
+            grows = tt;
+          }
+      spends (Err commits.DiskFault) full ends fills ready block works = record { full = λ n l same. absurd (cc); grows = tt }
+      spends (Err commits.OutOfMemory) full ends fills ready block works = record { full = λ n l same. absurd (cc); grows = tt }
+
+      spares : (r : Result Kept CommitFault) → FillsFree old (free_by kept.body) new less → (¬ (r ≡ Err commits.DiskFault) → OnErr r (FillsFree new less last least)) → ¬ (of_committed r ≡ Err DiskFault)
+          → OnErr (of_committed r) (SparesTaken (free_by kept.body) old.seen last.seen)
+      spares (Ok next) first second apart = tt
+      spares (Err (commits.Full need largest)) first second apart = let both = FillsFree-then old new last (free_by kept.body) less least first (second (λ is. cc)) in both.seen
+      spares (Err commits.DiskFault) first second apart = absurd (apart refl)
+      spares (Err commits.OutOfMemory) first second apart = let both = FillsFree-then old new last (free_by kept.body) less least first (second (λ is. cc)) in both.seen
 
 -- before its first part a command wrote nothing
-pub idle_writes : (kept : Kept) (disk : DiskState) (space : FreeSectors) (failed : Bool) → space ≡ free_by kept.body → Ready disk kept.body
-    → Writes {T = Unit {0}} 0 disk (free_by kept.body) failed disk space failed (Ok tt)
-idle_writes kept disk space failed free ready =
-    subst (λ (s : FreeSectors). Writes {T = Unit {0}} 0 disk (free_by kept.body) failed disk s failed (Ok tt)) (sym free)
-    (writes_none {T = Unit {0}} 0 disk (free_by kept.body) failed (Ok tt) (free_by_fits disk.size kept.body ready.in_range) refl tt tt)
+pub idle_wrote : (kept : Kept) (cost : Cost) (disk : DiskState) (space : FreeSectors) (failed : Bool) (stop : Option BlockFault) → stop ≡ None → space ≡ free_by kept.body → Ready disk kept.body
+    → Wrote kept cost disk failed disk space failed stop
+idle_wrote kept cost disk space failed stop none free ready =
+    let idle = λ (block : ℕ). subst (Works cost.cells block disk (free_by kept.body) failed disk space failed) (sym none)
+    (subst (λ (s : FreeSectors). Works cost.cells block disk (free_by kept.body) failed disk s failed None) (sym free)
+    (works_none (block + 640 * cost.cells) block disk (free_by kept.body) failed (free_by_fits disk.size kept.body ready.in_range))) in
+    ((0, omega arith, idle 0), λ pool told rests. idle (cost.block pool))
+
+module _ (definition : Pool → Result Stepped Refusal) (cost : Cost) (kept : Kept) where
+  -- one that fell before it did anything
+  pub runs_idle : {disk : DiskState} {space : FreeSectors} {failed : Bool} (fault : PoolFault) {answer : Result Kept PoolFault} → answer ≡ Err fault → space ≡ free_by kept.body → Ready disk kept.body → Stops None fault
+      → ((pool : Pool) → Rests disk kept.body kept.dir pool → StepFault (Unit {0}) (definition pool) fault) → Ran definition cost kept disk failed disk space failed answer
+  runs_idle {disk = disk} {space = space} {failed = failed} fault same free ready stops refused =
+      runs_fell definition cost kept fault same ready stops (idle_wrote kept cost disk space failed None refl free ready) (λ pool told rests. refused pool rests)
+
+-- what is so of each damage that is answered
+pub told_of : (Is : DamageFact) (answer : Result Kept PoolFault) → ((sector : ℕ) (stated found : List ℕ) → answer ≡ Err (Damaged sector stated found) → Is sector stated found) → IfErr answer (IsOf Is)
+told_of Is (Ok kept) is = tt
+told_of Is (Err fault) is = λ sector stated found same. is sector stated found (ap (λ (f : PoolFault). Err f) same)
+
+module _ (definition : Pool → Result Stepped Refusal) (cost : Cost) (damage : DamageFact) (kept : Kept) where
+  -- a command that tells no damage
+  pub runs_sound : {old : DiskState} {old_failed : Bool} {new : DiskState} {less : FreeSectors} {new_failed : Bool} (answer : Result Kept PoolFault) → ((sector : ℕ) (stated found : List ℕ) → ¬ (answer ≡ Err (Damaged sector stated found)))
+      → Ran definition cost kept old old_failed new less new_failed answer → Runs definition cost damage kept old old_failed new less new_failed answer
+  runs_sound answer never ran = record { ran = ran; damaged = λ told. told_of damage answer (λ sector stated found is. absurd (never sector stated found is)) }
+
+  -- one that fell before it did anything, for a plan or for memory
+  pub runs_planned : {disk : DiskState} {space : FreeSectors} {failed : Bool} (plan : PlanFault) {answer : Result Kept PoolFault} → answer ≡ Err (Plan plan) → space ≡ free_by kept.body → Ready disk kept.body
+      → ((pool : Pool) → Rests disk kept.body kept.dir pool → definition pool ≡ Err (refusal_of plan)) → Runs definition cost damage kept disk failed disk space failed answer
+  runs_planned plan {answer = answer} same free ready refused =
+      runs_sound answer (λ sector stated found is. cc) (runs_idle definition cost kept (Plan plan) same free ready (plan_stops None plan refl) (λ pool rests. (refused pool rests, tt)))
+
+  pub runs_starved : {disk : DiskState} {space : FreeSectors} {failed : Bool} {answer : Result Kept PoolFault} → answer ≡ Err OutOfMemory → space ≡ free_by kept.body → Ready disk kept.body
+      → Runs definition cost damage kept disk failed disk space failed answer
+  runs_starved {answer = answer} same free ready =
+      runs_sound answer (λ sector stated found is. cc) (runs_idle definition cost kept OutOfMemory same free ready (memory_stops None refl) (λ pool rests. tt))
+
+-- one that changed the head of a dataset, or fell as that did
+pub runs_head : (definition : Pool → Result Stepped Refusal) (cost : Cost) (kept : Kept) (name : List ℕ) (Is : FreeSectors → ObjSet → DamageFact) {old : DiskState} {old_failed : Bool} {new : DiskState} {less : FreeSectors} {new_failed : Bool} (mid : DiskState) (space : FreeSectors) (set : ObjSet) (changed : Result (Unit {0}) HeadFault) (answer : Result Kept PoolFault)
+    → space ≡ free_by kept.body → HasHead kept.dir name set → (mid.honest → IfHeadDamaged changed (Is space set)) → (new.honest → mid.honest)
+    → ((sector : ℕ) (stated found : List ℕ) → answer ≡ Err (Damaged sector stated found) → changed ≡ Err (Set (set_faults.Block (block_faults.Damaged sector stated found))))
+    → Ran definition cost kept old old_failed new less new_failed answer → Runs definition cost (OfHead kept.dir name (Is (free_by kept.body))) kept old old_failed new less new_failed answer
+runs_head definition cost kept name Is mid space set changed answer free there tells falls same ran = record {
+  ran = ran;
+  damaged = λ told. told_of (OfHead kept.dir name (Is (free_by kept.body))) answer (λ sector stated found is.
+      let over = subst (λ (s : FreeSectors). IfHeadDamaged changed (Is s set)) free (tells (falls told)) in
+      (set, there, subst (λ (r : Result (Unit {0}) HeadFault). IfHeadDamaged r (Is (free_by kept.body) set)) (same sector stated found is) over));
+}
 
 -- the number of the next commit, of a pool
 number_is : (number next : ℕ) (pool : Pool) → IsPool pool → pool.number ≡ number → (number ≤ 2 ^ 63 → next ≡ number + 1) → pool.number + 1 ≡ next
 unfolding last_number
 number_is number next pool lawful same is = let le : number ≤ 2 ^ 63 = omega (arith, same, lawful.number) in omega (arith, same, is le)
 
+-- what a set holds that was opened
+head_there : (kept : Kept) (name : List ℕ) (old : DiskState) (space : FreeSectors) (was : ObjSet) (pool : Pool) → RowsAre (Has old.seen space) kept.dir pool → FindsHead kept.dir name pool (Ok was)
+    → (head : DatedState) × SetHolds (Has old.seen space) was head × ((change : DatedState → Result DatedState Refusal) → on_head name pool change ≡ (change head >>= λ after. committed (with_head_of name after pool)))
+head_there kept name old space was pool rows_are there =
+    let has = Has old.seen space in
+    let stands = Match-alike (DatasetIs has) kept.dir.datasets pool.datasets there.0 there.1 rows_are.datasets there.2 in
+    (there.1.head, subst (λ (set : ObjSet). SetHolds has set there.1.head) there.3 stands.head, there.4)
+
 -- a head that was opened and changed
-pub changed_head : (kept : Kept) (name : List ℕ) (make : Pool → DatedState → Result DatedState Refusal) {most number : ℕ} {old : DiskState} {space : FreeSectors} {old_failed : Bool} {new : DiskState} {less : FreeSectors} {new_failed : Bool} {was set : ObjSet} {changed : Result (Unit {0}) PoolFault}
+pub changed_head : (kept : Kept) (name : List ℕ) (make : Pool → DatedState → Result DatedState Refusal) (cost : Cost) {number : ℕ} {old : DiskState} {space : FreeSectors} {old_failed : Bool} {new : DiskState} {less : FreeSectors} {new_failed : Bool} {was set : ObjSet} {changed : Result (Unit {0}) HeadFault}
     → space ≡ free_by kept.body → (kept.body.number ≤ 2 ^ 63 → number ≡ kept.body.number + 1)
-    → ((image : List ℕ) (space : FreeSectors) (pool : Pool) → RowsAre (Has image space) kept.dir pool → FindsHead (Has image space) name pool (Ok was))
+    → ((pool : Pool) → AreNamed kept.dir pool → FindsHead kept.dir name pool (Ok was))
     → ((pool : Pool) (head : DatedState) → new.honest → pool.number + 1 ≡ number → SetHolds (Has old.seen space) was head → ChangesHead (Has new.seen less) set (make pool head) changed)
-    → ((pool : Pool) (done : Stepped) → IsPool pool → on_head name pool (make pool) ≡ Ok done → IsPool done.pool) → Writes most old space old_failed new less new_failed changed
-    → ChangedHead kept name make most old old_failed new less new_failed set changed
-changed_head kept name make {most = most} {number = number} {old = old} {space = space} {old_failed = old_failed} {new = new} {less = less} {new_failed = new_failed} {changed = changed} free next found changes lawful writes = record {
-  made = λ pool told rests.
-      let described = described_in old space kept.body kept.dir pool free rests in
-      let there = found old.seen space pool described.rows_are in
-      (there.0, changes pool there.0 told (number_is kept.body.number number pool described.lawful described.number next) there.1, there.2 (make pool));
-  lawful = lawful;
-  writes = subst (λ (s : FreeSectors). Writes most old s old_failed new less new_failed changed) free writes;
-}
+    → ((pool : Pool) (done : Stepped) → IsPool pool → on_head name pool (make pool) ≡ Ok done → IsPool done.pool)
+    → ((block : ℕ) × (block ≤ cost.most) × Works cost.cells block old space old_failed new less new_failed (stop_of changed))
+    → ((pool : Pool) (head : DatedState) → new.honest → SetHolds (Has old.seen space) was head
+    → ((change : DatedState → Result DatedState Refusal) → on_head name pool change ≡ (change head >>= λ after. committed (with_head_of name after pool)))
+    → Works cost.cells (cost.block pool) old space old_failed new less new_failed (stop_of changed))
+    → ChangedHead kept name make cost old old_failed new less new_failed set changed
+changed_head kept name make cost {number = number} {old = old} {space = space} {old_failed = old_failed} {new = new} {less = less} {new_failed = new_failed} {was = was} {changed = changed} free next found changes lawful works exact =
+    let over = λ (block : ℕ) (w : Works cost.cells block old space old_failed new less new_failed (stop_of changed)).
+    subst (λ (s : FreeSectors). Works cost.cells block old s old_failed new less new_failed (stop_of changed)) free w in
+    record {
+      made = λ pool told rests.
+          let described = described_in old space kept.body kept.dir pool free rests in
+          let there = head_there kept name old space was pool described.rows_are (found pool (rows_named (Has old.seen space) kept.dir pool described.rows_are)) in
+          (there.0, changes pool there.0 told (number_is kept.body.number number pool described.lawful described.number next) there.1, there.2 (make pool));
+      lawful = lawful;
+      works = (works.0, works.1, over works.0 works.2);
+      exact = λ pool told rests.
+          let described = described_in old space kept.body kept.dir pool free rests in
+          let there = head_there kept name old space was pool described.rows_are (found pool (rows_named (Has old.seen space) kept.dir pool described.rows_are)) in
+          over (cost.block pool) (exact pool there.0 told there.1 there.2);
+    }

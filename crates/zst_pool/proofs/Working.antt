@@ -1,16 +1,12 @@
 -- What a part that wrote into free sectors alone leaves of sectors 0 to 7.
-use Rattle.std.proofs.Common.{◌≡◌, ℕ, ◌+◌, ◌≤◌, List, sym, ◌∙◌, arith, Result, Bool, ◌||◌}
+use Rattle.std.proofs.Common.{◌≡◌, ℕ, ◌+◌, ◌≤◌, List, sym, ◌∙◌, arith}
 use Rattle.zst_outside.specs.Images.{DiskState}
 use Rattle.zst_outside.specs.Ranges.{bytes_at}
 use Rattle.zst_space.specs.FreeSectors.{FreeSectors}
-use Rattle.zst_block.specs.Blocks.{FitsDisk, FillsFree, IsTaken, SparesTaken}
-use Rattle.zst_block.proofs.BlocksLaws.{IsTaken-head}
+use Rattle.zst_block.specs.Blocks.{FillsFree, IsTaken, SparesTaken}
 use Rattle.zst_uber.specs.Commit.{HeadSettled}
 use Rattle.zst_uber.specs.Slots.{latest}
 use Rattle.zst_uber.proofs.SlotsLaws.{latest-head}
-use Rattle.zst_pool.specs.Faults.{HasDiskCause, is_disk_fault}
-use Rattle.zst_pool.specs.Work.{Works}
-use Rattle.zst_pool.specs.declared.fault.PoolFault.{PoolFault}
 
 -- where sectors 0 to 7 aren't free, what is spared has them as they were
 pub head-spared : (space : FreeSectors) (d c : List ℕ) → IsTaken space 0 4096 → SparesTaken space d c → (p n : ℕ) → p + n ≤ 4096 → bytes_at c p n ≡ bytes_at d p n
@@ -23,18 +19,3 @@ pub HeadSettled-fills : (old new : DiskState) (space less : FreeSectors) → IsT
 HeadSettled-fills old new space less head fills settled = λ c now p n le.
     let was = fills.crash c now in
     head-spared space was.0 c head was.2 p n le ∙ settled was.0 was.1 p n le ∙ sym (head-spared space old.seen new.seen head fills.seen p n le)
-
--- all that a part keeps follows from what it wrote
-pub works : {T : Type 0} (old new : DiskState) (space less : FreeSectors) (old_failed new_failed : Bool) (result : Result T PoolFault)
-    → FitsDisk old.size space → FillsFree old space new less → FitsDisk new.size less → new_failed ≡ (old_failed || is_disk_fault result)
-    → HasDiskCause old.faults new.faults result → Works old space old_failed new less new_failed result
-works old new space less old_failed new_failed result fits fills kept_fit failed cause =
-    let head = IsTaken-head old.size space fits in
-    record {
-      fills = fills;
-      fits = kept_fit;
-      head = HeadSettled-fills old new space less head fills;
-      latest_stays = latest-spared space old.seen new.seen head fills.seen;
-      failed = failed;
-      cause = cause;
-    }

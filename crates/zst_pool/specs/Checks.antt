@@ -16,11 +16,10 @@ use Rattle.zst_model.specs.pools.Pool.{Pool, is_before, snapshot_is_before, inse
 use Rattle.zst_model.specs.pools.Pool as plain
 use Rattle.zst_model.specs.refusals.Refusal.{refusal_of}
 use Rattle.zst_model.specs.pools.Step.{Stepped, exists_already, limited, last_guid, most_snapshots, on_dataset, on_head, committed, with_head, new_dataset, snapshot_of, with_snapshot, applied, in_numbers}
-use Rattle.zst_tree.specs.Indices.{Blocks}
 use Rattle.zst_tree.specs.declared.tree.ObjSet.{ObjSet}
-use Rattle.zst_objset.specs.Sets.{SetHolds}
+use Rattle.zst_dir.specs.Rows.{Rows}
 use Rattle.zst_dir.specs.declared.rows.Dataset.{Dataset}
-use Rattle.zst_image.specs.Reads.{DatasetIs}
+use Rattle.zst_image.specs.Reads.{StandAlike}
 
 -- a check that passes leaves what comes next of the definition, and one that refuses gives the definition's refusal
 abbrev pub Judges : {T : Type 0} → Result Stepped Refusal → Result Stepped Refusal → Result T PlanFault → Type 0
@@ -52,25 +51,25 @@ with_taken now name dataset pool = record pool { guids = pool.guids + 1; snapsho
 abbrev pub with_head_of : List ℕ → DatedState → Pool → Pool
 with_head_of name head pool = record pool { datasets = with_head name head pool.datasets }
 
--- the row of a dataset that has no partial state, or what each command on it is refused for
-abbrev pub FindsDataset : Blocks → List ℕ → Pool → Result (Bor Dataset) PlanFault → Type 0
-FindsDataset has name pool (Ok row) =
-    (dataset : plain.Dataset) × DatasetIs has row.now dataset
+-- the row of a dataset that has no partial state, and the dataset at its place; or what each command on it is refused for
+abbrev pub FindsDataset : Rows → List ℕ → Pool → Result (Bor Dataset) PlanFault → Type 0
+FindsDataset rows name pool (Ok row) =
+    (dataset : plain.Dataset) × StandAlike rows.datasets pool.datasets row.now dataset
     × ((next : plain.Dataset → Result Stepped Refusal) → on_dataset name pool next ≡ next dataset)
-FindsDataset has name pool (Err fault) = (next : plain.Dataset → Result Stepped Refusal) → on_dataset name pool next ≡ Err (refusal_of fault)
+FindsDataset rows name pool (Err fault) = (next : plain.Dataset → Result Stepped Refusal) → on_dataset name pool next ≡ Err (refusal_of fault)
 
--- the row of a new snapshot's dataset and what the definition makes of it, or its refusal
-abbrev pub JudgesSnapshot : Blocks → ℕ → List ℕ → Pool → Result (Bor Dataset) PlanFault → Type 0
-JudgesSnapshot has now name pool (Ok row) =
-    (dataset : plain.Dataset) × DatasetIs has row.now dataset × (with_snapshot now name pool ≡ Ok (next_of (with_taken now name dataset pool)))
-JudgesSnapshot has now name pool (Err fault) = with_snapshot now name pool ≡ Err (refusal_of fault)
+-- the row of a new snapshot's dataset, the dataset at its place and what the definition makes of it; or its refusal
+abbrev pub JudgesSnapshot : Rows → ℕ → List ℕ → Pool → Result (Bor Dataset) PlanFault → Type 0
+JudgesSnapshot rows now name pool (Ok row) =
+    (dataset : plain.Dataset) × StandAlike rows.datasets pool.datasets row.now dataset × (with_snapshot now name pool ≡ Ok (next_of (with_taken now name dataset pool)))
+JudgesSnapshot rows now name pool (Err fault) = with_snapshot now name pool ≡ Err (refusal_of fault)
 
--- the set of a head that can be changed, or what each change of it is refused for
-abbrev pub FindsHead : Blocks → List ℕ → Pool → Result ObjSet PlanFault → Type 0
-FindsHead has name pool (Ok set) =
-    (head : DatedState) × SetHolds has set head
-    × ((change : DatedState → Result DatedState Refusal) → on_head name pool change ≡ (change head >>= λ after. committed (with_head_of name after pool)))
-FindsHead has name pool (Err fault) = (change : DatedState → Result DatedState Refusal) → on_head name pool change ≡ Err (refusal_of fault)
+-- the set of a row whose head can be changed, and the dataset at its place; or what each change of it is refused for
+abbrev pub FindsHead : Rows → List ℕ → Pool → Result ObjSet PlanFault → Type 0
+FindsHead rows name pool (Ok set) =
+    (row : Dataset) × (dataset : plain.Dataset) × StandAlike rows.datasets pool.datasets row dataset × (row.head ≡ set)
+    × ((change : DatedState → Result DatedState Refusal) → on_head name pool change ≡ (change dataset.head >>= λ after. committed (with_head_of name after pool)))
+FindsHead rows name pool (Err fault) = (change : DatedState → Result DatedState Refusal) → on_head name pool change ≡ Err (refusal_of fault)
 
 -- what free and object make of a head
 abbrev pub freed : Pool → ℕ → ℕ → DatedState → Result DatedState Refusal

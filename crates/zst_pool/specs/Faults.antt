@@ -1,5 +1,5 @@
 -- The refusals of a pool, and what stands after each.
-use Rattle.std.specs.Prelude.{◌≡◌, ◌<◌, ◌≤◌, ℕ, Bool, true, false, Result, Ok, Err}
+use Rattle.std.specs.Prelude.{◌≡◌, ◌≤◌, ℕ, Bool, true, false, Result, Ok, Err}
 use Rattle.zst_outside.specs.Causes.{Rose}
 use Rattle.zst_block.specs.declared.fault.BlockFault.{BlockFault}
 use Rattle.zst_block.specs.declared.fault.BlockFault.TheVariants as blocks
@@ -39,11 +39,6 @@ of_set (sets.Redacted object block) = faults.Redacted object block
 of_set (sets.Limit which number) = faults.Plan (plans.Limit which number)
 of_set (sets.Block fault) = of_block fault
 
--- what a call of an object set answers, as a pool's answer
-abbrev pub of_call : Result (Unit {0}) ObjFault → Result (Unit {0}) PoolFault
-of_call (Ok done) = Ok done
-of_call (Err fault) = Err (of_set fault)
-
 -- a commit's fault as a pool's
 abbrev pub of_commit : CommitFault → PoolFault
 of_commit (commits.Full need largest) = faults.Full need largest
@@ -72,24 +67,13 @@ pub record HasDiskCause {T : Type 0} (before now : ℕ) (result : Result T PoolF
   pub later : before ≤ now
   pub fault : result ≡ Err faults.DiskFault → Rose before now
 
--- what stands after a command's fault, where the image read as a pool: the definition's own refusals come where it says, and leave the pool as it was; so do a full disk and want of memory; nothing is ever damaged
+-- what stands after a command's fault, where the image read as a pool: the definition's own refusals come where it says, and leave the pool as it was; so do a full disk, only where the definition accepts, and want of memory; nothing is ever damaged
 abbrev pub StepFault : Type 0 → Result Stepped Refusal → PoolFault → Type 0
 StepFault kept after (faults.Plan fault) = (after ≡ Err (refusal_of fault)) × kept
 StepFault kept after (faults.CannotApply fault) = (after ≡ Err (refusals.CannotApply 0 fault)) × kept
 StepFault kept after (faults.Redacted object block) = (after ≡ Err (refusals.Redacted object block)) × kept
-StepFault kept after (faults.Full need largest) = (largest < need) × kept
+StepFault kept after (faults.Full need largest) = ((done : Stepped) × (after ≡ Ok done)) × kept
 StepFault kept after (faults.Damaged sector stated found) = ⊥
 StepFault kept after faults.DiskFault = Unit {0}
 StepFault kept after faults.Failed = ⊥
 StepFault kept after faults.OutOfMemory = kept
-
--- the faults that a command on a pool that hasn't failed may answer, whatever the image is: all but that it failed before, and a full disk only with less left than is needed
-abbrev pub IsStepFault : PoolFault → Type 0
-IsStepFault (faults.Plan fault) = Unit {0}
-IsStepFault (faults.CannotApply fault) = Unit {0}
-IsStepFault (faults.Redacted object block) = Unit {0}
-IsStepFault (faults.Full need largest) = largest < need
-IsStepFault (faults.Damaged sector stated found) = Unit {0}
-IsStepFault faults.DiskFault = Unit {0}
-IsStepFault faults.Failed = ⊥
-IsStepFault faults.OutOfMemory = Unit {0}

@@ -1,63 +1,85 @@
 -- What changes the head of a dataset, and what its command makes of that.
-use Rattle.std.specs.Prelude.{◌≡◌, ◌<◌, ℕ, Bool, true, false, List, Result, Ok, Err}
+use Rattle.std.specs.Prelude.{◌≡◌, ◌+◌, ◌*◌, ◌≤◌, ℕ, Bool, true, false, List, Option, Some, None, Result, Ok, Err}
 use Rattle.zst_outside.specs.Images.{DiskState}
 use Rattle.zst_space.specs.FreeSectors.{FreeSectors}
 use Rattle.zst_block.specs.Blocks.{Has}
-use Rattle.zst_model.specs.declared.refusals.plan_fault.PlanFault.{PlanFault}
+use Rattle.zst_block.specs.Working as blocks
+use Rattle.zst_block.specs.declared.fault.BlockFault.{BlockFault}
+use Rattle.zst_block.specs.declared.fault.BlockFault.TheVariants as block_faults
 use Rattle.zst_model.specs.declared.refusals.refusal.Refusal.{Refusal}
-use Rattle.zst_model.specs.declared.refusals.refusal.Refusal.TheVariants as refusals
-use Rattle.zst_model.specs.refusals.Refusal.{refusal_of}
 use Rattle.zst_model.specs.states.Apply.{◌>>=◌}
 use Rattle.zst_model.specs.states.Dated.{DatedState}
 use Rattle.zst_model.specs.pools.Pool.{Pool, IsPool}
 use Rattle.zst_model.specs.pools.Step.{Stepped, committed, on_head}
 use Rattle.zst_tree.specs.Indices.{Blocks}
 use Rattle.zst_tree.specs.declared.tree.ObjSet.{ObjSet}
+use Rattle.zst_objset.specs.Answers as sets
 use Rattle.zst_objset.specs.Sets.{SetHolds}
+use Rattle.zst_objset.specs.declared.fault.ObjFault.{ObjFault}
+use Rattle.zst_objset.specs.declared.fault.ObjFault.TheVariants as set_faults
 use Rattle.zst_pool.specs.Checks.{next_of, with_head_of}
-use Rattle.zst_pool.specs.Faults.{StepFault}
+use Rattle.zst_pool.specs.Cost.{Cost}
+use Rattle.zst_pool.specs.Faults.{StepFault, of_set, is_disk_fault}
 use Rattle.zst_image.specs.Reads.{Rests, free_by}
-use Rattle.zst_pool.specs.Work.{Writes}
 use Rattle.zst_pool.specs.declared.fault.PoolFault.{PoolFault}
-use Rattle.zst_pool.specs.declared.fault.PoolFault.TheVariants.{Plan, CannotApply, Redacted, Full, Damaged, DiskFault, Failed, OutOfMemory}
+use Rattle.zst_pool.specs.declared.fault.PoolFault.TheVariants as faults
+use Rattle.zst_pool.specs.declared.head_fault.HeadFault.{HeadFault}
+use Rattle.zst_pool.specs.declared.head_fault.HeadFault.TheVariants.{Set, Memory}
 use Rattle.zst_image.specs.declared.kept.Kept.{Kept}
 
+-- a head's fault as a pool's
+abbrev pub of_head : HeadFault → PoolFault
+of_head (Set fault) = of_set fault
+of_head Memory = faults.OutOfMemory
+
+-- what a call of an object set answers, as what a change of a head does
+abbrev pub of_call : Result (Unit {0}) ObjFault → Result (Unit {0}) HeadFault
+of_call (Ok done) = Ok done
+of_call (Err fault) = Err (Set fault)
+
+-- what a change of a head answers, as a pool's answer
+abbrev pub of_change : Result (Unit {0}) HeadFault → Result (Unit {0}) PoolFault
+of_change (Ok done) = Ok done
+of_change (Err fault) = Err (of_head fault)
+
+-- the block fault at which a change of a head stopped
+abbrev pub stop_of : {T : Type 0} → Result T HeadFault → Option BlockFault
+stop_of (Ok value) = None
+stop_of {T = T} (Err (Set fault)) = sets.stop_of {T = T} (Err fault)
+stop_of (Err Memory) = None
+
 -- why a head isn't changed, where its set holds it: as the definition refuses it; full only where the definition accepts; never damaged
-abbrev pub ChangeFault : Result DatedState Refusal → PoolFault → Type 0
-ChangeFault change (Plan fault) = change ≡ Err (refusal_of fault)
-ChangeFault change (CannotApply fault) = change ≡ Err (refusals.CannotApply 0 fault)
-ChangeFault change (Redacted object block) = change ≡ Err (refusals.Redacted object block)
-ChangeFault change (Full need largest) = (largest < need) × ((after : DatedState) × (change ≡ Ok after))
-ChangeFault change (Damaged sector stated found) = ⊥
-ChangeFault change DiskFault = Unit {0}
-ChangeFault change Failed = ⊥
-ChangeFault change OutOfMemory = Unit {0}
+abbrev pub ChangeFault : Result DatedState Refusal → HeadFault → Type 0
+ChangeFault change (Set fault) = sets.Refuses change fault
+ChangeFault change Memory = Unit {0}
 
 -- the size of the blocks of an object that is there, or why one of them isn't written
-abbrev pub FindsSize : Result DatedState Refusal → ℕ → Result ℕ PoolFault → Type 0
+abbrev pub FindsSize : Result DatedState Refusal → ℕ → Result ℕ HeadFault → Type 0
 FindsSize change size (Ok found) = found ≡ size
 FindsSize change size (Err fault) = ChangeFault change fault
 
 -- the set holds what the definition makes of a head, or the head isn't changed
-abbrev pub ChangesHead : Blocks → ObjSet → Result DatedState Refusal → Result (Unit {0}) PoolFault → Type 0
+abbrev pub ChangesHead : Blocks → ObjSet → Result DatedState Refusal → Result (Unit {0}) HeadFault → Type 0
 ChangesHead has set change (Ok done) = (after : DatedState) × (change ≡ Ok after) × SetHolds has set after
 ChangesHead has set change (Err fault) = ChangeFault change fault
 
 -- whether the definition accepts a change with this answer: also where no room was found
-abbrev pub is_accepted : Result (Unit {0}) PoolFault → Bool
+abbrev pub is_accepted : Result (Unit {0}) HeadFault → Bool
 is_accepted (Ok done) = true
-is_accepted (Err (Plan fault)) = false
-is_accepted (Err (CannotApply fault)) = false
-is_accepted (Err (Redacted object block)) = false
-is_accepted (Err (Full need largest)) = true
-is_accepted (Err (Damaged sector stated found)) = false
-is_accepted (Err DiskFault) = false
-is_accepted (Err Failed) = false
-is_accepted (Err OutOfMemory) = false
+is_accepted (Err (Set (set_faults.CannotApply fault))) = false
+is_accepted (Err (Set (set_faults.Redacted object block))) = false
+is_accepted (Err (Set (set_faults.Limit which number))) = false
+is_accepted (Err (Set (set_faults.Block (block_faults.Full need largest)))) = true
+is_accepted (Err (Set (set_faults.Block (block_faults.Damaged sector stated found)))) = false
+is_accepted (Err (Set (set_faults.Block block_faults.DiskFault))) = false
+is_accepted (Err Memory) = false
 
--- a fault that the command's own checks find
-abbrev pub IsPlan : PoolFault → Type 0
-IsPlan fault = (plan : PlanFault) × (fault ≡ Plan plan)
+-- a command whose part stopped at this block fault, or at none, answers so: of the disk and of a full disk only what the block told
+pub record Stops (stop : Option BlockFault) (fault : PoolFault) : Type 0 where
+  pub fails : blocks.fails stop ≡ is_disk_fault {T = Unit {0}} (Err fault)
+  pub disk : fault ≡ faults.DiskFault → stop ≡ Some block_faults.DiskFault
+  pub full : (need largest : ℕ) → fault ≡ faults.Full need largest → stop ≡ Some (block_faults.Full need largest)
+  pub open_still : ¬ (fault ≡ faults.Failed)
 
 -- the set holds a changed head that can be committed, or what the command is refused for
 abbrev pub JudgesHead : Blocks → ObjSet → List ℕ → Pool → Result DatedState Refusal → Result (Unit {0}) PoolFault → Type 0
@@ -66,10 +88,16 @@ JudgesHead has set name pool change (Ok done) =
     × (committed (with_head_of name after pool) ≡ Ok (next_of (with_head_of name after pool)))
 JudgesHead has set name pool change (Err fault) = StepFault (Unit {0}) (change >>= λ after. committed (with_head_of name after pool)) fault
 
+-- a change that touches so many cells, and writes one block of so many sectors beside those of the trees
+abbrev pub Works : ℕ → ℕ → DiskState → FreeSectors → Bool → DiskState → FreeSectors → Bool → Option BlockFault → Type 0
+Works cells block old old_space old_failed new new_space new_failed stop = blocks.Works (block + 640 * cells) block old old_space old_failed new new_space new_failed stop
+
 -- Since a start a command changed the head of a dataset as `make` says, or could not: what stands then, and what was answered. What it makes is lawful.
-pub record ChangedHead (kept : Kept) (name : List ℕ) (make : Pool → DatedState → Result DatedState Refusal) (most : ℕ) (start : DiskState) (start_failed : Bool) (now : DiskState) (space : FreeSectors) (failed : Bool) (set : ObjSet) (changed : Result (Unit {0}) PoolFault) : Type 0 where
+pub record ChangedHead (kept : Kept) (name : List ℕ) (make : Pool → DatedState → Result DatedState Refusal) (cost : Cost) (start : DiskState) (start_failed : Bool) (now : DiskState) (space : FreeSectors) (failed : Bool) (set : ObjSet) (changed : Result (Unit {0}) HeadFault) : Type 0 where
   pub made : (pool : Pool) → now.honest → Rests start kept.body kept.dir pool
       → (head : DatedState) × ChangesHead (Has now.seen space) set (make pool head) changed
       × (on_head name pool (make pool) ≡ (make pool head >>= λ after. committed (with_head_of name after pool)))
   pub lawful : (pool : Pool) (done : Stepped) → IsPool pool → on_head name pool (make pool) ≡ Ok done → IsPool done.pool
-  pub writes : Writes most start (free_by kept.body) start_failed now space failed changed
+  -- whatever is there, and where the image reads as a pool
+  pub works : (block : ℕ) × (block ≤ cost.most) × Works cost.cells block start (free_by kept.body) start_failed now space failed (stop_of changed)
+  pub exact : (pool : Pool) → now.honest → Rests start kept.body kept.dir pool → Works cost.cells (cost.block pool) start (free_by kept.body) start_failed now space failed (stop_of changed)

@@ -1,6 +1,8 @@
 pub mod Checks
+pub mod Cost
+pub mod Damage
 pub mod Faults
 pub mod Heads
-pub mod Room
+pub mod Plans
+pub mod Runs
 pub mod Stepping
-pub mod Work

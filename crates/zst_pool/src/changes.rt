@@ -1,18 +1,24 @@
 // What a command makes of the object set of a head.
-ghost use Rattle.std.specs.Prelude.{◌≡◌, ◌+◌, ◌<◌, ◌≤◌, ℕ, true, length, IfOk, IfSome};
+ghost use Rattle.std.specs.Prelude.{◌≡◌, ◌+◌, ◌/◌, ◌<◌, ◌≤◌, ℕ, true, length, Err, IfErr, IfOk, IfSome, OnOk};
 ghost use Rattle.zst_block.specs.Blocks.{FitsDisk, Has};
+ghost use Rattle.zst_block.specs.Working.{Looks};
+ghost use Rattle.zst_model.specs.declared.refusals.plan_fault.PlanFault.{PlanFault};
 ghost use Rattle.zst_model.specs.states.Dated.{DatedState, size_at};
 ghost use Rattle.zst_model.specs.states.State.{is_block_size, IsHead, IsBonus, IsSpill};
 ghost use Rattle.zst_model.specs.pools.Pool.{Pool};
 ghost use Rattle.zst_model.specs.pools.Step.{filled, punched, written};
 ghost use Rattle.zst_objset.specs.Sets.{SetHolds};
 ghost use Rattle.zst_pool.specs.Checks.{freed, put_in};
-ghost use Rattle.zst_pool.specs.Faults.{of_call};
-ghost use Rattle.zst_pool.specs.Heads.{ChangesHead, FindsSize};
-ghost use Rattle.zst_pool.specs.Room.{object_sectors};
-ghost use Rattle.zst_pool.specs.Work.{Writes};
+ghost use Rattle.zst_pool.specs.Heads.{ChangesHead, FindsSize, Works, of_call, of_change, of_head, stop_of};
+ghost use Rattle.zst_pool.specs.Cost.{object_cells, spill_sectors};
+ghost use Rattle.zst_pool.specs.Damage.{IfHeadDamaged, block_damage, range_damage, slots_damage};
+ghost use Rattle.zst_objset.specs.Damage.{IsDamagedSet};
+ghost use Rattle.zst_tree.specs.Damage.{IsSeen};
+ghost use Rattle.zst_pool.specs.Plans.{IsPast};
+ghost use Rattle.zst_pool.specs.declared.fault.PoolFault.{PoolFault};
+ghost use Rattle.zst_tree.specs.Sets.{SetFits};
 
-use crate::fault::PoolFault;
+use crate::head_fault::HeadFault;
 use std::alloc::{AllocError, Global};
 use zst_block::Io;
 use zst_model::{ApplyFault, Bytes, ObjectHead};
@@ -20,13 +26,13 @@ use zst_objset::{ObjFault, Objects, changes_are_commands};
 use zst_outside::Disk;
 use zst_tree::ObjSet;
 
-// What a call of an object set answers, as a pool's answer.
-fn answer(called: Result<(), ObjFault>) -> Result<(), PoolFault>
+// What a call of an object set answers, as what a change of a head does.
+fn answer(called: Result<(), ObjFault>) -> Result<(), HeadFault>
     ensures { result ≡ of_call called }
 {
     match called {
         Ok(()) => Ok(()),
-        Err(fault) => Err(PoolFault::from(fault)),
+        Err(fault) => Err(HeadFault::from(fault)),
     }
 }
 
@@ -39,7 +45,7 @@ pub fn change_object<D: Disk>(
     head: ObjectHead,
     bonus: Bytes,
     spill: Option<Bytes>,
-) -> Result<(), PoolFault>
+) -> Result<(), HeadFault>
     requires fits { FitsDisk (D.state io.old.disk.now).size io.old.space }
     requires object { 0 < object }
     requires head { IsHead head }
@@ -47,7 +53,10 @@ pub fn change_object<D: Disk>(
     requires spill { IfSome spill IsSpill }
     ensures changed { (pool : Pool) (old : DatedState) → (D.state io.new.disk.now).honest → pool.number + 1 ≡ number → SetHolds (Has (D.state io.old.disk.now).seen io.old.space) set.old old
         → ChangesHead (Has (D.state io.new.disk.now).seen io.new.space) set.new (put_in pool object head bonus spill old) result }
-    ensures writes { Writes (object_sectors spill) (D.state io.old.disk.now) io.old.space io.old.failed (D.state io.new.disk.now) io.new.space io.new.failed result }
+    ensures works { Works (object_cells spill) (spill_sectors spill) (D.state io.old.disk.now) io.old.space io.old.failed (D.state io.new.disk.now) io.new.space io.new.failed (stop_of result) }
+    ensures damaged { (D.state io.new.disk.now).honest → IfHeadDamaged result (slots_damage (D.state io.old.disk.now) io.old.space set.old) }
+    ensures levels { OnOk result (SetFits set.new) }
+    ensures limits { (fault : PlanFault) → of_change result ≡ Err (PoolFault.Plan fault) → IsPast (object + 1) 0 fault }
     ensures same { io.new.disk.ghost_name ≡ io.old.disk.ghost_name }
 {
     changes_are_commands();
@@ -65,23 +74,25 @@ fn find_size<D: Disk>(
     set: &ObjSet,
     object: u64,
     bytes: &[u8],
-) -> Result<u32, PoolFault>
+) -> Result<u32, HeadFault>
     requires fits { FitsDisk (D.state io.old.disk.now).size io.old.space }
     requires object { 0 < object }
     ensures found { (pool : Pool) (index : ℕ) (head : DatedState) → (D.state io.new.disk.now).honest → SetHolds (Has (D.state io.old.disk.now).seen io.old.space) set.now head
         → FindsSize (written pool object index bytes.now head) (size_at (head.state object)) result }
+    ensures limits { IfErr result (λ fell. (fault : PlanFault) → of_head fell ≡ PoolFault.Plan fault → ⊥) }
     ensures size { IfOk result (λ size. is_block_size size ≡ true) }
     ensures room { IfOk result (λ size. length bytes.now ≤ size) }
-    ensures writes { Writes 0 (D.state io.old.disk.now) io.old.space io.old.failed (D.state io.new.disk.now) io.new.space io.new.failed result }
+    ensures looks { Looks (D.state io.old.disk.now) io.old.space io.old.failed (D.state io.new.disk.now) io.new.space io.new.failed (stop_of result) }
+    ensures damaged { (D.state io.new.disk.now).honest → IfHeadDamaged result (IsDamagedSet (IsSeen (D.state io.old.disk.now).seen) (D.state io.old.disk.now).size set.now) }
     ensures same { io.new.disk.ghost_name ≡ io.old.disk.ghost_name }
 {
     match set.attr(io, object) {
-        Ok(None) => Err(PoolFault::CannotApply(ApplyFault::NoObject)),
+        Ok(None) => Err(HeadFault::Set(ObjFault::CannotApply(ApplyFault::NoObject))),
         Ok(Some(dnode)) if bytes.len() > dnode.block_size as usize => {
-            Err(PoolFault::CannotApply(ApplyFault::SizeDiffers))
+            Err(HeadFault::Set(ObjFault::CannotApply(ApplyFault::SizeDiffers)))
         }
         Ok(Some(dnode)) => Ok(dnode.block_size),
-        Err(fault) => Err(PoolFault::from(fault)),
+        Err(fault) => Err(HeadFault::from(fault)),
     }
 }
 
@@ -105,12 +116,17 @@ pub fn change_block<D: Disk>(
     object: u64,
     index: u64,
     bytes: &[u8],
-) -> Result<(), PoolFault>
+) -> Result<(), HeadFault>
     requires fits { FitsDisk (D.state io.old.disk.now).size io.old.space }
     requires object { 0 < object }
     ensures changed { (pool : Pool) (head : DatedState) → (D.state io.new.disk.now).honest → pool.number + 1 ≡ number → SetHolds (Has (D.state io.old.disk.now).seen io.old.space) set.old head
         → ChangesHead (Has (D.state io.new.disk.now).seen io.new.space) set.new (written pool object index bytes.now head) result }
-    ensures writes { Writes (640 + 256) (D.state io.old.disk.now) io.old.space io.old.failed (D.state io.new.disk.now) io.new.space io.new.failed result }
+    ensures works { (block : ℕ) × (block ≤ 256) × Works 1 block (D.state io.old.disk.now) io.old.space io.old.failed (D.state io.new.disk.now) io.new.space io.new.failed (stop_of result) }
+    ensures exact { (head : DatedState) → (D.state io.new.disk.now).honest → SetHolds (Has (D.state io.old.disk.now).seen io.old.space) set.old head
+        → Works 1 (size_at (head.state object) / 512) (D.state io.old.disk.now) io.old.space io.old.failed (D.state io.new.disk.now) io.new.space io.new.failed (stop_of result) }
+    ensures damaged { (D.state io.new.disk.now).honest → IfHeadDamaged result (block_damage (D.state io.old.disk.now) io.old.space set.old) }
+    ensures levels { OnOk result (SetFits set.new) }
+    ensures limits { (fault : PlanFault) → of_change result ≡ Err (PoolFault.Plan fault) → IsPast 0 (index + 1) fault }
     ensures same { io.new.disk.ghost_name ≡ io.old.disk.ghost_name }
 {
     changes_are_commands();
@@ -127,12 +143,15 @@ pub fn change_holes<D: Disk>(
     object: u64,
     first: u64,
     count: u64,
-) -> Result<(), PoolFault>
+) -> Result<(), HeadFault>
     requires fits { FitsDisk (D.state io.old.disk.now).size io.old.space }
     requires object { 0 < object }
     ensures changed { (pool : Pool) (head : DatedState) → (D.state io.new.disk.now).honest → pool.number + 1 ≡ number → SetHolds (Has (D.state io.old.disk.now).seen io.old.space) set.old head
         → ChangesHead (Has (D.state io.new.disk.now).seen io.new.space) set.new (punched pool object first count head) result }
-    ensures writes { Writes 1280 (D.state io.old.disk.now) io.old.space io.old.failed (D.state io.new.disk.now) io.new.space io.new.failed result }
+    ensures works { Works 2 0 (D.state io.old.disk.now) io.old.space io.old.failed (D.state io.new.disk.now) io.new.space io.new.failed (stop_of result) }
+    ensures damaged { (D.state io.new.disk.now).honest → IfHeadDamaged result (range_damage (D.state io.old.disk.now) io.old.space set.old) }
+    ensures levels { OnOk result (SetFits set.new) }
+    ensures limits { (fault : PlanFault) → of_change result ≡ Err (PoolFault.Plan fault) → IsPast 0 (first + count) fault }
     ensures same { io.new.disk.ghost_name ≡ io.old.disk.ghost_name }
 {
     changes_are_commands();
@@ -146,12 +165,15 @@ pub fn change_numbers<D: Disk>(
     number: u64,
     first: u64,
     count: u64,
-) -> Result<(), PoolFault>
+) -> Result<(), HeadFault>
     requires fits { FitsDisk (D.state io.old.disk.now).size io.old.space }
     requires first { 0 < first }
     ensures changed { (pool : Pool) (head : DatedState) → (D.state io.new.disk.now).honest → pool.number + 1 ≡ number → SetHolds (Has (D.state io.old.disk.now).seen io.old.space) set.old head
         → ChangesHead (Has (D.state io.new.disk.now).seen io.new.space) set.new (freed pool first count head) result }
-    ensures writes { Writes 1280 (D.state io.old.disk.now) io.old.space io.old.failed (D.state io.new.disk.now) io.new.space io.new.failed result }
+    ensures works { Works 2 0 (D.state io.old.disk.now) io.old.space io.old.failed (D.state io.new.disk.now) io.new.space io.new.failed (stop_of result) }
+    ensures damaged { (D.state io.new.disk.now).honest → IfHeadDamaged result (slots_damage (D.state io.old.disk.now) io.old.space set.old) }
+    ensures levels { SetFits set.old → SetFits set.new }
+    ensures limits { (fault : PlanFault) → of_change result ≡ Err (PoolFault.Plan fault) → IsPast (first + count) 0 fault }
     ensures same { io.new.disk.ghost_name ≡ io.old.disk.ghost_name }
 {
     changes_are_commands();

@@ -1,15 +1,14 @@
 // What a command looks up before it changes anything, in the order of its definition.
-ghost use Rattle.std.specs.Prelude.{◌≡◌, ◌&&◌, ◌+◌, ◌<◌, ◌≤◌, ◌^◌, ℕ, List, false, Contains, Result, Ok, OnOk, IfOk, bytes_eq, count_by, is_some, is_none, length, position};
+ghost use Rattle.std.specs.Prelude.{◌≡◌, ◌⊎◌, ◌&&◌, ◌+◌, ◌<◌, ◌≤◌, ◌^◌, ℕ, List, false, true, Contains, Result, Ok, OnOk, IfErr, IfOk, bytes_eq, count_by, is_some, is_none, length, position};
 ghost use Rattle.std.specs.List.{list_any};
-ghost use Rattle.zst_space.specs.FreeSectors.{FreeSectors};
-ghost use Rattle.zst_block.specs.Blocks.{Has};
 ghost use Rattle.zst_names.specs.Names.{dataset_of};
 ghost use Rattle.zst_model.specs.pools.Pool.{Pool, partial_of, dataset_named};
 ghost use Rattle.zst_model.specs.declared.refusals.refusal.Refusal.{Refusal};
 ghost use Rattle.zst_model.specs.pools.Step.{Stepped, committed, with_dataset, count_datasets};
 ghost use Rattle.zst_pool.specs.Checks.{Judges, FindsDataset, if_guid_left, if_new_snapshot, JudgesSnapshot, next_of, with_new};
 ghost use Rattle.zst_dir.specs.Rows.{HasDataset, HasSnapshot, IsLawful};
-ghost use Rattle.zst_image.specs.Reads.{RowsAre};
+ghost use Rattle.zst_pool.specs.Plans.{IsLast, is_by_rows};
+ghost use Rattle.zst_image.specs.Reads.{AreNamed};
 
 use zst_dir::{Dataset, Dir};
 use zst_image::Kept;
@@ -29,8 +28,8 @@ fn count_kept(dir: &Dir) -> usize
 /// the snapshots that they are to become.
 pub fn check_new_snapshot(dir: &Dir, name: &SnapName) -> Result<(), PlanFault>
     ensures absent { OnOk result (HasSnapshot dir.now name.now → ⊥) }
-    ensures judged { (image : List ℕ) (space : FreeSectors) (pool : Pool) (rest : Result Stepped Refusal) → RowsAre (Has image space) dir.now pool
-        → Judges (if_new_snapshot name.now pool rest) rest result }
+    ensures rows { IfErr result (λ fault. is_by_rows fault ≡ true) }
+    ensures judged { (pool : Pool) (rest : Result Stepped Refusal) → AreNamed dir.now pool → Judges (if_new_snapshot name.now pool rest) rest result }
 {
     if dir.snapshot(name).is_some() {
         return Err(PlanFault::Exists(Present::Named(Name::Snapshot(name.duplicate()))));
@@ -47,6 +46,7 @@ pub fn check_new_snapshot(dir: &Dir, name: &SnapName) -> Result<(), PlanFault>
 /// E23 where no guid is left.
 pub fn check_guids(guids: u64) -> Result<(), PlanFault>
     ensures below { OnOk result (guids + 1 < 2 ^ 32) }
+    ensures rows { IfErr result (λ fault. is_by_rows fault ≡ true) }
     ensures judged { (rest : Result Stepped Refusal) → Judges (if_guid_left guids rest) rest result }
 {
     if guids >= LAST_GUID {
@@ -72,7 +72,8 @@ pub fn open_dataset<'a>(dir: &'a Dir, name: &DatasetName) -> Result<&'a Dataset,
     ensures lawful { IsLawful dir.now }
     ensures there { IfOk result (λ row. Contains dir.now.datasets row.now × (row.now.name ≡ name.now)) }
     ensures free { OnOk result (list_any (λ partial. partial.keep && bytes_eq partial.target name.now) dir.now.partials ≡ false) }
-    ensures found { (image : List ℕ) (space : FreeSectors) (pool : Pool) → RowsAre (Has image space) dir.now pool → FindsDataset (Has image space) name.now pool result }
+    ensures rows { IfErr result (λ fault. is_by_rows fault ≡ true) }
+    ensures found { (pool : Pool) → AreNamed dir.now pool → FindsDataset dir.now name.now pool result }
 {
     let datasets = dir.datasets();
     let place = match dir.dataset(name) {
@@ -110,7 +111,7 @@ fn count_absent(dir: &Dir) -> usize
 
 /// How many datasets there are, with those of which there is a partial state alone.
 fn count_datasets(dir: &Dir) -> usize
-    ensures { (image : List ℕ) (space : FreeSectors) (pool : Pool) → RowsAre (Has image space) dir.now pool → result ≡ count_datasets pool }
+    ensures { (pool : Pool) → AreNamed dir.now pool → result ≡ count_datasets pool }
 {
     dir.datasets().len() + count_absent(dir)
 }
@@ -118,7 +119,8 @@ fn count_datasets(dir: &Dir) -> usize
 /// E4 where the name is taken, and E23 where there are too many datasets.
 pub fn check_new_dataset(dir: &Dir, name: &DatasetName) -> Result<(), PlanFault>
     ensures absent { OnOk result (HasDataset dir.now name.now → ⊥) }
-    ensures judged { (image : List ℕ) (space : FreeSectors) (kind : ℕ) (pool : Pool) → RowsAre (Has image space) dir.now pool
+    ensures rows { IfErr result (λ fault. is_by_rows fault ≡ true) }
+    ensures judged { (kind : ℕ) (pool : Pool) → AreNamed dir.now pool
         → Judges (with_dataset kind name.now pool) (committed (with_new kind name.now pool)) result }
 {
     if dir.dataset(name).is_some() {
@@ -145,6 +147,7 @@ fn exists_already(name: &DatasetName) -> PlanFault
 /// E23 where the last commit was made.
 pub fn check_number(number: u64) -> Result<(), PlanFault>
     ensures below { OnOk result (number < 2 ^ 63) }
+    ensures last { IfErr result (IsLast number) }
     ensures judged { (pool : Pool) → pool.number ≡ number → Judges (committed pool) (Ok (next_of pool)) result }
 {
     if number >= LAST_NUMBER {
@@ -164,8 +167,9 @@ pub fn plan_snapshot<'a>(kept: &'a Kept, name: &SnapName) -> Result<&'a Dataset,
     ensures absent { OnOk result (HasSnapshot kept.now.dir name.now → ⊥) }
     ensures guids { OnOk result (kept.now.body.guids + 1 < 2 ^ 32) }
     ensures number { OnOk result (kept.now.body.number < 2 ^ 63) }
-    ensures judged { (image : List ℕ) (space : FreeSectors) (now : ℕ) (pool : Pool) → RowsAre (Has image space) kept.now.dir pool → pool.guids ≡ kept.now.body.guids → pool.number ≡ kept.now.body.number
-        → JudgesSnapshot (Has image space) now name.now pool result }
+    ensures refused { IfErr result (λ fault. (is_by_rows fault ≡ true) ⊎ IsLast kept.now.body.number fault) }
+    ensures judged { (now : ℕ) (pool : Pool) → AreNamed kept.now.dir pool → pool.guids ≡ kept.now.body.guids → pool.number ≡ kept.now.body.number
+        → JudgesSnapshot kept.now.dir now name.now pool result }
 {
     let dataset = open_dataset(&kept.dir, &name.dataset())?;
     check_new_snapshot(&kept.dir, name)?;

@@ -6,9 +6,12 @@ ghost use Rattle.zst_model.specs.pools.Step.{with_dataset, with_snapshot};
 ghost use Rattle.zst_tree.specs.Sets.{no_objects};
 ghost use Rattle.zst_dir.specs.Rows.{HasDataset, HasSnapshot, IsDatasetRow, IsLawful, IsSnapshotRow, snapshot_is_before};
 ghost use Rattle.zst_dir.specs.Spelling.{dir_bytes};
+ghost use Rattle.zst_pool.specs.Plans.{Plans};
 ghost use Rattle.zst_image.specs.Reads.{free_by};
+ghost use Rattle.zst_pool.specs.Cost.{cells_only};
+ghost use Rattle.zst_pool.specs.Damage.{NoDamage};
+ghost use Rattle.zst_pool.specs.Runs.{Runs};
 ghost use Rattle.zst_image.specs.Committing.{Ready};
-ghost use Rattle.zst_pool.specs.Work.{Runs};
 
 use crate::checks::{check_new_dataset, check_number, plan_snapshot};
 use crate::fault::{PoolFault, of_committed};
@@ -49,7 +52,8 @@ pub fn make_dataset<D: Disk>(
     requires kind { (kind ≡ 2) ⊎ (kind ≡ 3) }
     requires space { io.old.space ≡ free_by kept.now.body }
     requires ready { Ready (D.state io.old.disk.now) kept.now.body }
-    ensures runs { Runs (λ pool. with_dataset kind name.now pool) 0 kept.now (D.state io.old.disk.now) io.old.failed (D.state io.new.disk.now) io.new.failed result }
+    ensures runs { Runs (λ pool. with_dataset kind name.now pool) (cells_only 0) NoDamage kept.now (D.state io.old.disk.now) io.old.failed (D.state io.new.disk.now) io.new.space io.new.failed result }
+    ensures plans { Plans (λ pool. with_dataset kind name.now pool) 0 0 kept.now result }
     ensures same { io.new.disk.ghost_name ≡ io.old.disk.ghost_name }
 {
     check_new_dataset(&kept.dir, name)?;
@@ -105,7 +109,8 @@ pub fn take_snapshot<D: Disk>(
 ) -> Result<Kept, PoolFault>
     requires space { io.old.space ≡ free_by kept.now.body }
     requires ready { Ready (D.state io.old.disk.now) kept.now.body }
-    ensures runs { Runs (λ pool. with_snapshot now name.now pool) 0 kept.now (D.state io.old.disk.now) io.old.failed (D.state io.new.disk.now) io.new.failed result }
+    ensures runs { Runs (λ pool. with_snapshot now name.now pool) (cells_only 0) NoDamage kept.now (D.state io.old.disk.now) io.old.failed (D.state io.new.disk.now) io.new.space io.new.failed result }
+    ensures plans { Plans (λ pool. with_snapshot now name.now pool) 0 0 kept.now result }
     ensures same { io.new.disk.ghost_name ≡ io.old.disk.ghost_name }
 {
     let dataset = plan_snapshot(kept, name)?;

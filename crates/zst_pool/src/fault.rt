@@ -1,8 +1,9 @@
 ghost use Rattle.std.specs.Prelude.{◌≡◌};
 ghost use Rattle.zst_pool.specs.Faults.{of_committed};
 
+use crate::head_fault::HeadFault;
 use std::alloc::AllocError;
-use zst_block::{BlockFault, Ptr};
+use zst_block::BlockFault;
 use zst_image::{CommitFault, Kept};
 use zst_model::{ApplyFault, PlanFault, Refusal};
 use zst_objset::ObjFault;
@@ -37,22 +38,6 @@ pub enum PoolFault {
     Failed,
     /// E32: no memory was left.
     OutOfMemory,
-}
-
-impl PoolFault {
-    ghost use Rattle.std.specs.Prelude.{◌≡◌};
-    ghost use Rattle.zst_fletcher.specs.WeightSum.{parts_of};
-
-    /// E25 of a block that isn't of its layout: both sums are those that its pointer states.
-    pub(crate) fn of_layout(ptr: &Ptr) -> PoolFault
-        ensures { result ≡ PoolFault.Damaged ptr.now.sector (parts_of ptr.now.sum) (parts_of ptr.now.sum) }
-    {
-        PoolFault::Damaged {
-            sector: ptr.sector,
-            stated: ptr.sum.parts(),
-            found: ptr.sum.parts(),
-        }
-    }
 }
 
 impl From<AllocError> for PoolFault {
@@ -114,6 +99,20 @@ impl From<ObjFault> for PoolFault {
                 PoolFault::Plan(PlanFault::Limit { which, number })
             }
             ObjFault::Block(fault) => PoolFault::from(fault),
+        }
+    }
+}
+
+impl From<HeadFault> for PoolFault {
+    ghost use Rattle.std.specs.Prelude.{◌≡◌};
+    ghost use Rattle.zst_pool.specs.Heads.{of_head};
+
+    ghost from_gives = { λ head fault. fault ≡ of_head head };
+
+    fn from(fault: HeadFault) -> Self {
+        match fault {
+            HeadFault::Set(fault) => PoolFault::from(fault),
+            HeadFault::Memory => PoolFault::OutOfMemory,
         }
     }
 }

@@ -1,34 +1,37 @@
 // The commands on a dataset's head, each over the Io of a pool that hasn't failed.
-ghost use Rattle.std.specs.Prelude.{◌≡◌, ◌⊎◌, ◌+◌, ◌<◌, ◌≤◌, ◌^◌, ℕ, Bool, List, Result, length, IfErr, IfSome, OnErr, OnOk};
+ghost use Rattle.std.specs.Prelude.{◌≡◌, ◌⊎◌, ◌+◌, ◌<◌, ◌≤◌, ◌^◌, ℕ, Bool, true, List, Result, Err, length, IfErr, IfSome, OnOk, IfOk, is_ok};
 ghost use Rattle.zst_space.specs.FreeSectors.{FreeSectors};
-ghost use Rattle.zst_fletcher.specs.WeightSum.{parts_of};
 ghost use Rattle.zst_block.specs.Blocks.{FitsDisk, Has};
 ghost use Rattle.zst_names.specs.Names.{IsDataset};
+ghost use Rattle.zst_model.specs.declared.refusals.plan_fault.PlanFault.{PlanFault};
 ghost use Rattle.zst_model.specs.declared.refusals.refusal.Refusal.{Refusal};
 ghost use Rattle.zst_model.specs.states.State.{IsHead, IsBonus, IsSpill};
 ghost use Rattle.zst_model.specs.states.Dated.{DatedState};
 ghost use Rattle.zst_model.specs.pools.Pool.{Pool};
 ghost use Rattle.zst_model.specs.pools.Step.{on_head, punched, written};
 ghost use Rattle.zst_tree.specs.Sets.{SetFits};
-ghost use Rattle.zst_tree.specs.declared.tree.ObjSet.{ObjSet as Set};
+ghost use Rattle.zst_tree.specs.declared.tree.ObjSet.{ObjSet as ObjectSet};
 ghost use Rattle.zst_pool.specs.Checks.{FindsHead, freed, put_in};
-ghost use Rattle.zst_pool.specs.Faults.{is_disk_fault};
-ghost use Rattle.zst_pool.specs.Heads.{ChangedHead, ChangesHead, IsPlan, JudgesHead, is_accepted};
-ghost use Rattle.zst_image.specs.Reads.{RowsAre, free_by};
-ghost use Rattle.zst_pool.specs.Room.{object_sectors};
+ghost use Rattle.zst_pool.specs.Heads.{ChangedHead, ChangesHead, JudgesHead, Stops, is_accepted, of_change, stop_of};
+ghost use Rattle.zst_image.specs.Reads.{AreNamed, free_by};
+ghost use Rattle.zst_pool.specs.Cost.{Cost, cells_only, object_cost, write_cost};
+ghost use Rattle.zst_pool.specs.Runs.{Runs, Ran};
+ghost use Rattle.zst_pool.specs.Plans.{IsLast, Plans, is_by_rows};
+ghost use Rattle.zst_pool.specs.Damage.{HasHead, OfHead, block_damage, range_damage, slots_damage};
 ghost use Rattle.zst_image.specs.Committing.{Ready};
-ghost use Rattle.zst_pool.specs.Work.{Runs};
 
 use crate::changes::{change_block, change_holes, change_numbers, change_object};
 use crate::checks::{check_number, open_dataset};
 use crate::fault::{PoolFault, of_committed};
+use crate::head_fault::HeadFault;
 use std::alloc::Global;
-use zst_block::Io;
+use zst_block::{BlockFault, Io};
 use zst_dir::Dir;
 use zst_image::{Kept, commit_dir};
 use zst_laws::steps_keep_pools;
 use zst_model::{Bytes, ObjectHead, PlanFault};
 use zst_names::DatasetName;
+use zst_objset::ObjFault;
 use zst_outside::Disk;
 use zst_tree::ObjSet;
 use zst_uber::Uber;
@@ -36,7 +39,10 @@ use zst_uber::Uber;
 // The object set of the head of a dataset that has no partial state.
 fn open_head(dir: &Dir, name: &DatasetName) -> Result<ObjSet, PlanFault>
     ensures named { OnOk result (IsDataset name.now) }
-    ensures found { (image : List ℕ) (space : FreeSectors) (pool : Pool) → RowsAre (Has image space) dir.now pool → FindsHead (Has image space) name.now pool result }
+    ensures there { IfOk result (HasHead dir.now name.now) }
+    ensures levels { IfOk result SetFits }
+    ensures rows { IfErr result (λ fault. is_by_rows fault ≡ true) }
+    ensures found { (pool : Pool) → AreNamed dir.now pool → FindsHead dir.now name.now pool result }
 {
     match open_dataset(dir, name) {
         Ok(dataset) => Ok(dataset.head),
@@ -52,37 +58,41 @@ fn next_number(body: &Uber) -> u64
 }
 
 // Whether the definition accepts a change with this answer: also where no room was found.
-fn is_accepted(changed: &Result<(), PoolFault>) -> bool
+fn is_accepted(changed: &Result<(), HeadFault>) -> bool
     ensures { result ≡ is_accepted changed.now }
 {
-    matches!(changed, Ok(()) | Err(PoolFault::Full { .. }))
+    matches!(
+        changed,
+        Ok(()) | Err(HeadFault::Set(ObjFault::Block(BlockFault::Full { .. })))
+    )
+}
+
+// What a change of a head answers, as a pool's answer.
+fn answer(changed: Result<(), HeadFault>) -> Result<(), PoolFault>
+    ensures { result ≡ of_change changed }
+{
+    match changed {
+        Ok(()) => Ok(()),
+        Err(fault) => Err(PoolFault::from(fault)),
+    }
 }
 
 // What a command answers whose change was answered so: E23 of the commit's number comes before E24.
-fn judge(number: u64, changed: Result<(), PoolFault>) -> Result<(), PoolFault>
-    ensures judged { (image : List ℕ) (space : FreeSectors) (set : Set) (name : List ℕ) (pool : Pool) (change : Result DatedState Refusal) → pool.number ≡ number
+fn judge(number: u64, changed: Result<(), HeadFault>) -> Result<(), PoolFault>
+    ensures judged { (image : List ℕ) (space : FreeSectors) (set : ObjectSet) (name : List ℕ) (pool : Pool) (change : Result DatedState Refusal) → pool.number ≡ number
         → ChangesHead (Has image space) set change changed → JudgesHead (Has image space) set name pool change result }
     ensures below { OnOk result (number < 2 ^ 63) }
-    ensures refused { IfErr result (λ fault. (changed ≡ Err fault) ⊎ IsPlan fault) }
-    ensures disk { is_disk_fault result ≡ is_disk_fault changed }
+    ensures went_well { OnOk result (stop_of changed ≡ None) }
+    ensures well { OnOk result (is_ok changed ≡ true) }
+    ensures stops { IfErr result (Stops (stop_of changed)) }
+    ensures damaged { (sector : ℕ) (stated found : List ℕ) → result ≡ Err (PoolFault.Damaged sector stated found) → changed ≡ Err (HeadFault.Set (ObjFault.Block (BlockFault.Damaged sector stated found))) }
+    ensures last { (fault : PlanFault) → result ≡ Err (PoolFault.Plan fault) → (of_change changed ≡ Err (PoolFault.Plan fault)) ⊎ IsLast number fault }
 {
     if !is_accepted(&changed) {
-        return changed;
+        return answer(changed);
     }
     check_number(number)?;
-    changed
-}
-
-// An object set of more than 7 levels isn't of its layout.
-fn check_levels(set: ObjSet) -> Result<(), PoolFault>
-    ensures fits { OnOk result (SetFits set) }
-    ensures deep { OnErr result (7 < set.tree.levels) }
-    ensures damaged { IfErr result (λ fault. fault ≡ PoolFault.Damaged set.tree.root.sector (parts_of set.tree.root.sum) (parts_of set.tree.root.sum)) }
-{
-    if set.tree.levels > 7 {
-        return Err(PoolFault::of_layout(&set.tree.root));
-    }
-    Ok(())
+    answer(changed)
 }
 
 // Ends a command that changed the object set of a dataset's head, or couldn't: commits the head, or
@@ -93,18 +103,21 @@ fn commit_head<D: Disk>(
     kept: &Kept,
     name: &DatasetName,
     set: ObjSet,
-    changed: Result<(), PoolFault>,
+    changed: Result<(), HeadFault>,
 ) -> Result<Kept, PoolFault>
     requires fits { FitsDisk (D.state io.old.disk.now).size io.old.space }
     requires sectors { io.old.space.sectors ≡ kept.now.body.sectors }
     requires ready { Ready (D.state io.old.disk.now) kept.now.body }
-    ensures runs { (start : D) (start_failed : Bool) (make : Pool → DatedState → Result DatedState Refusal) (most : ℕ)
-        → ChangedHead kept.now name.now make most (D.state start) start_failed (D.state io.old.disk.now) io.old.space io.old.failed set changed
-        → Runs (λ pool. on_head name.now pool (make pool)) most kept.now (D.state start) start_failed (D.state io.new.disk.now) io.new.failed result }
+    requires levels { OnOk changed (SetFits set) }
+    ensures ran { (start : D) (start_failed : Bool) (make : Pool → DatedState → Result DatedState Refusal) (cost : Cost)
+        → ChangedHead kept.now name.now make cost (D.state start) start_failed (D.state io.old.disk.now) io.old.space io.old.failed set changed
+        → Ran (λ pool. on_head name.now pool (make pool)) cost kept.now (D.state start) start_failed (D.state io.new.disk.now) io.new.space io.new.failed result }
+    ensures damaged { (sector : ℕ) (stated found : List ℕ) → result ≡ Err (PoolFault.Damaged sector stated found) → changed ≡ Err (HeadFault.Set (ObjFault.Block (BlockFault.Damaged sector stated found))) }
+    ensures honest { (D.state io.new.disk.now).honest → (D.state io.old.disk.now).honest }
+    ensures plans { (fault : PlanFault) → result ≡ Err (PoolFault.Plan fault) → (of_change changed ≡ Err (PoolFault.Plan fault)) ⊎ IsLast kept.now.body.number fault }
     ensures same { io.new.disk.ghost_name ≡ io.old.disk.ghost_name }
 {
     judge(kept.body.number, changed)?;
-    check_levels(set)?;
     let mut dir = kept.dir.copy(alloc)?;
     dir.set_head(name, set);
     of_committed(commit_dir(io, alloc, &kept.body, kept.body.guids, dir))
@@ -127,7 +140,8 @@ pub fn put_object<D: Disk>(
     requires spill { IfSome spill IsSpill }
     requires space { io.old.space ≡ free_by kept.now.body }
     requires ready { Ready (D.state io.old.disk.now) kept.now.body }
-    ensures runs { Runs (λ pool. on_head name.now pool (put_in pool object head bonus spill)) (object_sectors spill) kept.now (D.state io.old.disk.now) io.old.failed (D.state io.new.disk.now) io.new.failed result }
+    ensures runs { Runs (λ pool. on_head name.now pool (put_in pool object head bonus spill)) (object_cost spill) (OfHead kept.now.dir name.now (slots_damage (D.state io.old.disk.now) (free_by kept.now.body))) kept.now (D.state io.old.disk.now) io.old.failed (D.state io.new.disk.now) io.new.space io.new.failed result }
+    ensures plans { Plans (λ pool. on_head name.now pool (put_in pool object head bonus spill)) (object + 1) 0 kept.now result }
     ensures same { io.new.disk.ghost_name ≡ io.old.disk.ghost_name }
 {
     let mut set = open_head(&kept.dir, name)?;
@@ -152,7 +166,8 @@ pub fn write_block<D: Disk>(
     requires small { length bytes.now ≤ 2 ^ 20 }
     requires space { io.old.space ≡ free_by kept.now.body }
     requires ready { Ready (D.state io.old.disk.now) kept.now.body }
-    ensures runs { Runs (λ pool. on_head name.now pool (written pool object index bytes.now)) (640 + 256) kept.now (D.state io.old.disk.now) io.old.failed (D.state io.new.disk.now) io.new.failed result }
+    ensures runs { Runs (λ pool. on_head name.now pool (written pool object index bytes.now)) (write_cost name.now object) (OfHead kept.now.dir name.now (block_damage (D.state io.old.disk.now) (free_by kept.now.body))) kept.now (D.state io.old.disk.now) io.old.failed (D.state io.new.disk.now) io.new.space io.new.failed result }
+    ensures plans { Plans (λ pool. on_head name.now pool (written pool object index bytes.now)) 0 (index + 1) kept.now result }
     ensures same { io.new.disk.ghost_name ≡ io.old.disk.ghost_name }
 {
     let mut set = open_head(&kept.dir, name)?;
@@ -176,7 +191,8 @@ pub fn punch<D: Disk>(
     requires some { 0 < count }
     requires space { io.old.space ≡ free_by kept.now.body }
     requires ready { Ready (D.state io.old.disk.now) kept.now.body }
-    ensures runs { Runs (λ pool. on_head name.now pool (punched pool object first count)) 1280 kept.now (D.state io.old.disk.now) io.old.failed (D.state io.new.disk.now) io.new.failed result }
+    ensures runs { Runs (λ pool. on_head name.now pool (punched pool object first count)) (cells_only 2) (OfHead kept.now.dir name.now (range_damage (D.state io.old.disk.now) (free_by kept.now.body))) kept.now (D.state io.old.disk.now) io.old.failed (D.state io.new.disk.now) io.new.space io.new.failed result }
+    ensures plans { Plans (λ pool. on_head name.now pool (punched pool object first count)) 0 (first + count) kept.now result }
     ensures same { io.new.disk.ghost_name ≡ io.old.disk.ghost_name }
 {
     let mut set = open_head(&kept.dir, name)?;
@@ -199,7 +215,8 @@ pub fn free_objects<D: Disk>(
     requires some { 0 < count }
     requires space { io.old.space ≡ free_by kept.now.body }
     requires ready { Ready (D.state io.old.disk.now) kept.now.body }
-    ensures runs { Runs (λ pool. on_head name.now pool (freed pool first count)) 1280 kept.now (D.state io.old.disk.now) io.old.failed (D.state io.new.disk.now) io.new.failed result }
+    ensures runs { Runs (λ pool. on_head name.now pool (freed pool first count)) (cells_only 2) (OfHead kept.now.dir name.now (slots_damage (D.state io.old.disk.now) (free_by kept.now.body))) kept.now (D.state io.old.disk.now) io.old.failed (D.state io.new.disk.now) io.new.space io.new.failed result }
+    ensures plans { Plans (λ pool. on_head name.now pool (freed pool first count)) (first + count) 0 kept.now result }
     ensures same { io.new.disk.ghost_name ≡ io.old.disk.ghost_name }
 {
     let mut set = open_head(&kept.dir, name)?;

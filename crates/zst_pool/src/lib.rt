@@ -5,10 +5,13 @@ mod changes;
 mod checks;
 mod commands;
 mod fault;
+mod head_fault;
 mod heads;
+mod laws;
 mod pool;
 #[cfg(test)]
 mod tests;
 
 pub use fault::PoolFault;
+pub use laws::rows_name_a_pool;
 pub use pool::Pool;

@@ -1,16 +1,18 @@
-ghost use Rattle.std.specs.Prelude.{◌≡◌, ◌∷◌, ◌||◌, [], ℕ, false, true, not, IfErr, IfOk, Ok, Err};
+ghost use Rattle.std.specs.Prelude.{◌≡◌, ◌≤◌, ◌∷◌, ◌||◌, [], ℕ, false, true, not, IfErr, IfOk, OnErr, Err};
 ghost use Rattle.zst_outside.specs.Images.{Leaves};
+ghost use Rattle.zst_block.specs.Blocks.{SparesTaken};
 ghost use Rattle.zst_model.specs.pools.Lines.{ok_line};
 ghost use Rattle.zst_model.specs.pools.Pool.{Pool as Plain};
 ghost use Rattle.zst_model.specs.pools.Sound.{Sound};
 ghost use Rattle.zst_model.specs.pools.Step.{Stepped, stepped, IsCommand};
-ghost use Rattle.zst_pool.specs.Faults.{HasDiskCause, IsStepFault, is_disk_fault};
+ghost use Rattle.zst_pool.specs.Faults.{HasDiskCause, is_disk_fault};
+ghost use Rattle.zst_pool.specs.Plans.{Plans, indices_end, numbers_end};
 ghost use Rattle.zst_image.specs.Reads.{Rests, free_by};
-ghost use Rattle.zst_pool.specs.Stepping.{BeforeOrAfter};
-ghost use Rattle.zst_pool.specs.Room.{HasNoRoom, most_sectors};
-ghost use Rattle.zst_pool.specs.Stepping.{is_built, StepAnswer};
+ghost use Rattle.zst_pool.specs.Stepping.{BeforeOrAfter, is_built, StepAnswer};
+ghost use Rattle.zst_pool.specs.Cost.{Spends, cost_of};
+ghost use Rattle.zst_pool.specs.Damage.{IsOf, TellsDamage};
+ghost use Rattle.zst_pool.specs.Runs.{Runs};
 ghost use Rattle.zst_image.specs.Committing.{Ready};
-ghost use Rattle.zst_pool.specs.Work.{Runs};
 
 use crate::commands::{make_dataset, take_snapshot};
 use crate::fault::PoolFault;
@@ -74,11 +76,20 @@ impl<'d, D: Disk> Pool<'d, D> {
         ensures answer { (pool : Plain) → (D.state self.new.io.disk.now).honest → is_built command ≡ true → self.old.io.failed ≡ false
             → Rests (D.state self.old.io.disk.now) self.old.kept.body self.old.kept.dir pool
             → StepAnswer (D.state self.new.io.disk.now) self.new.kept.body self.new.kept.dir pool (stepped [] now command pool) result }
-        // Whatever the image is, E31 comes only after E28, and E24 only where less is left than is needed.
-        ensures known { self.old.io.failed ≡ false → IfErr result IsStepFault }
-        // E24 comes only where fewer sectors are free than the command may take.
-        ensures full { (pool : Plain) (need largest : ℕ) → Rests (D.state self.old.io.disk.now) self.old.kept.body self.old.kept.dir pool
-            → result ≡ Err (PoolFault.Full need largest) → HasNoRoom (most_sectors command) self.old.kept.body self.old.kept.dir need largest }
+        // E3, E4, E5 and E23 of datasets, snapshots and guids come exactly where the directory says so, whatever the object sets hold, unless no memory is left before; E23 of numbers only past them.
+        ensures planned { self.old.io.failed ≡ false → is_built command ≡ true → ¬ (result ≡ Err PoolFault.OutOfMemory)
+            → Plans (λ pool. stepped [] now command pool) (numbers_end command) (indices_end command) self.old.kept result }
+        ensures open_still { self.old.io.failed ≡ false → ¬ (result ≡ Err PoolFault.Failed) }
+        // Whatever the image is, no more is taken than the command costs at most, and E24 comes only where that isn't there.
+        ensures spends { self.old.io.failed ≡ false → (block : ℕ) × (block ≤ (cost_of command).most) × Spends (cost_of command).cells block self.old.kept self.new.io.space (λ reply. self.new.kept) result }
+        // Where it reads as a pool, no more is taken than the command costs there.
+        ensures exact { (pool : Plain) → (D.state self.new.io.disk.now).honest → self.old.io.failed ≡ false → Rests (D.state self.old.io.disk.now) self.old.kept.body self.old.kept.dir pool
+            → Spends (cost_of command).cells ((cost_of command).block pool) self.old.kept self.new.io.space (λ reply. self.new.kept) result }
+        // E25 tells a damage of the object set of the command's dataset, also where the image reads as no pool.
+        ensures damaged { (D.state self.new.io.disk.now).honest → IfErr result (IsOf (TellsDamage command self.old.kept.dir (D.state self.old.io.disk.now) (free_by self.old.kept.body))) }
+        // What is refused changes nothing that is kept, and free sectors alone, unless the disk failed.
+        ensures kept { OnErr result (self.new.kept ≡ self.old.kept) }
+        ensures spares { ¬ (result ≡ Err PoolFault.DiskFault) → OnErr result (SparesTaken (free_by self.old.kept.body) (D.state self.old.io.disk.now).seen (D.state self.new.io.disk.now).seen) }
         // What later states haven't dated since stays as it was in each snapshot.
         ensures sound { (pool : Plain) (done : Stepped) → Rests (D.state self.old.io.disk.now) self.old.kept.body self.old.kept.dir pool → Sound pool
             → stepped [] now command pool ≡ Ok done → Sound done.pool }
@@ -143,7 +154,8 @@ fn run<D: Disk>(
     requires built { is_built command ≡ true }
     requires space { io.old.space ≡ free_by kept.now.body }
     requires ready { Ready (D.state io.old.disk.now) kept.now.body }
-    ensures runs { Runs (λ pool. stepped [] now command pool) (most_sectors command) kept.now (D.state io.old.disk.now) io.old.failed (D.state io.new.disk.now) io.new.failed result }
+    ensures runs { Runs (λ pool. stepped [] now command pool) (cost_of command) (TellsDamage command kept.now.dir (D.state io.old.disk.now) (free_by kept.now.body)) kept.now (D.state io.old.disk.now) io.old.failed (D.state io.new.disk.now) io.new.space io.new.failed result }
+    ensures plans { Plans (λ pool. stepped [] now command pool) (numbers_end command) (indices_end command) kept.now result }
     ensures same { io.new.disk.ghost_name ≡ io.old.disk.ghost_name }
 {
     match command {

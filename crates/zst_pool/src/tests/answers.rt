@@ -10,7 +10,7 @@ use std::alloc::Global;
 use std::process::Abort;
 use zst_image::Kept;
 use zst_model::{Command, Reply};
-use zst_outside::MemDisk;
+use zst_outside::{Disk, MemDisk};
 
 fn check_line(rt: &impl Abort, reply: &Reply, line: &str) {
     let lines = reply.lines();
@@ -145,5 +145,28 @@ fn a_directory_of_two_leaves_is_opened_again(rt: HostRuntime) -> Result<(), Refu
     assert!(rt; kept.body.dir_bytes > 8192);
     assert_eq!(rt; kept.dir.datasets().len(), 40);
     assert_eq!(rt; kept.dir.snapshots().len(), 40);
+    Ok(())
+}
+
+// How many calls of the disk an opening makes, and then a command.
+fn calls_of(alloc: Global, disk: &mut MemDisk, command: Command) -> Result<(u64, u64), PoolFault>
+    requires { IsCommand command }
+{
+    let start = disk.calls();
+    let kept = Kept::open(alloc, disk)?;
+    let opened = disk.calls();
+    let mut pool = Pool::new(alloc, disk, kept);
+    pool.step(alloc, NOW, command)?;
+    let end = pool.into_disk().calls();
+    Ok((opened.saturating_sub(start), end.saturating_sub(opened)))
+}
+
+#[test]
+fn a_small_write_makes_few_calls(rt: HostRuntime) -> Result<(), PoolFault> {
+    let alloc = rt.alloc();
+    let mut disk = with_small(alloc, 2)?;
+    let first = calls_of(alloc, &mut disk, small(alloc, 2)?)?;
+    let again = calls_of(alloc, &mut disk, small(alloc, 2)?)?;
+    assert_eq!(rt; (first, again), ((6, 17), (6, 17)));
     Ok(())
 }

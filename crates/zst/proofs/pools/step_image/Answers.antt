@@ -18,11 +18,11 @@ returns-in_err-reply g c =
     let n = c.new-pool.ensures in
     let p = err_from_is_err_and c.from_residual-in_err-reply.result c.from_residual-in_err-reply.ensures.1 in
     let stepping = stepping_refused c.args.now c.args.command (g.D.Disk.state c.args.here.now) (g.D.Disk.state c.open.new.disk) (g.D.Disk.state c.step-reply.new.self.io.disk.now)
-    c.in_ok-kept.kept c.step-reply.new.self.kept e.there (λ told. rw (n.disk) at (s.honest told)) e.answer e.reads e.synced e.cause.later
+    c.in_ok-kept.kept c.step-reply.new.self.kept e.there (λ told. rw (n.disk) at (s.honest told)) e.answer e.reads e.rests e.cause.later
     (λ pool told rests. rw (n.disk) at (s.moments pool told (rw (n.disk, n.kept) rests)))
     (g.met.D.Disk.only_now c.args.here.now) (g.met.D.Disk.counts_now c.step-reply.new.self.io.disk.now)
-    c.in_err-reply.field-0.0 (rw (n.disk) at s.cause) (s.known n.failed)
-    (λ pool need largest told rests is. rw (n.kept) at (s.full pool need largest (rw (n.disk, n.kept) rests) (ap (λ f. Err f) is)))
+    c.in_err-reply.field-0.0 (rw (n.disk) at s.cause) (λ is. s.open_still n.failed (ap (λ f. Err f) is))
+    (λ pool need largest told rests is. (c.step-reply.new.self.io.space, rw (n.kept) at ((s.exact pool told n.failed (rw (n.disk, n.kept) rests)).full need largest is)))
     (λ pool told rests. s.answer pool told c.requires.built n.failed (rw (n.disk, n.kept) rests)) in
     rw (p.1, p.2) (search (rules, stepping))
 
@@ -32,7 +32,7 @@ returns g c =
     let s = c.in_ok-reply.ensures in
     let n = c.new-pool.ensures in
     let stepping = stepping_done c.args.now c.args.command (g.D.Disk.state c.args.here.now) (g.D.Disk.state c.open.new.disk) (g.D.Disk.state c.step-reply.new.self.io.disk.now)
-    c.in_ok-kept.kept c.step-reply.new.self.kept e.there (λ told. rw (n.disk) at (s.honest told)) e.answer e.reads e.synced e.cause.later
+    c.in_ok-kept.kept c.step-reply.new.self.kept e.there (λ told. rw (n.disk) at (s.honest told)) e.answer e.reads e.rests e.cause.later
     (λ pool told rests. rw (n.disk) at (s.moments pool told (rw (n.disk, n.kept) rests)))
     (g.met.D.Disk.only_now c.args.here.now) (g.met.D.Disk.counts_now c.step-reply.new.self.io.disk.now)
     c.in_ok-reply.field-0 (rw (n.disk) at s.cause.later) (λ pool told rests. s.answer pool told c.requires.built n.failed (rw (n.disk, n.kept) rests)) in

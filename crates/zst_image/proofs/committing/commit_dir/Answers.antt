@@ -1,4 +1,4 @@
-use Rattle.std.proofs.Common.{ℕ, ap, sym, ◌∙◌, subst}
+use Rattle.std.proofs.Common.{◌≡◌, ℕ, ap, sym, ◌∙◌, subst, arith}
 use Rattle.std.proofs.lemmas.Result.{err_from_is_err_and}
 use Rattle.zst_outside.specs.Images.{Leaves}
 use Rattle.zst_block.specs.Blocks.{FitsDisk, Has}
@@ -9,6 +9,7 @@ use Rattle.zst_uber.specs.Slots.{IsNext, latest}
 use Rattle.zst_uber.specs.declared.uber.Uber.{Uber}
 use Rattle.zst_image.specs.Committing.{NextIs, OldOrNext, Ready}
 use Rattle.zst_image.proofs.Committed.{IsPrepared, next_in_range, prepared, commit-moments, commit-rests, over-refused, Ready-fills, Commits-over, Stays-from}
+use Rattle.zst_image.proofs.Taking.{end_bounded}
 use Rattle.zst_image.proofs.Settled.{latest-spared}
 use Rattle.zst_image.proofs.committing.commit_dir.Given.{Over}
 use Rattle.zst_image.proofs.committing.commit_dir.Goals as goal
@@ -100,3 +101,9 @@ returns-in-Ok-clause-ready g c =
       next = λ told. c.in-Ok.ensures.following told;
       head = λ told. c.in-Ok.ensures.head;
     }
+
+pub returns-in-Ok-clause-bounded : goal.returns-in-Ok-clause-bounded
+returns-in-Ok-clause-bounded g c = λ none.
+    let less = c.write_dir.new.io.space in
+    let end : c.next_body-next.result.end ≡ less.end = ap (λ (u : Uber). u.end) c.next_body-next.ensures ∙ c.end.ensures in
+    omega (arith, end, end_bounded _ (g.D.Disk.state c.write_dir.new.io.disk.now).size c.args.io.now.space less none c.write_dir.ensures.works.takes c.write_dir.ensures.works.fits)

@@ -3,6 +3,7 @@ use Rattle.std.proofs.Common.{◌≡◌, sym, ◌∙◌, subst, arith}
 use Rattle.std.proofs.lemmas.Option.{MatchOption-at_some}
 use Rattle.zst_dir.specs.Rows.{Rows}
 use Rattle.zst_dir.specs.Spelling.{IsDir}
+use Rattle.zst_image.proofs.Causes.{tells_root}
 use Rattle.zst_image.proofs.Directories.{DirStands-bytes}
 use Rattle.zst_image.proofs.opening.read_dir.Goals as goal
 
@@ -23,3 +24,9 @@ returns-in-Some-clause-only g c = λ told.
     let body = c.args.body.now in
     let is = MatchOption-at_some (Unit {0}) (λ (rows : Rows). IsDir rows c.deref.result.now) _ c.in-Some.is c.in_ok-dir.ensures.only in
     (omega arith, DirStands-bytes _ body.dir_levels body.dir_root body.dir_bytes _ _ (subst (IsDir _) c.deref.ensures.value is) c.in_ok-bytes.ensures.length (c.in_ok-bytes.ensures.only told))
+
+pub returns-then-body-ne0-clause-damaged : goal.returns-then-body-ne0-clause-damaged
+returns-then-body-ne0-clause-damaged g c = λ told. tells_root (g.D.Disk.state c.args.disk.now) c.args.body.now c.of_layout.result c.of_layout.ensures
+
+pub returns-clause-damaged : goal.returns-clause-damaged
+returns-clause-damaged g c = λ told. tells_root (g.D.Disk.state c.args.disk.now) c.args.body.now c.of_layout-in-None.result c.of_layout-in-None.ensures

@@ -1,4 +1,4 @@
-use Rattle.std.proofs.Common.{rules, ◌≡◌, ◌+◌, ◌-◌, ◌*◌, [], length, List, ℕ, refl, sym, ◌∙◌, ap, arith}
+use Rattle.std.proofs.Common.{rules, ◌≡◌, ◌+◌, ◌-◌, ◌*◌, inl, inr, [], length, List, ℕ, refl, sym, ◌∙◌, ap, arith}
 use Rattle.std.proofs.lemmas.List.{append-nil}
 use Rattle.std.proofs.lemmas.Result.{err_from_is_err_and}
 use Rattle.zst_block.proofs.Working.{Looks-none, Looks-then}
@@ -8,7 +8,7 @@ use Rattle.zst_leaves.specs.Leaves.{bytes_below, part, part_length}
 use Rattle.zst_leaves.proofs.Kept.{kept_looks}
 use Rattle.zst_leaves.proofs.Counted.{before_more, blocks_before, blocks_bottom, blocks_over, first_blocks}
 use Rattle.zst_leaves.proofs.Gathered.{gathered_all, gathered_next, gathered_none}
-use Rattle.zst_leaves.proofs.Leading.{layout_told, told_below, told_here}
+use Rattle.zst_leaves.proofs.Leading.{TellsPtr-more, alike_told, told_below, told_here}
 use Rattle.zst_leaves.proofs.Least.{leaf_room}
 use Rattle.zst_leaves.proofs.LeavesLaws.{LeavesBelow-grows, hole_below, hole_of_none, over_of}
 use Rattle.zst_leaves.proofs.LeavesRead.{block_fault}
@@ -106,17 +106,22 @@ returns-clause-calls g t c =
     omega (arith, first, blocks_over c.args.level c.args.count (omega arith) (omega arith), c.loop-k.invariant.calls, c.in_ok-load_named.ensures.calls)
 
 pub returns-else-eq-clause-damaged : goal.returns-else-eq-clause-damaged
-returns-else-eq-clause-damaged g t c = λ honest. told_here _ _ c.args.level c.args.ptr c.of_layout.result (layout_told _ _ c.args.ptr c.of_layout.result c.of_layout.ensures)
+returns-else-eq-clause-damaged g t c = λ honest.
+    let other : c.args.ptr ≡ c.hole.result → ⊥ = search rules in
+    told_here _ _ _ c.args.level c.args.ptr c.args.count c.of_layout.result (alike_told _ _ _ c.args.ptr c.of_layout.result c.of_layout.ensures (inl (omega arith, λ hole. other (hole ∙ sym c.hole.ensures))))
 
 pub returns-in_err-load_named-clause-damaged : goal.returns-in_err-load_named-clause-damaged
 returns-in_err-load_named-clause-damaged g t c = λ honest.
     let p = err_from_is_err_and c.from_residual.result c.from_residual.ensures.1 in
-    rw (p.1, p.2) (told_here _ _ c.args.level c.args.ptr c.in_err-load_named.field-0.0 (c.in_err-load_named.ensures.damaged honest))
+    rw (p.1, p.2) (told_here _ _ _ c.args.level c.args.ptr c.args.count c.in_err-load_named.field-0.0
+    (TellsPtr-more _ _ _ _ _ (λ other. inr (inr (omega arith, omega arith, other))) _ (c.in_err-load_named.ensures.damaged honest)))
 
 pub returns-in_err-read_below-clause-damaged : goal.returns-in_err-read_below-clause-damaged
 returns-in_err-read_below-clause-damaged g t c = λ honest.
     let loaded = c.in_ok-load_named.ensures in
     let before = c.loop-k.invariant.looks.reads in
+    let end_is = ap (λ (space : FreeSectors). space.end) (c.loop-k.invariant.looks.space ∙ loaded.looks.space) in
     let block = rw (← c.replace-node.ensures.value) at (loaded.block (before.honest (c.in_err-read_below.ensures.looks.reads.honest honest))).0 in
     let p = err_from_is_err_and c.from_residual-in_err-read_below.result c.from_residual-in_err-read_below.ensures.1 in
-    rw (p.1, p.2) (told_below _ _ _ _ c.args.level c.args.ptr c.replace-node.result c.loop-k.k c.child_at-child.result c.in_err-read_below.field-0.0 (omega arith) (before.seen ∙ loaded.looks.reads.seen) (before.size ∙ loaded.looks.reads.size) c.child_at-child.ensures.child block (omega arith) (c.in_err-read_below.ensures.damaged honest))
+    rw (p.1, p.2) (told_below _ _ _ _ _ _ c.args.level c.args.ptr c.replace-node.result c.loop-k.k c.child_at-child.result c.args.count c.length_of.result c.in_err-read_below.field-0.0 (omega arith) end_is
+    (before.seen ∙ loaded.looks.reads.seen) (before.size ∙ loaded.looks.reads.size) c.child_at-child.ensures.child c.length_of.ensures block (omega arith) (c.in_err-read_below.ensures.damaged honest))

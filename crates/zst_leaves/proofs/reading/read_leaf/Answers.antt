@@ -1,7 +1,7 @@
-use Rattle.std.proofs.Common.{◌≡◌, ◌-◌, ◌++◌, length, true, false, refl, ◌∙◌, ap, arith, drop, take}
+use Rattle.std.proofs.Common.{◌≡◌, ◌-◌, ◌++◌, length, true, false, inl, inr, refl, ◌∙◌, ap, arith, drop, take}
 use Rattle.std.proofs.lemmas.Result.{err_from_is_err_and}
 use Rattle.zst_bytes.specs.Fields.{zeros}
-use Rattle.zst_leaves.proofs.Leading.{layout_told, told_here}
+use Rattle.zst_leaves.proofs.Leading.{TellsPtr-more, alike_told, told_here}
 use Rattle.zst_leaves.proofs.LeavesLaws.{leaf_of}
 use Rattle.zst_leaves.proofs.LeavesRead.{behind_leaf, block_fault, leaf_long, leaf_read}
 use Rattle.zst_leaves.proofs.reading.read_leaf.Goals as goal
@@ -30,7 +30,20 @@ returns-clause-only g c = λ honest.
 pub returns-in_err-load_named-clause-damaged : goal.returns-in_err-load_named-clause-damaged
 returns-in_err-load_named-clause-damaged g c = λ honest.
     let p = err_from_is_err_and c.from_residual.result c.from_residual.ensures.1 in
-    rw (p.1, p.2) (told_here _ _ 0 c.args.ptr c.in_err-load_named.field-0.0 (c.in_err-load_named.ensures.damaged honest))
+    rw (p.1, p.2) (told_here _ _ _ 0 c.args.ptr c.args.count c.in_err-load_named.field-0.0
+    (TellsPtr-more _ _ _ _ _ (λ other. inr (inl (c.requires.some, refl, inl other))) _ (c.in_err-load_named.ensures.damaged honest)))
 
 pub returns-then-not-are_zeros-clause-damaged : goal.returns-then-not-are_zeros-clause-damaged
-returns-then-not-are_zeros-clause-damaged g c = λ honest. told_here _ _ 0 c.args.ptr c.of_layout.result (layout_told _ _ c.args.ptr c.of_layout.result c.of_layout.ensures)
+returns-then-not-are_zeros-clause-damaged g c = λ honest.
+    let rest_is = c.split_at.ensures.back ∙ ap (drop c.args.count) c.as_slice.ensures.bytes in
+    let fails : c.are_zeros.result ≡ false = c.if-not-are_zeros.true in
+    told_here _ _ _ 0 c.args.ptr c.args.count c.of_layout.result (alike_told _ _ _ c.args.ptr c.of_layout.result c.of_layout.ensures
+    (inr (inl (
+      c.requires.some,
+      refl,
+      inr (record {
+        bytes = c.load_named.new.io.node;
+        block = (c.in_ok-load_named.ensures.block honest).0;
+        more = λ zeros. let holds : c.are_zeros.result ≡ true = c.are_zeros.ensures.1 (rw rest_is zeros) in absurd (cc);
+      }),
+    ))))

@@ -1,6 +1,7 @@
-use Rattle.std.proofs.Common.{◌≡◌, ◌++◌, List, ℕ, sym, ◌∙◌, ap, arith}
+use Rattle.std.proofs.Common.{◌≡◌, inl, true, false, ◌++◌, List, ℕ, sym, ◌∙◌, ap, arith}
+use Rattle.std.proofs.lemmas.Result.{err_from_is_err_and}
 use Rattle.zst_leaves.proofs.Counted.{most_blocks}
-use Rattle.zst_leaves.proofs.Leading.{layout_told, told_here}
+use Rattle.zst_leaves.proofs.Leading.{alike_told, text_told}
 use Rattle.zst_leaves.proofs.LeavesLaws.{HasLeaves-grows, LeavesBelow-grows}
 use Rattle.zst_leaves.proofs.LeavesRead.{LeavesBelow-only}
 use Rattle.zst_leaves.proofs.Placed.{Has-before}
@@ -33,4 +34,11 @@ returns-clause-calls g c =
     omega (arith, most_blocks c.args.levels c.args.count least.1.few least.0 least.1.enough, c.in_ok-read_below.ensures.calls)
 
 pub returns-then-not-is_least-clause-damaged : goal.returns-then-not-is_least-clause-damaged
-returns-then-not-is_least-clause-damaged g c = λ honest. told_here _ _ c.args.levels c.args.root c.of_layout.result (layout_told _ _ c.args.root c.of_layout.result c.of_layout.ensures)
+returns-then-not-is_least-clause-damaged g c = λ honest.
+    let fails : c.is_least.result ≡ false = c.if-not-is_least.true in
+    inl (alike_told _ _ _ c.args.root c.of_layout.result c.of_layout.ensures (λ least. let holds : c.is_least.result ≡ true = c.is_least.ensures.1 least in absurd (cc)))
+
+pub returns-in_err-read_below-clause-damaged : goal.returns-in_err-read_below-clause-damaged
+returns-in_err-read_below-clause-damaged g c = λ honest.
+    let p = err_from_is_err_and c.from_residual.result c.from_residual.ensures.1 in
+    text_told _ _ _ _ _ _ c.from_residual.result _ _ p.1 p.2 (c.in_err-read_below.ensures.damaged honest)

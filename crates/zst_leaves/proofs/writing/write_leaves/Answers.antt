@@ -2,7 +2,7 @@ use Rattle.std.proofs.Common.{length, arith}
 use Rattle.std.proofs.lemmas.Result.{err_from_is_err_and}
 use Rattle.zst_block.proofs.Working.{Works-more}
 use Rattle.zst_leaves.proofs.Counted.{most_blocks, most_two_levels}
-use Rattle.zst_leaves.proofs.Least.{two_levels}
+use Rattle.zst_leaves.proofs.Least.{one_level, two_levels}
 use Rattle.zst_leaves.proofs.LeavesLaws.{HasLeaves-grows}
 use Rattle.zst_leaves.proofs.writing.write_leaves.Goals as goal
 
@@ -48,3 +48,6 @@ pub returns-clause-calls : goal.returns-clause-calls
 returns-clause-calls g c =
     let least = c.levels_for-levels.ensures in
     omega (arith, most_blocks c.levels_for-levels.result (length c.args.bytes.now) least.few c.requires.some least.enough, c.in_ok-root.ensures.calls)
+
+pub returns-clause-one_leaf : goal.returns-clause-one_leaf
+returns-clause-one_leaf g c = λ small. c.in_ok-root.ensures.one_leaf (one_level (length c.args.bytes.now) c.levels_for-levels.result c.levels_for-levels.ensures small) c.requires.some

@@ -1,5 +1,4 @@
-use Rattle.std.proofs.Common.{◌≡◌, ℕ, List, arith, ap, subst, sym, ◌∙◌, true}
-use Rattle.zst_space.specs.FreeSectors.{FreeSectors}
+use Rattle.std.proofs.Common.{◌≡◌, arith, ap, subst, sym, ◌∙◌, true}
 use Rattle.zst_block.specs.Blocks.{Has, KeepsBlocks}
 use Rattle.zst_block.specs.declared.ptr.Ptr.{Ptr}
 use Rattle.zst_block.proofs.BlocksLaws.{FillsFree-then, KeepsBlocks-fills}
@@ -11,7 +10,7 @@ use Rattle.zst_objset.proofs.SpillLaws.{change_not_there, no_spill, spill_fits, 
 use Rattle.zst_dnode.specs.Dnode.{DnodeFits}
 use Rattle.zst_dnode.specs.declared.dnode.Dnode.{Dnode}
 use Rattle.zst_objset.specs.Dnodes.{ObjectIs}
-use Rattle.zst_objset.proofs.LeafLaws.{is_number_at, look_on}
+use Rattle.zst_objset.proofs.LeafLaws.{is_number_at, keeps_on}
 use Rattle.zst_objset.proofs.SetGrows.{IsThere-grows, SetHolds-grows}
 use Rattle.zst_tree.proofs.Told.{fills_looks}
 use Rattle.zst_objset.proofs.DamageLaws.{set_after, set_spared}
@@ -51,9 +50,7 @@ returns-clause-changed g c = λ state honest holds.
     let new = g.D.Disk.state c.write.new.io.disk.now in
     let has = Has new.seen c.write.new.io.space in
     let writing : KeepsBlocks mid.seen c.object_there.new.io.space new.seen c.write.new.io.space = KeepsBlocks-fills _ _ _ _ wrote.works.fills in
-    let reading : KeepsBlocks old.seen c.args.io.now.space mid.seen c.object_there.new.io.space =
-    look_on (λ (seen : List ℕ) (space : FreeSectors). KeepsBlocks old.seen c.args.io.now.space seen space) _ _ _ _ _ _ _ c.in-Ok.ensures.looks (λ ptr bytes is. is) in
-    let grown = SetHolds-grows (Has old.seen c.args.io.now.space) has (λ ptr bytes is. writing ptr bytes (reading ptr bytes is)) c.args.set.now state holds in
+    let grown = SetHolds-grows (Has old.seen c.args.io.now.space) has (keeps_on _ _ _ _ _ _ _ _ _ c.in-Ok.ensures.looks wrote.works.fills) c.args.set.now state holds in
     let here = IsThere-grows (Has mid.seen c.object_there.new.io.space) has writing state c.args.object c.in-Ok.dnode there in
     let kind = ap (λ (ptr : Ptr). ptr.kind) wrote.pointer in
     let size : is_spill_size c.in-Ok-write.ptr.length ≡ true = ap (λ (ptr : Ptr). is_spill_size ptr.length) wrote.pointer ∙ c.requires.spill in

@@ -1,11 +1,9 @@
-use Rattle.std.proofs.Common.{◌-◌, ◌*◌, ◌/◌, arith, ℕ, List}
+use Rattle.std.proofs.Common.{◌-◌, ◌*◌, ◌/◌, arith}
 use Rattle.std.proofs.lemmas.Result.{err_from_is_err_and}
-use Rattle.zst_space.specs.FreeSectors.{FreeSectors}
-use Rattle.zst_block.specs.Blocks.{KeepsBlocks}
 use Rattle.zst_block.proofs.BlocksLaws.{FillsFree-then, KeepsBlocks-fills}
 use Rattle.zst_block.proofs.Working.{Works-after, Works-then}
 use Rattle.zst_tree.proofs.IndicesLaws.{TreeIs-grows}
-use Rattle.zst_objset.proofs.LeafLaws.{look_on}
+use Rattle.zst_objset.proofs.LeafLaws.{keeps_on}
 use Rattle.zst_objset.proofs.SetPuts.{InLeaf, IsPut, mended, put_leaf, Puts-one, with_one}
 use Rattle.zst_tree.proofs.Told.{fills_looks}
 use Rattle.zst_objset.proofs.DamageLaws.{IfDamage-weaker, LacksSlot-put, fault_spared, lacking_spared, node_after}
@@ -35,11 +33,7 @@ returns-in_err-set-clause-put g c = λ snap after honest holds puts.
     let all = c.put_slots.ensures in
     let at : InLeaf c.args.first c.args.below (c.args.first / 16) (c.args.first - 16 * (c.args.first / 16)) (c.args.below - 16 * (c.args.first / 16)) = record { first_is = omega arith; below_is = omega arith; some = omega arith; inside = omega arith; small = omega arith; above = omega arith } in
     let is : IsPut c.args.slot.now (c.args.first - 16 * (c.args.first / 16)) (c.args.below - 16 * (c.args.first / 16)) c.find_slots.new.io.node c.put_slots.new.node = record { fits = c.requires.slot; long = all.long at.some; put = all.put; kept = all.kept } in
-    let old = g.D.Disk.state c.args.io.now.disk.now in
-    let reading : KeepsBlocks old.seen c.args.io.now.space (g.D.Disk.state c.find_slots.new.io.disk.now).seen c.find_slots.new.io.space =
-    look_on (λ (seen : List ℕ) (space : FreeSectors). KeepsBlocks old.seen c.args.io.now.space seen space) _ _ _ _ _ _ _ c.in_ok-was.ensures.looks (λ ptr bytes has. has) in
-    let saving : KeepsBlocks old.seen c.args.io.now.space (g.D.Disk.state c.save_slots.new.io.disk.now).seen c.save_slots.new.io.space =
-    λ ptr bytes has. KeepsBlocks-fills _ _ _ _ c.in_ok-ptr.ensures.works.fills ptr bytes (reading ptr bytes has) in
+    let saving = keeps_on _ _ _ _ _ _ _ _ _ c.in_ok-was.ensures.looks c.in_ok-ptr.ensures.works.fills in
     let p = err_from_is_err_and c.from_residual-in_err-set.result c.from_residual-in_err-set.ensures.1 in
     rw (p.1, p.2) (c.in_err-set.ensures.puts holds.map (with_one holds.map (c.args.first / 16) c.in_ok-ptr.ptr) honest (TreeIs-grows _ _ saving c.args.set.tree holds.map holds.tree) (Puts-one holds.map (c.args.first / 16) c.in_ok-ptr.ptr))
 
@@ -59,11 +53,7 @@ returns-clause-put g c = λ snap after honest holds puts.
     let all = c.put_slots.ensures in
     let at : InLeaf c.args.first c.args.below (c.args.first / 16) (c.args.first - 16 * (c.args.first / 16)) (c.args.below - 16 * (c.args.first / 16)) = record { first_is = omega arith; below_is = omega arith; some = omega arith; inside = omega arith; small = omega arith; above = omega arith } in
     let is : IsPut c.args.slot.now (c.args.first - 16 * (c.args.first / 16)) (c.args.below - 16 * (c.args.first / 16)) c.find_slots.new.io.node c.put_slots.new.node = record { fits = c.requires.slot; long = all.long at.some; put = all.put; kept = all.kept } in
-    let old = g.D.Disk.state c.args.io.now.disk.now in
-    let reading : KeepsBlocks old.seen c.args.io.now.space (g.D.Disk.state c.find_slots.new.io.disk.now).seen c.find_slots.new.io.space =
-    look_on (λ (seen : List ℕ) (space : FreeSectors). KeepsBlocks old.seen c.args.io.now.space seen space) _ _ _ _ _ _ _ c.in_ok-was.ensures.looks (λ ptr bytes has. has) in
-    let saving : KeepsBlocks old.seen c.args.io.now.space (g.D.Disk.state c.save_slots.new.io.disk.now).seen c.save_slots.new.io.space =
-    λ ptr bytes has. KeepsBlocks-fills _ _ _ _ c.in_ok-ptr.ensures.works.fills ptr bytes (reading ptr bytes has) in
+    let saving = keeps_on _ _ _ _ _ _ _ _ _ c.in_ok-was.ensures.looks c.in_ok-ptr.ensures.works.fills in
     rw c.set_over.ensures.made (put_leaf _ _ _ _ _ _ saving (KeepsBlocks-fills _ _ _ _ c.in_ok-set.ensures.works.fills) c.args.set c.set.new.self snap after c.args.first c.args.below (c.args.first / 16) _ _ c.args.slot.now c.in_ok-ptr.ptr _ _
     at is puts holds (c.in_ok-was.ensures.slots snap was_found holds) c.in_ok-ptr.ensures.names (λ map other tree put. c.in_ok-set.ensures.puts map other honest tree put) c.in_ok-set.ensures.levels)
 

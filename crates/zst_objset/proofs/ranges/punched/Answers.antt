@@ -1,8 +1,7 @@
 use Rattle.std.proofs.Common.{ℕ, List, ap, sym, subst, if◌then◌else◌, Bool}
 use Rattle.std.proofs.lemmas.Result.{err_from_is_err_and}
-use Rattle.zst_block.specs.Blocks.{Has, KeepsBlocks}
+use Rattle.zst_block.specs.Blocks.{Has}
 use Rattle.zst_block.specs.Ptr.{hole_of}
-use Rattle.zst_block.proofs.BlocksLaws.{KeepsBlocks-fills}
 use Rattle.zst_block.proofs.Working.{Works-after}
 use Rattle.zst_dnode.specs.declared.dnode.Dnode.{Dnode}
 use Rattle.zst_model.specs.states.State.{Hole}
@@ -11,7 +10,7 @@ use Rattle.zst_tree.specs.Indices.{TreeIs}
 use Rattle.zst_objset.specs.Putting.{MakesDnode}
 use Rattle.zst_objset.specs.Ranges.{free_of, put_range}
 use Rattle.zst_objset.proofs.AnswerLaws.{object_of}
-use Rattle.zst_objset.proofs.LeafLaws.{look_on}
+use Rattle.zst_objset.proofs.LeafLaws.{keeps_on, look_on}
 use Rattle.zst_objset.proofs.RangeLaws.{Fills-free, makes_range, tree_is}
 use Rattle.zst_objset.proofs.SetGrows.{ObjectIs-grows}
 use Rattle.zst_objset.proofs.Within.{Puts-range}
@@ -54,15 +53,11 @@ returns-clause-fits g c =
 pub returns-clause-made : goal.returns-clause-made
 returns-clause-made g c = λ k state honest number lawful there.
     let old = g.D.Disk.state c.args.io.now.disk.now in
-    let mid = g.D.Disk.state c.end_punched.new.io.disk.now in
     let new = g.D.Disk.state c.punch.new.io.disk.now in
     let had : TreeIs (Has old.seen c.args.io.now.space) c.tree_of-tree.result there.map = tree_is _ c.args.dnode _ there.map c.tree_of-tree.ensures there.is.tree in
     let tree = look_on (λ (seen : List ℕ) (space : FreeSectors). TreeIs (Has seen space) c.tree_of-tree.result there.map) _ _ _ _ _ _ _ c.in_ok-end.ensures.looks had in
-    let reading : KeepsBlocks old.seen c.args.io.now.space mid.seen c.end_punched.new.io.space =
-    look_on (λ (seen : List ℕ) (space : FreeSectors). KeepsBlocks old.seen c.args.io.now.space seen space) _ _ _ _ _ _ _ c.in_ok-end.ensures.looks (λ ptr bytes is. is) in
-    let writing : KeepsBlocks mid.seen c.end_punched.new.io.space new.seen c.punch.new.io.space = KeepsBlocks-fills _ _ _ _ c.in_ok-punch.ensures.works.fills in
     let has = Has new.seen c.punch.new.io.space in
-    let is = ObjectIs-grows (Has old.seen c.args.io.now.space) has (λ ptr bytes is. writing ptr bytes (reading ptr bytes is)) c.args.dnode there.object (state.number_date k) (state.index_date k) there.map there.is in
+    let is = ObjectIs-grows (Has old.seen c.args.io.now.space) has (keeps_on _ _ _ _ _ _ _ _ _ c.in_ok-end.ensures.looks c.in_ok-punch.ensures.works.fills) c.args.dnode there.object (state.number_date k) (state.index_date k) there.map there.is in
     let object = object_of (state.state k) there.object there.there (lawful.objects k) in
     let put = put_range c.args.first c.count_in_tree.result (hole_of c.args.number) there.map in
     subst (λ (dnode : Dnode). MakesDnode has c.args.number k (free_of c.args.first c.args.count (state.state k)) state dnode) (sym c.with_tree.ensures.made)

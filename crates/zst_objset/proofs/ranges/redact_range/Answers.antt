@@ -1,12 +1,11 @@
-use Rattle.std.proofs.Common.{ℕ, ◌+◌, List, arith, sym}
+use Rattle.std.proofs.Common.{◌+◌, arith, sym}
 use Rattle.std.proofs.lemmas.Result.{err_from_is_err_and}
-use Rattle.zst_space.specs.FreeSectors.{FreeSectors}
-use Rattle.zst_block.specs.Blocks.{Has, KeepsBlocks}
-use Rattle.zst_block.proofs.BlocksLaws.{FillsFree-then, KeepsBlocks-fills}
+use Rattle.zst_block.specs.Blocks.{Has}
+use Rattle.zst_block.proofs.BlocksLaws.{FillsFree-then}
 use Rattle.zst_block.proofs.Working.{Works-after, Works-more, Works-then}
 use Rattle.zst_objset.specs.Ranges.{redact_of}
 use Rattle.zst_objset.proofs.IndicesChanged.{Changes-indices, change_refused, in_range, indices_not_there, past_indices}
-use Rattle.zst_objset.proofs.LeafLaws.{is_number_at, look_on}
+use Rattle.zst_objset.proofs.LeafLaws.{is_number_at, keeps_on}
 use Rattle.zst_objset.proofs.RangeLaws.{no_redact, redact_is, redact_refused}
 use Rattle.zst_objset.proofs.SetGrows.{SetHolds-grows}
 use Rattle.zst_objset.proofs.SpillLaws.{stops}
@@ -58,16 +57,12 @@ returns-clause-works g c = Works-after c.in_ok-dnode.ensures.looks (Works-more (
 pub returns-clause-changed : goal.returns-clause-changed
 returns-clause-changed g c = λ state honest holds.
     let old = g.D.Disk.state c.args.io.now.disk.now in
-    let mid = g.D.Disk.state c.object_there.new.io.disk.now in
     let new = g.D.Disk.state c.redacted.new.io.disk.now in
     let made = c.in_ok-made.ensures in
     let was_made = c.put_dnode.ensures.works.fills.honest honest in
     let there = c.in_ok-dnode.ensures.found state (made.works.fills.honest was_made) holds in
     let number = is_number_at c.args.object (omega arith) (omega (arith, c.in_ok-dnode.ensures.bound)) in
-    let reading : KeepsBlocks old.seen c.args.io.now.space mid.seen c.object_there.new.io.space =
-    look_on (λ (seen : List ℕ) (space : FreeSectors). KeepsBlocks old.seen c.args.io.now.space seen space) _ _ _ _ _ _ _ c.in_ok-dnode.ensures.looks (λ ptr bytes is. is) in
-    let writing : KeepsBlocks mid.seen c.object_there.new.io.space new.seen c.redacted.new.io.space = KeepsBlocks-fills _ _ _ _ made.works.fills in
-    let grown = SetHolds-grows (Has old.seen c.args.io.now.space) (Has new.seen c.redacted.new.io.space) (λ ptr bytes is. writing ptr bytes (reading ptr bytes is)) c.args.set.now state holds in
+    let grown = SetHolds-grows (Has old.seen c.args.io.now.space) (Has new.seen c.redacted.new.io.space) (keeps_on _ _ _ _ _ _ _ _ _ c.in_ok-dnode.ensures.looks made.works.fills) c.args.set.now state holds in
     Changes-indices (c.args.first + c.args.count) _ _ _ c.in_ok-check_range.ensures.inside
     (c.put_dnode.ensures.changed c.args.number (redact_of c.args.first c.args.count (state.state c.args.object)) state honest grown (made.made c.args.object state was_made number holds.lawful there))
 

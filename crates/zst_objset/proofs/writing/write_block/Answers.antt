@@ -1,5 +1,4 @@
-use Rattle.std.proofs.Common.{◌∙◌, ◌+◌, ℕ, Err, List, arith, ap, subst, sym, Result}
-use Rattle.zst_space.specs.FreeSectors.{FreeSectors}
+use Rattle.std.proofs.Common.{◌∙◌, ◌+◌, Err, arith, ap, subst, sym, Result}
 use Rattle.zst_block.specs.Blocks.{Has, KeepsBlocks}
 use Rattle.zst_block.proofs.BlocksLaws.{FillsFree-then, KeepsBlocks-fills}
 use Rattle.zst_block.proofs.Working.{Works-after, Works-block, Works-more, Works-then}
@@ -11,7 +10,7 @@ use Rattle.zst_tree.specs.declared.tree.Tree.{Tree}
 use Rattle.zst_objset.specs.Answers.{Changes}
 use Rattle.zst_objset.specs.Putting.{MakesDnode}
 use Rattle.zst_objset.specs.Sets.{SetHolds}
-use Rattle.zst_objset.proofs.LeafLaws.{is_number_at, look_on}
+use Rattle.zst_objset.proofs.LeafLaws.{is_number_at, keeps_on}
 use Rattle.zst_objset.proofs.SetGrows.{SetHolds-grows}
 use Rattle.zst_objset.proofs.SpillLaws.{stops}
 use Rattle.zst_objset.proofs.WriteLaws.{block_some, block_whole, is_accepted, is_change, is_refused, judged, write_at, write_not_there, writes_dnode, written_fits}
@@ -68,9 +67,7 @@ returns-clause-changed g c = λ state honest holds.
     let may = judged _ _ _ c.in_default.ensures.judged in
     let put = c.in-Ok-put_data.ensures.puts there.map was_put (subst (λ (tree : Tree). TreeIs (Has mid.seen c.object_there.new.io.space) tree there.map) (sym c.tree_of.ensures) there.is.tree) in
     let putting : KeepsBlocks mid.seen c.object_there.new.io.space new.seen c.put_data.new.io.space = KeepsBlocks-fills _ _ _ _ c.in-Ok-put_data.ensures.works.fills in
-    let reading : KeepsBlocks old.seen c.args.io.now.space mid.seen c.object_there.new.io.space =
-    look_on (λ (seen : List ℕ) (space : FreeSectors). KeepsBlocks old.seen c.args.io.now.space seen space) _ _ _ _ _ _ _ c.in-Ok.ensures.looks (λ ptr bytes is. is) in
-    let grown = SetHolds-grows (Has old.seen c.args.io.now.space) (Has new.seen c.put_data.new.io.space) (λ ptr bytes is. putting ptr bytes (reading ptr bytes is)) c.args.set.now state holds in
+    let grown = SetHolds-grows (Has old.seen c.args.io.now.space) (Has new.seen c.put_data.new.io.space) (keeps_on _ _ _ _ _ _ _ _ _ c.in-Ok.ensures.looks c.in-Ok-put_data.ensures.works.fills) c.args.set.now state holds in
     let change = write_at c.args.index c.args.bytes.now (state.state c.args.object) in
     let made_is = c.with_tree.ensures.made ∙ ap (with_tree c.in-Ok.dnode c.in-Ok-put_data.tree) c.max-end.ensures in
     let makes = subst (MakesDnode (Has new.seen c.put_data.new.io.space) c.args.number c.args.object change state) (sym made_is)

@@ -1,12 +1,17 @@
-use Rattle.std.proofs.Common.{ℕ, sym, ap, ◌∙◌, subst}
+use Rattle.std.proofs.Common.{ℕ, sym, ap, ◌∙◌, subst, arith, ◌+◌}
 use Rattle.std.specs.Prelude.{Result}
 use Rattle.zst_block.specs.Blocks.{Has}
 use Rattle.zst_model.specs.declared.refusals.refusal.Refusal.{Refusal}
 use Rattle.zst_model.specs.states.Dated.{DatedState}
 use Rattle.zst_objset.specs.Answers.{Changes}
 use Rattle.zst_objset.specs.Changes.{holes_made}
+use Rattle.zst_tree.specs.Sets.{SetFits}
 use Rattle.zst_objset.specs.Sets.{SetHolds}
-use Rattle.zst_pool.proofs.Writing.{call_changes, call_writes}
+use Rattle.zst_pool.specs.Damage.{range_damage}
+use Rattle.zst_pool.proofs.Damaged.{damaged_call}
+use Rattle.zst_pool.proofs.Taking.{tree_blocks, works_wider}
+use Rattle.zst_pool.proofs.Writing.{call_changes, call_works, call_ok}
+use Rattle.zst_pool.proofs.Planned.{past_indices}
 use Rattle.zst_pool.proofs.changes.change_holes.Goals as goal
 
 pub returns-clause-changed : goal.returns-clause-changed
@@ -15,7 +20,18 @@ returns-clause-changed g c = λ pool head told number holds.
     let set = c.punch.new.self in
     let same = ap (λ (n : ℕ). holes_made n c.args.object c.args.first c.args.count head) (sym number) ∙ c.changes_are_commands.ensures.punch pool c.args.object c.args.first c.args.count head in
     let is = subst (λ (r : Result DatedState Refusal). Changes (SetHolds has set) r c.punch.result) same (c.punch.ensures.changed head told holds) in
-    call_changes c.punch.result c.answer.result c.answer.ensures c.punch.ensures.works has set _ is
+    call_changes c.punch.result c.answer.result c.answer.ensures has set _ is
 
-pub returns-clause-writes : goal.returns-clause-writes
-returns-clause-writes g c = call_writes c.punch.result c.answer.result c.answer.ensures c.punch.ensures.works c.requires.fits
+pub returns-clause-works : goal.returns-clause-works
+returns-clause-works g c = works_wider 1280 0 (omega arith) (tree_blocks 0) (call_works c.punch.result c.answer.result c.answer.ensures c.punch.ensures.works)
+
+pub returns-clause-damaged : goal.returns-clause-damaged
+returns-clause-damaged g c = λ told.
+    let Is = range_damage (g.D.Disk.state c.args.io.now.disk.now) c.args.io.now.space c.args.set.now in
+    damaged_call Is Is (λ sector stated found is. is) c.punch.result c.answer.result c.answer.ensures (c.punch.ensures.damaged told)
+
+pub returns-clause-levels : goal.returns-clause-levels
+returns-clause-levels g c = call_ok c.punch.result c.answer.result c.answer.ensures (SetFits c.punch.new.self) c.punch.ensures.levels
+
+pub returns-clause-limits : goal.returns-clause-limits
+returns-clause-limits g c = past_indices (c.args.first + c.args.count) c.punch.result c.answer.ensures c.punch.ensures.limits

@@ -1,4 +1,4 @@
-use Rattle.std.proofs.Common.{ℕ, sym, ap, ◌∙◌, subst}
+use Rattle.std.proofs.Common.{ℕ, sym, ap, ◌∙◌, subst, arith, ◌+◌}
 use Rattle.std.specs.Prelude.{Result}
 use Rattle.zst_block.specs.Blocks.{Has}
 use Rattle.zst_model.specs.declared.refusals.refusal.Refusal.{Refusal}
@@ -6,7 +6,11 @@ use Rattle.zst_model.specs.states.Dated.{DatedState}
 use Rattle.zst_objset.specs.Answers.{Changes}
 use Rattle.zst_objset.specs.Changes.{objects_freed}
 use Rattle.zst_objset.specs.Sets.{SetHolds}
-use Rattle.zst_pool.proofs.Writing.{call_changes, call_writes}
+use Rattle.zst_pool.specs.Damage.{slots_damage}
+use Rattle.zst_pool.proofs.Damaged.{damaged_call}
+use Rattle.zst_pool.proofs.Taking.{tree_blocks, works_wider}
+use Rattle.zst_pool.proofs.Writing.{call_changes, call_works}
+use Rattle.zst_pool.proofs.Planned.{past_numbers}
 use Rattle.zst_pool.proofs.changes.change_numbers.Goals as goal
 
 pub returns-clause-changed : goal.returns-clause-changed
@@ -15,7 +19,15 @@ returns-clause-changed g c = λ pool head told number holds.
     let set = c.free_objects.new.self in
     let same = ap (λ (n : ℕ). objects_freed n c.args.first c.args.count head) (sym number) ∙ c.changes_are_commands.ensures.free pool c.args.first c.args.count head in
     let is = subst (λ (r : Result DatedState Refusal). Changes (SetHolds has set) r c.free_objects.result) same (c.free_objects.ensures.changed head told holds) in
-    call_changes c.free_objects.result c.answer.result c.answer.ensures c.free_objects.ensures.works has set _ is
+    call_changes c.free_objects.result c.answer.result c.answer.ensures has set _ is
 
-pub returns-clause-writes : goal.returns-clause-writes
-returns-clause-writes g c = call_writes c.free_objects.result c.answer.result c.answer.ensures c.free_objects.ensures.works c.requires.fits
+pub returns-clause-works : goal.returns-clause-works
+returns-clause-works g c = works_wider 1280 0 (omega arith) (tree_blocks 0) (call_works c.free_objects.result c.answer.result c.answer.ensures c.free_objects.ensures.works)
+
+pub returns-clause-damaged : goal.returns-clause-damaged
+returns-clause-damaged g c = λ told.
+    let Is = slots_damage (g.D.Disk.state c.args.io.now.disk.now) c.args.io.now.space c.args.set.now in
+    damaged_call Is Is (λ sector stated found is. is) c.free_objects.result c.answer.result c.answer.ensures (c.free_objects.ensures.damaged told)
+
+pub returns-clause-limits : goal.returns-clause-limits
+returns-clause-limits g c = past_numbers (c.args.first + c.args.count) c.free_objects.result c.answer.ensures c.free_objects.ensures.limits

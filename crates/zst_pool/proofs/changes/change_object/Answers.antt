@@ -1,19 +1,25 @@
 use Rattle.std.specs.Prelude.{Option, Some, None, Result, Ok, Err}
-use Rattle.std.proofs.Common.{◌≡◌, ℕ, ◌+◌, ◌≤◌, List, false, sym, ap, ◌∙◌, subst, arith}
-use Rattle.zst_block.specs.Blocks.{Has}
+use Rattle.std.proofs.Common.{◌≡◌, ◌⊎◌, ℕ, ◌+◌, ◌*◌, ◌/◌, ◌≤◌, List, false, length, sym, ap, ◌∙◌, subst, arith}
+use Rattle.zst_block.specs.Blocks.{Has, SparesTaken}
 use Rattle.zst_model.specs.declared.refusals.refusal.Refusal.{Refusal}
 use Rattle.zst_model.specs.pools.Pool.{Pool}
 use Rattle.zst_model.specs.states.Dated.{DatedState}
 use Rattle.zst_objset.specs.Changes.{object_made, object_put, spill_put}
+use Rattle.zst_objset.specs.Damage.{IsDamagedSet, IsSetWithin}
+use Rattle.zst_tree.specs.Sets.{SetFits}
 use Rattle.zst_objset.specs.Sets.{SetHolds}
+use Rattle.zst_pool.specs.Damage.{IfHeadDamaged, slots_damage}
+use Rattle.zst_pool.proofs.Damaged.{damaged_call, damaged_err}
 use Rattle.zst_pool.specs.Checks.{put_in}
-use Rattle.zst_pool.specs.Heads.{ChangesHead}
-use Rattle.zst_pool.specs.Room.{object_sectors}
-use Rattle.zst_pool.specs.Work.{Writes}
+use Rattle.zst_pool.specs.Heads.{ChangesHead, Works, of_change, stop_of}
+use Rattle.zst_pool.specs.declared.head_fault.HeadFault.{HeadFault}
+use Rattle.zst_pool.specs.Cost.{object_cells, spill_sectors}
 use Rattle.zst_pool.proofs.Changing.{put_fault, then_spilled}
 use Rattle.zst_pool.proofs.Judging.{err_is}
-use Rattle.zst_pool.proofs.Writing.{call_changes, call_writes, writes_err, writes_more, writes_then}
+use Rattle.zst_pool.proofs.Taking.{tree_blocks, works_then, works_wider}
+use Rattle.zst_pool.proofs.Writing.{call_changes, call_ok, call_works, went_well}
 use Rattle.zst_pool.proofs.changes.change_object.Given.{Over}
+use Rattle.zst_pool.proofs.Planned.{no_plan, past_numbers}
 use Rattle.zst_pool.proofs.changes.change_object.Goals as goal
 use Rattle.zst_pool.proofs.changes.change_object.Goals.{After-answer}
 
@@ -21,13 +27,15 @@ use Rattle.zst_pool.proofs.changes.change_object.Goals.{After-answer}
 put : (g : Over) (c : After-answer g) (old : DatedState) → (g.D.Disk.state c.put_object.new.io.disk.now).honest → SetHolds (Has (g.D.Disk.state c.args.io.now.disk.now).seen c.args.io.now.space) c.args.set.now old
     → ChangesHead (Has (g.D.Disk.state c.put_object.new.io.disk.now).seen c.put_object.new.io.space) c.put_object.new.self (object_put c.args.number c.args.object c.args.head c.as_slice.result.now false old) c.answer.result
 put g c old told holds =
-    call_changes c.put_object.result c.answer.result c.answer.ensures c.put_object.ensures.works (Has (g.D.Disk.state c.put_object.new.io.disk.now).seen c.put_object.new.io.space) c.put_object.new.self
+    call_changes c.put_object.result c.answer.result c.answer.ensures (Has (g.D.Disk.state c.put_object.new.io.disk.now).seen c.put_object.new.io.space) c.put_object.new.self
     (object_put c.args.number c.args.object c.args.head c.as_slice.result.now false old) (c.put_object.ensures.changed old told holds)
 
 -- and takes of the free sectors
-takes : (g : Over) (c : After-answer g)
-    → Writes 640 (g.D.Disk.state c.args.io.now.disk.now) c.args.io.now.space c.args.io.now.failed (g.D.Disk.state c.put_object.new.io.disk.now) c.put_object.new.io.space c.put_object.new.io.failed c.answer.result
-takes g c = call_writes c.put_object.result c.answer.result c.answer.ensures c.put_object.ensures.works c.requires.fits
+takes : (g : Over) (c : After-answer g) (block : ℕ) (answer : Result (Unit {0}) HeadFault) → c.answer.result ≡ answer
+    → Works 1 block (g.D.Disk.state c.args.io.now.disk.now) c.args.io.now.space c.args.io.now.failed (g.D.Disk.state c.put_object.new.io.disk.now) c.put_object.new.io.space c.put_object.new.io.failed (stop_of answer)
+takes g c block answer was =
+    subst (λ (r : Result (Unit {0}) HeadFault). Works 1 block (g.D.Disk.state c.args.io.now.disk.now) c.args.io.now.space c.args.io.now.failed (g.D.Disk.state c.put_object.new.io.disk.now) c.put_object.new.io.space c.put_object.new.io.failed (stop_of r)) was
+    (works_wider (block + 640 * 1) block (omega arith) (tree_blocks block) (call_works c.put_object.result c.answer.result c.answer.ensures c.put_object.ensures.works))
 
 -- the definition of the command
 made : (g : Over) (c : After-answer g) (pool : Pool) (old : DatedState) → pool.number + 1 ≡ c.args.number
@@ -37,9 +45,13 @@ made g c pool old number =
     ∙ c.changes_are_commands.ensures.object pool c.args.object c.args.head c.as_slice.result.now c.args.spill old
     ∙ ap (λ (b : List ℕ). put_in pool c.args.object c.args.head b c.args.spill old) c.as_slice.ensures
 
-object_more : (spill : Option (List ℕ)) → 640 ≤ object_sectors spill
-object_more None = omega arith
-object_more (Some bytes) = omega arith
+-- and as many at least are what the object costs with its spill
+with_spill : (spill : Option (List ℕ)) → 640 * 1 + spill_sectors spill ≤ spill_sectors spill + 640 * object_cells spill
+with_spill None = omega arith
+with_spill (Some bytes) = omega arith
+
+same_blocks : (block need : ℕ) → (need ≡ 16) ⊎ (need ≡ block) → (need ≡ 16) ⊎ (need ≡ block)
+same_blocks block need is = is
 
 pub returns-in_err-answer-clause-changed : goal.returns-in_err-answer-clause-changed
 returns-in_err-answer-clause-changed g c = λ pool old told number holds.
@@ -52,14 +64,15 @@ returns-in_err-answer-clause-changed g c = λ pool old told number holds.
     subst (ChangesHead has set (put_in pool c.args.object c.args.head c.args.bonus c.args.spill old)) (sym (err_is c.from_residual.result fault c.from_residual.ensures.1))
     (subst (λ (r : Result DatedState Refusal). ChangesHead has set r (Err fault)) (made g at pool old number) (put_fault c.args.number c.args.object c.args.head bonus c.args.spill old fault fell))
 
-pub returns-in_err-answer-clause-writes : goal.returns-in_err-answer-clause-writes
-returns-in_err-answer-clause-writes g c =
-    let at = (goal.at.returns-in_err-answer-clause-writes g c).After-answer in
-    let old = g.D.Disk.state c.args.io.now.disk.now in
-    let new = g.D.Disk.state c.put_object.new.io.disk.now in
+pub returns-in_err-answer-clause-works : goal.returns-in_err-answer-clause-works
+returns-in_err-answer-clause-works g c =
+    let at = (goal.at.returns-in_err-answer-clause-works g c).After-answer in
+    let spill = c.args.spill in
     let fault = c.in_err-answer.field-0.0 in
-    let fell = subst (Writes 640 old c.args.io.now.space c.args.io.now.failed new c.put_object.new.io.space c.put_object.new.io.failed) c.in_err-answer.was (takes g at) in
-    writes_more c.from_residual.result (object_more c.args.spill) (writes_err fault c.from_residual.result (err_is c.from_residual.result fault c.from_residual.ensures.1) fell)
+    let block = spill_sectors spill in
+    subst (λ (r : Result (Unit {0}) HeadFault). Works (object_cells spill) block (g.D.Disk.state c.args.io.now.disk.now) c.args.io.now.space c.args.io.now.failed (g.D.Disk.state c.put_object.new.io.disk.now) c.put_object.new.io.space c.put_object.new.io.failed (stop_of r))
+    (sym (err_is c.from_residual.result fault c.from_residual.ensures.1))
+    (works_wider (block + 640 * object_cells spill) block (omega (arith, with_spill spill)) (same_blocks block) (takes g at block (Err fault) c.in_err-answer.was))
 
 pub returns-in-None-clause-changed : goal.returns-in-None-clause-changed
 returns-in-None-clause-changed g c = λ pool old told number holds.
@@ -72,13 +85,12 @@ returns-in-None-clause-changed g c = λ pool old told number holds.
     let all = subst (λ (s : Option (List ℕ)). ChangesHead has set (object_made c.args.number c.args.object c.args.head bonus s old) done) (sym c.in-None.is) one in
     subst (λ (r : Result DatedState Refusal). ChangesHead has set r done) (made g at pool old number) all
 
-pub returns-in-None-clause-writes : goal.returns-in-None-clause-writes
-returns-in-None-clause-writes g c =
-    let at = (goal.at.returns-in-None-clause-writes g c).After-answer in
-    let old = g.D.Disk.state c.args.io.now.disk.now in
-    let new = g.D.Disk.state c.put_object.new.io.disk.now in
-    writes_more (Ok c.in_ok-answer.field-0) (object_more c.args.spill)
-    (subst (Writes 640 old c.args.io.now.space c.args.io.now.failed new c.put_object.new.io.space c.put_object.new.io.failed) c.in_ok-answer.was (takes g at))
+pub returns-in-None-clause-works : goal.returns-in-None-clause-works
+returns-in-None-clause-works g c =
+    let at = (goal.at.returns-in-None-clause-works g c).After-answer in
+    let spill = c.args.spill in
+    let block = spill_sectors spill in
+    works_wider (block + 640 * object_cells spill) block (omega (arith, with_spill spill)) (same_blocks block) (takes g at block (Ok c.in_ok-answer.field-0) c.in_ok-answer.was)
 
 pub returns-clause-changed : goal.returns-clause-changed
 returns-clause-changed g c = λ pool old told number holds.
@@ -91,21 +103,61 @@ returns-clause-changed g c = λ pool old told number holds.
     let set = c.put_spill.new.self in
     let one = subst (ChangesHead (Has mid.seen c.put_object.new.io.space) c.put_object.new.self (object_put c.args.number c.args.object c.args.head bonus false old)) c.in_ok-answer.was
     (put g at old (c.put_spill.ensures.works.fills.honest told) holds) in
-    let two = call_changes c.put_spill.result answered c.answer-in-Some.ensures c.put_spill.ensures.works has set (spill_put c.args.number c.args.object block one.0) (c.put_spill.ensures.changed one.0 told one.2) in
+    let two = call_changes c.put_spill.result answered c.answer-in-Some.ensures has set (spill_put c.args.number c.args.object block one.0) (c.put_spill.ensures.changed one.0 told one.2) in
     let both = then_spilled has set c.args.number c.args.object c.args.head bonus block old one.0 answered one.1 two in
     let is : Some block ≡ c.args.spill = ap (λ (b : List ℕ). Some b) c.as_slice-in-Some.ensures ∙ sym c.in-Some.is in
     let all = subst (λ (s : Option (List ℕ)). ChangesHead has set (object_made c.args.number c.args.object c.args.head bonus s old) answered) is both in
     subst (λ (r : Result DatedState Refusal). ChangesHead has set r answered) (made g at pool old number) all
 
-pub returns-clause-writes : goal.returns-clause-writes
-returns-clause-writes g c =
-    let at = (goal.at.returns-clause-writes g c).After-answer in
+pub returns-clause-works : goal.returns-clause-works
+returns-clause-works g c =
+    let at = (goal.at.returns-clause-works g c).After-answer in
+    let answered = c.answer-in-Some.result in
+    let bytes = c.as_slice-in-Some.result.now in
+    let block = length bytes / 512 in
+    let first = takes g at 0 (Ok c.in_ok-answer.field-0) c.in_ok-answer.was in
+    let second = call_works c.put_spill.result answered c.answer-in-Some.ensures c.put_spill.ensures.works in
+    let is : Some bytes ≡ c.args.spill = ap (λ (b : List ℕ). Some b) c.as_slice-in-Some.ensures ∙ sym c.in-Some.is in
+    subst (λ (s : Option (List ℕ)). Works (object_cells s) (spill_sectors s) (g.D.Disk.state c.args.io.now.disk.now) c.args.io.now.space c.args.io.now.failed (g.D.Disk.state c.put_spill.new.io.disk.now) c.put_spill.new.io.space c.put_spill.new.io.failed (stop_of answered)) is
+    (works_wider (block + 640 * 2) block (omega arith) (same_blocks block) (works_then first second))
+
+-- what it tells as damaged is told of the set as it was
+tells : (g : Over) (c : After-answer g) → (g.D.Disk.state c.put_object.new.io.disk.now).honest → IfHeadDamaged c.answer.result (slots_damage (g.D.Disk.state c.args.io.now.disk.now) c.args.io.now.space c.args.set.now)
+tells g c told =
+    let Is = slots_damage (g.D.Disk.state c.args.io.now.disk.now) c.args.io.now.space c.args.set.now in
+    damaged_call Is Is (λ sector stated found is. is) c.put_object.result c.answer.result c.answer.ensures (c.put_object.ensures.damaged told)
+
+pub returns-in_err-answer-clause-damaged : goal.returns-in_err-answer-clause-damaged
+returns-in_err-answer-clause-damaged g c = λ told.
+    let at = (goal.at.returns-in_err-answer-clause-damaged g c).After-answer in
+    let fault = c.in_err-answer.field-0.0 in
+    let Is = slots_damage (g.D.Disk.state c.args.io.now.disk.now) c.args.io.now.space c.args.set.now in
+    damaged_err Is Is (λ sector stated found is. is) (Unit {0}) fault c.from_residual.result (err_is c.from_residual.result fault c.from_residual.ensures.1)
+    (subst (λ (r : Result (Unit {0}) HeadFault). IfHeadDamaged r Is) c.in_err-answer.was (tells g at told))
+
+pub returns-clause-damaged : goal.returns-clause-damaged
+returns-clause-damaged g c = λ told.
     let old = g.D.Disk.state c.args.io.now.disk.now in
     let mid = g.D.Disk.state c.put_object.new.io.disk.now in
-    let new = g.D.Disk.state c.put_spill.new.io.disk.now in
-    let answered = c.answer-in-Some.result in
-    let first = subst (Writes 640 old c.args.io.now.space c.args.io.now.failed mid c.put_object.new.io.space c.put_object.new.io.failed) c.in_ok-answer.was (takes g at) in
-    let second = call_writes c.put_spill.result answered c.answer-in-Some.ensures c.put_spill.ensures.works first.works.fits in
-    let is : Some c.as_slice-in-Some.result.now ≡ c.args.spill = ap (λ (b : List ℕ). Some b) c.as_slice-in-Some.ensures ∙ sym c.in-Some.is in
-    subst (λ (s : Option (List ℕ)). Writes (object_sectors s) old c.args.io.now.space c.args.io.now.failed new c.put_spill.new.io.space c.put_spill.new.io.failed answered) is
-    (writes_then c.in_ok-answer.field-0 answered first second)
+    let less = c.put_object.new.io.space in
+    let was = c.put_object.new.self in
+    let first = c.put_object.ensures.works in
+    let within = went_well c.put_object.result c.answer.result c.answer.ensures (IsSetWithin (SparesTaken c.args.io.now.space old.seen) old.size c.args.set.now (SparesTaken less mid.seen) was) c.in_ok-answer.field-0 c.in_ok-answer.was
+    (c.put_object.ensures.within (c.put_spill.ensures.works.fills.honest told)) in
+    damaged_call (IsDamagedSet (SparesTaken less mid.seen) mid.size was) (slots_damage old c.args.io.now.space c.args.set.now)
+    (λ sector stated found is. within sector stated found (subst (λ (size : ℕ). IsDamagedSet (SparesTaken less mid.seen) size was sector stated found) first.fills.size is))
+    c.put_spill.result c.answer-in-Some.result c.answer-in-Some.ensures (c.put_spill.ensures.damaged told)
+
+pub returns-in-None-clause-levels : goal.returns-in-None-clause-levels
+returns-in-None-clause-levels g c = went_well c.put_object.result c.answer.result c.answer.ensures (SetFits c.put_object.new.self) c.in_ok-answer.field-0 c.in_ok-answer.was c.put_object.ensures.levels
+
+pub returns-clause-levels : goal.returns-clause-levels
+returns-clause-levels g c = call_ok c.put_spill.result c.answer-in-Some.result c.answer-in-Some.ensures (SetFits c.put_spill.new.self) c.put_spill.ensures.levels
+
+pub returns-in_err-answer-clause-limits : goal.returns-in_err-answer-clause-limits
+returns-in_err-answer-clause-limits g c = λ fault is.
+    past_numbers (c.args.object + 1) c.put_object.result c.answer.ensures c.put_object.ensures.limits fault
+    (ap of_change (c.in_err-answer.was ∙ sym (err_is c.from_residual.result c.in_err-answer.field-0.0 c.from_residual.ensures.1)) ∙ is)
+
+pub returns-clause-limits : goal.returns-clause-limits
+returns-clause-limits g c = λ fault is. absurd (no_plan c.put_spill.result c.answer-in-Some.ensures c.put_spill.ensures.limits fault is)

@@ -1,14 +1,15 @@
 use Rattle.std.specs.Prelude.{Option, Some, None}
-use Rattle.std.proofs.Common.{◌≡◌, ℕ, ◌<◌, length, refl, sym, subst, arith}
+use Rattle.std.proofs.Common.{◌≡◌, ℕ, ◌<◌, length, refl, sym, ap, ◌∙◌, subst, arith}
 use Rattle.zst_block.specs.Blocks.{Has}
 use Rattle.zst_dnode.specs.declared.dnode.Dnode.{Dnode}
 use Rattle.zst_model.specs.pools.Step.{written}
 use Rattle.zst_model.specs.states.State.{Object}
 use Rattle.zst_tree.specs.Indices.{Blocks}
 use Rattle.zst_objset.specs.Dnodes.{DnodeAt}
-use Rattle.zst_pool.specs.Heads.{ChangeFault}
+use Rattle.zst_pool.specs.Heads.{ChangeFault, of_head}
 use Rattle.zst_pool.proofs.Changing.{written_absent, written_long}
 use Rattle.zst_pool.proofs.Writing.{disk_is}
+use Rattle.zst_pool.proofs.Planned.{no_plan-block}
 use Rattle.zst_pool.proofs.changes.find_size.Goals as goal
 
 -- what is found at a number, and what isn't
@@ -42,3 +43,6 @@ pub returns-in-Err-clause-found : goal.returns-in-Err-clause-found
 returns-in-Err-clause-found g c = λ pool index head told holds.
     let definition = written pool c.args.object index c.args.bytes.now head in
     subst (ChangeFault definition) (sym c.from.ensures) (disk_is definition c.in-Err.fault (c.in-Err.ensures.found head told holds))
+
+pub returns-in-Err-clause-limits : goal.returns-in-Err-clause-limits
+returns-in-Err-clause-limits g c = λ fault is. no_plan-block c.in-Err.fault fault c.in-Err.ensures.known (sym (ap of_head c.from.ensures) ∙ is)

@@ -1,5 +1,4 @@
 use Rattle.std.proofs.Common.{◌∙◌, sym, ap, is_some, ◌+◌, List, length, Err, arith}
-use Rattle.zst_block.specs.Blocks.{Has}
 use Rattle.zst_model.specs.pools.Step.{exists_already}
 use Rattle.zst_model.specs.declared.refusals.named.Name.TheVariants as names
 use Rattle.zst_dir.specs.declared.rows.Snapshot.{Snapshot}
@@ -7,18 +6,18 @@ use Rattle.zst_pool.proofs.Judging.{snapshot_is_there, snapshots_are_counted, sn
 use Rattle.zst_pool.proofs.checks.check_new_snapshot.Goals as goal
 
 pub returns-then-is_some-clause-judged : goal.returns-then-is_some-clause-judged
-returns-then-is_some-clause-judged c = λ image space pool rest are.
+returns-then-is_some-clause-judged c = λ pool rest are.
     let name = c.args.name.now in
     let found = ap is_some (sym c.snapshot.ensures) ∙ sym c.is_some.ensures ∙ c.if-is_some.true in
-    snapshot_is_taken (Has image space) c.args.dir.now pool are name rest (sym (snapshot_is_there (Has image space) c.args.dir.now pool are name) ∙ found)
+    snapshot_is_taken c.args.dir.now pool are name rest (sym (snapshot_is_there c.args.dir.now pool are name) ∙ found)
     ∙ ap (λ (n : List _). Err (exists_already (names.Snapshot n))) (sym c.duplicate.ensures)
 
 pub returns-then-snapshots-count_kept-ge-MOST_SNAPSHOTS-clause-judged : goal.returns-then-snapshots-count_kept-ge-MOST_SNAPSHOTS-clause-judged
-returns-then-snapshots-count_kept-ge-MOST_SNAPSHOTS-clause-judged c = λ image space pool rest are.
+returns-then-snapshots-count_kept-ge-MOST_SNAPSHOTS-clause-judged c = λ pool rest are.
     let name = c.args.name.now in
     let found = ap is_some (sym c.snapshot.ensures) ∙ sym c.is_some.ensures ∙ c.if-is_some.false in
-    let count = ap (λ (xs : List Snapshot). length xs + c.count_kept.result) c.snapshots.ensures ∙ snapshots_are_counted (Has image space) c.args.dir.now pool are c.count_kept.result c.count_kept.ensures.kept in
-    snapshots_are_many (Has image space) c.args.dir.now pool are name rest (sym (snapshot_is_there (Has image space) c.args.dir.now pool are name) ∙ found)
+    let count = ap (λ (xs : List Snapshot). length xs + c.count_kept.result) c.snapshots.ensures ∙ snapshots_are_counted c.args.dir.now pool are c.count_kept.result c.count_kept.ensures.kept in
+    snapshots_are_many c.args.dir.now pool are name rest (sym (snapshot_is_there c.args.dir.now pool are name) ∙ found)
     (omega (arith, count, c.if-snapshots-count_kept-ge-MOST_SNAPSHOTS.true))
 
 pub returns-clause-absent : goal.returns-clause-absent
@@ -26,9 +25,9 @@ returns-clause-absent c =
     no_snapshot c.args.dir.now c.args.name.now (ap is_some (sym c.snapshot.ensures) ∙ sym c.is_some.ensures ∙ c.if-is_some.false)
 
 pub returns-clause-judged : goal.returns-clause-judged
-returns-clause-judged c = λ image space pool rest are.
+returns-clause-judged c = λ pool rest are.
     let name = c.args.name.now in
     let found = ap is_some (sym c.snapshot.ensures) ∙ sym c.is_some.ensures ∙ c.if-is_some.false in
-    let count = ap (λ (xs : List Snapshot). length xs + c.count_kept.result) c.snapshots.ensures ∙ snapshots_are_counted (Has image space) c.args.dir.now pool are c.count_kept.result c.count_kept.ensures.kept in
-    snapshot_is_new (Has image space) c.args.dir.now pool are name rest (sym (snapshot_is_there (Has image space) c.args.dir.now pool are name) ∙ found)
+    let count = ap (λ (xs : List Snapshot). length xs + c.count_kept.result) c.snapshots.ensures ∙ snapshots_are_counted c.args.dir.now pool are c.count_kept.result c.count_kept.ensures.kept in
+    snapshot_is_new c.args.dir.now pool are name rest (sym (snapshot_is_there c.args.dir.now pool are name) ∙ found)
     (omega (arith, count, c.if-snapshots-count_kept-ge-MOST_SNAPSHOTS.false))

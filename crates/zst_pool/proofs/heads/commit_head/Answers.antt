@@ -1,8 +1,9 @@
-use Rattle.std.specs.Prelude.{Result, Ok, Err}
-use Rattle.std.proofs.Common.{◌≡◌, ℕ, ◌+◌, ◌≤◌, Bool, length, refl, sym, ap, ◌∙◌, subst, arith}
-use Rattle.zst_fletcher.specs.WeightSum.{parts_of}
+use Rattle.std.specs.Prelude.{Result, Err}
+use Rattle.std.proofs.Common.{◌≡◌, ◌+◌, ◌≤◌, Bool, length, sym, ap, ◌∙◌, subst, arith}
+use Rattle.zst_tree.specs.Sets.{SetFits}
 use Rattle.zst_outside.specs.Images.{DiskState}
 use Rattle.zst_block.specs.Blocks.{Has}
+use Rattle.zst_block.specs.Working as blocks
 use Rattle.zst_model.specs.declared.refusals.refusal.Refusal.{Refusal}
 use Rattle.zst_model.specs.states.Apply.{◌>>=◌}
 use Rattle.zst_model.specs.states.Dated.{DatedState}
@@ -12,76 +13,56 @@ use Rattle.zst_dir.specs.Rows.{Rows, with_head}
 use Rattle.zst_dir.specs.Spelling.{dir_bytes}
 use Rattle.zst_pool.specs.Checks.{next_of, with_head_of}
 use Rattle.zst_pool.specs.Faults.{StepFault}
-use Rattle.zst_pool.specs.Heads.{ChangedHead}
-use Rattle.zst_image.specs.Reads.{free_by}
-use Rattle.zst_pool.specs.Work.{Writes}
+use Rattle.zst_pool.specs.Heads.{ChangedHead, stop_of}
+use Rattle.zst_pool.specs.Cost.{Cost}
 use Rattle.zst_pool.specs.declared.fault.PoolFault.{PoolFault}
-use Rattle.zst_pool.specs.declared.fault.PoolFault.TheVariants.{Damaged, OutOfMemory}
+use Rattle.zst_pool.specs.declared.fault.PoolFault.TheVariants.{Damaged, OutOfMemory, Plan}
 use Rattle.zst_pool.proofs.Doing.{did}
 use Rattle.zst_pool.proofs.Judging.{err_is}
 use Rattle.zst_pool.proofs.NextPools.{head_is_next}
 use Rattle.zst_pool.proofs.Parts.{described_on}
-use Rattle.zst_pool.proofs.Running.{runs_committed, runs_fell}
-use Rattle.zst_pool.proofs.Writing.{writes_judged, writes_refused}
+use Rattle.zst_pool.proofs.Committed.{committed_sound}
+use Rattle.zst_pool.proofs.Judged.{memory_stops, well_is}
+use Rattle.zst_pool.proofs.Running.{Wrote, runs_committed, runs_fell}
 use Rattle.zst_pool.proofs.heads.commit_head.Given.{Over}
+use Rattle.zst_pool.proofs.Planned.{no_plan-commit}
 use Rattle.zst_pool.proofs.heads.commit_head.Goals as goal
 use Rattle.zst_pool.proofs.heads.commit_head.Goals.{After-judge}
 
--- what was written, where the change is answered as it is judged
-judged : (g : Over) (c : After-judge g) (start : DiskState) (start_failed : Bool) (make : Pool → DatedState → Result DatedState Refusal) (most : ℕ)
-    → ChangedHead c.args.kept.now c.args.name.now make most start start_failed (g.D.Disk.state c.args.io.now.disk.now) c.args.io.now.space c.args.io.now.failed c.args.set c.args.changed
-    → (answer : Result (Unit {0}) PoolFault) → c.judge.result ≡ answer
-    → Writes most start (free_by c.args.kept.now.body) start_failed (g.D.Disk.state c.args.io.now.disk.now) c.args.io.now.space c.args.io.now.failed answer
-judged g c start start_failed make most changed answer was =
-    subst (Writes most start (free_by c.args.kept.now.body) start_failed (g.D.Disk.state c.args.io.now.disk.now) c.args.io.now.space c.args.io.now.failed) was
-    (writes_judged c.args.changed c.judge.result c.judge.ensures.refused c.judge.ensures.disk changed.writes)
+-- what was written until the change was answered
+wrote : (g : Over) (c : After-judge g) (start : DiskState) (start_failed : Bool) (make : Pool → DatedState → Result DatedState Refusal) (cost : Cost)
+    → ChangedHead c.args.kept.now c.args.name.now make cost start start_failed (g.D.Disk.state c.args.io.now.disk.now) c.args.io.now.space c.args.io.now.failed c.args.set c.args.changed
+    → Wrote c.args.kept.now cost start start_failed (g.D.Disk.state c.args.io.now.disk.now) c.args.io.now.space c.args.io.now.failed (stop_of c.args.changed)
+wrote g c start start_failed make cost changed = (changed.works, changed.exact)
 
 pub set_head-requires : goal.set_head-requires
-set_head-requires g c = c.in_ok-check_levels.ensures.fits
+set_head-requires g c = well_is c.args.changed (SetFits c.args.set) c.in_ok-judge.ensures.well c.requires.levels
 
-pub returns-in_err-judge-clause-runs : goal.returns-in_err-judge-clause-runs
-returns-in_err-judge-clause-runs g c = λ start start_failed make most changed.
+pub returns-in_err-judge-clause-ran : goal.returns-in_err-judge-clause-ran
+returns-in_err-judge-clause-ran g c = λ start start_failed make cost changed.
     let now = g.D.Disk.state c.args.io.now.disk.now in
     let space = c.args.io.now.space in
     let name = c.args.name.now in
     let fault = c.in_err-judge.field-0.0 in
-    let at = (goal.at.returns-in_err-judge-clause-runs g c).After-judge in
-    let writes = judged g at (g.D.Disk.state start) start_failed make most changed (Err fault) c.in_err-judge.was in
-    runs_fell (λ pool. on_head name pool (make pool)) most c.args.kept.now fault (err_is c.from_residual.result fault c.from_residual.ensures.1) c.requires.ready writes
+    let at = (goal.at.returns-in_err-judge-clause-ran g c).After-judge in
+    let writes = wrote g at (g.D.Disk.state start) start_failed make cost changed in
+    runs_fell (λ pool. on_head name pool (make pool)) cost c.args.kept.now fault (err_is c.from_residual.result fault c.from_residual.ensures.1) c.requires.ready c.in_err-judge.ensures.stops writes
     (λ pool told rests.
     let made = changed.made pool told rests in
     subst (λ (r : Result Stepped Refusal). StepFault (Unit {0}) r fault) (sym made.2)
     (c.in_err-judge.ensures.judged now.seen space c.args.set name pool (make pool made.0) rests.reads.described.number made.1))
 
-pub returns-in_err-check_levels-clause-runs : goal.returns-in_err-check_levels-clause-runs
-returns-in_err-check_levels-clause-runs g c = λ start start_failed make most changed.
-    let now = g.D.Disk.state c.args.io.now.disk.now in
-    let space = c.args.io.now.space in
+pub returns-in_err-dir-clause-ran : goal.returns-in_err-dir-clause-ran
+returns-in_err-dir-clause-ran g c = λ start start_failed make cost changed.
     let name = c.args.name.now in
-    let root = c.args.set.tree.root in
-    let fault = Damaged root.sector (parts_of root.sum) (parts_of root.sum) in
-    let at = (goal.at.returns-in_err-check_levels-clause-runs g c).After-judge in
-    let writes = judged g at (g.D.Disk.state start) start_failed make most changed (Ok c.in_ok-judge.field-0) c.in_ok-judge.was in
-    let fell = c.from_residual-in_err-check_levels in
-    let same = err_is fell.result c.in_err-check_levels.field-0.0 fell.ensures.1 ∙ ap (λ (f : PoolFault). Err f) c.in_err-check_levels.ensures.damaged in
-    runs_fell (λ pool. on_head name pool (make pool)) most c.args.kept.now fault same c.requires.ready
-    (writes_refused fault refl tt (λ need largest is. absurd (cc)) writes)
-    (λ pool told rests.
-    let made = changed.made pool told rests in
-    let head = c.in_ok-judge.ensures.judged now.seen space c.args.set name pool (make pool made.0) rests.reads.described.number made.1 in
-    absurd (omega (arith, head.2.levels, c.in_err-check_levels.ensures.deep)))
-
-pub returns-in_err-dir-clause-runs : goal.returns-in_err-dir-clause-runs
-returns-in_err-dir-clause-runs g c = λ start start_failed make most changed.
-    let name = c.args.name.now in
-    let at = (goal.at.returns-in_err-dir-clause-runs g c).After-judge in
-    let writes = judged g at (g.D.Disk.state start) start_failed make most changed (Ok c.in_ok-judge.field-0) c.in_ok-judge.was in
+    let at = (goal.at.returns-in_err-dir-clause-ran g c).After-judge in
+    let writes = wrote g at (g.D.Disk.state start) start_failed make cost changed in
     let fell = c.from_residual-in_err-dir in
-    runs_fell (λ pool. on_head name pool (make pool)) most c.args.kept.now OutOfMemory (err_is fell.result OutOfMemory fell.ensures.1) c.requires.ready
-    (writes_refused OutOfMemory refl tt (λ need largest is. absurd (cc)) writes) (λ pool told rests. tt)
+    runs_fell (λ pool. on_head name pool (make pool)) cost c.args.kept.now OutOfMemory (err_is fell.result OutOfMemory fell.ensures.1) c.requires.ready
+    (memory_stops (stop_of c.args.changed) (ap blocks.fails c.in_ok-judge.ensures.went_well)) writes (λ pool told rests. tt)
 
-pub returns-clause-runs : goal.returns-clause-runs
-returns-clause-runs g c = λ start start_failed make most changed.
+pub returns-clause-ran : goal.returns-clause-ran
+returns-clause-ran g c = λ start start_failed make cost changed.
     let from = g.D.Disk.state start in
     let old = g.D.Disk.state c.args.io.now.disk.now in
     let space = c.args.io.now.space in
@@ -90,18 +71,52 @@ returns-clause-runs g c = λ start start_failed make most changed.
     let name = c.args.name.now in
     let set = c.args.set in
     let commit = c.commit_dir.ensures in
-    let at = (goal.at.returns-clause-runs g c).After-judge in
-    let writes = judged g at from start_failed make most changed (Ok c.in_ok-judge.field-0) c.in_ok-judge.was in
+    let at = (goal.at.returns-clause-ran g c).After-judge in
+    let writes = wrote g at from start_failed make cost changed in
+    let fills = (let one = writes.0 in one.2.fills) in
     let long : length (dir_bytes c.set_head.new.self) ≡ length (dir_bytes kept.dir) = c.set_head.ensures.as_long ∙ ap (λ (d : Rows). length (dir_bytes d)) c.in_ok-dir.ensures in
     let grows : length (dir_bytes c.set_head.new.self) ≤ length (dir_bytes kept.dir) + 1024 = omega (arith, long) in
     let dir = c.set_head.ensures.headed ∙ ap (λ (d : Rows). record d { datasets = with_head name set d.datasets }) c.in_ok-dir.ensures in
-    runs_committed (λ pool. on_head name pool (make pool)) most kept c.set_head.new.self c.commit_dir.result c.of_committed.ensures writes
+    runs_committed (λ pool. on_head name pool (make pool)) cost kept c.set_head.new.self c.commit_dir.result c.of_committed.ensures c.requires.ready
+    (subst (Wrote kept cost from start_failed old space c.args.io.now.failed) c.in_ok-judge.ensures.went_well writes)
     (λ pool told rests.
     let made = changed.made pool (commit.honest told) rests in
     let head = c.in_ok-judge.ensures.judged old.seen space set name pool (make pool made.0) rests.reads.described.number made.1 in
     let done = next_of (with_head_of name head.0 pool) in
     let is = made.2 ∙ ap (λ (r : Result DatedState Refusal). r >>= λ after. committed (with_head_of name after pool)) head.1 ∙ head.3 in
-    let described = described_on from old space kept.body kept.dir pool rests writes.works.fills in
+    let described = described_on from old space kept.body kept.dir pool rests fills in
     let next = head_is_next (Has old.seen space) kept.body kept.dir c.set_head.new.self pool name set head.0 described head.2 dir (changed.lawful pool done rests.reads.described.lawful is) in
-    did from last kept.body kept.dir pool (on_head name pool (make pool)) done is c.commit_dir.result (λ need largest is. (commit.full need largest is).shorter) (commit.commits start kept.dir pool done.pool told rests writes.works.fills next))
-    grows commit.full commit.ready commit.stays commit.failed commit.cause commit.honest
+    did from last kept.body kept.dir pool (on_head name pool (make pool)) done is c.commit_dir.result (commit.commits start kept.dir pool done.pool told rests fills next))
+    grows commit.full commit.takes commit.ends commit.fills commit.ready commit.stays commit.failed commit.cause commit.honest
+
+pub returns-in_err-judge-clause-damaged : goal.returns-in_err-judge-clause-damaged
+returns-in_err-judge-clause-damaged g c = λ sector stated found is.
+    let fault = c.in_err-judge.field-0.0 in
+    let same = err_is c.from_residual.result fault c.from_residual.ensures.1 in
+    let told : fault ≡ Damaged sector stated found = cc (same, is) in
+    c.in_err-judge.ensures.damaged sector stated found (ap (λ (f : PoolFault). Err f) told)
+
+pub returns-in_err-dir-clause-damaged : goal.returns-in_err-dir-clause-damaged
+returns-in_err-dir-clause-damaged g c = λ sector stated found is.
+    let fell = c.from_residual-in_err-dir in
+    let same = err_is fell.result OutOfMemory fell.ensures.1 in
+    absurd (cc (same, is))
+
+pub returns-clause-damaged : goal.returns-clause-damaged
+returns-clause-damaged g c = λ sector stated found is. absurd (committed_sound c.commit_dir.result sector stated found (sym c.of_committed.ensures ∙ is))
+
+pub returns-in_err-judge-clause-plans : goal.returns-in_err-judge-clause-plans
+returns-in_err-judge-clause-plans g c = λ fault is.
+    let fell = c.in_err-judge.field-0.0 in
+    let answered = err_is c.from_residual.result fell c.from_residual.ensures.1 in
+    let same : fell ≡ Plan fault = cc (answered, is) in
+    c.in_err-judge.ensures.last fault (ap (λ f. Err f) same)
+
+pub returns-in_err-dir-clause-plans : goal.returns-in_err-dir-clause-plans
+returns-in_err-dir-clause-plans g c = λ fault is.
+    let fell = c.from_residual-in_err-dir in
+    let answered = err_is fell.result OutOfMemory fell.ensures.1 in
+    absurd (cc (answered, is))
+
+pub returns-clause-plans : goal.returns-clause-plans
+returns-clause-plans g c = λ fault is. absurd (no_plan-commit c.commit_dir.result c.of_committed.ensures fault is)

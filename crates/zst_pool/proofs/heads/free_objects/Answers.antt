@@ -1,18 +1,63 @@
+use Rattle.std.proofs.Common.{sym, subst, arith, ◌+◌, inl}
+use Rattle.zst_block.specs.Blocks.{FitsDisk, Has}
 use Rattle.zst_model.specs.pools.Pool.{Pool}
 use Rattle.zst_pool.specs.Checks.{freed}
+use Rattle.zst_pool.specs.Cost.{cells_only}
+use Rattle.zst_pool.proofs.Doing.{free_by_fits}
+use Rattle.zst_image.specs.Reads.{free_by}
+use Rattle.zst_pool.specs.declared.fault.PoolFault.TheVariants.{Plan}
+use Rattle.zst_model.specs.pools.Step.{on_head}
+use Rattle.zst_pool.proofs.Judging.{err_is}
+use Rattle.zst_pool.specs.Damage.{OfHead, slots_damage}
+use Rattle.zst_tree.specs.Sets.{SetFits}
+use Rattle.zst_pool.proofs.Judged.{always}
 use Rattle.zst_pool.proofs.NextPools.{freed_is_lawful}
-use Rattle.zst_pool.proofs.Parts.{ready_works}
-use Rattle.zst_pool.proofs.Running.{changed_head}
+use Rattle.zst_pool.proofs.Parts.{ready_fills}
+use Rattle.zst_pool.proofs.Running.{changed_head, runs_head, runs_planned}
+use Rattle.zst_pool.proofs.Naming.{described_is_named}
+use Rattle.zst_pool.proofs.Planned.{freed_apart, head_apart, head_limits, plans_apart, plans_refused}
 use Rattle.zst_pool.proofs.heads.free_objects.Goals as goal
 
 pub commit_head-requires-clause-ready : goal.commit_head-requires-clause-ready
 commit_head-requires-clause-ready g c =
-    ready_works (g.D.Disk.state c.args.io.now.disk.now) c.args.io.now.space c.args.io.now.failed (g.D.Disk.state c.change_numbers-changed.new.io.disk.now) c.change_numbers-changed.new.io.space c.change_numbers-changed.new.io.failed
-    c.change_numbers-changed.result c.args.kept.now.body c.requires.ready c.change_numbers-changed.ensures.writes.works
+    ready_fills (g.D.Disk.state c.args.io.now.disk.now) c.args.io.now.space (g.D.Disk.state c.change_numbers-changed.new.io.disk.now) c.change_numbers-changed.new.io.space c.args.kept.now.body
+    (subst (FitsDisk (g.D.Disk.state c.args.io.now.disk.now).size) (sym c.requires.space) (free_by_fits (g.D.Disk.state c.args.io.now.disk.now).size c.args.kept.now.body c.requires.ready.in_range)) c.change_numbers-changed.ensures.works.fills c.requires.ready
 
 pub returns-clause-runs : goal.returns-clause-runs
 returns-clause-runs g c =
     let make = λ (pool : Pool). freed pool c.args.first c.args.count in
-    c.commit_head.ensures.runs c.args.io.now.disk.now c.args.io.now.failed make 1280
-    (changed_head c.args.kept.now c.args.name.now make c.requires.space c.next_number-number.ensures c.in_ok-set.ensures.found c.change_numbers-changed.ensures.changed
-    (λ pool done. freed_is_lawful c.steps_keep_pools.ensures.pools c.args.name.now c.args.first c.args.count pool done (c.in_ok-set.ensures.named, c.requires.first, c.requires.some)) c.change_numbers-changed.ensures.writes)
+    runs_head (λ pool. on_head c.args.name.now pool (make pool)) (cells_only 2) c.args.kept.now c.args.name.now (slots_damage (g.D.Disk.state c.args.io.now.disk.now)) (g.D.Disk.state c.change_numbers-changed.new.io.disk.now) c.args.io.now.space c.in_ok-set.set c.change_numbers-changed.result c.commit_head.result
+    c.requires.space c.in_ok-set.ensures.there c.change_numbers-changed.ensures.damaged c.commit_head.ensures.honest c.commit_head.ensures.damaged
+    (c.commit_head.ensures.ran c.args.io.now.disk.now c.args.io.now.failed make (cells_only 2)
+    (changed_head c.args.kept.now c.args.name.now make (cells_only 2) c.requires.space c.next_number-number.ensures c.in_ok-set.ensures.found c.change_numbers-changed.ensures.changed
+    (λ pool done. freed_is_lawful c.steps_keep_pools.ensures.pools c.args.name.now c.args.first c.args.count pool done (c.in_ok-set.ensures.named, c.requires.first, c.requires.some)) (0, omega arith, c.change_numbers-changed.ensures.works) (λ pool head told holds finds. c.change_numbers-changed.ensures.works)))
+
+pub returns-in_err-set-clause-runs : goal.returns-in_err-set-clause-runs
+returns-in_err-set-clause-runs g c =
+    let make = λ (pool : Pool). freed pool c.args.first c.args.count in
+    let plan = c.in_err-set.field-0.0 in
+    let space = free_by c.args.kept.now.body in
+    runs_planned (λ pool. on_head c.args.name.now pool (make pool)) (cells_only 2) (OfHead c.args.kept.now.dir c.args.name.now (slots_damage (g.D.Disk.state c.args.io.now.disk.now) space)) c.args.kept.now plan (err_is c.from_residual.result (Plan plan) c.from_residual.ensures.1) c.requires.space c.requires.ready
+    (λ pool rests.
+    let named = described_is_named c.args.kept.now.body c.args.kept.now.dir pool (Has (g.D.Disk.state c.args.io.now.disk.now).seen space) rests.reads.described in
+    c.in_err-set.ensures.found pool named.are_named (make pool))
+
+pub commit_head-requires-clause-levels : goal.commit_head-requires-clause-levels
+commit_head-requires-clause-levels g c = always c.change_numbers-changed.result (SetFits c.change_numbers-changed.new.set) (c.change_numbers-changed.ensures.levels c.in_ok-set.ensures.levels)
+
+pub returns-in_err-set-clause-plans : goal.returns-in_err-set-clause-plans
+returns-in_err-set-clause-plans g c =
+    let make = λ (pool : Pool). freed pool c.args.first c.args.count in
+    let fault = c.in_err-set.field-0.0 in
+    plans_refused (λ pool. on_head c.args.name.now pool (make pool)) (c.args.first + c.args.count) 0 c.args.kept.now fault (err_is c.from_residual.result (Plan fault) c.from_residual.ensures.1) (inl c.in_err-set.ensures.rows)
+    (λ pool named. c.in_err-set.ensures.found pool named.are_named (make pool))
+
+pub returns-clause-plans : goal.returns-clause-plans
+returns-clause-plans g c =
+    let kept = c.args.kept.now in
+    let name = c.args.name.now in
+    let make = λ (pool : Pool). freed pool c.args.first c.args.count in
+    let changed = c.change_numbers-changed in
+    plans_apart (λ pool. on_head name pool (make pool)) (c.args.first + c.args.count) 0 kept c.commit_head.result
+    (λ pool named. head_apart kept.dir name pool c.in_ok-set.set (make pool) (freed_apart pool c.args.first c.args.count) (c.in_ok-set.ensures.found pool named.are_named))
+    (λ fault is. head_limits (c.args.first + c.args.count) 0 kept.body changed.result changed.ensures.limits fault (c.commit_head.ensures.plans fault is))

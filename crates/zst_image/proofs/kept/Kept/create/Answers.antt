@@ -4,7 +4,7 @@ use Rattle.std.proofs.lemmas.Result.{err_from_is_err_and}
 use Rattle.zst_space.specs.FreeSectors.{FreeSectors}
 use Rattle.zst_uber.specs.Slots.{latest}
 use Rattle.zst_uber.specs.declared.uber.Uber.{Uber}
-use Rattle.zst_image.proofs.Created.{NextIs-new, CreateAnswers-made, IfOk-commit, IfOk-made, RefusedLeaves-reads, create-moments, create-refused, made-cause, never-full}
+use Rattle.zst_image.proofs.Created.{NextIs-new, CreateAnswers-made, IfOk-commit, IfOk-made, RefusedLeaves-reads, create-moments, create-refused, made-cause, never-full, new-made}
 use Rattle.zst_image.proofs.kept.Kept.create.Goals as goal
 
 pub answer-requires : goal.answer-requires
@@ -54,3 +54,12 @@ pub returns-clause-cause : goal.returns-clause-cause
 returns-clause-cause g c =
     let cause = made-cause _ _ _ c.commit_dir-made.result c.answer.result c.answer.ensures c.find_none.ensures.cause.later c.commit_dir-made.ensures.cause in
     search (rules, cause)
+
+pub returns-clause-new : goal.returns-clause-new
+returns-clause-new g c =
+    let commit = c.commit_dir-made.ensures in
+    let start : FreeSectors = record { end = 8; sectors = c.args.sectors; free = [] } in
+    let space : c.new-space.result ≡ start = rw (c.new-space.ensures, c.new.ensures.items) refl in
+    IfOk-made _ c.commit_dir-made.result c.answer.result c.answer.ensures
+    (new-made (g.D.Disk.state c.commit_dir-made.new.io.disk.now) c.args.sectors c.new-space.result c.commit_dir-made.new.io.space c.unborn.result c.new-3.result c.commit_dir-made.result space c.new-3.ensures c.requires.sectors.0
+    (ap (λ (u : Uber). u.sectors) c.unborn.ensures) commit.takes commit.one_leaf commit.ends commit.ready)

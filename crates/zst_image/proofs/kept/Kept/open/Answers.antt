@@ -1,8 +1,8 @@
-use Rattle.std.proofs.Common.{◌≡◌, refl, sym, ◌∙◌, ap}
+use Rattle.std.proofs.Common.{rules, ◌≡◌, refl, sym, ◌∙◌, ap}
 use Rattle.std.proofs.lemmas.Result.{err_from_is_err_and}
 use Rattle.zst_uber.specs.Body.{body_bytes}
 use Rattle.zst_uber.specs.declared.uber.Uber.{Uber}
-use Rattle.zst_image.proofs.Opened.{IsBody-latest, IsLatest-reads, HasDir-same, OpenAnswers-body, OpenAnswers-refused}
+use Rattle.zst_image.proofs.Opened.{IsBody-latest, IsLatest-reads, HasDir-same, OpenAnswers-body, OpenAnswers-refused, Rests-opened, TellsFault-reads}
 use Rattle.zst_image.proofs.kept.Kept.open.Goals as goal
 
 pub returns-in_err-dir-clause-there : goal.returns-in_err-dir-clause-there
@@ -23,7 +23,7 @@ returns-in_err-dir-clause-answer g c = λ told.
     let old = g.D.Disk.state c.args.disk.now in
     let body = c.in_ok-body.body in
     let p = err_from_is_err_and c.from_residual-in_err-dir.result c.from_residual-in_err-dir.ensures.1 in
-    rw (p.1, p.2) (OpenAnswers-refused old body _ (c.in_ok-body.ensures.stands (c.read_dir.ensures.reads.honest told)) c.in_err-dir.ensures.fault (λ rows none has.
+    rw (p.1, p.2) (OpenAnswers-refused old body _ (c.in_ok-body.ensures.stands (c.read_dir.ensures.reads.honest told)) c.in_err-dir.ensures.fault (TellsFault-reads old _ body _ c.latest.ensures.reads (c.in_err-dir.ensures.damaged told)) (λ rows none has.
     c.in_err-dir.ensures.there rows told none (HasDir-same body body rows old.seen _ refl c.latest.ensures.reads.seen has)))
 
 pub returns-clause-there : goal.returns-clause-there
@@ -46,3 +46,7 @@ returns-clause-answer g c = λ told.
         directory = HasDir-same body body c.in_ok-dir.dir _ old.seen refl (sym c.latest.ensures.reads.seen) only.1;
       },
     )
+
+pub returns-clause-rests : goal.returns-clause-rests
+returns-clause-rests g c = λ uber rows pool told reads.
+    Rests-opened (g.D.Disk.state c.args.disk.now) _ uber c.in_ok-body.body rows c.in_ok-dir.dir pool reads (search rules) (search rules) (returns-clause-there g c uber rows pool told reads)

@@ -1,0 +1,99 @@
+-- An image reads as one pool.
+use Rattle.std.proofs.Common.{◌≡◌, ℕ, List, [], ◌∷◌, filter, refl, sym, ◌∙◌, ap, subst}
+use Rattle.zst_space.specs.FreeSectors.{FreeSectors}
+use Rattle.zst_block.specs.Blocks.{Has}
+use Rattle.zst_uber.specs.Body.{body_bytes, uber_at}
+use Rattle.zst_uber.proofs.BodyLaws.{uber_at-body_bytes}
+use Rattle.zst_uber.specs.declared.uber.Uber.{Uber}
+use Rattle.zst_model.specs.states.Dated.{DatedState}
+use Rattle.zst_model.specs.pools.Pool.{Pool}
+use Rattle.zst_model.specs.pools.Pool as plain
+use Rattle.zst_tree.specs.declared.tree.ObjSet.{ObjSet}
+use Rattle.zst_objset.specs.Sets.{SetHolds}
+use Rattle.zst_dir.specs.Rows.{Rows}
+use Rattle.zst_dir.specs.declared.rows.Dataset.{Dataset}
+use Rattle.zst_dir.specs.declared.rows.Snapshot.{Snapshot}
+use Rattle.zst_dir.specs.declared.rows.Bookmark.{Bookmark}
+use Rattle.zst_dir.specs.declared.rows.Partial.{Partial}
+use Rattle.zst_image.specs.Reads.{Match, DatasetIs, SnapshotIs, BookmarkIs, PartialIs, ReadsAs, free_by}
+
+-- two bodies that an image has as its latest are one
+pub one_body : (uber other : Uber) (rows others : Rows) (pool another : Pool) (image : List ℕ) → ReadsAs uber rows pool image → ReadsAs other others another image → uber ≡ other
+one_body uber other rows others pool another image first second =
+    let same : body_bytes uber ≡ body_bytes other = cc (first.stands, second.stands) in
+    sym (uber_at-body_bytes uber first.fits) ∙ ap uber_at same ∙ uber_at-body_bytes other second.fits
+
+-- lists that match the same are one, where each row stands for one thing
+Match-one : {A B : Type 0} (Is : A → B → Type 0) → ((x : A) (y z : B) → Is x y → Is x z → y ≡ z) → (xs : List A) (ys zs : List B) → Match Is xs ys → Match Is xs zs → ys ≡ zs
+Match-one Is one [] [] [] m n = refl
+Match-one Is one [] [] (z ∷ zs) m n = absurd n
+Match-one Is one [] (y ∷ ys) zs m n = absurd m
+Match-one Is one (x ∷ xs) [] zs m n = absurd m
+Match-one Is one (x ∷ xs) (y ∷ ys) [] m n = absurd n
+Match-one Is one (x ∷ xs) (y ∷ ys) (z ∷ zs) m n =
+    let first = one x y z m.0 n.0 in
+    let rest = Match-one Is one xs ys zs m.1 n.1 in
+    cc (first, rest)
+
+-- what has equal parts is equal
+one_dataset : (y z : plain.Dataset) → y.name ≡ z.name → y.kind ≡ z.kind → y.origin ≡ z.origin → y.head ≡ z.head → y.redact ≡ z.redact → y ≡ z
+one_dataset y z name kind origin head redact =
+    let made : ◌≡◌ {A = plain.Dataset} (record { name = y.name; kind = y.kind; origin = y.origin; head = y.head; redact = y.redact }) (record { name = z.name; kind = z.kind; origin = z.origin; head = z.head; redact = z.redact }) = cc (name, kind, origin, head, redact) in
+    made
+
+one_snapshot : (y z : plain.Snapshot) → y.name ≡ z.name → y.guid ≡ z.guid → y.time ≡ z.time → y.number ≡ z.number → y.objects ≡ z.objects → y.redact ≡ z.redact → y ≡ z
+one_snapshot y z name guid time number objects redact =
+    let made : ◌≡◌ {A = plain.Snapshot} (record { name = y.name; guid = y.guid; time = y.time; number = y.number; objects = y.objects; redact = y.redact }) (record { name = z.name; guid = z.guid; time = z.time; number = z.number; objects = z.objects; redact = z.redact }) = cc (name, guid, time, number, objects, redact) in
+    made
+
+one_bookmark : (y z : plain.Bookmark) → y.name ≡ z.name → y.guid ≡ z.guid → y.time ≡ z.time → y.number ≡ z.number → y.redact ≡ z.redact → y.runs ≡ z.runs → y ≡ z
+one_bookmark y z name guid time number redact runs =
+    let made : ◌≡◌ {A = plain.Bookmark} (record { name = y.name; guid = y.guid; time = y.time; number = y.number; redact = y.redact; runs = y.runs }) (record { name = z.name; guid = z.guid; time = z.time; number = z.number; redact = z.redact; runs = z.runs }) = cc (name, guid, time, number, redact, runs) in
+    made
+
+one_partial : (y z : plain.Partial) → y.target ≡ z.target → y.component ≡ z.component → y.keep ≡ z.keep → y.header ≡ z.header → y.base ≡ z.base → y.objects ≡ z.objects → y.point ≡ z.point → y ≡ z
+one_partial y z target component keep header base objects point =
+    let made : ◌≡◌ {A = plain.Partial} (record { target = y.target; component = y.component; keep = y.keep; header = y.header; base = y.base; objects = y.objects; point = y.point }) (record { target = z.target; component = z.component; keep = z.keep; header = z.header; base = z.base; objects = z.objects; point = z.point }) = cc (target, component, keep, header, base, objects, point) in
+    made
+
+one_pool_is : (y z : Pool) → y.id ≡ z.id → y.number ≡ z.number → y.guids ≡ z.guids → y.datasets ≡ z.datasets → y.snapshots ≡ z.snapshots → y.bookmarks ≡ z.bookmarks → y.partials ≡ z.partials → y ≡ z
+one_pool_is y z id number guids datasets snapshots bookmarks partials =
+    let made : ◌≡◌ {A = Pool} (record { id = y.id; number = y.number; guids = y.guids; datasets = y.datasets; snapshots = y.snapshots; bookmarks = y.bookmarks; partials = y.partials }) (record { id = z.id; number = z.number; guids = z.guids; datasets = z.datasets; snapshots = z.snapshots; bookmarks = z.bookmarks; partials = z.partials }) = cc (id, number, guids, datasets, snapshots, bookmarks, partials) in
+    made
+
+BookmarkIs-one : (row : Bookmark) (y z : plain.Bookmark) → BookmarkIs row y → BookmarkIs row z → y ≡ z
+BookmarkIs-one row y z first second = one_bookmark y z (first.name ∙ sym second.name) (first.guid ∙ sym second.guid) (first.time ∙ sym second.time) (first.number ∙ sym second.number) (first.redact ∙ sym second.redact) (first.runs ∙ sym second.runs)
+
+-- a set holds one dated state
+abbrev pub SetsHoldOne : Type 0
+SetsHoldOne = (set : ObjSet) (image : List ℕ) (space : FreeSectors) (state other : DatedState) → SetHolds (Has image space) set state → SetHolds (Has image space) set other → state ≡ other
+
+module _ (one : SetsHoldOne) (image : List ℕ) (space : FreeSectors) where
+  DatasetIs-one : (row : Dataset) (y z : plain.Dataset) → DatasetIs (Has image space) row y → DatasetIs (Has image space) row z → y ≡ z
+  DatasetIs-one row y z first second =
+      let head = one row.head image space y.head z.head first.head second.head in
+      one_dataset y z (first.named.name ∙ sym second.named.name) (first.named.kind ∙ sym second.named.kind) (first.named.origin ∙ sym second.named.origin) head (first.named.redact ∙ sym second.named.redact)
+
+  SnapshotIs-one : (row : Snapshot) (y z : plain.Snapshot) → SnapshotIs (Has image space) row y → SnapshotIs (Has image space) row z → y ≡ z
+  SnapshotIs-one row y z first second =
+      let objects = one row.objects image space y.objects z.objects first.objects second.objects in
+      one_snapshot y z (first.named.name ∙ sym second.named.name) (first.named.guid ∙ sym second.named.guid) (first.named.time ∙ sym second.named.time) (first.named.number ∙ sym second.named.number) objects (first.named.redact ∙ sym second.named.redact)
+
+  PartialIs-one : (row : Partial) (y z : plain.Partial) → PartialIs (Has image space) row y → PartialIs (Has image space) row z → y ≡ z
+  PartialIs-one row y z first second =
+      let objects = one row.objects image space y.objects z.objects first.objects second.objects in
+      one_partial y z (first.named.target ∙ sym second.named.target) (first.named.component ∙ sym second.named.component) (first.named.keep ∙ sym second.named.keep) (first.named.header ∙ sym second.named.header) (first.named.base ∙ sym second.named.base) objects (first.named.point ∙ sym second.named.point)
+
+-- the pool by these rows
+pub one_pool : SetsHoldOne → (uber other : Uber) (rows : Rows) (pool another : Pool) (image : List ℕ) → ReadsAs uber rows pool image → ReadsAs other rows another image → pool ≡ another
+one_pool one uber other rows pool another image first second =
+    let same = one_body uber other rows rows pool another image first second in
+    let last = subst (λ (u : Uber). ReadsAs u rows another image) (sym same) second in
+    let a = first.described in
+    let b = last.described in
+    let space = free_by uber in
+    let datasets = Match-one (DatasetIs (Has image space)) (DatasetIs-one one image space) rows.datasets pool.datasets another.datasets a.rows_are.datasets b.rows_are.datasets in
+    let snapshots = Match-one (SnapshotIs (Has image space)) (SnapshotIs-one one image space) rows.snapshots pool.snapshots another.snapshots a.rows_are.snapshots b.rows_are.snapshots in
+    let bookmarks = Match-one BookmarkIs BookmarkIs-one rows.bookmarks pool.bookmarks another.bookmarks a.rows_are.bookmarks b.rows_are.bookmarks in
+    let partials = Match-one (PartialIs (Has image space)) (PartialIs-one one image space) (filter (λ row. row.keep) rows.partials) pool.partials another.partials a.rows_are.partials b.rows_are.partials in
+    one_pool_is pool another (a.id ∙ sym b.id) (a.number ∙ sym b.number) (a.guids ∙ sym b.guids) datasets snapshots bookmarks partials

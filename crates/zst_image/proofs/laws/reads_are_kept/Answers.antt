@@ -1,0 +1,5 @@
+use Rattle.zst_image.proofs.Committed.{ReadsAs-spared}
+use Rattle.zst_image.proofs.laws.reads_are_kept.Goals as goal
+
+pub returns : goal.returns
+returns c = ReadsAs-spared

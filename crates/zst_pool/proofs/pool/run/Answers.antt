@@ -1,0 +1,68 @@
+use Rattle.std.proofs.Common.{[], sym, subst, ◌≡◌, ℕ, List}
+use Rattle.zst_model.specs.declared.pools.command.Command.{Command}
+use Rattle.zst_model.specs.declared.pools.command.Command.TheVariants.{Write}
+use Rattle.zst_model.specs.pools.Step.{stepped}
+use Rattle.zst_image.specs.Reads.{free_by}
+use Rattle.zst_pool.specs.Cost.{cost_of}
+use Rattle.zst_pool.specs.Damage.{TellsDamage}
+use Rattle.zst_pool.specs.Runs.{Runs}
+use Rattle.zst_pool.specs.Plans.{Plans, indices_end, numbers_end}
+use Rattle.zst_pool.proofs.pool.run.Goals as goal
+
+pub returns-in-Object-clause-runs : goal.returns-in-Object-clause-runs
+unfolding stepped
+returns-in-Object-clause-runs g c =
+    subst (λ (command : Command). Runs (λ pool. stepped [] c.args.now command pool) (cost_of command) (TellsDamage command c.args.kept.now.dir (g.D.Disk.state c.args.io.now.disk.now) (free_by c.args.kept.now.body)) c.args.kept.now (g.D.Disk.state c.args.io.now.disk.now) c.args.io.now.failed (g.D.Disk.state c.put_object.new.io.disk.now) c.put_object.new.io.space c.put_object.new.io.failed c.put_object.result)
+    (sym c.in-Object.is) c.put_object.ensures.runs
+
+pub returns-in-Punch-clause-runs : goal.returns-in-Punch-clause-runs
+unfolding stepped
+returns-in-Punch-clause-runs g c =
+    subst (λ (command : Command). Runs (λ pool. stepped [] c.args.now command pool) (cost_of command) (TellsDamage command c.args.kept.now.dir (g.D.Disk.state c.args.io.now.disk.now) (free_by c.args.kept.now.body)) c.args.kept.now (g.D.Disk.state c.args.io.now.disk.now) c.args.io.now.failed (g.D.Disk.state c.punch.new.io.disk.now) c.punch.new.io.space c.punch.new.io.failed c.punch.result)
+    (sym c.in-Punch.is) c.punch.ensures.runs
+
+pub returns-in-Free-clause-runs : goal.returns-in-Free-clause-runs
+unfolding stepped
+returns-in-Free-clause-runs g c =
+    subst (λ (command : Command). Runs (λ pool. stepped [] c.args.now command pool) (cost_of command) (TellsDamage command c.args.kept.now.dir (g.D.Disk.state c.args.io.now.disk.now) (free_by c.args.kept.now.body)) c.args.kept.now (g.D.Disk.state c.args.io.now.disk.now) c.args.io.now.failed (g.D.Disk.state c.free_objects.new.io.disk.now) c.free_objects.new.io.space c.free_objects.new.io.failed c.free_objects.result)
+    (sym c.in-Free.is) c.free_objects.ensures.runs
+
+pub returns-in-Write-clause-runs : goal.returns-in-Write-clause-runs
+unfolding stepped
+returns-in-Write-clause-runs g c =
+    let runs = λ (command : Command).
+    Runs (λ pool. stepped [] c.args.now command pool) (cost_of command) (TellsDamage command c.args.kept.now.dir (g.D.Disk.state c.args.io.now.disk.now) (free_by c.args.kept.now.body)) c.args.kept.now (g.D.Disk.state c.args.io.now.disk.now) c.args.io.now.failed (g.D.Disk.state c.write_block.new.io.disk.now) c.write_block.new.io.space c.write_block.new.io.failed c.write_block.result in
+    subst runs (sym c.in-Write.is) (subst (λ (bytes : List ℕ). runs (Write c.in-Write.dataset c.in-Write.object c.in-Write.index bytes)) c.as_slice.ensures c.write_block.ensures.runs)
+
+pub returns-in-Fs-clause-plans : goal.returns-in-Fs-clause-plans
+unfolding stepped
+returns-in-Fs-clause-plans g c =
+    subst (λ (command : Command). Plans (λ pool. stepped [] c.args.now command pool) (numbers_end command) (indices_end command) c.args.kept.now c.make_dataset.result) (sym c.in-Fs.is) c.make_dataset.ensures.plans
+
+pub returns-in-Volume-clause-plans : goal.returns-in-Volume-clause-plans
+unfolding stepped
+returns-in-Volume-clause-plans g c =
+    subst (λ (command : Command). Plans (λ pool. stepped [] c.args.now command pool) (numbers_end command) (indices_end command) c.args.kept.now c.make_dataset-in-Volume.result) (sym c.in-Volume.is) c.make_dataset-in-Volume.ensures.plans
+
+pub returns-in-Object-clause-plans : goal.returns-in-Object-clause-plans
+unfolding stepped
+returns-in-Object-clause-plans g c =
+    subst (λ (command : Command). Plans (λ pool. stepped [] c.args.now command pool) (numbers_end command) (indices_end command) c.args.kept.now c.put_object.result) (sym c.in-Object.is) c.put_object.ensures.plans
+
+pub returns-in-Write-clause-plans : goal.returns-in-Write-clause-plans
+unfolding stepped
+returns-in-Write-clause-plans g c =
+    let write = λ (bytes : List ℕ). Write c.in-Write.dataset c.in-Write.object c.in-Write.index bytes in
+    let planned : Command → Type 0 = λ command. Plans (λ pool. stepped [] c.args.now command pool) (numbers_end command) (indices_end command) c.args.kept.now c.write_block.result in
+    let bytes : c.as_slice.result.now ≡ c.in-Write.bytes = c.as_slice.ensures in
+    subst planned (sym c.in-Write.is) (subst (λ (b : List ℕ). planned (write b)) bytes c.write_block.ensures.plans)
+
+pub returns-in-Punch-clause-plans : goal.returns-in-Punch-clause-plans
+unfolding stepped
+returns-in-Punch-clause-plans g c =
+    subst (λ (command : Command). Plans (λ pool. stepped [] c.args.now command pool) (numbers_end command) (indices_end command) c.args.kept.now c.punch.result) (sym c.in-Punch.is) c.punch.ensures.plans
+
+pub returns-in-Free-clause-plans : goal.returns-in-Free-clause-plans
+unfolding stepped
+returns-in-Free-clause-plans g c =
+    subst (λ (command : Command). Plans (λ pool. stepped [] c.args.now command pool) (numbers_end command) (indices_end command) c.args.kept.now c.free_objects.result) (sym c.in-Free.is) c.free_objects.ensures.plans

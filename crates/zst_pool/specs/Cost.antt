@@ -1,0 +1,85 @@
+-- What a command costs of the free sectors, and where it finds no room.
+use Rattle.std.specs.Prelude.{◌≡◌, ◌⊎◌, ◌+◌, ◌*◌, ◌-◌, ◌/◌, ◌<◌, ◌≤◌, ℕ, List, length, Option, Some, None, Result, IfErr, IfOk}
+use Rattle.zst_space.specs.FreeSectors.{FreeSectors, largest_of}
+use Rattle.zst_uber.specs.declared.uber.Uber.{Uber}
+use Rattle.zst_model.specs.declared.pools.command.Command.{Command}
+use Rattle.zst_model.specs.declared.pools.command.Command.TheVariants as commands
+use Rattle.zst_model.specs.states.Dated.{size_at}
+use Rattle.zst_model.specs.pools.Pool.{Pool, dataset_named}
+use Rattle.zst_model.specs.pools.Pool as plain
+use Rattle.zst_dir.specs.Rows.{Rows}
+use Rattle.zst_dir.specs.Spelling.{dir_bytes}
+use Rattle.zst_image.specs.Reads.{dir_sectors}
+use Rattle.zst_pool.specs.declared.fault.PoolFault.{PoolFault}
+use Rattle.zst_pool.specs.declared.fault.PoolFault.TheVariants.{Full}
+use Rattle.zst_image.specs.declared.kept.Kept.{Kept}
+
+-- what a change of an object set costs: so many cells that it touches, and so many sectors of data or of a spill block, in a pool, and at most whatever is there
+pub record Cost : Type 0 where
+  pub cells : ℕ
+  pub block : Pool → ℕ
+  pub most : ℕ
+
+-- a change that writes no data
+abbrev pub cells_only : ℕ → Cost
+cells_only cells = record { cells = cells; block = λ pool. 0; most = 0 }
+
+-- an object is one cell, and its spill block another
+abbrev pub object_cells : Option (List ℕ) → ℕ
+object_cells None = 1
+object_cells (Some spill) = 2
+
+abbrev pub spill_sectors : Option (List ℕ) → ℕ
+spill_sectors None = 0
+spill_sectors (Some spill) = length spill / 512
+
+abbrev pub object_cost : Option (List ℕ) → Cost
+object_cost spill = record { cells = object_cells spill; block = λ pool. spill_sectors spill; most = spill_sectors spill }
+
+-- the sectors of a block of an object of a dataset's head
+abbrev pub block_sectors : ℕ → Option plain.Dataset → ℕ
+block_sectors k None = 0
+block_sectors k (Some dataset) = size_at (dataset.head.state k) / 512
+
+-- a written block is one cell; it has 256 sectors at most
+abbrev pub write_cost : List ℕ → ℕ → Cost
+write_cost name k = record { cells = 1; block = λ pool. block_sectors k (dataset_named name pool); most = 256 }
+
+-- what a command costs; a range is 2 cells
+abbrev pub cost_of : Command → Cost
+cost_of (commands.Fs dataset) = cells_only 0
+cost_of (commands.Volume dataset) = cells_only 0
+cost_of (commands.Object dataset k head bonus spill) = object_cost spill
+cost_of (commands.Write dataset k i bytes) = write_cost dataset k
+cost_of (commands.Punch dataset k first count) = cells_only 2
+cost_of (commands.Free dataset first count) = cells_only 2
+cost_of (commands.Snapshot name) = cells_only 0
+cost_of (commands.Read name k i) = cells_only 0
+cost_of commands.List = cells_only 0
+cost_of (commands.ListObjects name) = cells_only 0
+
+-- so many sectors an event takes at most that touches so many cells and writes so many sectors of data: for each cell 640, and those of a directory that has 1,024 bytes more than this one
+abbrev pub most_sectors : ℕ → ℕ → Rows → ℕ
+most_sectors cells block rows = block + 640 * cells + dir_sectors (length (dir_bytes rows) + 1024)
+
+-- E24: what is to be written, a block of a tree or the data, is longer than the longest run that is left, which was free before; and before, fewer sectors were free than the event takes at most
+pub record HasNoRoom (cells block : ℕ) (uber : Uber) (rows : Rows) (left : FreeSectors) (need largest : ℕ) : Type 0 where
+  pub shorter : largest < need
+  pub needed : (need ≡ 16) ⊎ (need ≡ block)
+  pub is_longest : largest ≡ largest_of left
+  pub was_free : largest ≤ uber.sectors - uber.end
+  pub room : uber.sectors - uber.end < most_sectors cells block rows
+
+-- E24 comes only so
+abbrev pub FindsNoRoom : ℕ → ℕ → Kept → FreeSectors → PoolFault → Type 0
+FindsNoRoom cells block kept left fault = (need largest : ℕ) → fault ≡ Full need largest → HasNoRoom cells block kept.body kept.dir left need largest
+
+-- a body of as many sectors, in which so many more are taken at most
+pub record Grows (most : ℕ) (before after : Uber) : Type 0 where
+  pub sectors : after.sectors ≡ before.sectors
+  pub end : after.end ≤ before.end + most
+
+-- what an event takes of the sectors, at Ok and where it finds no room
+pub record Spends {T : Type 0} (cells block : ℕ) (kept : Kept) (left : FreeSectors) (after : T → Kept) (result : Result T PoolFault) : Type 0 where
+  pub full : IfErr result (FindsNoRoom cells block kept left)
+  pub grows : IfOk result (λ value. let next = after value in Grows (most_sectors cells block kept.dir) kept.body next.body)

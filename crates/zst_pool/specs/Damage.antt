@@ -1,0 +1,68 @@
+-- Which block a command tells as damaged.
+use Rattle.std.specs.Prelude.{◌≡◌, ◌⊎◌, ℕ, List, Contains, Result, Ok, Err}
+use Rattle.zst_outside.specs.Images.{DiskState}
+use Rattle.zst_space.specs.FreeSectors.{FreeSectors}
+use Rattle.zst_block.specs.Blocks.{SparesTaken}
+use Rattle.zst_tree.specs.Damage.{IsSeen, NamesNode, SumsUp}
+use Rattle.zst_tree.specs.declared.tree.ObjSet.{ObjSet}
+use Rattle.zst_objset.specs.Damage.{DamageFact, IfSetDamaged, IsDamagedObject, IsDamagedSet}
+use Rattle.zst_model.specs.declared.pools.command.Command.{Command}
+use Rattle.zst_model.specs.declared.pools.command.Command.TheVariants as commands
+use Rattle.zst_dir.specs.Rows.{Rows}
+use Rattle.zst_dir.specs.declared.rows.Dataset.{Dataset}
+use Rattle.zst_pool.specs.declared.fault.PoolFault.{PoolFault}
+use Rattle.zst_pool.specs.declared.fault.PoolFault.TheVariants.{Damaged}
+use Rattle.zst_pool.specs.declared.head_fault.HeadFault.{HeadFault}
+use Rattle.zst_pool.specs.declared.head_fault.HeadFault.TheVariants.{Set, Memory}
+
+-- it is so of the damage that a change of a head tells
+abbrev pub IfHeadDamaged : {T : Type 0} → Result T HeadFault → DamageFact → Type 0
+IfHeadDamaged (Ok value) P = Unit {0}
+IfHeadDamaged {T = T} (Err (Set fault)) P = IfSetDamaged {T = T} (Err fault) P
+IfHeadDamaged (Err Memory) P = Unit {0}
+
+-- what a change of the slots of a set may tell: of a node of its tree or of a leaf of dnodes, in an image that is as the disk was but for its free sectors
+abbrev pub slots_damage : DiskState → FreeSectors → ObjSet → DamageFact
+slots_damage disk space set = IsDamagedSet (SparesTaken space disk.seen) disk.size set
+
+-- what a change of a range of blocks may tell: of a node of the object's tree too, which has to sum up what stands below it
+abbrev pub range_damage : DiskState → FreeSectors → ObjSet → DamageFact
+range_damage disk space set = IsDamagedObject (SparesTaken space disk.seen) disk.size (SumsUp (SparesTaken space disk.seen)) set
+
+-- what a write of a block may tell: as it looks up the object, or as it changes the object's tree
+abbrev pub block_damage : DiskState → FreeSectors → ObjSet → DamageFact
+block_damage disk space set sector stated found =
+    IsDamagedSet (IsSeen disk.seen) disk.size set sector stated found
+    ⊎ IsDamagedObject (SparesTaken space disk.seen) disk.size NamesNode set sector stated found
+
+-- the directory has a row of this dataset, with this object set
+pub record HasHead (rows : Rows) (name : List ℕ) (set : ObjSet) : Type 0 where
+  pub row : Dataset
+  pub among : Contains rows.datasets row
+  pub named : row.name ≡ name
+  pub head : row.head ≡ set
+
+-- a damage of the object set of a dataset that has a row
+abbrev pub OfHead : Rows → List ℕ → (ObjSet → DamageFact) → DamageFact
+OfHead rows name Is sector stated found = (set : ObjSet) × HasHead rows name set × Is set sector stated found
+
+-- what a command tells that looks at no object set
+abbrev pub NoDamage : DamageFact
+NoDamage sector stated found = ⊥
+
+-- what a command may tell: of the object set of its dataset, as the disk had it when the command began, with these sectors free
+abbrev pub TellsDamage : Command → Rows → DiskState → FreeSectors → DamageFact
+TellsDamage (commands.Fs dataset) rows disk space = NoDamage
+TellsDamage (commands.Volume dataset) rows disk space = NoDamage
+TellsDamage (commands.Object dataset k head bonus spill) rows disk space = OfHead rows dataset (slots_damage disk space)
+TellsDamage (commands.Write dataset k i bytes) rows disk space = OfHead rows dataset (block_damage disk space)
+TellsDamage (commands.Punch dataset k first count) rows disk space = OfHead rows dataset (range_damage disk space)
+TellsDamage (commands.Free dataset first count) rows disk space = OfHead rows dataset (slots_damage disk space)
+TellsDamage (commands.Snapshot name) rows disk space = NoDamage
+TellsDamage (commands.Read name k i) rows disk space = NoDamage
+TellsDamage commands.List rows disk space = NoDamage
+TellsDamage (commands.ListObjects name) rows disk space = NoDamage
+
+-- E25 comes only of such a damage
+abbrev pub IsOf : DamageFact → PoolFault → Type 0
+IsOf Is fault = (sector : ℕ) (stated found : List ℕ) → fault ≡ Damaged sector stated found → Is sector stated found
