@@ -149,7 +149,7 @@ fn a_directory_of_two_leaves_is_opened_again(rt: HostRuntime) -> Result<(), Refu
 }
 
 // How many calls of the disk an opening makes, and then a command.
-fn calls_of(alloc: Global, disk: &mut MemDisk, command: Command) -> Result<(u64, u64), PoolFault>
+fn calls_of(alloc: Global, disk: &mut MemDisk, command: Command) -> Result<(u64, u64), Refused>
     requires { IsCommand command }
 {
     let start = disk.calls();
@@ -162,7 +162,7 @@ fn calls_of(alloc: Global, disk: &mut MemDisk, command: Command) -> Result<(u64,
 }
 
 #[test]
-fn a_small_write_makes_few_calls(rt: HostRuntime) -> Result<(), PoolFault> {
+fn a_small_write_makes_few_calls(rt: HostRuntime) -> Result<(), Refused> {
     let alloc = rt.alloc();
     let mut disk = with_small(alloc, 2)?;
     let first = calls_of(alloc, &mut disk, small(alloc, 2)?)?;
