@@ -1,38 +1,40 @@
 -- What stands after a command on the pool of an image, from what opening and stepping say.
-use Rattle.std.specs.Prelude.{IsTrue, Bool, Result, Ok, Err}
-use Rattle.std.proofs.Common.{◌≡◌, ◌≢◌, inl, inr, ⊎_elim, ℕ, ◌≤◌, List, [], refl, sym, ap, ◌∙◌, subst, arith}
+use Rattle.std.specs.Prelude.{IsTrue, Bool, Option, Some, None, Result, Ok, Err}
+use Rattle.std.proofs.Common.{◌≡◌, ◌≢◌, ◌⊎◌, inl, inr, ⊎_elim, ℕ, ◌≤◌, List, [], refl, sym, ap, ◌∙◌, subst, arith}
 use Rattle.zst_outside.specs.Causes.{Rose-earlier}
-use Rattle.zst_outside.specs.Images.{DiskState, Leaves, Leaves-weaker, Leaves-then, OnlyReads}
+use Rattle.zst_outside.specs.Images.{DiskState, Leaves, Leaves-weaker, Leaves-then, OnlyReads, IsSynced}
 use Rattle.zst_outside.specs.States.{SinkState}
-use Rattle.zst_bytes.specs.Bytes.{number_at}
 use Rattle.zst_space.specs.FreeSectors.{FreeSectors}
-use Rattle.zst_uber.proofs.BodyLaws.{uber_at-body_bytes}
-use Rattle.zst_uber.specs.Body.{IsBody}
-use Rattle.zst_uber.specs.declared.TheConstants.{VERSION}
+use Rattle.zst_block.specs.Blocks.{SparesTaken}
 use Rattle.zst_uber.specs.declared.uber.Uber.{Uber}
 use Rattle.zst_model.specs.pools.Pool.{Pool}
 use Rattle.zst_model.specs.refusals.Refusal.{refusal_of}
 use Rattle.zst_model.specs.pools.Step.{Stepped, stepped}
 use Rattle.zst_model.specs.declared.pools.command.Command.{Command}
+use Rattle.zst_model.specs.declared.pools.command.Command.TheVariants as commands
 use Rattle.zst_model.specs.declared.refusals.faults.Quantity.{Quantity}
 use Rattle.zst_model.specs.declared.refusals.plan_fault.PlanFault.{PlanFault}
 use Rattle.zst_model.specs.declared.refusals.plan_fault.PlanFault.TheVariants as plans
 use Rattle.zst_model.specs.declared.refusals.refusal.Refusal.{Refusal}
 use Rattle.zst_model.specs.declared.refusals.refusal.Refusal.TheVariants as refusals
+use Rattle.zst_tree.specs.Damage.{IsSeen, NamesNode, SumsUp}
+use Rattle.zst_objset.specs.Damage.{IsDamagedObject, IsDamagedSet}
 use Rattle.zst_dir.specs.Rows.{Rows}
 use Rattle.zst_image.specs.Faults.{open_refusal}
 use Rattle.zst_image.specs.Faults as opening
 use Rattle.zst_image.specs.Opening.{GivesPool, OpenAnswers}
-use Rattle.zst_image.specs.Reads.{Reads, ReadsAs, Rests}
+use Rattle.zst_image.specs.Reads.{Reads, ReadsAs, Rests, free_by}
 use Rattle.zst_image.specs.declared.kept.Kept.{Kept}
 use Rattle.zst_image.specs.declared.open_fault.OpenFault.{OpenFault}
 use Rattle.zst_image.specs.declared.open_fault.OpenFault.TheVariants as opens
+use Rattle.zst_pool.specs.Cost.{FindsNoRoom, Grows, cost_of}
+use Rattle.zst_pool.specs.Damage.{IsOf, OfHead, TellsDamage}
 use Rattle.zst_pool.specs.Faults.{HasDiskCause, StepFault, pool_refusal}
-use Rattle.zst_pool.specs.Cost.{HasNoRoom, cost_of}
+use Rattle.zst_pool.specs.Plans.{Plans, indices_end, numbers_end}
 use Rattle.zst_pool.specs.Stepping.{BeforeOrAfter, StepAnswer}
 use Rattle.zst_pool.specs.declared.fault.PoolFault.{PoolFault}
 use Rattle.zst_pool.specs.declared.fault.PoolFault.TheVariants as faults
-use Rattle.zst.specs.Commands.{Holds, IsPoolRefusal, OfStepping, Answers, Opened, Stepping, Steps}
+use Rattle.zst.specs.Commands.{OldOrReads, IsPoolRefusal, OfStepping, Answers, Opened, Opens, Planned, Ran, Stepping, Steps, most_of}
 use Rattle.zst.specs.Replies.{Replied}
 
 -- ---- plans' faults as refusals
@@ -91,6 +93,60 @@ full_only faults.DiskFault need largest is = absurd (cc is)
 full_only faults.Failed need largest is = absurd (cc is)
 full_only faults.OutOfMemory need largest is = absurd (cc is)
 
+-- and a damaged block's only as that
+pub damaged_only : (fault : PoolFault) (sector : ℕ) (stated found : List ℕ) → pool_refusal fault ≡ refusals.Damaged sector stated found
+    → fault ≡ faults.Damaged sector stated found
+damaged_only (faults.Plan fault) sector stated found is =
+    absurd (of_plan (λ r. r ≡ refusals.Damaged sector stated found → ⊥) (λ f e. absurd (cc e)) (λ w n e. absurd (cc e)) fault is)
+damaged_only (faults.CannotApply fault) sector stated found is = absurd (cc is)
+damaged_only (faults.Redacted object block) sector stated found is = absurd (cc is)
+damaged_only (faults.Full need largest) sector stated found is = absurd (cc is)
+damaged_only (faults.Damaged a s f) sector stated found is = cc is
+damaged_only faults.DiskFault sector stated found is = absurd (cc is)
+damaged_only faults.Failed sector stated found is = absurd (cc is)
+damaged_only faults.OutOfMemory sector stated found is = absurd (cc is)
+
+-- the plan's fault that a refusal is
+abbrev plan_of : Refusal → Option PlanFault
+plan_of (refusals.Plan fault) = Some fault
+plan_of (refusals.Limit which number) = Some (plans.Limit which number)
+plan_of refusal = None
+
+plan_is : (fault : PlanFault) → plan_of (refusal_of fault) ≡ Some fault
+plan_is (plans.BadName place) = refl
+plan_is (plans.NoSuch what) = refl
+plan_is (plans.Exists what) = refl
+plan_is (plans.Busy holder) = refl
+plan_is (plans.NotAncestor to from) = refl
+plan_is (plans.NotRedactionOf bookmark snapshot) = refl
+plan_is (plans.NotDescendant name) = refl
+plan_is (plans.Modified name) = refl
+plan_is (plans.NotLatest have want) = refl
+plan_is (plans.NoOrigin guid) = refl
+plan_is (plans.NotContained guid) = refl
+plan_is (plans.PartialExists name) = refl
+plan_is (plans.NoPartial name) = refl
+plan_is (plans.WrongResume have want) = refl
+plan_is (plans.Unsupported lack) = refl
+plan_is (plans.Limit which number) = refl
+
+no_plan : (refusal : Refusal) (fault : PlanFault) → plan_of refusal ≡ None → refusal ≡ refusal_of fault → ⊥
+no_plan refusal fault none is = let e : None ≡ Some fault = sym none ∙ ap plan_of is ∙ plan_is fault in absurd (cc e)
+
+-- and a plan's only as that
+pub plan_only : (fault : PoolFault) (plan : PlanFault) → pool_refusal fault ≡ refusal_of plan → fault ≡ faults.Plan plan
+plan_only (faults.Plan fault) plan is =
+    let e : Some fault ≡ Some plan = sym (plan_is fault) ∙ ap plan_of is ∙ plan_is plan in
+    let same : fault ≡ plan = cc e in
+    ap (λ (p : PlanFault). faults.Plan p) same
+plan_only (faults.CannotApply fault) plan is = absurd (no_plan (refusals.CannotApply 0 fault) plan refl is)
+plan_only (faults.Redacted object block) plan is = absurd (no_plan (refusals.Redacted object block) plan refl is)
+plan_only (faults.Full need largest) plan is = absurd (no_plan (refusals.Full need largest) plan refl is)
+plan_only (faults.Damaged sector stated found) plan is = absurd (no_plan (refusals.Damaged sector stated found) plan refl is)
+plan_only faults.DiskFault plan is = absurd (no_plan refusals.DiskFault plan refl is)
+plan_only faults.Failed plan is = absurd (no_plan refusals.Failed plan refl is)
+plan_only faults.OutOfMemory plan is = absurd (no_plan refusals.OutOfMemory plan refl is)
+
 -- the fault of a command, as a refusal of the whole
 refused_step : {T : Type 0} → (here mid here' : DiskState) (fault : PoolFault) → here.faults ≤ mid.faults → HasDiskCause {T = T} mid.faults here'.faults (Err fault)
     → fault ≢ faults.Failed → IsPoolRefusal OfStepping here here' (pool_refusal fault)
@@ -100,7 +156,7 @@ refused_step here mid here' fault later cause alive = record {
   cause = λ is. Rose-earlier here.faults mid.faults here'.faults later (cause.fault (ap (λ f. Err f) (disk_fault fault is)));
 }
 
--- a fault of opening is the disk's only as that, and never that it had failed or is full
+-- a fault of opening is the disk's only as that, and never that it had failed
 open_disk : (fault : OpenFault) → open_refusal fault ≡ refusals.DiskFault → fault ≡ opens.DiskFault
 open_disk (opens.Damaged sector stated found) is = absurd (cc is)
 open_disk opens.NoPool is = absurd (cc is)
@@ -115,92 +171,149 @@ open_alive (opens.BadVersion version) is = absurd (cc is)
 open_alive opens.DiskFault is = absurd (cc is)
 open_alive opens.OutOfMemory is = absurd (cc is)
 
-open_room : (fault : OpenFault) (need largest : ℕ) → open_refusal fault ≢ refusals.Full need largest
-open_room (opens.Damaged sector stated found) need largest is = absurd (cc is)
-open_room opens.NoPool need largest is = absurd (cc is)
-open_room (opens.BadVersion version) need largest is = absurd (cc is)
-open_room opens.DiskFault need largest is = absurd (cc is)
-open_room opens.OutOfMemory need largest is = absurd (cc is)
-
 refused_open : {T : Type 0} → (here here' : DiskState) (fault : OpenFault) → opening.HasDiskCause {T = T} opens.DiskFault here.faults here'.faults (Err fault) → IsPoolRefusal OfStepping here here' (open_refusal fault)
 refused_open here here' fault cause = record { one = inl (fault, refl); alive = open_alive fault; cause = λ is. cause.fault (ap (λ f. Err f) (open_disk fault is)) }
 
 -- ---- opening
 
--- a disk that was only read holds what it held
-pub holds_read : (here mid : DiskState) (pool : Pool) → Holds here pool → OnlyReads here mid → Holds mid pool
-holds_read here mid pool holds reads = record {
-  seen = subst (λ (bytes : List ℕ). Reads pool bytes) (sym reads.seen) holds.seen;
-  images = λ c image. holds.images c (reads.crash c image);
-}
+-- a disk that read as a pool and where nothing is pending rests as that pool
+pub rests_read : (here mid : DiskState) (uber : Uber) (rows : Rows) (pool : Pool) → ReadsAs uber rows pool here.seen → OnlyReads here mid → IsSynced mid → Rests mid uber rows pool
+rests_read here mid uber rows pool is reads synced =
+    let read : ReadsAs uber rows pool mid.seen = subst (λ (bytes : List ℕ). ReadsAs uber rows pool bytes) (sym reads.seen) is in
+    record { reads = read; each = λ c image. subst (λ (bytes : List ℕ). ReadsAs uber rows pool bytes) (sym (synced c image)) read }
 
-pub holds_rests : (disk : DiskState) (uber : Uber) (rows : Rows) (pool : Pool) → Rests disk uber rows pool → Holds disk pool
-holds_rests disk uber rows pool rests = record { seen = (uber, rows, rests.reads); images = λ c image. (uber, rows, rests.each c image) }
+-- what holds of what is kept holds of the body and the rows that it is
+for_kept : (P : Uber → Rows → Type 0) (kept : Kept) (uber : Uber) (rows : Rows) → GivesPool uber rows (Ok kept) → P kept.body kept.dir → P uber rows
+for_kept P kept uber rows same is = subst (λ (r : Rows). P uber r) same.1 (subst (λ (u : Uber). P u kept.dir) same.0 is)
 
 -- the moments of opening, and those of the command behind it
-pub moments_read : (here mid : DiskState) (pool : Pool) (after : Result Stepped Refusal) → Holds here pool → OnlyReads here mid → Leaves here mid (BeforeOrAfter pool after)
-moments_read here mid pool after holds reads = Leaves-weaker here mid here.images (BeforeOrAfter pool after) reads.time (λ c image. inl (holds.images c image))
+pub moments_read : (here mid : DiskState) (pool : Pool) (after : Result Stepped Refusal) → OnlyReads here mid → Leaves here mid (OldOrReads here pool after)
+moments_read here mid pool after reads = Leaves-weaker here mid here.images (OldOrReads here pool after) reads.time (λ c image. inl image)
 
-pub moments_then : (here mid here' : DiskState) (pool : Pool) (after : Result Stepped Refusal) → Holds here pool → OnlyReads here mid → Leaves mid here' (BeforeOrAfter pool after)
-    → Leaves here here' (BeforeOrAfter pool after)
-moments_then here mid here' pool after holds reads step =
-    Leaves-then here mid here' (BeforeOrAfter pool after) (BeforeOrAfter pool after) (moments_read here mid pool after holds reads) step (λ c is. is)
+pub moments_then : (here mid here' : DiskState) (pool : Pool) (after : Result Stepped Refusal) → OnlyReads here mid → Leaves mid here' (BeforeOrAfter pool after)
+    → Leaves here here' (OldOrReads here pool after)
+moments_then here mid here' pool after reads step =
+    Leaves-then here mid here' (OldOrReads here pool after) (BeforeOrAfter pool after) (moments_read here mid pool after reads) step (λ c is. inr is)
 
 -- ---- answers
 
 -- where the pool reads, opening is refused by the disk or by want of memory alone
-pub answers_unopened : (here mid : DiskState) (pool : Pool) (after : Result Stepped Refusal) (uber : Uber) (rows : Rows) (fault : OpenFault) → Holds here pool → OnlyReads here mid
-    → GivesPool uber rows (Err fault) → Answers mid pool after (Err (open_refusal fault))
-answers_unopened here mid pool after uber rows (opens.Damaged sector stated found) holds reads gives = absurd gives
-answers_unopened here mid pool after uber rows opens.NoPool holds reads gives = absurd gives
-answers_unopened here mid pool after uber rows (opens.BadVersion version) holds reads gives = absurd gives
-answers_unopened here mid pool after uber rows opens.DiskFault holds reads gives = tt
-answers_unopened here mid pool after uber rows opens.OutOfMemory holds reads gives = holds_read here mid pool holds reads
+pub answers_unopened : (command : Command) (mid : DiskState) (pool : Pool) (after : Result Stepped Refusal) (uber : Uber) (rows : Rows) (fault : OpenFault)
+    → (fault ≢ opens.DiskFault → Rests mid uber rows pool) → GivesPool uber rows (Err fault) → Answers command uber rows pool mid after (Err (open_refusal fault))
+answers_unopened command mid pool after uber rows (opens.Damaged sector stated found) rests gives = absurd gives
+answers_unopened command mid pool after uber rows opens.NoPool rests gives = absurd gives
+answers_unopened command mid pool after uber rows (opens.BadVersion version) rests gives = absurd gives
+answers_unopened command mid pool after uber rows opens.DiskFault rests gives = tt
+answers_unopened command mid pool after uber rows opens.OutOfMemory rests gives = rests (λ is. absurd (cc is))
 
 -- what a refused command leaves
-pub answers_refused : (here' : DiskState) (uber : Uber) (rows : Rows) (pool : Pool) (after : Result Stepped Refusal) (fault : PoolFault)
-    → StepFault (Rests here' uber rows pool) after fault → Answers here' pool after (Err (pool_refusal fault))
-answers_refused here' uber rows pool after (faults.Plan fault) is =
-    of_plan (λ r. after ≡ Err r → Answers here' pool after (Err r)) (λ f e. (e, holds_rests here' uber rows pool is.1)) (λ w n e. (e, holds_rests here' uber rows pool is.1)) fault is.0
-answers_refused here' uber rows pool after (faults.CannotApply fault) is = (is.0, holds_rests here' uber rows pool is.1)
-answers_refused here' uber rows pool after (faults.Redacted object block) is = (is.0, holds_rests here' uber rows pool is.1)
-answers_refused here' uber rows pool after (faults.Full need largest) is = holds_rests here' uber rows pool is.1
-answers_refused here' uber rows pool after (faults.Damaged sector stated found) is = absurd is
-answers_refused here' uber rows pool after faults.DiskFault is = tt
-answers_refused here' uber rows pool after faults.Failed is = absurd is
-answers_refused here' uber rows pool after faults.OutOfMemory is = holds_rests here' uber rows pool is
+pub answers_refused : (command : Command) (here' : DiskState) (kept : Kept) (left : FreeSectors) (pool : Pool) (after : Result Stepped Refusal) (fault : PoolFault)
+    → FindsNoRoom (cost_of command).cells ((cost_of command).block pool) kept left fault → StepFault (Rests here' kept.body kept.dir pool) after fault
+    → Answers command kept.body kept.dir pool here' after (Err (pool_refusal fault))
+answers_refused command here' kept left pool after (faults.Plan fault) room is =
+    of_plan (λ r. after ≡ Err r → Answers command kept.body kept.dir pool here' after (Err r)) (λ f e. (e, is.1)) (λ w n e. (e, is.1)) fault is.0
+answers_refused command here' kept left pool after (faults.CannotApply fault) room is = (is.0, is.1)
+answers_refused command here' kept left pool after (faults.Redacted object block) room is = (is.0, is.1)
+answers_refused command here' kept left pool after (faults.Full need largest) room is =
+    (record { done = is.0.0; accepts = is.0.1; short = (left, room need largest refl) }, is.1)
+answers_refused command here' kept left pool after (faults.Damaged sector stated found) room is = absurd is
+answers_refused command here' kept left pool after faults.DiskFault room is = tt
+answers_refused command here' kept left pool after faults.Failed room is = absurd is
+answers_refused command here' kept left pool after faults.OutOfMemory room is = is
 
--- what an accepted command leaves
-pub answers_done : (here' : DiskState) (uber : Uber) (rows : Rows) (pool : Pool) (after : Result Stepped Refusal) (lines : List (List ℕ))
-    → StepAnswer here' uber rows pool after (Ok lines) → Answers here' pool after (Ok lines)
-answers_done here' uber rows pool after lines is = (is.0, is.1, is.2, holds_rests here' uber rows is.0.pool is.3)
+-- ---- what answers say of any image
 
--- ---- what answers say of the latest body
+pub opened_refused : (now : ℕ) (command : Command) (here here' : DiskState) (fault : OpenFault) → OnlyReads here here' → OpenAnswers here (Err fault)
+    → Opened now command here here' (Err (open_refusal fault))
+opened_refused now command here here' (opens.Damaged sector stated found) reads is = inl (is, reads)
+opened_refused now command here here' opens.NoPool reads is = (is, reads)
+opened_refused now command here here' (opens.BadVersion version) reads is = (record { body = is.0; there = is.1; version = is.2; other = is.3 }, reads)
+opened_refused now command here here' opens.DiskFault reads is = tt
+opened_refused now command here here' opens.OutOfMemory reads is = inl reads
 
--- a body of the layout is of this version
-version_is : (size : ℕ) (uber : Uber) (body : List ℕ) → IsBody size uber body → number_at body 8 4 ≡ VERSION
-version_is size uber body is = ap (λ (b : List ℕ). number_at b 8 4) is.spelled ∙ ap (λ (u : Uber). u.version) (uber_at-body_bytes uber is.fits) ∙ is.in_range.version
+pub opens_kept : (here : DiskState) (kept : Kept) → OpenAnswers here (Ok kept) → Opens here kept.body kept.dir
+opens_kept here kept is = (is.0, is.1, is.2)
 
-pub opened_refused : (here : DiskState) (fault : OpenFault) → OpenAnswers here (Err fault) → Opened here (Err (open_refusal fault))
-opened_refused here (opens.Damaged sector stated found) is = ⊎_elim (λ tells. (tells.body, tells.there, tells.version)) (λ tells. (tells.body, tells.there, version_is here.size tells.uber tells.body tells.is_body)) is
-opened_refused here opens.NoPool is = is
-opened_refused here (opens.BadVersion version) is = is
-opened_refused here opens.DiskFault is = tt
-opened_refused here opens.OutOfMemory is = tt
+-- what a command tells of a disk that was only read, it tells of the disk from before
+told_before : (here mid : DiskState) (P : List ℕ → ℕ → Type 0) → OnlyReads here mid → P mid.seen mid.size → P here.seen here.size
+told_before here mid P reads is = subst (λ (n : ℕ). P here.seen n) reads.size (subst (λ (bytes : List ℕ). P bytes mid.size) reads.seen is)
 
-pub opened_done : (here : DiskState) (kept : Kept) (lines : List (List ℕ)) → OpenAnswers here (Ok kept) → Opened here (Ok lines)
-opened_done here kept lines is = (is.0, kept.body, kept.dir, is.1, is.2)
+pub told_of_start : (here mid : DiskState) (rows : Rows) (space : FreeSectors) (sector : ℕ) (stated found : List ℕ) (command : Command) → OnlyReads here mid
+    → TellsDamage command rows mid space sector stated found → TellsDamage command rows here space sector stated found
+told_of_start here mid rows space sector stated found (commands.Fs dataset) reads is = is
+told_of_start here mid rows space sector stated found (commands.Volume dataset) reads is = is
+told_of_start here mid rows space sector stated found (commands.Object dataset k head bonus spill) reads is =
+    told_before here mid (λ seen size. OfHead rows dataset (IsDamagedSet (SparesTaken space seen) size) sector stated found) reads is
+told_of_start here mid rows space sector stated found (commands.Write dataset k i bytes) reads is =
+    told_before here mid (λ seen size. OfHead rows dataset (λ set at s f. IsDamagedSet (IsSeen seen) size set at s f
+        ⊎ IsDamagedObject (SparesTaken space seen) size NamesNode set at s f) sector stated found) reads is
+told_of_start here mid rows space sector stated found (commands.Punch dataset k first count) reads is =
+    told_before here mid (λ seen size. OfHead rows dataset (IsDamagedObject (SparesTaken space seen) size (SumsUp (SparesTaken space seen))) sector stated found) reads is
+told_of_start here mid rows space sector stated found (commands.Free dataset first count) reads is =
+    told_before here mid (λ seen size. OfHead rows dataset (IsDamagedSet (SparesTaken space seen) size) sector stated found) reads is
+told_of_start here mid rows space sector stated found (commands.Snapshot name) reads is = is
+told_of_start here mid rows space sector stated found (commands.Read name k i) reads is = is
+told_of_start here mid rows space sector stated found commands.List reads is = is
+told_of_start here mid rows space sector stated found (commands.ListObjects name) reads is = is
 
-pub opened_then : (here : DiskState) (kept : Kept) (fault : PoolFault) → OpenAnswers here (Ok kept) → Opened here (Err (pool_refusal fault))
-opened_then here kept (faults.Plan fault) is =
-    of_plan (λ r. Opened here (Err r)) (λ f. (is.0, kept.body, kept.dir, is.1, is.2)) (λ w n. (is.0, kept.body, kept.dir, is.1, is.2)) fault
-opened_then here kept (faults.CannotApply fault) is = (is.0, kept.body, kept.dir, is.1, is.2)
-opened_then here kept (faults.Redacted object block) is = (is.0, kept.body, kept.dir, is.1, is.2)
-opened_then here kept (faults.Full need largest) is = (is.0, kept.body, kept.dir, is.1, is.2)
-opened_then here kept (faults.Damaged sector stated found) is = (is.0, is.1, version_is here.size kept.body is.0 is.2.is_body)
-opened_then here kept faults.DiskFault is = tt
-opened_then here kept faults.Failed is = (is.0, kept.body, kept.dir, is.1, is.2)
-opened_then here kept faults.OutOfMemory is = tt
+-- what a plan refuses, as a refusal of the whole
+planned_refused : (now : ℕ) (command : Command) (kept : Kept) (fault : PoolFault)
+    → Plans {T = List (List ℕ)} (λ pool. stepped [] now command pool) (numbers_end command) (indices_end command) kept (Err fault)
+    → Planned now command kept.body kept.dir (Err (pool_refusal fault))
+planned_refused now command kept fault is = record {
+  exact = λ pool plan named told. (
+    λ refused. let was = (is.exact pool plan named told).0 refused in let same : fault ≡ faults.Plan plan = cc was in ap (λ f. Err (pool_refusal f)) same,
+    λ was. (is.exact pool plan named told).1 (ap (λ f. Err f) (plan_only fault plan (cc was))),
+  );
+  limits = λ plan was. is.limits plan (ap (λ f. Err f) (plan_only fault plan (cc was)));
+}
+
+planned_done : (now : ℕ) (command : Command) (kept : Kept) (lines : List (List ℕ))
+    → Plans {T = List (List ℕ)} (λ pool. stepped [] now command pool) (numbers_end command) (indices_end command) kept (Ok lines)
+    → Planned now command kept.body kept.dir (Ok lines)
+planned_done now command kept lines is = record {
+  exact = λ pool plan named told. (λ refused. let was = (is.exact pool plan named told).0 refused in absurd (cc was), λ was. absurd (cc was));
+  limits = λ plan was. absurd (cc was);
+}
+
+-- a command that was refused on what was opened
+ran_refused : (now : ℕ) (command : Command) (here mid here' : DiskState) (kept : Kept) (left : FreeSectors) (fault : PoolFault) → Opens here kept.body kept.dir → OnlyReads here mid
+    → SparesTaken (free_by kept.body) here.seen here'.seen → ((block : ℕ) × (block ≤ (cost_of command).most) × FindsNoRoom (cost_of command).cells block kept left fault)
+    → IsOf (TellsDamage command kept.dir mid (free_by kept.body)) fault
+    → (fault ≢ faults.OutOfMemory → Plans {T = List (List ℕ)} (λ pool. stepped [] now command pool) (numbers_end command) (indices_end command) kept (Err fault))
+    → Ran now command here here' (Err (pool_refusal fault)) kept.body kept.dir
+ran_refused now command here mid here' kept left fault opens reads spares room damaged plan = record {
+  opens = opens;
+  spares = spares;
+  full = λ need largest is. (room.0, room.1, (left, room.2 need largest (full_only fault need largest (cc is))));
+  damaged = λ sector stated found is.
+      told_of_start here mid kept.dir (free_by kept.body) sector stated found command reads (damaged sector stated found (damaged_only fault sector stated found (cc is)));
+  planned = λ memory. planned_refused now command kept fault (plan (λ is. memory (ap (λ f. Err (pool_refusal f)) is)));
+}
+
+ran_done : (now : ℕ) (command : Command) (here here' : DiskState) (kept : Kept) (lines : List (List ℕ)) → Opens here kept.body kept.dir
+    → Plans {T = List (List ℕ)} (λ pool. stepped [] now command pool) (numbers_end command) (indices_end command) kept (Ok lines)
+    → Ran now command here here' (Ok lines) kept.body kept.dir
+ran_done now command here here' kept lines opens plan = record {
+  opens = opens;
+  spares = tt;
+  full = λ need largest is. absurd (cc is);
+  damaged = λ sector stated found is. absurd (cc is);
+  planned = λ memory. planned_done now command kept lines plan;
+}
+
+opened_then : (now : ℕ) (command : Command) (here here' : DiskState) (kept : Kept) (fault : PoolFault) → fault ≢ faults.Failed
+    → (fault ≢ faults.DiskFault → Ran now command here here' (Err (pool_refusal fault)) kept.body kept.dir) → Opened now command here here' (Err (pool_refusal fault))
+opened_then now command here here' kept (faults.Plan fault) alive ran =
+    of_plan (λ r. Ran now command here here' (Err r) kept.body kept.dir → Opened now command here here' (Err r)) (λ f is. (kept.body, kept.dir, is))
+        (λ w n is. (kept.body, kept.dir, is)) fault (ran (λ e. absurd (cc e)))
+opened_then now command here here' kept (faults.CannotApply fault) alive ran = (kept.body, kept.dir, ran (λ e. absurd (cc e)))
+opened_then now command here here' kept (faults.Redacted object block) alive ran = (kept.body, kept.dir, ran (λ e. absurd (cc e)))
+opened_then now command here here' kept (faults.Full need largest) alive ran = (kept.body, kept.dir, ran (λ e. absurd (cc e)))
+opened_then now command here here' kept (faults.Damaged sector stated found) alive ran = inr (kept.body, kept.dir, ran (λ e. absurd (cc e)))
+opened_then now command here here' kept faults.DiskFault alive ran = tt
+opened_then now command here here' kept faults.Failed alive ran = absurd (alive refl)
+opened_then now command here here' kept faults.OutOfMemory alive ran = inr (kept.body, kept.dir, ran (λ e. absurd (cc e)))
 
 -- ---- one command
 
@@ -214,15 +327,14 @@ images_after old new P leaves before only now c image =
 -- opening was refused
 pub stepping_unopened : (now : ℕ) (command : Command) (here here' : DiskState) (fault : OpenFault)
     → ((uber : Uber) (rows : Rows) (pool : Pool) → here'.honest → ReadsAs uber rows pool here.seen → GivesPool uber rows (Err fault))
-    → (here'.honest → OpenAnswers here (Err fault)) → OnlyReads here here' → opening.HasDiskCause {T = Kept} opens.DiskFault here.faults here'.faults (Err fault)
+    → (here'.honest → OpenAnswers here (Err fault)) → OnlyReads here here' → (fault ≢ opens.DiskFault → IsSynced here') → opening.HasDiskCause {T = Kept} opens.DiskFault here.faults here'.faults (Err fault)
     → Stepping now command here here' (Err (open_refusal fault))
-stepping_unopened now command here here' fault there answer reads cause = record {
-  moments = λ pool told holds. moments_read here here' pool (stepped [] now command pool) holds reads;
-  images = λ pool told holds c image. inl (holds.images c (reads.crash c image));
-  answers = λ pool told holds.
-      answers_unopened here here' pool (stepped [] now command pool) holds.seen.0 holds.seen.1 fault holds reads (there holds.seen.0 holds.seen.1 pool told holds.seen.2);
-  opened = λ told. opened_refused here fault (answer told);
-  full = λ uber rows pool need largest told reads is. absurd (open_room fault need largest (cc is));
+stepping_unopened now command here here' fault there answer reads synced cause = record {
+  moments = λ pool told is. moments_read here here' pool (stepped [] now command pool) reads;
+  images = λ pool told is c image. inl (reads.crash c image);
+  answers = λ uber rows pool told is. answers_unopened command here' pool (stepped [] now command pool) uber rows fault
+      (λ alive. rests_read here here' uber rows pool is reads (synced alive)) (there uber rows pool told is);
+  opened = λ told. opened_refused now command here here' fault reads (answer told);
   refused = refused_open here here' fault cause;
   later = cause.later;
 }
@@ -230,43 +342,72 @@ stepping_unopened now command here here' fault there answer reads cause = record
 -- the command ran on what was opened
 module _ (now : ℕ) (command : Command) (here mid here' : DiskState) (kept kept' : Kept)
     (there : (uber : Uber) (rows : Rows) (pool : Pool) → mid.honest → ReadsAs uber rows pool here.seen → GivesPool uber rows (Ok kept))
-    (falls : here'.honest → mid.honest) (answer : mid.honest → OpenAnswers here (Ok kept)) (reads : OnlyReads here mid) (stands : (uber : Uber) (rows : Rows) (pool : Pool) → mid.honest → ReadsAs uber rows pool here.seen → Rests mid kept.body kept.dir pool) (later : here.faults ≤ mid.faults)
+    (falls : here'.honest → mid.honest) (answer : mid.honest → OpenAnswers here (Ok kept)) (reads : OnlyReads here mid)
+    (stands : (uber : Uber) (rows : Rows) (pool : Pool) → mid.honest → ReadsAs uber rows pool here.seen → Rests mid kept.body kept.dir pool) (later : here.faults ≤ mid.faults)
     (step : (pool : Pool) → here'.honest → Rests mid kept.body kept.dir pool → Leaves mid here' (BeforeOrAfter pool (stepped [] now command pool)))
     (only : (c : List ℕ) → here.left_since here.moment c → here.images c) (now_left : (t : ℕ) (c : List ℕ) → t ≤ here'.moment → here'.images c → here'.left_since t c) where
-  rests : (pool : Pool) → mid.honest → Holds here pool → Rests mid kept.body kept.dir pool
-  rests pool told holds = stands holds.seen.0 holds.seen.1 pool told holds.seen.2
+  rests : (uber : Uber) (rows : Rows) (pool : Pool) → here'.honest → ReadsAs uber rows pool here.seen → Rests mid kept.body kept.dir pool
+  rests uber rows pool told is = stands uber rows pool (falls told) is
 
-  moments : (pool : Pool) → here'.honest → Holds here pool → Leaves here here' (BeforeOrAfter pool (stepped [] now command pool))
-  moments pool told holds = moments_then here mid here' pool (stepped [] now command pool) holds reads (step pool told (rests pool (falls told) holds))
+  moments : (pool : Pool) → here'.honest → Reads pool here.seen → Leaves here here' (OldOrReads here pool (stepped [] now command pool))
+  moments pool told is = moments_then here mid here' pool (stepped [] now command pool) reads (step pool told (rests is.0 is.1 pool told is.2))
 
-  images : (pool : Pool) → here'.honest → Holds here pool → (c : List ℕ) → here'.images c → BeforeOrAfter pool (stepped [] now command pool) c
-  images pool told holds = images_after here here' (BeforeOrAfter pool (stepped [] now command pool)) (moments pool told holds) (λ c image. inl (holds.images c image)) only now_left
+  images : (pool : Pool) → here'.honest → Reads pool here.seen → (c : List ℕ) → here'.images c → OldOrReads here pool (stepped [] now command pool) c
+  images pool told is = images_after here here' (OldOrReads here pool (stepped [] now command pool)) (moments pool told is) (λ c image. inl image) only now_left
+
+  opened_as : here'.honest → Opens here kept.body kept.dir
+  opened_as told = opens_kept here kept (answer (falls told))
+
+  done : (uber : Uber) (rows : Rows) (pool : Pool) (lines : List (List ℕ)) → GivesPool uber rows (Ok kept)
+      → Grows (most_of command kept.dir pool) kept.body kept'.body → StepAnswer here' kept'.body kept'.dir pool (stepped [] now command pool) (Ok lines)
+      → Answers command uber rows pool here' (stepped [] now command pool) (Ok lines)
+  done uber rows pool lines same grows is = for_kept (λ u r. Answers command u r pool here' (stepped [] now command pool) (Ok lines)) kept uber rows same (record {
+    done = is.0;
+    accepts = is.1;
+    reply = is.2;
+    body = kept'.body;
+    directory = kept'.dir;
+    rests = is.3;
+    grows = grows;
+  })
 
   pub stepping_done : (lines : List (List ℕ)) → mid.faults ≤ here'.faults
+      → Plans {T = List (List ℕ)} (λ pool. stepped [] now command pool) (numbers_end command) (indices_end command) kept (Ok lines)
+      → ((pool : Pool) → here'.honest → Rests mid kept.body kept.dir pool → Grows (most_of command kept.dir pool) kept.body kept'.body)
       → ((pool : Pool) → here'.honest → Rests mid kept.body kept.dir pool → StepAnswer here' kept'.body kept'.dir pool (stepped [] now command pool) (Ok lines))
       → Stepping now command here here' (Ok lines)
-  stepping_done lines after did = record {
+  stepping_done lines after plan grows did = record {
     moments = moments;
     images = images;
-    answers = λ pool told holds. answers_done here' kept'.body kept'.dir pool (stepped [] now command pool) lines (did pool told (rests pool (falls told) holds));
-    opened = λ told. opened_done here kept lines (answer (falls told));
-    full = λ uber rows pool need largest told reads is. absurd (cc is);
+    answers = λ uber rows pool told is.
+        let before = rests uber rows pool told is in
+        done uber rows pool lines (there uber rows pool (falls told) is) (grows pool told before) (did pool told before);
+    opened = λ told. (kept.body, kept.dir, ran_done now command here here' kept lines (opened_as told) plan);
     refused = tt;
     later = omega (arith, later, after);
   }
 
-  pub stepping_refused : (fault : PoolFault) → HasDiskCause {T = List (List ℕ)} mid.faults here'.faults (Err fault) → fault ≢ faults.Failed
-      → ((pool : Pool) (need largest : ℕ) → here'.honest → Rests mid kept.body kept.dir pool → fault ≡ faults.Full need largest → (left : FreeSectors) × HasNoRoom (cost_of command).cells ((cost_of command).block pool) kept.body kept.dir left need largest)
+  left_as : (fault : PoolFault) (pool : Pool) → kept' ≡ kept → StepAnswer here' kept'.body kept'.dir pool (stepped [] now command pool) (Err fault)
+      → StepFault (Rests here' kept.body kept.dir pool) (stepped [] now command pool) fault
+  left_as fault pool same is = subst (λ (k : Kept). StepFault (Rests here' k.body k.dir pool) (stepped [] now command pool) fault) same is
+
+  pub stepping_refused : (fault : PoolFault) (left : FreeSectors) → kept' ≡ kept → HasDiskCause {T = List (List ℕ)} mid.faults here'.faults (Err fault) → fault ≢ faults.Failed
+      → (fault ≢ faults.DiskFault → SparesTaken (free_by kept.body) mid.seen here'.seen)
+      → ((block : ℕ) × (block ≤ (cost_of command).most) × FindsNoRoom (cost_of command).cells block kept left fault)
+      → (here'.honest → IsOf (TellsDamage command kept.dir mid (free_by kept.body)) fault)
+      → (fault ≢ faults.OutOfMemory → Plans {T = List (List ℕ)} (λ pool. stepped [] now command pool) (numbers_end command) (indices_end command) kept (Err fault))
+      → ((pool : Pool) → here'.honest → Rests mid kept.body kept.dir pool → FindsNoRoom (cost_of command).cells ((cost_of command).block pool) kept left fault)
       → ((pool : Pool) → here'.honest → Rests mid kept.body kept.dir pool → StepAnswer here' kept'.body kept'.dir pool (stepped [] now command pool) (Err fault))
       → Stepping now command here here' (Err (pool_refusal fault))
-  stepping_refused fault cause alive room did = record {
+  stepping_refused fault left same cause alive spares bounded damaged plan room did = record {
     moments = moments;
     images = images;
-    answers = λ pool told holds. answers_refused here' kept'.body kept'.dir pool (stepped [] now command pool) fault (did pool told (rests pool (falls told) holds));
-    opened = λ told. opened_then here kept fault (answer (falls told));
-    full = λ uber rows pool need largest told is_pool is.
-        let same = there uber rows pool (falls told) is_pool in
-        rw (← same.0, ← same.1) (room pool need largest told (stands uber rows pool (falls told) is_pool) (full_only fault need largest (cc is)));
+    answers = λ uber rows pool told is.
+        let before = rests uber rows pool told is in
+        for_kept (λ u r. Answers command u r pool here' (stepped [] now command pool) (Err (pool_refusal fault))) kept uber rows (there uber rows pool (falls told) is)
+            (answers_refused command here' kept left pool (stepped [] now command pool) fault (room pool told before) (left_as fault pool same (did pool told before)));
+    opened = λ told. opened_then now command here here' kept fault alive (λ not. ran_refused now command here mid here' kept left fault (opened_as told) reads
+        (subst (λ (bytes : List ℕ). SparesTaken (free_by kept.body) bytes here'.seen) reads.seen (spares not)) bounded (damaged told) plan);
     refused = refused_step here mid here' fault later cause alive;
     later = omega (arith, later, cause.later);
   }

@@ -7,7 +7,7 @@ use Rattle.zst_uber.specs.Slots.{latest}
 use Rattle.zst_model.specs.pools.Lines.{ok_line}
 use Rattle.zst_model.specs.declared.refusals.refusal.Refusal.{Refusal}
 use Rattle.zst_model.specs.declared.refusals.refusal.Refusal.TheVariants as refusals
-use Rattle.zst_image.specs.Creating.{CreateAnswers, RefusedLeaves}
+use Rattle.zst_image.specs.Creating.{CreateAnswers, IsNew, RefusedLeaves}
 use Rattle.zst_image.specs.Faults.{HasDiskCause, create_refusal}
 use Rattle.zst_image.specs.Reads.{Reads, Rests, new_pool}
 use Rattle.zst_image.specs.declared.create_fault.CreateFault.{CreateFault}
@@ -15,11 +15,10 @@ use Rattle.zst_image.specs.declared.create_fault.CreateFault.TheVariants.{Exists
 use Rattle.zst_image.specs.declared.kept.Kept.{Kept}
 use Rattle.zst.specs.Commands.{Creates, IsPoolRefusal, Makes, OfMaking}
 use Rattle.zst.specs.Replies.{Replied}
-use Rattle.zst.proofs.Commanded.{holds_rests}
 
 pub makes_done : (sectors id : ℕ) (here here' : DiskState) (kept : Kept) → CreateAnswers here.size (latest here.seen) sectors (Ok kept)
-    → Rests here' kept.body kept.dir (new_pool id) → Makes sectors id here here' (Ok (ok_line 1 ∷ []))
-makes_done sectors id here here' kept is rests = (refl, is.0, is.1, holds_rests here' kept.body kept.dir (new_pool id) rests)
+    → IsNew sectors kept → Rests here' kept.body kept.dir (new_pool id) → Makes sectors id here here' (Ok (ok_line 1 ∷ []))
+makes_done sectors id here here' kept is new rests = (refl, is.0, is.1, (kept, new, rests))
 
 pub makes_refused : (sectors id : ℕ) (here here' : DiskState) (fault : CreateFault) → CreateAnswers here.size (latest here.seen) sectors (Err fault)
     → RefusedLeaves here here' fault → Makes sectors id here here' (Err (create_refusal fault))
@@ -62,14 +61,14 @@ creates_refused sectors id here here' out fault answers left moments cause = rec
 
 -- the pool was made, and its line is written or not
 pub creates_made : (sectors id : ℕ) (here here' : DiskState) (out out' : SinkState) (kept : Kept) (result : Result (Unit {0}) Refusal)
-    → (here'.honest → CreateAnswers here.size (latest here.seen) sectors (Ok kept)) → (here'.honest → Rests here' kept.body kept.dir (new_pool id))
+    → (here'.honest → CreateAnswers here.size (latest here.seen) sectors (Ok kept)) → IsNew sectors kept → (here'.honest → Rests here' kept.body kept.dir (new_pool id))
     → (here'.honest → Leaves here here' (λ c. ((d : List ℕ) × here.images d × (latest c ≡ latest d)) ⊎ Reads (new_pool id) c))
     → here.faults ≤ here'.faults → Replied out out' (Ok (ok_line 1 ∷ [])) result → Creates sectors id here here' out out' result
-creates_made sectors id here here' out out' kept result answers made moments later replied = record {
+creates_made sectors id here here' out out' kept result answers new made moments later replied = record {
   answer = Ok (ok_line 1 ∷ []);
   making = record {
     moments = moments;
-    makes = λ told. makes_done sectors id here here' kept (answers told) (made told);
+    makes = λ told. makes_done sectors id here here' kept (answers told) new (made told);
     refused = tt;
     later = later;
   };

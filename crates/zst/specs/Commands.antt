@@ -1,38 +1,44 @@
 -- What a line that works on a pool leaves of its image, and what it answers.
-use Rattle.std.specs.Prelude.{ℕ, ◌≡◌, ◌≢◌, ◌⊎◌, ◌*◌, ◌<◌, ◌≤◌, Bool, IsTrue, IfErr, List, [], ◌∷◌, None, Some, Result, Ok, Err}
+use Rattle.std.specs.Prelude.{ℕ, ◌≡◌, ◌≢◌, ◌⊎◌, ◌↔◌, ◌*◌, ◌<◌, ◌≤◌, Bool, true, IsTrue, IfErr, OnErr, List, [], ◌∷◌, None, Some, Result, Ok, Err}
 use Rattle.zst_outside.specs.Causes.{Rose}
 use Rattle.zst_outside.specs.Images.{DiskState, Leaves, OnlyReads}
 use Rattle.zst_outside.specs.States.{SinkState}
 use Rattle.zst_bytes.specs.Bytes.{number_at}
 use Rattle.zst_space.specs.FreeSectors.{FreeSectors}
+use Rattle.zst_block.specs.Blocks.{SparesTaken}
 use Rattle.zst_uber.specs.Slots.{latest}
 use Rattle.zst_uber.specs.declared.TheConstants.{VERSION}
 use Rattle.zst_uber.specs.declared.uber.Uber.{Uber}
 use Rattle.zst_model.specs.pools.Lines.{ok_line}
 use Rattle.zst_model.specs.pools.Pool.{Pool}
 use Rattle.zst_model.specs.pools.Step.{Stepped, stepped}
+use Rattle.zst_model.specs.refusals.Refusal.{refusal_of}
 use Rattle.zst_model.specs.declared.pools.command.Command.{Command}
 use Rattle.zst_model.specs.declared.refusals.faults.Quantity.TheVariants as quantities
 use Rattle.zst_model.specs.declared.refusals.named.Present.TheVariants as present
+use Rattle.zst_model.specs.declared.refusals.plan_fault.PlanFault.{PlanFault}
 use Rattle.zst_model.specs.declared.refusals.plan_fault.PlanFault.TheVariants as plans
 use Rattle.zst_model.specs.declared.refusals.refusal.Refusal.{Refusal}
 use Rattle.zst_model.specs.declared.refusals.refusal.Refusal.TheVariants as refusals
 use Rattle.zst_dir.specs.Rows.{Rows}
 use Rattle.zst_image.specs.Faults.{create_refusal, open_refusal}
-use Rattle.zst_image.specs.Opening.{IsOpened}
-use Rattle.zst_image.specs.Reads.{Reads, ReadsAs, new_pool}
+use Rattle.zst_image.specs.Creating.{IsNew}
+use Rattle.zst_image.specs.Opening.{IsOpened, TellsBody, TellsDir}
+use Rattle.zst_image.specs.Reads.{IsNamedBy, Reads, ReadsAs, Rests, free_by, new_pool}
 use Rattle.zst_image.specs.declared.create_fault.CreateFault.{CreateFault}
 use Rattle.zst_image.specs.declared.open_fault.OpenFault.{OpenFault}
+use Rattle.zst_image.specs.declared.kept.Kept.{Kept}
+use Rattle.zst_pool.specs.Cost.{Grows, HasNoRoom, cost_of, most_sectors}
+use Rattle.zst_pool.specs.Damage.{TellsDamage}
 use Rattle.zst_pool.specs.Faults.{pool_refusal}
-use Rattle.zst_pool.specs.Cost.{HasNoRoom, cost_of}
+use Rattle.zst_pool.specs.Plans.{IsLimitOf, indices_end, is_by_rows, numbers_end}
 use Rattle.zst_pool.specs.Stepping.{BeforeOrAfter}
 use Rattle.zst_pool.specs.declared.fault.PoolFault.{PoolFault}
 use Rattle.zst.specs.Replies.{Replied}
 
--- a read of the disk gives this pool, and so does each image that a crash may leave
-pub record Holds (disk : DiskState) (pool : Pool) : Type 0 where
-  pub seen : Reads pool disk.seen
-  pub images : (c : List ℕ) → disk.images c → Reads pool c
+-- an image that stood before a command, or one that reads as the pool before it or as the pool after it
+abbrev pub OldOrReads : DiskState → Pool → Result Stepped Refusal → List ℕ → Type 0
+OldOrReads here pool after image = here.images image ⊎ BeforeOrAfter pool after image
 
 -- a refusal of making a pool, and one of opening it or of a command on it
 abbrev pub OfMaking : Refusal → Type 0
@@ -49,35 +55,91 @@ pub record IsPoolRefusal (Is : Refusal → Type 0) (here here' : DiskState) (ref
 
 -- ---- commands
 
--- What stands after a command: after Ok the pool is the definition's, and so are the lines. A refusal leaves the pool
--- as it was, unless the disk failed, and is the definition's, unless the disk is full or no memory is left.
-abbrev pub Answers : DiskState → Pool → Result Stepped Refusal → Result (List (List ℕ)) Refusal → Type 0
-Answers here' pool after (Ok lines) = (done : Stepped) × (after ≡ Ok done) × (lines ≡ done.reply) × Holds here' done.pool
-Answers here' pool after (Err refusals.DiskFault) = Unit {0}
-Answers here' pool after (Err (refusals.Full need largest)) = Holds here' pool
-Answers here' pool after (Err refusals.OutOfMemory) = Holds here' pool
-Answers here' pool after (Err refusal) = (after ≡ Err refusal) × Holds here' pool
+-- so many sectors a command takes at most in this pool, whose directory has these rows
+abbrev pub most_of : Command → Rows → Pool → ℕ
+most_of command rows pool = most_sectors (cost_of command).cells ((cost_of command).block pool) rows
 
--- What an answer says of the latest body: E26 comes where there is none, E27 where it has another version, E25 where
--- it has this one; any other answer comes where it and its directory are of the layout.
-abbrev pub Opened : DiskState → Result (List (List ℕ)) Refusal → Type 0
-Opened here (Err refusals.NoPool) = latest here.seen ≡ None
-Opened here (Err (refusals.BadVersion number)) =
-    (body : List ℕ) × (latest here.seen ≡ Some body) × (number ≡ number_at body 8 4) × (number ≢ VERSION)
-Opened here (Err (refusals.Damaged sector stated found)) = (body : List ℕ) × (latest here.seen ≡ Some body) × (number_at body 8 4 ≡ VERSION)
-Opened here (Err refusals.DiskFault) = Unit {0}
-Opened here (Err refusals.OutOfMemory) = Unit {0}
-Opened here answer = (body : List ℕ) × (uber : Uber) × (rows : Rows) × (latest here.seen ≡ Some body) × IsOpened here body uber rows
+-- The command was done: the lines and the pool are the definition's, and no more sectors are taken than it costs.
+pub record IsDone (command : Command) (uber : Uber) (rows : Rows) (pool : Pool) (here' : DiskState) (after : Result Stepped Refusal) (lines : List (List ℕ)) : Type 0 where
+  pub done : Stepped
+  pub accepts : after ≡ Ok done
+  pub reply : lines ≡ done.reply
+  pub body : Uber
+  pub directory : Rows
+  pub rests : Rests here' body directory done.pool
+  pub grows : Grows (most_of command rows pool) uber body
 
--- One command on the pool of an image: at every moment, and in the end, each image reads as the pool before it or as
--- what the definition makes of it. E24 comes only where fewer sectors are free than the command may take in that pool.
+-- there was no room for the sectors that are needed, by a command that costs so many cells and so many sectors of data
+abbrev pub IsShort : ℕ → ℕ → Uber → Rows → ℕ → ℕ → Type 0
+IsShort cells block uber rows need largest = (left : FreeSectors) × HasNoRoom cells block uber rows left need largest
+
+-- E24: the definition accepts, and there was less room than the command costs
+pub record IsFull (command : Command) (uber : Uber) (rows : Rows) (pool : Pool) (after : Result Stepped Refusal) (need largest : ℕ) : Type 0 where
+  pub done : Stepped
+  pub accepts : after ≡ Ok done
+  pub short : IsShort (cost_of command).cells ((cost_of command).block pool) uber rows need largest
+
+-- What stands after a command on the pool of this body and these rows. A refusal leaves the pool as it was, unless the
+-- disk failed, and is the definition's, unless the disk is full or no memory is left.
+abbrev pub Answers : Command → Uber → Rows → Pool → DiskState → Result Stepped Refusal → Result (List (List ℕ)) Refusal → Type 0
+Answers command uber rows pool here' after (Ok lines) = IsDone command uber rows pool here' after lines
+Answers command uber rows pool here' after (Err refusals.DiskFault) = Unit {0}
+Answers command uber rows pool here' after (Err (refusals.Full need largest)) = IsFull command uber rows pool after need largest × Rests here' uber rows pool
+Answers command uber rows pool here' after (Err refusals.OutOfMemory) = Rests here' uber rows pool
+Answers command uber rows pool here' after (Err refusal) = (after ≡ Err refusal) × Rests here' uber rows pool
+
+-- the latest body has this version, which is another
+pub record HasVersion (here : DiskState) (number : ℕ) : Type 0 where
+  pub body : List ℕ
+  pub there : latest here.seen ≡ Some body
+  pub version : number ≡ number_at body 8 4
+  pub other : number ≢ VERSION
+
+-- the latest body and its directory, with these rows, are of the layout
+abbrev pub Opens : DiskState → Uber → Rows → Type 0
+Opens here uber rows = (body : List ℕ) × (latest here.seen ≡ Some body) × IsOpened here body uber rows
+
+-- What the directory tells alone: E3, E4, E5, and E23 of datasets, snapshots and guids come exactly where the definition
+-- refuses a pool that the body and the rows name, whatever its object sets hold. Any other E23 is past a limit.
+pub record Planned (now : ℕ) (command : Command) (uber : Uber) (rows : Rows) (answer : Result (List (List ℕ)) Refusal) : Type 0 where
+  pub exact : (pool : Pool) (fault : PlanFault) → IsNamedBy uber rows pool → is_by_rows fault ≡ true
+      → (stepped [] now command pool ≡ Err (refusal_of fault)) ↔ (answer ≡ Err (refusal_of fault))
+  pub limits : (fault : PlanFault) → answer ≡ Err (refusal_of fault)
+      → (is_by_rows fault ≡ true) ⊎ IsLimitOf (numbers_end command) (indices_end command) uber fault
+
+-- A command on a pool that was opened by this body and these rows, whether or not the image reads as a pool: a refusal, but
+-- for E28, wrote into sectors alone that the body leaves free; E24 comes only where there is less room than the command may
+-- cost, and E25 only of a block that is damaged in the object set of the command's dataset.
+pub record Ran (now : ℕ) (command : Command) (here here' : DiskState) (answer : Result (List (List ℕ)) Refusal) (uber : Uber) (rows : Rows) : Type 0 where
+  pub opens : Opens here uber rows
+  pub spares : OnErr answer (SparesTaken (free_by uber) here.seen here'.seen)
+  pub full : (need largest : ℕ) → answer ≡ Err (refusals.Full need largest)
+      → (block : ℕ) × (block ≤ (cost_of command).most) × IsShort (cost_of command).cells block uber rows need largest
+  pub damaged : (sector : ℕ) (stated found : List ℕ) → answer ≡ Err (refusals.Damaged sector stated found)
+      → TellsDamage command rows here (free_by uber) sector stated found
+  pub planned : answer ≢ Err refusals.OutOfMemory → Planned now command uber rows answer
+
+-- What an answer says of any image. E26 comes where there is no latest body, E27 where it has another version, E25 where it
+-- or its directory isn't of the layout: then nothing is written. Any other answer comes where both are, E28 and E32 aside.
+abbrev pub Opened : ℕ → Command → DiskState → DiskState → Result (List (List ℕ)) Refusal → Type 0
+Opened now command here here' (Err refusals.NoPool) = (latest here.seen ≡ None) × OnlyReads here here'
+Opened now command here here' (Err (refusals.BadVersion number)) = HasVersion here number × OnlyReads here here'
+Opened now command here here' (Err (refusals.Damaged sector stated found)) =
+    ((TellsBody here sector stated found ⊎ TellsDir here sector stated found) × OnlyReads here here')
+    ⊎ ((uber : Uber) × (rows : Rows) × Ran now command here here' (Err (refusals.Damaged sector stated found)) uber rows)
+Opened now command here here' (Err refusals.DiskFault) = Unit {0}
+Opened now command here here' (Err refusals.OutOfMemory) =
+    OnlyReads here here' ⊎ ((uber : Uber) × (rows : Rows) × Ran now command here here' (Err refusals.OutOfMemory) uber rows)
+Opened now command here here' answer = (uber : Uber) × (rows : Rows) × Ran now command here here' answer uber rows
+
+-- One command on the pool of an image: at every moment, and in the end, each image stood before it, or reads as the pool
+-- before it or as what the definition makes of it.
 pub record Stepping (now : ℕ) (command : Command) (here here' : DiskState) (answer : Result (List (List ℕ)) Refusal) : Type 0 where
-  pub moments : (pool : Pool) → here'.honest → Holds here pool → Leaves here here' (BeforeOrAfter pool (stepped [] now command pool))
-  pub images : (pool : Pool) → here'.honest → Holds here pool → (c : List ℕ) → here'.images c → BeforeOrAfter pool (stepped [] now command pool) c
-  pub answers : (pool : Pool) → here'.honest → Holds here pool → Answers here' pool (stepped [] now command pool) answer
-  pub opened : here'.honest → Opened here answer
-  pub full : (uber : Uber) (rows : Rows) (pool : Pool) (need largest : ℕ) → here'.honest → ReadsAs uber rows pool here.seen
-      → answer ≡ Err (refusals.Full need largest) → (left : FreeSectors) × HasNoRoom (cost_of command).cells ((cost_of command).block pool) uber rows left need largest
+  pub moments : (pool : Pool) → here'.honest → Reads pool here.seen → Leaves here here' (OldOrReads here pool (stepped [] now command pool))
+  pub images : (pool : Pool) → here'.honest → Reads pool here.seen → (c : List ℕ) → here'.images c → OldOrReads here pool (stepped [] now command pool) c
+  pub answers : (uber : Uber) (rows : Rows) (pool : Pool) → here'.honest → ReadsAs uber rows pool here.seen
+      → Answers command uber rows pool here' (stepped [] now command pool) answer
+  pub opened : here'.honest → Opened now command here here' answer
   pub refused : IfErr answer (IsPoolRefusal OfStepping here here')
   pub later : here.faults ≤ here'.faults
 
@@ -89,11 +151,15 @@ pub record Steps (now : ℕ) (command : Command) (here here' : DiskState) (out o
 
 -- ---- making a pool
 
+-- an empty pool with this id and so many sectors stands
+abbrev pub HasNew : ℕ → ℕ → DiskState → Type 0
+HasNew sectors id here' = (kept : Kept) × IsNew sectors kept × Rests here' kept.body kept.dir (new_pool id)
+
 -- What stands after making a pool, and why it is refused: E4 where one is there, also a damaged one or one of another
 -- version; E23 where the disk is too small. Both change nothing, and without memory there still is no pool.
 abbrev pub Makes : ℕ → ℕ → DiskState → DiskState → Result (List (List ℕ)) Refusal → Type 0
 Makes sectors id here here' (Ok lines) =
-    (lines ≡ ok_line 1 ∷ []) × (latest here.seen ≡ None) × ¬ (here.size < 512 * sectors) × Holds here' (new_pool id)
+    (lines ≡ ok_line 1 ∷ []) × (latest here.seen ≡ None) × ¬ (here.size < 512 * sectors) × HasNew sectors id here'
 Makes sectors id here here' (Err (refusals.Plan fault)) = (fault ≡ plans.Exists present.Pool) × (latest here.seen ≢ None) × OnlyReads here here'
 Makes sectors id here here' (Err (refusals.Limit which number)) =
     (which ≡ quantities.Device) × (number ≡ sectors) × (latest here.seen ≡ None) × (here.size < 512 * sectors) × OnlyReads here here'

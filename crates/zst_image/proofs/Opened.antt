@@ -92,6 +92,10 @@ module _ (disk : DiskState) where
   OpenAnswers-body (ubers.BadVersion version) is = bad_version version (latest disk.seen) is
   OpenAnswers-body ubers.DiskFault is = tt
 
+-- where nothing is pending, nothing is after reads
+pub IsSynced-reads : (old new : DiskState) → OnlyReads old new → IsSynced old → IsSynced new
+IsSynced-reads old new reads synced c image = synced c (reads.crash c image) ∙ sym reads.seen
+
 -- a disk that reads as a pool and was opened rests as that pool, by what is kept of it
 pub Rests-opened : (old new : DiskState) (uber body : Uber) (rows dir : Rows) (pool : Pool) → ReadsAs uber rows pool old.seen → OnlyReads old new → IsSynced new → (body ≡ uber) × (dir ≡ rows) → Rests new body dir pool
 Rests-opened old new uber body rows dir pool is reads synced same =

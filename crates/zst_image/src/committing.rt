@@ -1,7 +1,7 @@
 // The commit of a directory: the one commit of an event.
 ghost use Rattle.std.specs.Prelude.{◌≡◌, ◌+◌, ◌<◌, ◌≤◌, ◌^◌, ◌||◌, false, ℕ, List, [], length, IfOk, IfErr, OnOk, OnErr, Err};
 ghost use Rattle.zst_space.specs.FreeSectors.{room};
-ghost use Rattle.zst_block.specs.Blocks.{FitsDisk, FillsFree, Has};
+ghost use Rattle.zst_block.specs.Blocks.{FitsDisk, FillsFree, Has, KeepsBlocks};
 ghost use Rattle.zst_block.specs.Ptr.{hole_of};
 ghost use Rattle.zst_block.specs.Working.{TakesAtMost, Works, fails};
 ghost use Rattle.zst_uber.specs.Slots.{latest};
@@ -49,6 +49,9 @@ pub fn commit_dir<D: Disk>(
     ensures over { (next : Pool) → (D.state io.new.disk.now).honest → NextIs (Has (D.state io.old.disk.now).seen io.old.space) body.now guids dir next
         → CommitsOver (D.state io.old.disk.now) io.old.space (D.state io.new.disk.now) io.new.space next result }
     ensures number { IfOk result (λ kept. kept.body.number ≡ body.now.number + 1) }
+    ensures dir { IfOk result (λ kept. kept.dir ≡ dir) }
+    // The blocks that were there still are, over the sectors that the new body leaves free.
+    ensures blocks { IfOk result (λ kept. KeepsBlocks (D.state io.old.disk.now).seen io.old.space (D.state io.new.disk.now).seen (free_by kept.body)) }
     ensures full { (need largest : ℕ) → result ≡ Err (CommitFault.Full need largest) → IsDirFull io.old.space io.new.space dir need largest }
     // So many sectors at most are taken, and for a directory of one leaf exactly its 16; the body ends where those that
     // are left begin.

@@ -1,5 +1,5 @@
 // How the pool of an image is opened.
-ghost use Rattle.std.specs.Prelude.{◌≡◌, ℕ, List, length, OnOk, IfOk, IfErr};
+ghost use Rattle.std.specs.Prelude.{◌≡◌, ℕ, List, length, IfOk, IfErr, Err};
 ghost use Rattle.zst_outside.specs.Images.{IsSynced, OnlyReads};
 ghost use Rattle.zst_block.specs.Blocks.{Has};
 ghost use Rattle.zst_uber.specs.Body.{InRange};
@@ -35,7 +35,7 @@ impl Kept {
         // And of the one image that there is now it is what stands.
         ensures rests { (uber : Uber) (rows : Rows) (pool : Pool) → (D.state disk.new).honest → ReadsAs uber rows pool (D.state disk.old).seen → IfOk result (λ kept. Rests (D.state disk.new) kept.body kept.dir pool) }
         ensures ready { IfOk result (λ kept. Ready (D.state disk.new) kept.body) }
-        ensures synced { OnOk result (IsSynced (D.state disk.new)) }
+        ensures synced { ¬ (result ≡ Err OpenFault.DiskFault) → IsSynced (D.state disk.new) }
         ensures reads { OnlyReads (D.state disk.old) (D.state disk.new) }
         ensures cause { HasDiskCause OpenFault.DiskFault (D.state disk.old).faults (D.state disk.new).faults result }
     {

@@ -22,19 +22,19 @@ Grows describes = (has more : Ptr → List ℕ → Type 0) → ((ptr : Ptr) (byt
 abbrev pub AreMore : Blocks → Blocks → Type 0
 AreMore has more = (ptr : Ptr) (bytes : List ℕ) → has ptr bytes → more ptr bytes
 
-DatasetIs-grows : (has more : Blocks) → AreMore has more → (row : Dataset) (dataset : plain.Dataset) → DatasetIs has row dataset → DatasetIs more row dataset
+pub DatasetIs-grows : (has more : Blocks) → AreMore has more → (row : Dataset) (dataset : plain.Dataset) → DatasetIs has row dataset → DatasetIs more row dataset
 DatasetIs-grows has more up row dataset is = record {
   named = is.named;
   head = SetHolds-grows has more up row.head dataset.head is.head;
 }
 
-SnapshotIs-grows : (has more : Blocks) → AreMore has more → (row : Snapshot) (snapshot : plain.Snapshot) → SnapshotIs has row snapshot → SnapshotIs more row snapshot
+pub SnapshotIs-grows : (has more : Blocks) → AreMore has more → (row : Snapshot) (snapshot : plain.Snapshot) → SnapshotIs has row snapshot → SnapshotIs more row snapshot
 SnapshotIs-grows has more up row snapshot is = record {
   named = is.named;
   objects = SetHolds-grows has more up row.objects snapshot.objects is.objects;
 }
 
-PartialIs-grows : (has more : Blocks) → AreMore has more → (row : Partial) (partial : plain.Partial) → PartialIs has row partial → PartialIs more row partial
+pub PartialIs-grows : (has more : Blocks) → AreMore has more → (row : Partial) (partial : plain.Partial) → PartialIs has row partial → PartialIs more row partial
 PartialIs-grows has more up row partial is = record {
   named = is.named;
   objects = SetHolds-grows has more up row.objects partial.objects is.objects;

@@ -1,8 +1,13 @@
+pub mod Calls
 pub mod Checks
 pub mod Cost
 pub mod Damage
 pub mod Faults
+pub mod Finding
 pub mod Heads
+pub mod PartialRows
+pub mod Partials
 pub mod Plans
+pub mod Reopening
 pub mod Runs
 pub mod Stepping

@@ -1,6 +1,7 @@
 //! The commands on the pool of an image: each is checked, carried out and committed.
 #![tactic(auto)]
 
+mod calls;
 mod changes;
 mod checks;
 mod commands;
@@ -8,7 +9,10 @@ mod fault;
 mod head_fault;
 mod heads;
 mod laws;
+mod partials;
 mod pool;
+mod receiving;
+mod reopening;
 #[cfg(test)]
 mod tests;
 

@@ -167,6 +167,6 @@ fn a_small_write_makes_few_calls(rt: HostRuntime) -> Result<(), Refused> {
     let mut disk = with_small(alloc, 2)?;
     let first = calls_of(alloc, &mut disk, small(alloc, 2)?)?;
     let again = calls_of(alloc, &mut disk, small(alloc, 2)?)?;
-    assert_eq!(rt; (first, again), ((6, 17), (6, 17)));
+    assert_eq!(rt; (first, again), ((3, 13), (3, 13)));
     Ok(())
 }

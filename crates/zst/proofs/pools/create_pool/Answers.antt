@@ -12,9 +12,9 @@ returns-in_err-create g c =
 pub returns-in-Ok : goal.returns-in-Ok
 returns-in-Ok g c =
     let e = c.in_ok-create.ensures in
-    creates_made c.args.sectors c.args.id _ _ _ _ c.in_ok-create.field-0 _ e.answer e.made e.moments e.cause.later (first_written _ _ c.in-Ok.ensures.prints c.in-Ok.ensures.handed_on)
+    creates_made c.args.sectors c.args.id _ _ _ _ c.in_ok-create.field-0 _ e.answer e.new e.made e.moments e.cause.later (first_written _ _ c.in-Ok.ensures.prints c.in-Ok.ensures.handed_on)
 
 pub returns-in-Err : goal.returns-in-Err
 returns-in-Err g c =
     let e = c.in_ok-create.ensures in
-    creates_made c.args.sectors c.args.id _ _ _ _ c.in_ok-create.field-0 _ e.answer e.made e.moments e.cause.later (first_lost _ _ c.in-Err.field-0 c.in-Err.ensures.prints)
+    creates_made c.args.sectors c.args.id _ _ _ _ c.in_ok-create.field-0 _ e.answer e.new e.made e.moments e.cause.later (first_lost _ _ c.in-Err.field-0 c.in-Err.ensures.prints)

@@ -2,13 +2,14 @@ use Rattle.std.proofs.Common.{◌≡◌, ℕ, ap, sym, ◌∙◌, subst, arith}
 use Rattle.std.proofs.lemmas.Result.{err_from_is_err_and}
 use Rattle.zst_outside.specs.Images.{Leaves}
 use Rattle.zst_block.specs.Blocks.{FitsDisk, Has}
-use Rattle.zst_block.proofs.BlocksLaws.{IsTaken-head}
+use Rattle.zst_block.proofs.BlocksLaws.{Has-fewer, Has-head, IsTaken-head, KeepsBlocks-fills}
 use Rattle.zst_model.specs.pools.Pool.{Pool}
 use Rattle.zst_uber.specs.Body.{InRange}
 use Rattle.zst_uber.specs.Slots.{IsNext, latest}
 use Rattle.zst_uber.specs.declared.uber.Uber.{Uber}
+use Rattle.zst_image.specs.Reads.{free_by}
 use Rattle.zst_image.specs.Committing.{NextIs, OldOrNext, Ready}
-use Rattle.zst_image.proofs.Committed.{IsPrepared, next_in_range, prepared, commit-moments, commit-rests, over-refused, Ready-fills, Commits-over, Stays-from}
+use Rattle.zst_image.proofs.Committed.{IsPrepared, next_in_range, prepared, free_by-fewer, commit-moments, commit-rests, over-refused, Ready-fills, Commits-over, Stays-from}
 use Rattle.zst_image.proofs.Taking.{end_bounded}
 use Rattle.zst_image.proofs.Settled.{latest-spared}
 use Rattle.zst_image.proofs.committing.commit_dir.Given.{Over}
@@ -101,6 +102,18 @@ returns-in-Ok-clause-ready g c =
       next = λ told. c.in-Ok.ensures.following told;
       head = λ told. c.in-Ok.ensures.head;
     }
+
+pub returns-in-Ok-clause-blocks : goal.returns-in-Ok-clause-blocks
+returns-in-Ok-clause-blocks g c = λ ptr bytes has.
+    let old = g.D.Disk.state c.args.io.now.disk.now in
+    let mid = g.D.Disk.state c.write_dir.new.io.disk.now in
+    let new = g.D.Disk.state c.commit_event.new.io.disk.now in
+    let space = c.args.io.now.space in
+    let less = c.write_dir.new.io.space in
+    let next = c.next_body-next.result in
+    let same_end : next.end ≡ less.end = ap (λ (u : Uber). u.end) c.next_body-next.ensures ∙ c.end.ensures in
+    Has-head (free_by next) mid.seen new.seen ptr bytes c.commit_event.ensures.writes.seen
+    (Has-fewer mid.seen less (free_by next) ptr bytes (free_by-fewer less next same_end) (KeepsBlocks-fills old mid space less c.write_dir.ensures.works.fills ptr bytes has))
 
 pub returns-in-Ok-clause-bounded : goal.returns-in-Ok-clause-bounded
 returns-in-Ok-clause-bounded g c = λ none.

@@ -1,8 +1,12 @@
+use Rattle.std.specs.Prelude.{Err}
 use Rattle.std.proofs.Common.{rules, ◌≡◌, refl, sym, ◌∙◌, ap}
 use Rattle.std.proofs.lemmas.Result.{err_from_is_err_and}
 use Rattle.zst_uber.specs.Body.{body_bytes}
+use Rattle.zst_uber.specs.declared.fault.UberFault.{UberFault}
+use Rattle.zst_uber.specs.declared.fault.UberFault.TheVariants as ubers
 use Rattle.zst_uber.specs.declared.uber.Uber.{Uber}
-use Rattle.zst_image.proofs.Opened.{IsBody-latest, IsLatest-reads, HasDir-same, OpenAnswers-body, OpenAnswers-refused, Rests-opened, TellsFault-reads}
+use Rattle.zst_image.specs.Faults.{of_uber}
+use Rattle.zst_image.proofs.Opened.{IsBody-latest, IsLatest-reads, IsSynced-reads, HasDir-same, OpenAnswers-body, OpenAnswers-refused, Rests-opened, TellsFault-reads}
 use Rattle.zst_image.proofs.kept.Kept.open.Goals as goal
 
 pub returns-in_err-dir-clause-there : goal.returns-in_err-dir-clause-there
@@ -25,6 +29,17 @@ returns-in_err-dir-clause-answer g c = λ told.
     let p = err_from_is_err_and c.from_residual-in_err-dir.result c.from_residual-in_err-dir.ensures.1 in
     rw (p.1, p.2) (OpenAnswers-refused old body _ (c.in_ok-body.ensures.stands (c.read_dir.ensures.reads.honest told)) c.in_err-dir.ensures.fault (TellsFault-reads old _ body _ c.latest.ensures.reads (c.in_err-dir.ensures.damaged told)) (λ rows none has.
     c.in_err-dir.ensures.there rows told none (HasDir-same body body rows old.seen _ refl c.latest.ensures.reads.seen has)))
+
+pub returns-in_err-body-clause-synced : goal.returns-in_err-body-clause-synced
+returns-in_err-body-clause-synced g c =
+    let p = err_from_is_err_and c.from_residual.result c.from_residual.ensures.1 in
+    rw (p.1, p.2) (λ alive. c.in_err-body.ensures.settled (λ is. alive (let same : c.in_err-body.field-0.0 ≡ ubers.DiskFault = cc is in ap (λ (u : UberFault). Err (of_uber u)) same)))
+
+pub returns-in_err-dir-clause-synced : goal.returns-in_err-dir-clause-synced
+returns-in_err-dir-clause-synced g c = λ alive. IsSynced-reads _ _ c.in_err-dir.ensures.reads (c.in_ok-body.ensures.settled (λ is. absurd (cc is)))
+
+pub returns-clause-synced : goal.returns-clause-synced
+returns-clause-synced g c = λ alive. IsSynced-reads _ _ c.in_ok-dir.ensures.reads (c.in_ok-body.ensures.settled (λ is. absurd (cc is)))
 
 pub returns-clause-there : goal.returns-clause-there
 returns-clause-there g c = λ uber rows pool told reads.

@@ -1,0 +1,95 @@
+-- What a call of a receive does to a pool that runs.
+use Rattle.std.specs.Prelude.{◌≡◌, ◌⊎◌, ◌+◌, ◌<◌, ℕ, length, Result, Ok, Err}
+use Rattle.zst_outside.specs.Images.{DiskState, Leaves}
+use Rattle.zst_space.specs.FreeSectors.{FreeSectors, largest_of}
+use Rattle.zst_block.specs.Blocks.{FillsFree, FitsDisk, Has}
+use Rattle.zst_uber.specs.declared.uber.Uber.{Uber}
+use Rattle.zst_model.specs.declared.refusals.faults.Quantity.{Quantity}
+use Rattle.zst_model.specs.declared.refusals.plan_fault.PlanFault.TheVariants.{Limit}
+use Rattle.zst_model.specs.declared.refusals.refusal.Refusal.{Refusal}
+use Rattle.zst_model.specs.refusals.Refusal.{refusal_of}
+use Rattle.zst_model.specs.pools.Kept.{kept_of}
+use Rattle.zst_model.specs.pools.Pool.{Pool}
+use Rattle.zst_dir.specs.Rows.{Rows}
+use Rattle.zst_dir.specs.Spelling.{dir_bytes}
+use Rattle.zst_pool.specs.PartialRows.{RunsBy}
+use Rattle.zst_image.specs.Reads.{Reads, Rests, dir_sectors, free_by}
+use Rattle.zst_image.specs.Committing.{Ready}
+use Rattle.zst_pool.specs.declared.fault.PoolFault.{PoolFault}
+use Rattle.zst_pool.specs.declared.fault.PoolFault.TheVariants.{Plan, CannotApply, Redacted, Full, Damaged, DiskFault, Failed, OutOfMemory}
+use Rattle.zst_image.specs.declared.kept.Kept.{Kept}
+
+-- over these free sectors the next commit can be made
+pub record CanCommit (disk : DiskState) (space : FreeSectors) (body : Uber) : Type 0 where
+  pub fits : FitsDisk disk.size space
+  pub sectors : space.sectors ≡ body.sectors
+  pub ready : Ready disk body
+
+-- a pool differs from another in what it lists alone
+pub record ListsAnew (running next : Pool) : Type 0 where
+  pub id : next.id ≡ running.id
+  pub number : next.number ≡ running.number
+  pub guids : next.guids ≡ running.guids
+
+-- at a start the disk rested as what is kept of this pool, and since then blocks alone were written
+pub record IsFrom (start now : DiskState) (space : FreeSectors) (body : Uber) (running : Pool) : Type 0 where
+  pub rows : Rows
+  pub rests : Rests start body rows (kept_of running)
+  pub fills : FillsFree start (free_by body) now space
+
+-- and by the blocks that are there now, the rows in memory stand for this pool
+pub record IsUnderWay (start now : DiskState) (space : FreeSectors) (kept : Kept) (running : Pool) : Type 0 where
+  pub from : IsFrom start now space kept.body running
+  pub runs_by : RunsBy (Has now.seen space) kept.dir running
+
+-- the disk rests as what is kept of this pool, which runs by the rows in memory
+pub record IsAtRest (now : DiskState) (kept : Kept) (running : Pool) : Type 0 where
+  pub rests : Rests now kept.body kept.dir (kept_of running)
+  pub runs_by : RunsBy (Has now.seen (free_by kept.body)) kept.dir running
+
+-- the disk still rests as what is kept of a pool
+abbrev pub StillRests : DiskState → Uber → Pool → Type 0
+StillRests now body running = (rows : Rows) × Rests now body rows (kept_of running)
+
+-- why a call is refused, and what then stands: a limit where the definition says so, and a full disk only where it accepts
+abbrev pub CallFault : Type 0 → Result Pool Refusal → PoolFault → Type 0
+CallFault before definition (Plan fault) = (definition ≡ Err (refusal_of fault)) × before
+CallFault before definition (CannotApply fault) = ⊥
+CallFault before definition (Redacted object block) = ⊥
+CallFault before definition (Full need largest) = (largest < need) × ((next : Pool) × (definition ≡ Ok next)) × before
+CallFault before definition (Damaged sector stated found) = ⊥
+CallFault before definition DiskFault = Unit {0}
+CallFault before definition Failed = ⊥
+CallFault before definition OutOfMemory = before
+
+-- the faults that a call may answer, whatever the image is: E23, E24, E28 and E32
+abbrev pub IsCallFault : PoolFault → Type 0
+IsCallFault (Plan fault) = (which : Quantity) × (most : ℕ) × (fault ≡ Limit which most)
+IsCallFault (CannotApply fault) = ⊥
+IsCallFault (Redacted object block) = ⊥
+IsCallFault (Full need largest) = largest < need
+IsCallFault (Damaged sector stated found) = ⊥
+IsCallFault DiskFault = Unit {0}
+IsCallFault Failed = ⊥
+IsCallFault OutOfMemory = Unit {0}
+
+-- what stands after a call's answer: what the definition makes of the pool, or the pool as it was
+abbrev pub CallAnswer : DiskState → Uber → Pool → Result Pool Refusal → Result Kept PoolFault → Type 0
+CallAnswer now body running definition (Ok kept) = (next : Pool) × (definition ≡ Ok next) × (kept.body.number ≡ next.number) × IsAtRest now kept next
+CallAnswer now body running definition (Err fault) = CallFault (StillRests now body running) definition fault
+
+-- a call that commits: inside it each image reads as what is kept of the pool before, or of the one that the definition makes, and then by its answer
+pub record CallDid (start now : DiskState) (body : Uber) (running : Pool) (definition : Result Pool Refusal) (result : Result Kept PoolFault) : Type 0 where
+  pub moments : Leaves start now (λ c. Reads (kept_of running) c ⊎ ((next : Pool) × (definition ≡ Ok next) × Reads (kept_of next) c))
+  pub answer : CallAnswer now body running definition result
+
+-- a call's answer with what the pool then keeps
+abbrev pub keeping : Kept → Result ℕ PoolFault → Result Kept PoolFault
+keeping kept (Ok number) = Ok kept
+keeping kept (Err fault) = Err fault
+
+-- E24 of a call: need is the 16 sectors of a block of a directory, and before it no run was free of as many as a directory with 2,048 bytes more takes
+pub record IsCallFull (space : FreeSectors) (rows : Rows) (need largest : ℕ) : Type 0 where
+  pub shorter : largest < need
+  pub needed : need ≡ 16
+  pub before : largest_of space < dir_sectors (length (dir_bytes rows) + 2048)

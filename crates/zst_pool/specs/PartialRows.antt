@@ -1,0 +1,41 @@
+-- What a receive makes of the rows of a directory.
+use Rattle.std.specs.Prelude.{◌≡◌, ◌+◌, ℕ, Bool, List, filter, not, Option, Some, None, Result, Ok, Err, bytes_eq, if◌then◌else◌}
+use Rattle.zst_names.specs.Names.{dataset_of}
+use Rattle.zst_model.specs.declared.refusals.plan_fault.PlanFault.{PlanFault}
+use Rattle.zst_model.specs.pools.Pool.{Pool}
+use Rattle.zst_model.specs.refusals.Refusal.{refusal_of}
+use Rattle.zst_tree.specs.Indices.{Blocks}
+use Rattle.zst_dir.specs.Rows.{Rows, with_objects, with_partial, is_for}
+use Rattle.zst_dir.specs.declared.rows.Dataset.{Dataset}
+use Rattle.zst_dir.specs.declared.rows.Snapshot.{Snapshot}
+use Rattle.zst_dir.specs.declared.rows.Partial.{Partial}
+use Rattle.zst_pool.specs.Partials.{last_where, next_commit}
+use Rattle.zst_image.specs.Reads.{Match, DatasetIs, SnapshotIs, BookmarkIs, PartialIs}
+
+-- the rows stand for the pool that runs: also those of partial states that aren't kept
+pub record RunsBy (has : Blocks) (rows : Rows) (running : Pool) : Type 0 where
+  pub datasets : Match (DatasetIs has) rows.datasets running.datasets
+  pub snapshots : Match (SnapshotIs has) rows.snapshots running.snapshots
+  pub bookmarks : Match BookmarkIs rows.bookmarks running.bookmarks
+  pub partials : Match (PartialIs has) rows.partials running.partials
+
+-- the row of the latest snapshot of a dataset
+abbrev pub latest_row : List ℕ → Rows → Option Snapshot
+latest_row name rows = last_where (λ snapshot. bytes_eq (dataset_of 64 snapshot.name) name) rows.snapshots
+
+-- the rows of datasets, of which one has the objects and the redaction guids of this snapshot
+abbrev pub rolled_rows : List ℕ → Option Snapshot → List Dataset → List Dataset
+rolled_rows name None datasets = datasets
+rolled_rows name (Some snapshot) datasets = with_objects name snapshot.objects snapshot.redact datasets
+
+-- rows with a partial state in place of its target's, and where it is asked for with the target's head rolled back
+abbrev pub rows_with_partial : Bool → Partial → Rows → Rows
+rows_with_partial roll partial rows = record rows {
+  datasets = if roll then rolled_rows partial.target (latest_row partial.target rows) rows.datasets else rows.datasets;
+  partials = with_partial partial (filter (λ other. not (is_for partial.target other)) rows.partials);
+}
+
+-- the pool passes no limit with its next commit, or is refused for the first that it passes
+abbrev pub JudgesLimits : Pool → Result (Unit {0}) PlanFault → Type 0
+JudgesLimits pool (Ok done) = next_commit pool ≡ Ok (record pool { number = pool.number + 1 })
+JudgesLimits pool (Err fault) = next_commit pool ≡ Err (refusal_of fault)

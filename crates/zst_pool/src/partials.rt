@@ -1,0 +1,109 @@
+// The directories that a receive commits.
+ghost use Rattle.std.specs.Prelude.{◌≡◌, ◌≢◌, ◌+◌, ◌<◌, ◌≤◌, ◌^◌, ◌++◌, ◌∷◌, ℕ, List, true, Contains, IfErr, IfOk, IfSome, OnOk, count_by, filter, if◌then◌else◌, is_none, length, not, position, bytes_eq};
+ghost use Rattle.zst_names.specs.Names.{dataset_of};
+ghost use Rattle.zst_space.specs.FreeSectors.{FreeSectors};
+ghost use Rattle.zst_block.specs.Blocks.{Has};
+ghost use Rattle.zst_model.specs.declared.refusals.faults.Quantity.{Quantity};
+ghost use Rattle.zst_model.specs.declared.refusals.plan_fault.PlanFault.TheVariants.{Limit};
+ghost use Rattle.zst_model.specs.pools.Pool.{Pool as Plain};
+ghost use Rattle.zst_dir.specs.Rows.{HasSnapshot, IsLawful, IsPartialRow, IsSnapshotRow, is_for};
+ghost use Rattle.zst_dir.specs.Spelling.{dir_bytes};
+ghost use Rattle.zst_dir.specs.declared.rows.Snapshot.{Snapshot as Row};
+ghost use Rattle.zst_pool.specs.PartialRows.{JudgesLimits, RunsBy, latest_row, rolled_rows, rows_with_partial};
+
+use std::alloc::{AllocError, Global};
+use zst_dir::{Dir, Partial, Snapshot};
+use zst_model::limits::{LAST_NUMBER, MOST_DATASETS, MOST_SNAPSHOTS};
+use zst_model::{PlanFault, Quantity};
+use zst_names::DatasetName;
+
+// A pool has at most so many partial states.
+const MOST_PARTIALS: usize = 16;
+
+// How many partial states are for datasets that are absent.
+fn count_targets(dir: &Dir) -> usize
+    ensures all { result ≡ count_by (λ partial. is_none (position (λ dataset. bytes_eq dataset.name partial.target) dir.now.datasets)) dir.now.partials }
+    ensures few { result < 2 ^ 63 }
+{
+    dir.partials()
+        .iter()
+        .filter(|partial| dir.dataset(&partial.target).is_none())
+        .count()
+}
+
+fn limit(which: Quantity, number: u64) -> PlanFault
+    ensures { result ≡ PlanFault.Limit which number }
+{
+    PlanFault::Limit { which, number }
+}
+
+/// E23 where the commit of this directory after that of this number would pass a limit.
+pub fn check_limits(dir: &Dir, number: u64) -> Result<(), PlanFault>
+    ensures below { OnOk result (number < 2 ^ 63) }
+    ensures limit { IfErr result (λ fault. (which : Quantity) × (most : ℕ) × (fault ≡ Limit which most)) }
+    ensures judged { (image : List ℕ) (space : FreeSectors) (pool : Plain) → RunsBy (Has image space) dir.now pool → pool.number ≡ number → JudgesLimits pool result }
+{
+    let partials = dir.partials().len();
+    if partials > MOST_PARTIALS {
+        return Err(limit(Quantity::Partials, MOST_PARTIALS as u64));
+    }
+    if dir.datasets().len() + count_targets(dir) > MOST_DATASETS {
+        return Err(limit(Quantity::Datasets, MOST_DATASETS as u64));
+    }
+    if dir.snapshots().len() + partials > MOST_SNAPSHOTS {
+        return Err(limit(Quantity::Snapshots, MOST_SNAPSHOTS as u64));
+    }
+    if number >= LAST_NUMBER {
+        return Err(limit(Quantity::Number, LAST_NUMBER));
+    }
+    Ok(())
+}
+
+// The latest snapshot of a dataset.
+fn latest_of(dir: &Dir, name: &DatasetName) -> Option<Snapshot>
+    ensures last { result ≡ latest_row name.now dir.now }
+    ensures row { IfSome result IsSnapshotRow }
+{
+    let _lawful = dir.datasets();
+    let mut latest = None;
+    for snapshot in dir.snapshots() {
+        if snapshot.name.dataset() == *name {
+            latest = Some(snapshot.duplicate());
+        }
+    }
+    latest
+}
+
+// Rolls the head of a dataset back to its latest snapshot, where that is asked for.
+fn roll_back(dir: &mut Dir, name: &DatasetName, roll: bool)
+    ensures rolled { dir.new ≡ record dir.old { datasets = if roll then rolled_rows name.now (latest_row name.now dir.old) dir.old.datasets else dir.old.datasets } }
+    ensures grows { length (dir_bytes dir.new) ≤ length (dir_bytes dir.old) + 136 }
+{
+    if !roll {
+        return;
+    }
+    if let Some(latest) = latest_of(dir, name) {
+        dir.set_objects(name, latest.objects, &latest.redact);
+    }
+}
+
+/// The directory with a partial state in place of its target's, and where it is asked for with the
+/// target's head rolled back.
+pub fn dir_with_partial(
+    alloc: Global,
+    dir: &Dir,
+    partial: Partial,
+    roll: bool,
+) -> Result<Dir, AllocError>
+    requires row { IsPartialRow partial }
+    requires base { IfSome partial.base (HasSnapshot dir.now) }
+    requires component { HasSnapshot dir.now (partial.target ++ 64 ∷ partial.snapshot) → ⊥ }
+    ensures put { IfOk result (λ next. next ≡ rows_with_partial roll partial dir.now) }
+    ensures grows { IfOk result (λ next. length (dir_bytes next) ≤ length (dir_bytes dir.now) + 1416) }
+{
+    let mut next = dir.copy(alloc)?;
+    roll_back(&mut next, &partial.target, roll);
+    next.drop_partial(&partial.target);
+    next.add_partial(partial)?;
+    Ok(next)
+}
