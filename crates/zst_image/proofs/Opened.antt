@@ -1,6 +1,6 @@
 -- What opening a pool answers, from what its body and its directory are.
 use Rattle.std.specs.Prelude.{Option, Some, None, Result, Err}
-use Rattle.std.proofs.Common.{inl, inr, ⊎_elim, ◌≡◌, ◌≢◌, List, ℕ, length, refl, sym, subst}
+use Rattle.std.proofs.Common.{inl, inr, ⊎_elim, ◌≡◌, ◌≢◌, List, ℕ, length, refl, sym, subst, ◌∙◌}
 use Rattle.zst_bytes.specs.Bytes.{number_at}
 use Rattle.zst_outside.specs.Images.{DiskState, IsSynced, OnlyReads}
 use Rattle.zst_block.specs.Blocks.{Has}
