@@ -353,19 +353,45 @@ fn zeros_have_no_pool(rt: HostRuntime) -> Result<(), Fail> {
 /// fifth is in the first.
 const BODY: usize = 512;
 
+/// Puts a number of 8 bytes at a place.
+fn put_number(bytes: &mut [u8], place: usize, number: u64) -> Result<(), Fail> {
+    for (i, byte) in number.to_le_bytes().iter().enumerate() {
+        *bytes.get_mut(place.saturating_add(i)).ok_or("a place")? = *byte;
+    }
+    Ok(())
+}
+
+/// The image with this byte in the latest body, and the sums that the body then has.
+fn with_byte(alloc: Global, image: &[u8], place: usize, byte: u8) -> Result<Vec<u8>, Fail> {
+    let mut other = image.to_vec(alloc)?;
+    *other.get_mut(BODY.saturating_add(place)).ok_or("a place")? = byte;
+    let body = other.get(BODY..1024).ok_or("a body")?;
+    let [a, b, c, d] = sums_before(body, 480);
+    for (place, sum) in [(480usize, a), (488, b), (496, c), (504, d)] {
+        put_number(&mut other, BODY.saturating_add(place), sum)?;
+    }
+    Ok(other)
+}
+
 #[test]
-fn a_body_of_another_version_is_refused(rt: HostRuntime) -> Result<(), Fail> {
+fn a_body_of_another_version_is_refused_whatever_its_sums(rt: HostRuntime) -> Result<(), Fail> {
     let alloc = rt.alloc();
     let small = image_of(&rt, alloc, 256, &SMALL)?;
-    for (place, bits, text) in [
-        (8usize, 8, "E27 bad version 9"),
-        (8, 1, "E27 bad version 0"),
-        (11, 0x80, "E27 bad version 2147483649"),
+    for (place, bits, byte, text) in [
+        (8usize, 8, 9, "E27 bad version 9"),
+        (8, 1, 0, "E27 bad version 0"),
+        (11, 0x80, 0x80, "E27 bad version 2147483649"),
     ] {
-        let image = turned(alloc, &small, BODY.saturating_add(place), bits)?;
-        refuse_all(&rt, alloc, &image, 8, text)?;
-        refused(&rt, alloc, &image, "create I 256 1", 3, "E4 exists: pool")?;
+        let stale = turned(alloc, &small, BODY.saturating_add(place), bits)?;
+        let summed = with_byte(alloc, &small, place, byte)?;
+        for image in [stale, summed] {
+            refuse_all(&rt, alloc, &image, 8, text)?;
+            refused(&rt, alloc, &image, "create I 256 1", 3, "E4 exists: pool")?;
+        }
     }
+
+    // With its own version the body has the sums that it had.
+    assert!(rt; with_byte(alloc, &small, 8, 1)? == small);
     Ok(())
 }
 
