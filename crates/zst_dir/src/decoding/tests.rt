@@ -232,7 +232,11 @@ fn guids_stand_only_beside_their_feature_and_their_source(rt: HostRuntime) -> Re
         ((4 | RESUMING, 0), none, none, false),
     ] {
         let bytes = receiving(rt.alloc(), fields, redact, from_redact)?;
-        assert_eq!(rt; is_dir(rt.alloc(), &bytes)?, lawful, "{fields:?} {redact:?} {from_redact:?}");
+        assert_eq!(rt;
+            is_dir(rt.alloc(), &bytes)?,
+            lawful,
+            "{fields:?} {redact:?} {from_redact:?}"
+        );
     }
     Ok(())
 }
