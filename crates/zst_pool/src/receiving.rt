@@ -1,4 +1,4 @@
-// What a receive does to a pool: it commits a partial state, finishes one, or drops one.
+// What a receive does to a pool: it commits a partial state, or drops one.
 ghost use Rattle.std.specs.Prelude.{◌≡◌, ◌+◌, ◌<◌, ◌∷◌, ◌++◌, ◌||◌, ℕ, List, false, true, filter, not, IfErr, IfOk, IfSome, OnErr, OnOk, Err};
 ghost use Rattle.zst_block.specs.Blocks.{Has};
 ghost use Rattle.zst_model.specs.pools.Pool.{Pool as Plain, Partial as PlainPartial};
