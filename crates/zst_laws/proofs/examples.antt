@@ -9,3 +9,4 @@ pub mod SentObjects
 pub mod SoundClones
 pub mod Commanded
 pub mod Headed
+pub mod LineageExamples

@@ -1,12 +1,15 @@
--- Which session has a thing that is named, and that no command that is built asks for it.
-use Rattle.std.specs.Prelude.{◌≡◌, ℕ, ◌≤◌, Bool, true, false, List, [], ◌∷◌, Option, Some, None, Result, Err, Contains, codes}
+-- Which session has a thing that is named, and which commands it holds back.
+use Rattle.std.specs.Prelude.{◌≡◌, ℕ, ◌≤◌, Bool, true, false, List, [], ◌∷◌, Some, None, Result, Err, Contains, codes}
 use Rattle.zst_model.specs.declared.pools.command.Command.{Command}
+use Rattle.zst_model.specs.declared.pools.command.Command.TheVariants as commands
 use Rattle.zst_model.specs.declared.refusals.named.Name.TheVariants as names
 use Rattle.zst_model.specs.declared.refusals.refusal.Refusal.{Refusal}
 use Rattle.zst_model.specs.pools.Held.{Held, Holds, Claims, id_of, least_id, session_with, session_into, busy_session, unless_busy}
-use Rattle.zst_model.specs.pools.Pool.{Pool}
+use Rattle.zst_model.specs.pools.Pool.{Pool, Dataset, Snapshot, dataset_named, snapshot_named}
 use Rattle.zst_model.specs.pools.Step.{Stepped, stepped}
 use Rattle.zst_model.specs.refusals.Refusal.{number_of, text_of}
+use Rattle.zst_laws.specs.Lineage.{IsNewer}
+use Rattle.zst_laws.specs.StepRefusals.{dataset_before}
 
 -- sends of snapshots of `tank/a` and `tank/ab`, and receives into `tank/b` and `tank/a`
 abbrev pub five_sessions : List Held
@@ -51,7 +54,70 @@ BusySessions =
     × (number_of (busy_session id) ≡ 5)
     × (text_of (busy_session 7) ≡ codes "busy: session 7")
 
--- no command that is built depends on what is held
+-- a command that looks at what sessions hold: one that destroys a dataset or snapshots
+abbrev pub asks_sessions : Command → Bool
+asks_sessions (commands.Rollback destroys snapshot) = destroys
+asks_sessions (commands.Destroy (names.Dataset name)) = true
+asks_sessions (commands.Destroy (names.Snapshot name)) = true
+asks_sessions _ = false
+
+-- no other command depends on what is held: so neither does a rollback without -r, nor a destroy of a bookmark
 abbrev pub StepsAskNoSession : Type 0
 StepsAskNoSession =
-    (held other : List Held) (now : ℕ) (command : Command) (pool : Pool) → stepped held now command pool ≡ stepped other now command pool
+    (held other : List Held) (now : ℕ) (command : Command) (pool : Pool)
+    → asks_sessions command ≡ false → stepped held now command pool ≡ stepped other now command pool
+
+-- a session that has a dataset holds a snapshot of it or claims it
+abbrev pub HasOf : List ℕ → Held → Type 0
+HasOf name (Holds id snapshot) = dataset_before snapshot ≡ name
+HasOf name (Claims id dataset) = dataset ≡ name
+
+-- one that has a snapshot holds it
+abbrev pub HasThis : List ℕ → Held → Type 0
+HasThis name (Holds id snapshot) = snapshot ≡ name
+HasThis name (Claims id dataset) = ⊥
+
+-- a session holds a snapshot of the pool that is newer than this one
+abbrev pub HasNewer : Snapshot → Pool → Held → Type 0
+HasNewer snapshot pool (Holds id name) = (newer : Snapshot) × Contains pool.snapshots newer × IsNewer snapshot newer × (newer.name ≡ name)
+HasNewer snapshot pool (Claims id dataset) = ⊥
+
+-- of the sessions that have a thing this one has the least id
+pub record IsLeastWith (has : Held → Type 0) (held : List Held) (one : Held) : Type 0 where
+  pub there : Contains held one
+  pub has_it : has one
+  pub least : (other : Held) → Contains held other → has other → id_of one ≤ id_of other
+
+-- a dataset that a session has isn't destroyed
+abbrev pub HeldDatasetStays : Type 0
+HeldDatasetStays =
+    (pool : Pool) (name : List ℕ) (dataset : Dataset) (held : List Held) (one : Held) (now : ℕ)
+    → dataset_named name pool ≡ Some dataset → IsLeastWith (HasOf name) held one
+    → stepped held now (commands.Destroy (names.Dataset name)) pool ≡ Err (busy_session (id_of one))
+
+-- nor is a snapshot
+abbrev pub HeldSnapshotStays : Type 0
+HeldSnapshotStays =
+    (pool : Pool) (name : List ℕ) (snapshot : Snapshot) (held : List Held) (one : Held) (now : ℕ)
+    → snapshot_named name pool ≡ Some snapshot → IsLeastWith (HasThis name) held one
+    → stepped held now (commands.Destroy (names.Snapshot name)) pool ≡ Err (busy_session (id_of one))
+
+-- and a rollback with -r destroys no newer snapshot that a session holds
+abbrev pub HeldNewerStays : Type 0
+HeldNewerStays =
+    (pool : Pool) (name : List ℕ) (snapshot : Snapshot) (held : List Held) (one : Held) (now : ℕ)
+    → snapshot_named name pool ≡ Some snapshot → IsLeastWith (HasNewer snapshot pool) held one
+    → stepped held now (commands.Rollback true name) pool ≡ Err (busy_session (id_of one))
+
+-- a session has nothing that a command is to destroy
+abbrev pub LeavesFree : Pool → Command → Held → Type 0
+LeavesFree pool (commands.Rollback true name) one = (snapshot : Snapshot) → snapshot_named name pool ≡ Some snapshot → HasNewer snapshot pool one → ⊥
+LeavesFree pool (commands.Destroy (names.Dataset name)) one = HasOf name one → ⊥
+LeavesFree pool (commands.Destroy (names.Snapshot name)) one = HasThis name one → ⊥
+LeavesFree pool _ one = Unit {0}
+
+-- where no session has such a thing, each command is as without sessions
+abbrev pub FreeOnesGo : Type 0
+FreeOnesGo =
+    (pool : Pool) (command : Command) (held : List Held) (now : ℕ)
+    → ((one : Held) → Contains held one → LeavesFree pool command one) → stepped held now command pool ≡ stepped [] now command pool

@@ -10,6 +10,9 @@ pub mod History
 pub mod Joining
 pub mod KeptExample
 pub mod LineExample
+pub mod Lineage
+pub mod LineageExample
+pub mod LineageRefusals
 pub mod Meanings
 pub mod Ranges
 pub mod Receiving

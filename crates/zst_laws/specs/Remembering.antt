@@ -29,12 +29,12 @@ OwnIsRemembered =
     (pool : Pool) (source : Source) (snapshot : Snapshot) → Sound pool
     → Contains pool.snapshots snapshot → IsOwn source snapshot → SourceRemembers pool source snapshot.objects.state
 
--- what a source of a sound pool remembers, it remembers after each accepted command
+-- what a source of a sound pool remembers, it remembers after each accepted command that leaves it there
 abbrev pub StepsRemember : Type 0
 StepsRemember =
     (held : List Held) (now : ℕ) (command : Command) (pool : Pool) (after : Stepped) (source : Source) (state : State)
     → IsCommand command → IsPool pool → Sound pool → stepped held now command pool ≡ Ok after
-    → IsIn pool source → SourceRemembers pool source state → SourceRemembers after.pool source state
+    → IsIn pool source → IsIn after.pool source → SourceRemembers pool source state → SourceRemembers after.pool source state
 
 -- what an increment from a number is asked, with any pairs of a source and any pairs to redact
 abbrev pub increment : ℕ → Pairs → Pairs → Choice

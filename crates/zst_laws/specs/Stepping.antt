@@ -2,6 +2,7 @@
 use Rattle.std.specs.Prelude.{◌≡◌, ℕ, ◌^◌, ◌<◌, Ok, List}
 use Rattle.zst_model.specs.declared.pools.command.Command.{Command}
 use Rattle.zst_model.specs.pools.Held.{Held}
+use Rattle.zst_model.specs.pools.Kept.{KeepsAll}
 use Rattle.zst_model.specs.pools.Pool.{Pool, IsPool}
 use Rattle.zst_model.specs.pools.Sound.{Sound}
 use Rattle.zst_model.specs.pools.Step.{Stepped, stepped, IsCommand}
@@ -17,3 +18,14 @@ abbrev pub StepsKeepSound : Type 0
 StepsKeepSound =
     (held : List Held) (now : ℕ) (command : Command) (pool : Pool) (after : Stepped)
     → IsCommand command → IsPool pool → Sound pool → stepped held now command pool ≡ Ok after → Sound after.pool
+
+-- a command leaves each partial state as it is, so that a pool that keeps all of them keeps all of them
+abbrev pub StepsKeepPartials : Type 0
+StepsKeepPartials =
+    (held : List Held) (now : ℕ) (command : Command) (pool : Pool) (after : Stepped)
+    → stepped held now command pool ≡ Ok after → after.pool.partials ≡ pool.partials
+
+abbrev pub StepsKeepKept : Type 0
+StepsKeepKept =
+    (held : List Held) (now : ℕ) (command : Command) (pool : Pool) (after : Stepped)
+    → stepped held now command pool ≡ Ok after → KeepsAll pool → KeepsAll after.pool

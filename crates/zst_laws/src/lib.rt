@@ -17,6 +17,9 @@ mod headers;
 mod held;
 mod kept;
 mod line_examples;
+mod lineage;
+mod lineage_examples;
+mod lineage_refusals;
 mod meanings;
 mod receiving;
 mod redact_example;
@@ -37,9 +40,18 @@ pub use dates::{
 pub use headers::{
     choices_are_exact, headers_are_exact, headers_keep_the_rest, sends_are_stated, sends_have_items,
 };
-pub use held::{busy_sessions_are_named, least_session_is_named, steps_ask_no_session};
+pub use held::{
+    busy_sessions_are_named, least_session_is_named, sessions_hold_back, steps_ask_no_session,
+};
 pub use kept::{keeping_is_done, kept_are_kept, kept_are_lawful};
 pub use line_examples::{blocks_are_read, objects_are_listed, pool_is_listed};
+pub use lineage::{
+    bookmarks_keep_snapshots, clones_are_as_snapshots, destroyed_go_alone, heads_are_rolled_back,
+};
+pub use lineage_examples::{clone_holds_origin, holders_are_told, mark_holds_head};
+pub use lineage_refusals::{
+    bookmarks_are_refused, clones_are_refused, destroys_are_refused, rollbacks_are_refused,
+};
 pub use meanings::{
     attributes_date_numbers, block_sizes_are_multiples, blocks_date_no_number, contents_are_told,
     equal_dates_are_left, frees_fail, headers_say_resuming, lists_are_of_user_data,
@@ -62,7 +74,7 @@ pub use step_refusals::{
     heads_are_refused, new_datasets_are_refused, numbers_are_refused, punches_are_refused,
     reads_are_refused, snapshots_are_refused, writes_are_refused,
 };
-pub use stepping::{steps_keep_pools, steps_keep_sound};
+pub use stepping::{steps_keep_partials, steps_keep_pools, steps_keep_sound};
 
 /// A lawful snapshot with a lawful choice has a lawful view.
 pub fn snapshot_has_view()

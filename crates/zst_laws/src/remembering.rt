@@ -6,7 +6,8 @@ pub fn own_is_remembered()
     ensures taken { TakenRemembers }
 {}
 
-/// What a snapshot or a bookmark remembers, it remembers after each accepted command, also where its own snapshot is gone.
+/// What a snapshot or a bookmark remembers, it remembers after each accepted command that leaves it there, also where a bookmark's own
+/// snapshot is gone.
 pub fn steps_remember()
     ensures { StepsRemember }
 {}

@@ -1,5 +1,5 @@
 ghost use Rattle.zst_laws.specs.Counting.{CommitsCount, AnswersKeep};
-ghost use Rattle.zst_laws.specs.Stepping.{StepsKeepPools, StepsKeepSound};
+ghost use Rattle.zst_laws.specs.Stepping.{StepsKeepKept, StepsKeepPartials, StepsKeepPools, StepsKeepSound};
 
 /// A command that commits raises the pool's number by exactly one, one that commits nothing leaves the pool equal, and each
 /// makes a lawful pool of a lawful pool.
@@ -13,4 +13,11 @@ pub fn steps_keep_pools()
 /// before it stays as it was there.
 pub fn steps_keep_sound()
     ensures { StepsKeepSound }
+{}
+
+/// No command touches a partial state: what is kept of a pool that keeps all of them is the pool that
+/// the command makes of it.
+pub fn steps_keep_partials()
+    ensures partials { StepsKeepPartials }
+    ensures kept { StepsKeepKept }
 {}

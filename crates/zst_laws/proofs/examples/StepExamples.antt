@@ -18,10 +18,10 @@ use Rattle.zst_model.specs.states.Dated.{DatedState, apply_all_dated, dates_numb
 use Rattle.zst_model.specs.sends.Items.{rising}
 use Rattle.zst_model.specs.pools.Held.{Held}
 use Rattle.zst_model.specs.pools.Lines.{object_lines, object_line, line_of, word}
-use Rattle.zst_model.specs.pools.Pool.{Pool, inserted, untouched}
+use Rattle.zst_model.specs.pools.Pool.{Pool, Snapshot, Bookmark, inserted, untouched}
 use Rattle.zst_model.specs.pools.Step.{stepped, last_number, last_guid, most_datasets, most_snapshots, answered, with_head, committed, of_applying, filled, in_indices}
 use Rattle.zst_laws.specs.Example.{file, padded, small, rewritten, one_file, file_of, file_dates, first_block}
-use Rattle.zst_laws.specs.StepExample.{new_pool, with_tank, gives, allocated, after_snapshot, put_again, made_anew, zeroed_block, zeroed, fourth_block, punched_file, is_freed, freed, SmallSteps, RewrittenStep, PutSteps, ChangedSteps, ChangedReads}
+use Rattle.zst_laws.specs.StepExample.{new_pool, with_tank, gives, allocated, small_snapshot, after_snapshot, put_again, made_anew, zeroed_block, zeroed, fourth_block, punched_file, is_freed, freed, SmallSteps, RewrittenStep, PutSteps, ChangedSteps, ChangedReads}
 use Rattle.zst_laws.proofs.sends.Blocks.{same_place, within_block}
 use Rattle.zst_laws.proofs.examples.OneObject.{end_is}
 use Rattle.zst_laws.proofs.sends.Runs.{unless_from, aligned_from}
@@ -145,14 +145,20 @@ rewritten_block i = go (i == 0)
     go true = refl
     go false = refl
 
-pub rewritten_step : RewrittenStep
+-- whatever snapshots and bookmarks there are
+pub written_again : (held : List Held) (now guids : ℕ) (snapshots : List Snapshot) (bookmarks : List Bookmark)
+    → stepped held now (commands.Write (codes "tank/a") 1 0 (170 ∷ [])) (record (with_tank 5 small) { guids = guids; snapshots = snapshots; bookmarks = bookmarks })
+    ≡ gives (codes "ok 6") (record (with_tank 6 rewritten) { guids = guids; snapshots = snapshots; bookmarks = bookmarks })
 unfolding stepped last_number index_bound digits
-rewritten_step held now made =
-    let pool = after_snapshot made 5 small in
+written_again held now guids snapshots bookmarks =
+    let pool : Pool = record (with_tank 5 small) { guids = guids; snapshots = snapshots; bookmarks = bookmarks } in
     ap (λ r. (of_applying r >>= λ after. in_indices 1 (Ok after)) >>= λ head. committed (record pool { datasets = with_head (codes "tank/a") head pool.datasets }))
     (change_applied 6 (Write 0 0 (filled 512 (170 ∷ []))) first_block first_block (λ i. i == 0) small.number_date (λ i. if i == 0 then 4 else 3)
     (write_gives 0 170 first_block ∙ ap (λ f. Ok (Some (file_of f))) (fun_ext rewritten_block)) refl (λ i. same_place 512 0 i (omega arith))
     ∙ ap (λ dates. Ok (record rewritten { index_date = file_dates dates })) (fun_ext (λ i. rewritten_dates (i == 0))))
+
+pub rewritten_step : RewrittenStep
+rewritten_step held now made = written_again held now 1 (small_snapshot made ∷ []) []
 
 -- the file is put again
 dated_again : (one : Bool) → ◌≡◌ {A = ℕ} (if one && true then 6 else (if one then 3 else 0)) (if one then 6 else 0)

@@ -1,5 +1,6 @@
 -- What an accepted command found, and what it made of the pool.
-use Rattle.std.proofs.Common.{◌≡◌, ℕ, ◌+◌, ◌≤◌, false, List, length, Some, is_some, Result, Ok, sym, ap}
+use Rattle.std.proofs.Common.{◌≡◌, ℕ, ◌+◌, ◌≤◌, false, not, List, length, Some, is_some, Result, Ok, sym, ap, bytes_eq}
+use Rattle.std.proofs.lemmas.Bool.{not-false}
 use Rattle.zst_names.specs.Names.{dataset_of}
 use Rattle.zst_model.specs.declared.refusals.apply_fault.ApplyFault.TheVariants.{NoObject}
 use Rattle.zst_model.specs.declared.pools.command.Command.TheVariants as commands
@@ -11,23 +12,68 @@ use Rattle.zst_model.specs.states.State.{Block, Hole, Redacted, Data, index_boun
 use Rattle.zst_model.specs.states.Dated.{DatedState}
 use Rattle.zst_model.specs.pools.Held.{Held}
 use Rattle.zst_model.specs.pools.Lines.{object_lines, pool_lines}
-use Rattle.zst_model.specs.pools.Pool.{Pool, Dataset, dataset_named, snapshot_named, partial_of, is_before, snapshot_is_before, inserted}
-use Rattle.zst_model.specs.pools.Step.{Stepped, no_such, exists_already, cannot_apply, committed, count_datasets, most_datasets, most_snapshots, last_guid, new_dataset, with_dataset, on_head, snapshot_of, with_snapshot, state_named, answered, block_read, stepped}
+use Rattle.zst_model.specs.pools.Pool.{Pool, Dataset, Snapshot, dataset_named, snapshot_named, bookmark_named, partial_of, dataset_of_snapshot, is_before, snapshot_is_before, inserted}
+use Rattle.zst_model.specs.pools.Step.{Stepped, no_such, exists_already, not_ancestor, cannot_apply, committed, count_datasets, most_datasets, most_snapshots, most_bookmarks, last_guid, with_dataset, on_head, snapshot_of, with_snapshot, clone_of, with_clone, bookmark_of, with_bookmark, state_named, answered, block_read, stepped}
+use Rattle.zst_model.proofs.OrderLaws.{same_bytes}
 use Rattle.zst_laws.proofs.sends.Runs.{unless_ok, ok_inj}
 use Rattle.zst_laws.proofs.pools.Rows.{or_else_ok, limited_ok, committed_ok, on_dataset_ok, on_head_ok}
 
 -- a new dataset: its name was free
-pub record IsNewDataset (kind : ℕ) (name : List ℕ) (pool : Pool) (after : Stepped) : Type 0 where
-  pub absent : is_some (dataset_named name pool) ≡ false
-  pub free : is_some (partial_of name pool) ≡ false
-  pub made : committed (record pool { datasets = inserted (λ a b. is_before a.name b.name) (new_dataset kind name) pool.datasets }) ≡ Ok after
+pub record IsNewDataset (row : Dataset) (pool : Pool) (after : Stepped) : Type 0 where
+  pub absent : is_some (dataset_named row.name pool) ≡ false
+  pub free : is_some (partial_of row.name pool) ≡ false
+  pub made : committed (record pool { datasets = inserted (λ a b. is_before a.name b.name) row pool.datasets }) ≡ Ok after
 
-pub with_dataset_ok : (kind : ℕ) (name : List ℕ) (pool : Pool) (after : Stepped) → with_dataset kind name pool ≡ Ok after → IsNewDataset kind name pool after
-with_dataset_ok kind name pool after h =
-    let absent = unless_ok (is_some (dataset_named name pool)) (exists_already (names.Dataset name)) _ after h in
-    let free = unless_ok (is_some (partial_of name pool)) (exists_already (names.Dataset name)) _ after absent.1 in
+pub with_dataset_ok : (row : Dataset) (pool : Pool) (after : Stepped) → with_dataset row pool ≡ Ok after → IsNewDataset row pool after
+with_dataset_ok row pool after h =
+    let absent = unless_ok (is_some (dataset_named row.name pool)) (exists_already (names.Dataset row.name)) _ after h in
+    let free = unless_ok (is_some (partial_of row.name pool)) (exists_already (names.Dataset row.name)) _ after absent.1 in
     let few = limited_ok quantities.Datasets most_datasets (count_datasets pool + 1) _ after free.1 in
     record { absent = absent.0; free = free.0; made = few.1 }
+
+-- a clone: a new dataset of a snapshot that is there, whose dataset is there
+pub record IsClone (origin name : List ℕ) (pool : Pool) (after : Stepped) : Type 0 where
+  pub snapshot : Snapshot
+  pub there : snapshot_named origin pool ≡ Some snapshot
+  pub source : Dataset
+  pub source_there : dataset_named (dataset_of_snapshot snapshot) pool ≡ Some source
+  pub new : IsNewDataset (clone_of name source snapshot) pool after
+
+pub with_clone_ok : (origin name : List ℕ) (pool : Pool) (after : Stepped) → with_clone origin name pool ≡ Ok after → IsClone origin name pool after
+with_clone_ok origin name pool after h =
+    let found = or_else_ok (no_such (names.Snapshot origin)) (snapshot_named origin pool) _ after h in
+    let of = dataset_of_snapshot found.0 in
+    let source = or_else_ok (no_such (names.Dataset of)) (dataset_named of pool) _ after found.2 in
+    record {
+      snapshot = found.0;
+      there = found.1;
+      source = source.0;
+      source_there = source.1;
+      new = with_dataset_ok (clone_of name source.0 found.0) pool after source.2;
+    }
+
+-- a bookmark: its snapshot is there and of its dataset, and its name was free
+pub record IsNewBookmark (of name : List ℕ) (pool : Pool) (after : Stepped) : Type 0 where
+  pub snapshot : Snapshot
+  pub there : snapshot_named of pool ≡ Some snapshot
+  pub same : dataset_of_snapshot snapshot ≡ dataset_of 35 name
+  pub absent : is_some (bookmark_named name pool) ≡ false
+  pub made : committed (record pool { bookmarks = inserted (λ a b. is_before a.name b.name) (bookmark_of name snapshot) pool.bookmarks }) ≡ Ok after
+
+pub with_bookmark_ok : (of name : List ℕ) (pool : Pool) (after : Stepped) → with_bookmark of name pool ≡ Ok after → IsNewBookmark of name pool after
+with_bookmark_ok of name pool after h =
+    let found = or_else_ok (no_such (names.Snapshot of)) (snapshot_named of pool) _ after h in
+    let differ = not (bytes_eq (dataset_of_snapshot found.0) (dataset_of 35 name)) in
+    let same = unless_ok differ (not_ancestor (names.Bookmark name) (names.Snapshot of)) _ after found.2 in
+    let absent = unless_ok (is_some (bookmark_named name pool)) (exists_already (names.Bookmark name)) _ after same.1 in
+    let few = limited_ok quantities.Bookmarks most_bookmarks (length pool.bookmarks + 1) _ after absent.1 in
+    record {
+      snapshot = found.0;
+      there = found.1;
+      same = same_bytes (dataset_of_snapshot found.0) (dataset_of 35 name) (not-false (bytes_eq (dataset_of_snapshot found.0) (dataset_of 35 name)) same.0);
+      absent = absent.0;
+      made = few.1;
+    }
 
 -- a new snapshot of a dataset: its name was free, and the dataset has no partial state
 pub record IsNewSnapshot (now : ℕ) (name : List ℕ) (pool : Pool) (after : Stepped) : Type 0 where

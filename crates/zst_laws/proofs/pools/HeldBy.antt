@@ -1,15 +1,24 @@
--- Which session has a thing that is named, and that no command that is built asks for it.
-use Rattle.std.proofs.Common.{◌≡◌, inl, inr, ◌⊎◌, ℕ, ◌≤◌, Bool, true, false, List, [], ◌∷◌, Option, Some, None, Contains, min, if◌then◌else◌, refl, sym, ap, subst, ◌∙◌, arith}
+-- Which session has a thing that is named, and which commands it holds back.
+use Rattle.std.proofs.Common.{◌≡◌, inl, inr, ◌⊎◌, ℕ, ◌≤◌, Bool, true, false, List, [], ◌∷◌, Option, Some, None, Result, Contains, min, filter, bytes_eq, if◌then◌else◌, refl, sym, ap, subst, ◌∙◌, arith}
 use Rattle.std.specs.Fmt.{digits}
-use Rattle.std.proofs.lemmas.Bool.{true≢false}
+use Rattle.std.specs.List.{list_any}
+use Rattle.std.proofs.lemmas.Bool.{true≢false, false_from_ne_true}
+use Rattle.std.proofs.lemmas.List.Elements.{All-contains, filter_passes}
 use Rattle.std.proofs.lemmas.Option.{same_Some}
 use Rattle.zst_model.specs.declared.pools.command.Command.TheVariants as commands
-use Rattle.zst_model.specs.pools.Held.{Held, Holds, Claims, id_of, lesser, least_id}
-use Rattle.zst_model.specs.pools.Step.{stepped}
+use Rattle.zst_names.specs.Names.{dataset_of}
+use Rattle.zst_model.specs.declared.refusals.named.Name.TheVariants as names
+use Rattle.zst_model.specs.declared.refusals.refusal.Refusal.{Refusal}
+use Rattle.zst_model.specs.pools.Held.{Held, Holds, Claims, id_of, lesser, has_named, least_id, session_with, unless_busy}
+use Rattle.zst_model.specs.pools.Pool.{Pool, Dataset, Snapshot, dataset_named, snapshot_named, dataset_of_snapshot}
+use Rattle.zst_model.specs.pools.Step.{Stepped, stepped, no_such, or_else, committed, unless_used, unless_newer, is_newer, newer_snapshots, session_of_one, rolled_back, is_of, without_dataset, without_snapshot, with_destroyed}
 use Rattle.zst_model.specs.refusals.PlanFault.{plan_text}
 use Rattle.zst_model.specs.refusals.Refusal.{text_of}
 use Rattle.zst_model.proofs.InsertedLaws.{contains_cases, contains_first, contains_later, contains_nothing}
-use Rattle.zst_laws.specs.HeldExample.{SessionsHave, ClaimsCountAlone, LeastIsNamed, BusySessions, StepsAskNoSession}
+use Rattle.zst_model.proofs.OrderLaws.{same_bytes, bytes_same}
+use Rattle.zst_laws.specs.HeldExample.{SessionsHave, ClaimsCountAlone, LeastIsNamed, BusySessions, StepsAskNoSession, HasOf, HasThis, HasNewer, IsLeastWith, HeldDatasetStays, HeldSnapshotStays, HeldNewerStays, FreeOnesGo}
+use Rattle.zst_laws.proofs.pools.Lineages.{newer_had, newer_passes}
+use Rattle.zst_laws.proofs.pools.Filters.{filter_contains, contains-filter, passed_by_some, some_passes}
 
 pub sessions_have : SessionsHave
 sessions_have = (refl, refl, refl, refl, refl, refl, refl, refl)
@@ -87,15 +96,164 @@ least_named test held = (λ id e. some (least_id test held) (is_least test held)
     none _ (NoneIs all) e = all
     none _ (OneIs least one there also same all) e = absurd (cc)
 
+-- what comes behind the sessions
+abbrev rest_of_dataset : List ℕ → Pool → Result Stepped Refusal
+rest_of_dataset name pool = unless_used (λ partial. bytes_eq partial.target name) (filter (is_of name) pool.snapshots) pool (committed (without_dataset name pool))
+
+abbrev rest_of_snapshot : List ℕ → Pool → Snapshot → Result Stepped Refusal
+rest_of_snapshot name pool snapshot = unless_used (λ partial. false) (snapshot ∷ []) pool (committed (without_snapshot name pool))
+
+abbrev rest_of_rollback : Pool → Snapshot → Result Stepped Refusal
+rest_of_rollback pool snapshot =
+    unless_used (λ partial. bytes_eq partial.target (dataset_of_snapshot snapshot)) (newer_snapshots snapshot pool) pool (committed (rolled_back snapshot pool))
+
+-- a rollback without -r asks for none of its snapshots
+abbrev kept_back : Pool → List ℕ → Option ℕ → Result Stepped Refusal
+kept_back pool name session =
+    or_else (no_such (names.Snapshot name)) (snapshot_named name pool) (λ snapshot.
+    unless_busy session
+    (unless_used (λ partial. bytes_eq partial.target (dataset_of_snapshot snapshot)) [] pool
+    (unless_newer false snapshot pool
+    (committed (rolled_back snapshot pool)))))
+
+-- no session passes a test that none passes
+pub least_none : (test : Held → Bool) (held : List Held) → ((one : Held) → Contains held one → test one ≡ false) → least_id test held ≡ None
+least_none test [] h = refl
+least_none test (one ∷ rest) h =
+    rw (h one (contains_first one rest)) (least_none test rest (λ other there. h other (contains_later one rest other there)))
+
 pub steps_ask_none : StepsAskNoSession
 unfolding stepped
-steps_ask_none held other now (commands.Fs dataset) pool = refl
-steps_ask_none held other now (commands.Volume dataset) pool = refl
-steps_ask_none held other now (commands.Object dataset k head bonus spill) pool = refl
-steps_ask_none held other now (commands.Write dataset k i bytes) pool = refl
-steps_ask_none held other now (commands.Punch dataset k first count) pool = refl
-steps_ask_none held other now (commands.Free dataset first count) pool = refl
-steps_ask_none held other now (commands.Snapshot name) pool = refl
-steps_ask_none held other now (commands.Read name k i) pool = refl
-steps_ask_none held other now commands.List pool = refl
-steps_ask_none held other now (commands.ListObjects name) pool = refl
+steps_ask_none held other now (commands.Fs dataset) pool asks = refl
+steps_ask_none held other now (commands.Volume dataset) pool asks = refl
+steps_ask_none held other now (commands.Object dataset k head bonus spill) pool asks = refl
+steps_ask_none held other now (commands.Write dataset k i bytes) pool asks = refl
+steps_ask_none held other now (commands.Punch dataset k first count) pool asks = refl
+steps_ask_none held other now (commands.Free dataset first count) pool asks = refl
+steps_ask_none held other now (commands.Snapshot name) pool asks = refl
+steps_ask_none held other now (commands.Clone origin name) pool asks = refl
+steps_ask_none held other now (commands.Bookmark of name) pool asks = refl
+steps_ask_none held other now (commands.Rollback true name) pool asks = absurd (true≢false asks)
+steps_ask_none held other now (commands.Rollback false name) pool asks =
+    ap (kept_back pool name) (none held) ∙ sym (ap (kept_back pool name) (none other))
+  where
+    none : (held : List Held) → session_of_one [] held ≡ None
+    none held = least_none (λ one. false) held (λ one there. refl)
+steps_ask_none held other now (commands.Destroy (names.Dataset name)) pool asks = absurd (true≢false asks)
+steps_ask_none held other now (commands.Destroy (names.Snapshot name)) pool asks = absurd (true≢false asks)
+steps_ask_none held other now (commands.Destroy (names.Bookmark name)) pool asks = refl
+steps_ask_none held other now (commands.Read name k i) pool asks = refl
+steps_ask_none held other now commands.List pool asks = refl
+steps_ask_none held other now (commands.ListObjects name) pool asks = refl
+
+-- the session with the least id of those that pass is named
+least_is : (test : Held → Bool) (has : Held → Type 0) (held : List Held) (one : Held)
+    → ((other : Held) → has other → test other ≡ true) → ((other : Held) → test other ≡ true → has other)
+    → IsLeastWith has held one → least_id test held ≡ Some (id_of one)
+least_is test has held one passes had is = go (least_id test held) (is_least test held)
+  where
+    go : (found : Option ℕ) → IsLeast test held found → found ≡ Some (id_of one)
+    go _ (NoneIs none) = absurd (true≢false (sym (passes one is.has_it) ∙ none one is.there))
+    go _ (OneIs id first there also same least) =
+        let most : id ≤ id_of one = least one is.there (passes one is.has_it) in
+        let under : id_of one ≤ id_of first = is.least first there (had first also) in
+        let e : id ≡ id_of one = omega (arith, most, under, same) in ap Some e
+
+-- what a session has is what the test tells
+of_passes : (name : List ℕ) (one : Held) → HasOf name one → has_named (names.Dataset name) one ≡ true
+of_passes name (Holds id snapshot) h = bytes_same (dataset_of 64 snapshot) name h
+of_passes name (Claims id dataset) h = bytes_same dataset name h
+
+of_had : (name : List ℕ) (one : Held) → has_named (names.Dataset name) one ≡ true → HasOf name one
+of_had name (Holds id snapshot) h = same_bytes (dataset_of 64 snapshot) name h
+of_had name (Claims id dataset) h = same_bytes dataset name h
+
+this_passes : (name : List ℕ) (one : Held) → HasThis name one → has_named (names.Snapshot name) one ≡ true
+this_passes name (Holds id snapshot) h = bytes_same snapshot name h
+this_passes name (Claims id dataset) h = absurd h
+
+this_had : (name : List ℕ) (one : Held) → has_named (names.Snapshot name) one ≡ true → HasThis name one
+this_had name (Holds id snapshot) h = same_bytes snapshot name h
+this_had name (Claims id dataset) h = absurd (true≢false (sym h))
+
+module _ (snapshot : Snapshot) (pool : Pool) where
+  abbrev has_newer : Held → Bool
+  has_newer one = list_any (λ s. has_named (names.Snapshot s.name) one) (newer_snapshots snapshot pool)
+
+  holder_passes : (one : Held) → HasNewer snapshot pool one → has_newer one ≡ true
+  holder_passes (Holds id name) (s, there, newer, named) =
+      passed_by_some (λ s. has_named (names.Snapshot s.name) (Holds id name)) (newer_snapshots snapshot pool) s
+      (contains-filter (is_newer snapshot) pool.snapshots s there (newer_passes snapshot s newer)) (bytes_same name s.name (sym named))
+  holder_passes (Claims id dataset) h = absurd h
+
+  holder_had : (one : Held) → has_newer one ≡ true → HasNewer snapshot pool one
+  holder_had (Holds id name) h =
+      let (s, there, same) = some_passes (λ s. has_named (names.Snapshot s.name) (Holds id name)) (newer_snapshots snapshot pool) h in
+      let passes = All-contains (λ s. is_newer snapshot s ≡ true) (newer_snapshots snapshot pool) s (filter_passes (is_newer snapshot) pool.snapshots) there in
+      (s, filter_contains (is_newer snapshot) pool.snapshots s there, newer_had snapshot s passes, sym (same_bytes name s.name same))
+  holder_had (Claims id dataset) h =
+      let (s, there, same) = some_passes (λ s. has_named (names.Snapshot s.name) (Claims id dataset)) (newer_snapshots snapshot pool) h in absurd (true≢false (sym same))
+
+-- what a session has stays
+pub held_dataset : HeldDatasetStays
+unfolding stepped
+held_dataset pool name dataset held one now there least =
+    ap (λ o. or_else (no_such (names.Dataset name)) o (λ (d : Dataset). unless_busy (session_with (names.Dataset name) held) (rest_of_dataset name pool))) there
+    ∙ ap (λ o. unless_busy o (rest_of_dataset name pool)) (least_is (has_named (names.Dataset name)) (HasOf name) held one (of_passes name) (of_had name) least)
+
+pub held_snapshot : HeldSnapshotStays
+unfolding stepped
+held_snapshot pool name snapshot held one now there least =
+    ap (λ o. or_else (no_such (names.Snapshot name)) o (λ s. unless_busy (session_with (names.Snapshot name) held) (rest_of_snapshot name pool s))) there
+    ∙ ap (λ o. unless_busy o (rest_of_snapshot name pool snapshot)) (least_is (has_named (names.Snapshot name)) (HasThis name) held one (this_passes name) (this_had name) least)
+
+pub held_newer : HeldNewerStays
+unfolding stepped
+held_newer pool name snapshot held one now there least =
+    ap (λ o. or_else (no_such (names.Snapshot name)) o (λ s. unless_busy (session_of_one (newer_snapshots s pool) held) (rest_of_rollback pool s))) there
+    ∙ ap (λ o. unless_busy o (rest_of_rollback pool snapshot)) (least_is (has_newer snapshot pool) (HasNewer snapshot pool) held one (holder_passes snapshot pool) (holder_had snapshot pool) least)
+
+-- and where none has it, each command is as without sessions
+fails : (test : Held → Bool) (has : Held → Type 0) (one : Held) → (test one ≡ true → has one) → (has one → ⊥) → test one ≡ false
+fails test has one had free = false_from_ne_true (test one) (λ passes. free (had passes))
+
+free_dataset : (pool : Pool) (name : List ℕ) (held : List Held) → ((one : Held) → Contains held one → HasOf name one → ⊥)
+    → with_destroyed held (names.Dataset name) pool ≡ with_destroyed [] (names.Dataset name) pool
+free_dataset pool name held free =
+    ap (λ o. or_else (no_such (names.Dataset name)) (dataset_named name pool) (λ (d : Dataset). unless_busy o (rest_of_dataset name pool)))
+    (least_none (has_named (names.Dataset name)) held (λ one there. fails (has_named (names.Dataset name)) (HasOf name) one (of_had name one) (free one there)))
+
+free_snapshot : (pool : Pool) (name : List ℕ) (held : List Held) → ((one : Held) → Contains held one → HasThis name one → ⊥)
+    → with_destroyed held (names.Snapshot name) pool ≡ with_destroyed [] (names.Snapshot name) pool
+free_snapshot pool name held free =
+    ap (λ o. or_else (no_such (names.Snapshot name)) (snapshot_named name pool) (λ s. unless_busy o (rest_of_snapshot name pool s)))
+    (least_none (has_named (names.Snapshot name)) held (λ one there. fails (has_named (names.Snapshot name)) (HasThis name) one (this_had name one) (free one there)))
+
+free_rollback : (pool : Pool) (name : List ℕ) (held : List Held) (found : Option Snapshot)
+    → ((one : Held) → Contains held one → (snapshot : Snapshot) → found ≡ Some snapshot → HasNewer snapshot pool one → ⊥)
+    → or_else (no_such (names.Snapshot name)) found (λ s. unless_busy (session_of_one (newer_snapshots s pool) held) (rest_of_rollback pool s))
+    ≡ or_else (no_such (names.Snapshot name)) found (λ s. unless_busy (session_of_one (newer_snapshots s pool) []) (rest_of_rollback pool s))
+free_rollback pool name held None free = refl
+free_rollback pool name held (Some snapshot) free =
+    ap (λ o. unless_busy o (rest_of_rollback pool snapshot))
+    (least_none (has_newer snapshot pool) held (λ one there. fails (has_newer snapshot pool) (HasNewer snapshot pool) one (holder_had snapshot pool one) (free one there snapshot refl)))
+
+pub free_ones : FreeOnesGo
+unfolding stepped
+free_ones pool (commands.Rollback true name) held now free = free_rollback pool name held (snapshot_named name pool) free
+free_ones pool (commands.Rollback false name) held now free = steps_ask_none held [] now (commands.Rollback false name) pool refl
+free_ones pool (commands.Destroy (names.Dataset name)) held now free = free_dataset pool name held free
+free_ones pool (commands.Destroy (names.Snapshot name)) held now free = free_snapshot pool name held free
+free_ones pool (commands.Destroy (names.Bookmark name)) held now free = refl
+free_ones pool (commands.Fs dataset) held now free = refl
+free_ones pool (commands.Volume dataset) held now free = refl
+free_ones pool (commands.Object dataset k head bonus spill) held now free = refl
+free_ones pool (commands.Write dataset k i bytes) held now free = refl
+free_ones pool (commands.Punch dataset k first count) held now free = refl
+free_ones pool (commands.Free dataset first count) held now free = refl
+free_ones pool (commands.Snapshot name) held now free = refl
+free_ones pool (commands.Clone origin name) held now free = refl
+free_ones pool (commands.Bookmark of name) held now free = refl
+free_ones pool (commands.Read name k i) held now free = refl
+free_ones pool commands.List held now free = refl
+free_ones pool (commands.ListObjects name) held now free = refl

@@ -1,5 +1,5 @@
 -- What an image keeps of a pool that runs.
-use Rattle.std.proofs.Common.{◌≡◌, inl, inr, ◌⊎◌, Bool, true, false, List, [], ◌∷◌, ◌++◌, IfSome, Contains, if◌then◌else◌, filter, refl, ap, subst}
+use Rattle.std.proofs.Common.{◌≡◌, Bool, true, ◌∷◌, ◌++◌, Some, None, IfSome, Contains, refl, ap}
 use Rattle.std.proofs.lemmas.List.Elements.{All-contains, All-filter, filter_passes}
 use Rattle.std.proofs.lemmas.List.Kept.{AllPairs-filter}
 use Rattle.zst_names.specs.Names.{IsDataset, IsComponent}
@@ -9,38 +9,11 @@ use Rattle.zst_model.specs.pools.Before.{Source, OfSnapshot, Place, InDataset, I
 use Rattle.zst_model.specs.pools.Kept.{KeepsAll, kept_of}
 use Rattle.zst_model.specs.pools.Rows.{Row, rows}
 use Rattle.zst_model.specs.pools.Sound.{DatedUpTo, IsBookmarkOf, Sound}
-use Rattle.zst_model.proofs.InsertedLaws.{All-from_contains, contains_cases, contains_first, contains_later}
+use Rattle.zst_model.proofs.InsertedLaws.{All-from_contains}
 use Rattle.zst_laws.specs.KeptExample.{TwoAreKept, KeptAreKept, KeepingIsDone, KeptIsLawful, KeptIsSound}
+use Rattle.zst_laws.proofs.pools.Filters.{filter_contains, contains-filter, filter_all}
 use Rattle.zst_laws.proofs.pools.Descent.{IsRow, SnapshotRow, HeadRow, PartialRow, snapshot_has_row, head_has_row, partial_has_row, row_cases}
 use Rattle.zst_laws.proofs.pools.Standing.{HasOrigins, stands_on, before_partial_on}
-
--- what a filter leaves was there, and what was there and passes is left
-filter_contains : {A : Type 0} (p : A → Bool) (xs : List A) (x : A) → Contains (filter p xs) x → Contains xs x
-filter_contains p [] x h = h
-filter_contains {A = A} p (y ∷ ys) x h = go (p y) (filter_contains p ys x) h
-  where
-    go : (t : Bool) → (Contains (filter p ys) x → Contains ys x) → Contains (if t then y ∷ filter p ys else filter p ys) x → Contains (y ∷ ys) x
-    go true rest k = elim (contains_cases y (filter p ys) x k) [
-      | inl e ↦ subst (Contains (y ∷ ys)) e (contains_first y ys)
-      | inr later ↦ contains_later y ys x (rest later)
-    ]
-    go false rest k = contains_later y ys x (rest k)
-
-contains-filter : {A : Type 0} (p : A → Bool) (xs : List A) (x : A) → Contains xs x → p x ≡ true → Contains (filter p xs) x
-contains-filter p [] x h passes = h
-contains-filter {A = A} p (y ∷ ys) x h passes = go (p y) refl (contains-filter p ys x) (contains_cases y ys x h)
-  where
-    go : (t : Bool) → p y ≡ t → (Contains ys x → p x ≡ true → Contains (filter p ys) x) → (y ≡ x) ⊎ Contains ys x
-        → Contains (if t then y ∷ filter p ys else filter p ys) x
-    go true e rest (inl same) = subst (Contains (y ∷ filter p ys)) same (contains_first y (filter p ys))
-    go true e rest (inr later) = contains_later y (filter p ys) x (rest later passes)
-    go false e rest (inl same) = let f = ap p same in absurd (cc)
-    go false e rest (inr later) = rest later passes
-
--- a filter whose test all pass leaves all
-filter_all : {A : Type 0} (p : A → Bool) (xs : List A) → ((x : A) → Contains xs x → p x ≡ true) → filter p xs ≡ xs
-filter_all p [] h = refl
-filter_all p (y ∷ ys) h = rw (h y (contains_first y ys)) (ap (λ rest. y ∷ rest) (filter_all p ys (λ x k. h x (contains_later y ys x k))))
 
 -- whether a partial state is kept
 abbrev is_kept : Partial → Bool
@@ -108,10 +81,11 @@ module _ (pool : Pool) where
   kept_before : (source : Source) (place : Place) → IsBefore (kept_of pool) source place → IsBefore pool source place
   kept_before source (InDataset name bound) before = stands_on (kept_of pool) pool source kept_origins name bound before
   kept_before source (InPartial partial) before = before_partial_on (kept_of pool) pool source partial (record {
-    origins = kept_origins;
     bases = λ base is. record { there = is.there; is_base = is.is_base };
     target = λ there. there;
     target_back = λ there. there;
+    before_target = λ other has. stands_on (kept_of pool) pool other kept_origins partial.target None;
+    before_base = λ other base is. stands_on (kept_of pool) pool other kept_origins (dataset_of_snapshot base) (Some base.number);
   }) before
 
   kept_bookmark : (bookmark : Bookmark) → IsBookmarkOf pool bookmark → IsBookmarkOf (kept_of pool) bookmark

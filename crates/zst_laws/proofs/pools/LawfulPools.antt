@@ -1,22 +1,26 @@
 -- What commands make of a lawful pool is lawful.
-use Rattle.std.proofs.Common.{inl, inr, subst, ◌≡◌, ◌≢◌, ℕ, ◌+◌, ◌^◌, ◌<◌, ◌≤◌, true, false, List, ◌∷◌, ◌++◌, Option, Some, None, IfSome, is_some, Result, Ok, refl, sym, ap, ◌∙◌, arith}
+use Rattle.std.proofs.Common.{inl, inr, subst, ◌≡◌, ◌≢◌, ℕ, ◌+◌, ◌^◌, ◌<◌, ◌≤◌, true, false, List, [], ◌∷◌, ◌++◌, Option, Some, None, IfSome, is_some, Result, Ok, refl, sym, ap, ◌∙◌, arith}
 use Rattle.std.specs.List.{All, Contains}
 use Rattle.std.proofs.lemmas.List.Elements.{All-nil, All-weaker, All-contains}
-use Rattle.zst_names.specs.Names.{IsDataset, IsSnapshot, IsComponent, dataset_of}
+use Rattle.zst_names.specs.Names.{IsDataset, IsSnapshot, IsBookmark, IsComponent, dataset_of}
 use Rattle.zst_names.specs.Marks.{at_is_mark}
 use Rattle.zst_names.proofs.Marked.{join_is_name}
 use Rattle.zst_model.specs.fields.Guids.{IsGuidSet}
+use Rattle.zst_model.specs.fields.Lists.{IsRunList}
 use Rattle.zst_model.specs.declared.pools.command.Command.TheVariants as commands
+use Rattle.zst_model.specs.declared.refusals.named.Name.TheVariants as names
 use Rattle.zst_model.specs.declared.refusals.refusal.Refusal.{Refusal}
 use Rattle.zst_model.specs.states.State.{IsState, no_objects}
 use Rattle.zst_model.specs.states.Dated.{DatedState}
-use Rattle.zst_model.specs.pools.Pool.{Pool, Dataset, Snapshot, IsPool, IsKind, IsGuid, HasDataset, HasSnapshot, dataset_named, snapshot_named, partial_of, dataset_of_snapshot, is_before, snapshot_is_before, inserted}
-use Rattle.zst_model.specs.pools.Step.{Stepped, committed, last_number, last_guid, next_guid, new_dataset, with_head_at, with_head, snapshot_of, with_dataset, on_head, with_snapshot, stepped}
+use Rattle.zst_model.specs.pools.Pool.{Pool, Dataset, Snapshot, Bookmark, IsPool, IsKind, IsGuid, HasDataset, HasSnapshot, dataset_named, snapshot_named, bookmark_named, partial_of, dataset_of_snapshot, is_before, snapshot_is_before, inserted}
+use Rattle.zst_model.specs.pools.Step.{Stepped, committed, last_number, last_guid, next_guid, new_dataset, with_head_at, with_head, snapshot_of, clone_of, bookmark_of, with_dataset, on_head, with_snapshot, with_clone, with_bookmark, stepped}
 use Rattle.zst_model.proofs.InsertedLaws.{All-from_contains, contains-map, contains-inserted, inserted_has_rest, All-inserted, AllPairs-map}
 use Rattle.zst_model.proofs.OrderLaws.{names_differ-inserted, names_rise-inserted, rows_rise-inserted}
 use Rattle.zst_laws.specs.Stepping.{StepsKeepPools}
 use Rattle.zst_laws.proofs.pools.Rows.{All-with_head, committed_ok, on_head_ok, named_found, none_named, name_under_head}
-use Rattle.zst_laws.proofs.pools.Accepted.{with_dataset_ok, with_snapshot_ok, read_keeps, list_keeps, list_objects_keeps}
+use Rattle.zst_laws.proofs.pools.Accepted.{with_dataset_ok, with_snapshot_ok, with_clone_ok, with_bookmark_ok, read_keeps, list_keeps, list_objects_keeps}
+use Rattle.zst_laws.proofs.pools.Departed.{with_rollback_ok, dataset_destroyed_ok, snapshot_destroyed_ok, bookmark_destroyed_ok}
+use Rattle.zst_laws.proofs.pools.LawfulRest.{rolled_is_lawful, lawful_without_dataset, lawful_without_snapshot, lawful_without_bookmark}
 use Rattle.zst_laws.proofs.pools.LawfulHeads.{object_is_lawful, write_is_lawful, punch_is_lawful, free_is_lawful}
 
 -- a lawful pool with another number
@@ -52,13 +56,20 @@ committed_pool pool after p h =
 no_objects_are_lawful : IsState no_objects
 no_objects_are_lawful = record { zero = refl; bounded = λ k l. refl; objects = λ k. tt }
 
--- a lawful pool with a new dataset
-dataset_added : (kind : ℕ) (name : List ℕ) (pool : Pool) → IsPool pool → IsDataset name → IsKind kind → is_some (dataset_named name pool) ≡ false
-    → IsPool (record pool { datasets = inserted (λ a b. is_before a.name b.name) (new_dataset kind name) pool.datasets })
-dataset_added kind name pool p is_name is_kind absent =
-    let row = new_dataset kind name in
+-- no guids are a set, and no runs are a list
+no_guids : IsGuidSet []
+no_guids = record { few = omega arith; rising = refl; fit = All-nil _ }
+
+no_runs : IsRunList []
+no_runs = refl
+
+-- a lawful pool with a new dataset, which is lawful itself and whose origin, where it has one, is there
+dataset_added : (row : Dataset) (pool : Pool) → IsPool pool → IsDataset row.name → IsKind row.kind × IsGuidSet row.redact × IsState row.head.state
+    → IfSome row.origin (HasSnapshot pool) → is_some (dataset_named row.name pool) ≡ false
+    → IsPool (record pool { datasets = inserted (λ a b. is_before a.name b.name) row pool.datasets })
+dataset_added row pool p is_name lawful origin absent =
     let by_name = λ (a b : Dataset). is_before a.name b.name in
-    let differs : (x : Dataset) → Contains pool.datasets x → x.name ≢ name = none_named (λ d. d.name) name pool.datasets absent in
+    let differs : (x : Dataset) → Contains pool.datasets x → x.name ≢ row.name = none_named (λ d. d.name) row.name pool.datasets absent in
     let added = record pool { datasets = inserted by_name row pool.datasets } in
     let more : (n : List ℕ) → HasDataset pool n → HasDataset added n = λ n h. (h.0, inserted_has_rest by_name row pool.datasets h.0 h.1, h.2) in
     record {
@@ -80,13 +91,11 @@ dataset_added kind name pool p is_name is_kind absent =
         snapshots =
             All-weaker (λ s. HasDataset pool (dataset_of_snapshot s)) (λ s. HasDataset added (dataset_of_snapshot s)) (λ s. more (dataset_of_snapshot s))
             pool.snapshots p.linked.snapshots;
-        origins = All-inserted (λ d. IfSome d.origin (HasSnapshot pool)) by_name row pool.datasets tt p.linked.origins;
+        origins = All-inserted (λ d. IfSome d.origin (HasSnapshot pool)) by_name row pool.datasets origin p.linked.origins;
         bases = p.linked.bases;
         components = p.linked.components;
       };
-      datasets =
-          All-inserted (λ d. IsKind d.kind × IsGuidSet d.redact × IsState d.head.state) by_name row pool.datasets
-          (is_kind, record { few = omega arith; rising = refl; fit = All-nil _ }, no_objects_are_lawful) p.datasets;
+      datasets = All-inserted (λ d. IsKind d.kind × IsGuidSet d.redact × IsState d.head.state) by_name row pool.datasets lawful p.datasets;
       snapshots = p.snapshots;
       bookmarks = p.bookmarks;
       partials = p.partials;
@@ -205,11 +214,65 @@ snapshot_added now name pool dataset fits p is_name there free absent guids =
       partials = p.partials;
     }
 
+-- a lawful pool with a bookmark of a snapshot that is there
+bookmark_added : (name : List ℕ) (snapshot : Snapshot) (pool : Pool) → IsPool pool → IsBookmark name → Contains pool.snapshots snapshot
+    → is_some (bookmark_named name pool) ≡ false
+    → IsPool (record pool { bookmarks = inserted (λ a b. is_before a.name b.name) (bookmark_of name snapshot) pool.bookmarks })
+bookmark_added name snapshot pool p is_name there absent =
+    let row = bookmark_of name snapshot in
+    let by_name = λ (a b : Bookmark). is_before a.name b.name in
+    let differs : (x : Bookmark) → Contains pool.bookmarks x → x.name ≢ name = none_named (λ b. b.name) name pool.bookmarks absent in
+    let lawful = All-contains (λ s. IsGuid s.guid × IsGuidSet s.redact × IsState s.objects.state × (s.time < 2 ^ 64)) pool.snapshots snapshot p.snapshots there in
+    record {
+      id = p.id;
+      number = p.number;
+      guids = p.guids;
+      named = record {
+        dataset_names = p.named.dataset_names;
+        datasets = p.named.datasets;
+        snapshot_names = p.named.snapshot_names;
+        snapshots = p.named.snapshots;
+        snapshots_differ = p.named.snapshots_differ;
+        bookmark_names = All-inserted (λ b. IsBookmark b.name) by_name row pool.bookmarks is_name p.named.bookmark_names;
+        bookmarks = names_rise-inserted (λ (b : Bookmark). b.name) row pool.bookmarks differs p.named.bookmarks;
+        targets = p.named.targets;
+        partials = p.named.partials;
+      };
+      linked = record { snapshots = p.linked.snapshots; origins = p.linked.origins; bases = p.linked.bases; components = p.linked.components };
+      datasets = p.datasets;
+      snapshots = p.snapshots;
+      bookmarks =
+          All-inserted (λ b. IsGuid b.guid × IsGuidSet b.redact × IsRunList b.runs × (b.time < 2 ^ 64)) by_name row pool.bookmarks
+          (lawful.0, no_guids, no_runs, lawful.3) p.bookmarks;
+      partials = p.partials;
+    }
+
 -- what each command makes
 dataset_steps : (kind : ℕ) (name : List ℕ) (pool : Pool) (after : Stepped) → IsPool pool → IsDataset name → IsKind kind
-    → with_dataset kind name pool ≡ Ok after → IsPool after.pool
+    → with_dataset (new_dataset kind name) pool ≡ Ok after → IsPool after.pool
 dataset_steps kind name pool after p is_name is_kind h =
-    let new = with_dataset_ok kind name pool after h in committed_pool _ after (dataset_added kind name pool p is_name is_kind new.absent) new.made
+    let row = new_dataset kind name in
+    let new = with_dataset_ok row pool after h in
+    committed_pool _ after (dataset_added row pool p is_name (is_kind, no_guids, no_objects_are_lawful) tt new.absent) new.made
+
+clone_steps : (origin name : List ℕ) (pool : Pool) (after : Stepped) → IsPool pool → IsDataset name
+    → with_clone origin name pool ≡ Ok after → IsPool after.pool
+clone_steps origin name pool after p is_name h =
+    let clone = with_clone_ok origin name pool after h in
+    let snapshot = clone.snapshot in
+    let there = (named_found (λ s. s.name) origin pool.snapshots snapshot clone.there).0 in
+    let lawful = All-contains (λ s. IsGuid s.guid × IsGuidSet s.redact × IsState s.objects.state × (s.time < 2 ^ 64)) pool.snapshots snapshot p.snapshots there in
+    let source_there = (named_found (λ d. d.name) (dataset_of_snapshot snapshot) pool.datasets clone.source clone.source_there).0 in
+    let of_source = All-contains (λ d. IsKind d.kind × IsGuidSet d.redact × IsState d.head.state) pool.datasets clone.source p.datasets source_there in
+    let row = clone_of name clone.source snapshot in
+    committed_pool _ after (dataset_added row pool p is_name (of_source.0, lawful.1, lawful.2) (snapshot, there, refl) clone.new.absent) clone.new.made
+
+bookmark_steps : (of name : List ℕ) (pool : Pool) (after : Stepped) → IsPool pool → IsBookmark name
+    → with_bookmark of name pool ≡ Ok after → IsPool after.pool
+bookmark_steps of name pool after p is_name h =
+    let new = with_bookmark_ok of name pool after h in
+    let there = (named_found (λ s. s.name) of pool.snapshots new.snapshot new.there).0 in
+    committed_pool _ after (bookmark_added name new.snapshot pool p is_name there new.absent) new.made
 
 head_steps : (name : List ℕ) (pool : Pool) (change : DatedState → Result DatedState Refusal) (after : Stepped) → IsPool pool
     → ((old new : DatedState) → IsState old.state → change old ≡ Ok new → IsState new.state)
@@ -239,6 +302,16 @@ steps_keep_lawful held now (commands.Punch name k first count) pool after c fits
 steps_keep_lawful held now (commands.Free name first count) pool after c fits p h =
     head_steps name pool _ after p (λ old new s made. free_is_lawful pool first count old new s made) h
 steps_keep_lawful held now (commands.Snapshot name) pool after c fits p h = snapshot_steps now name pool after fits p c h
+steps_keep_lawful held now (commands.Clone origin name) pool after c fits p h = clone_steps origin name pool after p c.1 h
+steps_keep_lawful held now (commands.Bookmark of name) pool after c fits p h = bookmark_steps of name pool after p c.1 h
+steps_keep_lawful held now (commands.Rollback destroys name) pool after c fits p h =
+    let rolled = with_rollback_ok held destroys name pool after h in committed_pool _ after (rolled_is_lawful name pool rolled.snapshot p rolled.there rolled.unused) rolled.made
+steps_keep_lawful held now (commands.Destroy (names.Dataset name)) pool after c fits p h =
+    let gone = dataset_destroyed_ok held name pool after h in committed_pool _ after (lawful_without_dataset name pool p gone.unused) gone.made
+steps_keep_lawful held now (commands.Destroy (names.Snapshot name)) pool after c fits p h =
+    let gone = snapshot_destroyed_ok held name pool after h in committed_pool _ after (lawful_without_snapshot name pool gone.snapshot p gone.there gone.unused) gone.made
+steps_keep_lawful held now (commands.Destroy (names.Bookmark name)) pool after c fits p h =
+    committed_pool _ after (lawful_without_bookmark name pool p) (bookmark_destroyed_ok held name pool after h).made
 steps_keep_lawful held now (commands.Read name k i) pool after c fits p h = subst IsPool (sym (read_keeps held now name k i pool after h)) p
 steps_keep_lawful held now commands.List pool after c fits p h = subst IsPool (sym (list_keeps held now pool after h)) p
 steps_keep_lawful held now (commands.ListObjects name) pool after c fits p h = subst IsPool (sym (list_objects_keeps held now name pool after h)) p

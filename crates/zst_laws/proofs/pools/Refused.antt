@@ -30,87 +30,91 @@ use Rattle.zst_laws.proofs.sends.Runs.{aligned_from, put_here}
 use Rattle.zst_laws.specs.StepRefusals.{made_by, taken_by, dataset_before, IsUnused, HasFree, IsTakeable, DatasetIsThere, TargetIsThere, DatasetsAreFull, TargetsCount, DatasetHasNoNumber, DatasetIsAbsent, DatasetIsBusy, NumberIsFar, NumbersAreFar, ObjectHasNoNumber, WriteHasNoNumber, PunchHasNoNumber, FreeHasNoNumber, WriteWantsObject, WriteIsLong, WriteIsOdd, WriteIsFar, OddSizes, PunchWantsObject, PunchIsFar, SnapshotIsThere, SnapshotsAreFull, GuidsAreOver, SnapshotHasNoNumber, NameIsAbsent, ReadWantsObject, ReadIsRedacted, ReadIsFar}
 
 -- a test that holds refuses, and one that fails goes on
-refused : {A E : Type 0} (t : Bool) (e : E) (r : Result A E) → t ≡ true → unless t e r ≡ Err e
+pub refused : {A E : Type 0} (t : Bool) (e : E) (r : Result A E) → t ≡ true → unless t e r ≡ Err e
 refused t e r h = ap (λ u. unless u e r) h
 
-passed : {A E : Type 0} (t : Bool) (e : E) (r : Result A E) → t ≡ false → unless t e r ≡ r
+pub passed : {A E : Type 0} (t : Bool) (e : E) (r : Result A E) → t ≡ false → unless t e r ≡ r
 passed t e r h = ap (λ u. unless u e r) h
 
 -- limits
-over : {A : Type 0} (which : Quantity) (most quantity : ℕ) (r : Result A Refusal) → most < quantity → limited which most quantity r ≡ Err (refusals.Limit which most)
+pub over : {A : Type 0} (which : Quantity) (most quantity : ℕ) (r : Result A Refusal) → most < quantity → limited which most quantity r ≡ Err (refusals.Limit which most)
 over which most quantity r l = refused (nat_lt most quantity) _ r (lt-ltb _ _ l)
 
-within_limit : {A : Type 0} (which : Quantity) (most quantity : ℕ) (r : Result A Refusal) → quantity ≤ most → limited which most quantity r ≡ r
+pub within_limit : {A : Type 0} (which : Quantity) (most quantity : ℕ) (r : Result A Refusal) → quantity ≤ most → limited which most quantity r ≡ r
 within_limit which most quantity r l = passed (nat_lt most quantity) _ r (le-ltb _ _ l)
 
 -- a pool at the last number commits nothing
-no_number : (pool : Pool) → pool.number ≡ 9223372036854775808 → committed pool ≡ Err (refusals.Limit quantities.Number 9223372036854775808)
+pub no_number : (pool : Pool) → pool.number ≡ 9223372036854775808 → committed pool ≡ Err (refusals.Limit quantities.Number 9223372036854775808)
 unfolding last_number
 no_number pool e = over quantities.Number 9223372036854775808 (pool.number + 1) _ (omega arith)
 
 -- new datasets
-module _ (kind : ℕ) (name : List ℕ) (pool : Pool) where
+module _ (row : Dataset) (pool : Pool) where
   abbrev room : Result Stepped Refusal
-  room = committed (record pool { datasets = inserted (λ a b. is_before a.name b.name) (new_dataset kind name) pool.datasets })
+  room = committed (record pool { datasets = inserted (λ a b. is_before a.name b.name) row pool.datasets })
 
   abbrev counted : Result Stepped Refusal
   counted = limited quantities.Datasets most_datasets (count_datasets pool + 1) room
 
   abbrev taken : Refusal
-  taken = exists_already (names.Dataset name)
+  taken = exists_already (names.Dataset row.name)
 
-  there : (dataset : Dataset) → dataset_named name pool ≡ Some dataset → with_dataset kind name pool ≡ Err taken
-  there dataset h = ap (λ o. unless (is_some o) taken (unless (is_some (partial_of name pool)) taken counted)) h
+  pub name_taken : (dataset : Dataset) → dataset_named row.name pool ≡ Some dataset → with_dataset row pool ≡ Err taken
+  name_taken dataset h = ap (λ o. unless (is_some o) taken (unless (is_some (partial_of row.name pool)) taken counted)) h
 
-  begun : (partial : Partial) → partial_of name pool ≡ Some partial → with_dataset kind name pool ≡ Err taken
-  begun partial h = ap (λ o. unless (is_some (dataset_named name pool)) taken (unless (is_some o) taken counted)) h ∙ go (is_some (dataset_named name pool))
+  pub name_begun : (partial : Partial) → partial_of row.name pool ≡ Some partial → with_dataset row pool ≡ Err taken
+  name_begun partial h = ap (λ o. unless (is_some (dataset_named row.name pool)) taken (unless (is_some o) taken counted)) h ∙ go (is_some (dataset_named row.name pool))
     where
       go : (t : Bool) → ◌≡◌ {A = Result Stepped Refusal} (unless t taken (Err taken)) (Err taken)
       go true = refl
       go false = refl
 
-  free : IsUnused pool name → with_dataset kind name pool ≡ counted
+  free : IsUnused pool row.name → with_dataset row pool ≡ counted
   free h =
-      ap (λ o. unless (is_some o) taken (unless (is_some (partial_of name pool)) taken counted)) h.0
+      ap (λ o. unless (is_some o) taken (unless (is_some (partial_of row.name pool)) taken counted)) h.0
       ∙ ap (λ o. unless (is_some o) taken counted) h.1
 
-  full : IsUnused pool name → 256 ≤ count_datasets pool → with_dataset kind name pool ≡ Err (refusals.Limit quantities.Datasets 256)
+  pub rows_full : IsUnused pool row.name → 256 ≤ count_datasets pool → with_dataset row pool ≡ Err (refusals.Limit quantities.Datasets 256)
   unfolding most_datasets
-  full h l = free h ∙ over quantities.Datasets 256 (count_datasets pool + 1) room (omega arith)
+  rows_full h l = free h ∙ over quantities.Datasets 256 (count_datasets pool + 1) room (omega arith)
 
-  last : IsUnused pool name → count_datasets pool < 256 → pool.number ≡ 9223372036854775808 → with_dataset kind name pool ≡ Err (refusals.Limit quantities.Number 9223372036854775808)
+  pub row_last : IsUnused pool row.name → count_datasets pool < 256 → pool.number ≡ 9223372036854775808 → with_dataset row pool ≡ Err (refusals.Limit quantities.Number 9223372036854775808)
   unfolding most_datasets
-  last h l e =
+  row_last h l e =
       free h ∙ within_limit quantities.Datasets 256 (count_datasets pool + 1) room (omega arith)
-      ∙ no_number (record pool { datasets = inserted (λ a b. is_before a.name b.name) (new_dataset kind name) pool.datasets }) e
+      ∙ no_number (record pool { datasets = inserted (λ a b. is_before a.name b.name) row pool.datasets }) e
 
 -- the command makes a dataset of this name, of either kind
 made_kind : (pool : Pool) (command : Command) (name : List ℕ) (held : List Held) (now : ℕ) (refusal : Refusal) → made_by command ≡ Some name
-    → ((kind : ℕ) → with_dataset kind name pool ≡ Err refusal) → stepped held now command pool ≡ Err refusal
+    → ((kind : ℕ) → with_dataset (new_dataset kind name) pool ≡ Err refusal) → stepped held now command pool ≡ Err refusal
 unfolding stepped
-made_kind pool (commands.Fs dataset) name held now refusal e h = let same : dataset ≡ name = cc in ap (λ n. with_dataset 2 n pool) same ∙ h 2
-made_kind pool (commands.Volume dataset) name held now refusal e h = let same : dataset ≡ name = cc in ap (λ n. with_dataset 3 n pool) same ∙ h 3
+made_kind pool (commands.Fs dataset) name held now refusal e h = let same : dataset ≡ name = cc in ap (λ n. with_dataset (new_dataset 2 n) pool) same ∙ h 2
+made_kind pool (commands.Volume dataset) name held now refusal e h = let same : dataset ≡ name = cc in ap (λ n. with_dataset (new_dataset 3 n) pool) same ∙ h 3
 made_kind pool (commands.Object dataset k head bonus spill) name held now refusal e h = absurd (cc)
 made_kind pool (commands.Write dataset k i bytes) name held now refusal e h = absurd (cc)
 made_kind pool (commands.Punch dataset k first count) name held now refusal e h = absurd (cc)
 made_kind pool (commands.Free dataset first count) name held now refusal e h = absurd (cc)
 made_kind pool (commands.Snapshot other) name held now refusal e h = absurd (cc)
+made_kind pool (commands.Clone origin other) name held now refusal e h = absurd (cc)
+made_kind pool (commands.Bookmark of other) name held now refusal e h = absurd (cc)
+made_kind pool (commands.Rollback destroys other) name held now refusal e h = absurd (cc)
+made_kind pool (commands.Destroy other) name held now refusal e h = absurd (cc)
 made_kind pool (commands.Read other k i) name held now refusal e h = absurd (cc)
 made_kind pool commands.List name held now refusal e h = absurd (cc)
 made_kind pool (commands.ListObjects other) name held now refusal e h = absurd (cc)
 
 pub dataset_there : DatasetIsThere
-dataset_there pool command name dataset m h held now = made_kind pool command name held now _ m (λ kind. there kind name pool dataset h)
+dataset_there pool command name dataset m h held now = made_kind pool command name held now _ m (λ kind. name_taken (new_dataset kind name) pool dataset h)
 
 pub target_there : TargetIsThere
-target_there pool command name partial m h held now = made_kind pool command name held now _ m (λ kind. begun kind name pool partial h)
+target_there pool command name partial m h held now = made_kind pool command name held now _ m (λ kind. name_begun (new_dataset kind name) pool partial h)
 
 pub datasets_full : DatasetsAreFull
-datasets_full pool command name m h l held now = made_kind pool command name held now _ m (λ kind. full kind name pool h (omega arith))
+datasets_full pool command name m h l held now = made_kind pool command name held now _ m (λ kind. rows_full (new_dataset kind name) pool h (omega arith))
 
 pub targets_count : TargetsCount
 targets_count pool command name partial m h l p a held now =
-    made_kind pool command name held now _ m (λ kind. full kind name pool h (omega (arith, one)))
+    made_kind pool command name held now _ m (λ kind. rows_full (new_dataset kind name) pool h (omega (arith, one)))
   where
     absent : Partial → Bool
     absent row = not (is_some (dataset_named row.target pool))
@@ -120,7 +124,7 @@ targets_count pool command name partial m h l p a held now =
 
 pub dataset_number : DatasetHasNoNumber
 dataset_number pool command name m h l e held now =
-    made_kind pool command name held now _ m (λ kind. last kind name pool h (omega (arith, count_by-le-length (λ partial. not (is_some (dataset_named partial.target pool))) pool.partials)) e)
+    made_kind pool command name held now _ m (λ kind. row_last (new_dataset kind name) pool h (omega (arith, count_by-le-length (λ partial. not (is_some (dataset_named partial.target pool))) pool.partials)) e)
 
 -- a dataset that is absent, or busy
 module _ (pool : Pool) (name : List ℕ) where
@@ -168,6 +172,10 @@ taken_on pool (commands.Free dataset first count) name held now refusal e h = le
 taken_on pool (commands.Snapshot other) name held now refusal e h =
     let same : dataset_before other ≡ name = cc in
     subst (λ n. on_dataset n pool (to_snapshot now other pool) ≡ Err refusal) (sym same) (h (to_snapshot now other pool))
+taken_on pool (commands.Clone origin other) name held now refusal e h = absurd (cc)
+taken_on pool (commands.Bookmark of other) name held now refusal e h = absurd (cc)
+taken_on pool (commands.Rollback destroys other) name held now refusal e h = absurd (cc)
+taken_on pool (commands.Destroy other) name held now refusal e h = absurd (cc)
 taken_on pool (commands.Read other k i) name held now refusal e h = absurd (cc)
 taken_on pool commands.List name held now refusal e h = absurd (cc)
 taken_on pool (commands.ListObjects other) name held now refusal e h = absurd (cc)

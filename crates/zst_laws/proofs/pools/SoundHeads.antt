@@ -49,7 +49,7 @@ module _ (pool : Pool) (name : List ℕ) (head : DatedState) where
         go true e = record {
           old = head_row pool.number dataset;
           there = head_has_row pool dataset there;
-          before = λ source before. head_before source old.name dataset.name (same_bytes old.name name e ∙ sym named) before;
+          before = λ source here is before. inl (head_before source old.name dataset.name (same_bytes old.name name e ∙ sym named) before);
           remembers = λ number state l h. keeps.remembers number state (omega arith) h;
           agrees = λ earlier l h. keeps.agrees earlier (omega arith) h;
           dated = λ h. keeps.dated (dated_higher pool.number (pool.number + 1) (omega arith) dataset.head h);
@@ -57,7 +57,7 @@ module _ (pool : Pool) (name : List ℕ) (head : DatedState) where
         go false e = record {
           old = head_row pool.number old;
           there = head_has_row pool old is;
-          before = λ source before. head_before source old.name old.name refl before;
+          before = λ source here is before. inl (head_before source old.name old.name refl before);
           remembers = λ number state l h. h;
           agrees = λ earlier l h. h;
           dated = dated_higher pool.number (pool.number + 1) (omega arith) old.head;
@@ -66,7 +66,7 @@ module _ (pool : Pool) (name : List ℕ) (head : DatedState) where
     -- a head that keeps what its dataset's old head remembered keeps the datasets
     pub head_keeps : KeepsDatasets pool (with_head name head pool.datasets)
     head_keeps = record {
-      origins = head_origins;
+      origins = λ origin of has is. head_origins origin of is;
       names = λ of (d, here, same). (with_head_at name head d, contains-map (with_head_at name head) pool.datasets d here, name_under_head name head d ∙ same);
       targets = λ partial here (d, is, same). let (old, was, e) = old_of d is in (old, was, old_name d old e ∙ same);
       heads = λ d is.

@@ -7,14 +7,15 @@ use Rattle.std.proofs.lemmas.Option.{same_Some}
 use Rattle.zst_model.specs.states.Dated.{DatedState}
 use Rattle.zst_model.specs.pools.Pool.{Pool, Dataset, Snapshot, Partial, HasSnapshot, IsNamed, IsLinked, dataset_of_snapshot, is_before, snapshot_is_before, inserted}
 use Rattle.zst_model.specs.pools.Before.{IsOrigin, IsBase, Source, OfSnapshot, StandsBefore, IsBeforeClone, IsBeforePartial, IsBefore}
-use Rattle.zst_model.specs.pools.Rows.{Row, snapshot_row, head_row, partial_row}
+use Rattle.zst_model.specs.pools.Rows.{Row, snapshot_row, head_row}
 use Rattle.zst_model.specs.pools.Sound.{Agrees, DatedUpTo, Sound}
 use Rattle.zst_model.specs.sends.Target.{Remembers}
-use Rattle.zst_model.proofs.InsertedLaws.{contains_cases, contains_nothing, contains-inserted, All-inserted, AllPairs-head, AllPairs-tail}
+use Rattle.zst_model.proofs.InsertedLaws.{contains-inserted, All-inserted, AllPairs-head, AllPairs-tail}
 use Rattle.zst_model.proofs.OrderLaws.{not_before_itself, RowIsBefore, row_before_parts}
-use Rattle.zst_laws.proofs.pools.Standing.{HasOrigins, IsAbove, stands_on, before_partial_on, stands_before_head, above_marks, above_before, above_before_head}
+use Rattle.zst_laws.proofs.pools.Unique.{same_element}
+use Rattle.zst_laws.proofs.pools.Standing.{HasOrigins, HasOldOrigins, IsAbove, stands_on, before_partial_on, stands_before_head, above_marks, above_before, above_before_head}
 use Rattle.zst_laws.proofs.histories.Agreement.{dated_higher}
-use Rattle.zst_laws.proofs.pools.Descent.{Rises, IsRow, SnapshotRow, HeadRow, PartialRow, snapshot_has_row, head_has_row, partial_has_row, row_cases, ComesFrom, IsNext, next_sound}
+use Rattle.zst_laws.proofs.pools.Descent.{Rises, IsRow, SnapshotRow, HeadRow, PartialRow, head_has_row, row_cases, ComesFrom, IsNext, next_sound, snapshot_stays, head_stays, partial_stays}
 
 -- the names of two datasets are in order
 abbrev pub AreOrdered : Dataset → Dataset → Type 0
@@ -23,21 +24,10 @@ AreOrdered a b = is_before a.name b.name ≡ true
 -- datasets whose names are in order and equal are one
 pub same_dataset : (datasets : List Dataset) → AllPairs AreOrdered datasets → (a b : Dataset)
     → Contains datasets a → Contains datasets b → a.name ≡ b.name → a ≡ b
-same_dataset [] order a b here there same = absurd (contains_nothing a here)
-same_dataset (x ∷ xs) order a b here there same =
-    go (same_dataset xs (AllPairs-tail AreOrdered x xs order) a b) (contains_cases x xs a here) (contains_cases x xs b there)
-  where
-    -- no dataset behind the first has its name
-    behind : (c d : Dataset) → x ≡ c → Contains xs d → c.name ≡ d.name → ⊥
-    behind c d e k same =
-        let h : is_before x.name d.name ≡ true = All-contains (AreOrdered x) xs d (AllPairs-head AreOrdered x xs order) k in
-        not_before_itself x.name (ap (is_before x.name) (ap (λ d. d.name) e ∙ same) ∙ h)
-
-    go : (Contains xs a → Contains xs b → a.name ≡ b.name → a ≡ b) → (x ≡ a) ⊎ Contains xs a → (x ≡ b) ⊎ Contains xs b → a ≡ b
-    go rest (inl e) (inl f) = sym e ∙ f
-    go rest (inl e) (inr k) = absurd (behind a b e k same)
-    go rest (inr k) (inl f) = absurd (behind b a f k (sym same))
-    go rest (inr k) (inr l) = rest k l same
+same_dataset datasets order a b here there same =
+    same_element AreOrdered datasets order a b here there
+    (λ h. not_before_itself a.name (ap (is_before a.name) same ∙ h))
+    (λ h. not_before_itself a.name (ap (λ n. is_before n a.name) same ∙ h))
 
 -- snapshots in their order, and a new one with the greatest number in its place: they rise where they did
 rise-inserted : (row : Snapshot) (xs : List Snapshot) → AllPairs (λ a b. snapshot_is_before b a ≡ false) xs → All (λ s. s.number < row.number) xs
@@ -104,6 +94,9 @@ module _ (pool : Pool) (row : Snapshot) (dataset : Dataset) (new : IsNew pool ro
           (is.is_origin ∙ ap (λ s. Some s.name) (sym e)))
       go (inr old) = record { dataset = is.dataset; there = is.there; named = is.named; snapshot_there = old; is_origin = is.is_origin }
 
+  old_origins : HasOldOrigins pool next_pool
+  old_origins origin of has is = snapshot_origins origin of is
+
   snapshot_bases : (base : Snapshot) (partial : Partial) → Contains pool.partials partial → IsBase next_pool base partial → IsBase pool base partial
   snapshot_bases base partial there is = go (new_or_old base is.there)
     where
@@ -117,10 +110,11 @@ module _ (pool : Pool) (row : Snapshot) (dataset : Dataset) (new : IsNew pool ro
 
   old_before_partial : (source : Source) (partial : Partial) → Contains pool.partials partial → IsBeforePartial next_pool source partial → IsBeforePartial pool source partial
   old_before_partial source partial there before = before_partial_on next_pool pool source partial (record {
-    origins = snapshot_origins;
     bases = λ base is. snapshot_bases base partial there is;
     target = λ has. has;
     target_back = λ has. has;
+    before_target = λ from has. old_before from partial.target None;
+    before_base = λ from base is. old_before from (dataset_of_snapshot base) (Some base.number);
   }) before
 
   -- the new snapshot's row comes from its dataset's head, and each other row is as it was
@@ -131,54 +125,30 @@ module _ (pool : Pool) (row : Snapshot) (dataset : Dataset) (new : IsNew pool ro
   new_comes = record {
     old = head_row pool.number dataset;
     there = head_has_row pool dataset new.there;
-    before = λ source before.
-        subst (λ n. StandsBefore pool source n None) (sym new.named)
-        (stands_before_head pool source (dataset_of_snapshot row) (Some row.number) (old_before source (dataset_of_snapshot row) (Some row.number) before));
+    before = λ source here is before. inl
+        (subst (λ n. StandsBefore pool source n None) (sym new.named)
+        (stands_before_head pool source (dataset_of_snapshot row) (Some row.number) (old_before source (dataset_of_snapshot row) (Some row.number) before)));
     remembers = λ number state l h. subst (λ d. Remembers d number state) (sym new.objects) h;
     agrees = λ earlier l h. subst (Agrees earlier) (sym new.objects) h;
     dated = λ h. subst (DatedUpTo row.number) (sym new.objects) (subst (λ n. DatedUpTo n dataset.head) (sym new.number) (higher dataset.head h));
   }
 
-  old_comes : (snapshot : Snapshot) → Contains pool.snapshots snapshot → ComesFrom pool next_pool (snapshot_row snapshot)
-  old_comes snapshot there = record {
-    old = snapshot_row snapshot;
-    there = snapshot_has_row pool snapshot there;
-    before = λ source before. old_before source (dataset_of_snapshot snapshot) (Some snapshot.number) before;
-    remembers = λ number state l h. h;
-    agrees = λ earlier l h. h;
-    dated = λ h. h;
-  }
-
   row_comes : (later : Row) → IsRow next_pool later → ComesFrom pool next_pool later
   row_comes later (SnapshotRow snapshot there) = elim (new_or_old snapshot there) [
     | inl e ↦ subst (λ s. ComesFrom pool next_pool (snapshot_row s)) e new_comes
-    | inr old ↦ old_comes snapshot old
+    | inr old ↦ snapshot_stays pool next_pool linked old_origins refl snapshot old
   ]
-  row_comes later (HeadRow of there) = record {
-    old = head_row pool.number of;
-    there = head_has_row pool of there;
-    before = λ source before. old_before source of.name None before;
-    remembers = λ number state l h. h;
-    agrees = λ earlier l h. h;
-    dated = higher of.head;
-  }
-  row_comes later (PartialRow partial there) = record {
-    old = partial_row pool.number partial;
-    there = partial_has_row pool partial there;
-    before = λ source before. old_before_partial source partial there before;
-    remembers = λ number state l h. h;
-    agrees = λ earlier l h. h;
-    dated = higher partial.objects;
-  }
+  row_comes later (HeadRow of there) = head_stays pool next_pool linked old_origins refl of there
+  row_comes later (PartialRow partial there) =
+      partial_stays pool next_pool linked old_origins refl partial there (λ base is. snapshot_bases base partial there is) (λ has. has) (λ has. has)
 
   pub snapshot_next : IsNext pool next_pool
   snapshot_next = record {
     number = refl;
-    origins = snapshot_origins;
-    names = λ name has. has;
-    bookmarks = refl;
+    origins = old_origins;
+    bookmarks = λ bookmark there. inl (there, λ has. has);
     snapshots = λ snapshot there. elim (new_or_old snapshot there) [
-      | inl e ↦ inr (sym (ap (λ s. s.number) e) ∙ new.number)
+      | inl e ↦ inr (sym (ap (λ s. s.number) e) ∙ new.number, (dataset, new.there, new.named ∙ ap dataset_of_snapshot e))
       | inr old ↦ inl old
     ];
     rows = λ later there. inl (row_comes later (row_cases next_pool later there));

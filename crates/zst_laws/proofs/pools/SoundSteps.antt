@@ -1,12 +1,15 @@
 -- Each command makes a sound pool of a sound pool, in which each source remembers what it did.
-use Rattle.std.proofs.Common.{◌≡◌, ◌⊎◌, inl, inr, ℕ, ◌+◌, ◌*◌, ◌<◌, List, [], ◌∷◌, Option, IfSome, Result, Ok, refl, subst, sym, arith}
+use Rattle.std.proofs.Common.{◌≡◌, ◌⊎◌, inl, inr, ℕ, ◌+◌, ◌*◌, ◌<◌, Bool, not, List, [], ◌∷◌, filter, Contains, bytes_eq, Option, IfSome, Result, Ok, refl, subst, sym, arith}
 use Rattle.std.proofs.lemmas.List.Elements.{All-contains}
+use Rattle.std.proofs.lemmas.List.Kept.{AllPairs-filter}
 use Rattle.zst_names.specs.Names.{dataset_of}
 use Rattle.zst_model.specs.fields.Guids.{IsGuidSet}
 use Rattle.zst_model.specs.declared.states.attr.ObjectHead.{ObjectHead}
 use Rattle.zst_model.specs.declared.pools.command.Command.{Command}
 use Rattle.zst_model.specs.declared.pools.command.Command.TheVariants as commands
 use Rattle.zst_model.specs.declared.refusals.faults.Quantity.TheVariants as quantities
+use Rattle.zst_model.specs.declared.refusals.named.Name.{Name}
+use Rattle.zst_model.specs.declared.refusals.named.Name.TheVariants as names
 use Rattle.zst_model.specs.declared.states.item.Change.TheVariants.{Free, Write}
 use Rattle.zst_model.specs.declared.states.item.Item.{Item}
 use Rattle.zst_model.specs.declared.states.item.Item.TheVariants.{FreeObjects, At}
@@ -15,20 +18,24 @@ use Rattle.zst_model.specs.states.State.{IsState, IsHead, IsBonus, IsSpill, numb
 use Rattle.zst_model.specs.states.Apply.{◌>>=◌}
 use Rattle.zst_model.specs.states.Dated.{DatedState, size_at, apply_all_dated}
 use Rattle.zst_model.specs.pools.Held.{Held}
-use Rattle.zst_model.specs.pools.Pool.{Pool, Dataset, IsKind, IsPool}
+use Rattle.zst_model.specs.pools.Pool.{Pool, Dataset, Snapshot, Bookmark, Partial, HasDataset, IsKind, IsPool}
 use Rattle.zst_model.specs.pools.Sound.{Sound}
-use Rattle.zst_model.specs.pools.Step.{Stepped, stepped, IsCommand, committed, with_head, in_numbers, in_indices, applied, filled, written, punched, on_head, with_dataset, with_snapshot, snapshot_of}
+use Rattle.zst_model.specs.pools.Step.{Stepped, stepped, IsCommand, committed, with_head, in_numbers, in_indices, applied, filled, written, punched, on_head, new_dataset, with_dataset, with_snapshot, snapshot_of, clone_of, with_clone, with_bookmark, with_rollback, with_destroyed}
 use Rattle.zst_laws.specs.Stepping.{StepsKeepSound}
 use Rattle.zst_laws.specs.Remembering.{SourceRemembers, StepsRemember}
 use Rattle.zst_laws.proofs.sends.Runs.{bind_ok, ok_inj}
 use Rattle.zst_laws.proofs.pools.Rows.{named_found, none_named, of_applying_ok, limited_ok, committed_ok, on_head_ok}
-use Rattle.zst_laws.proofs.pools.Accepted.{with_dataset_ok, with_snapshot_ok, read_keeps, list_keeps, list_objects_keeps}
+use Rattle.zst_laws.proofs.pools.Accepted.{with_dataset_ok, with_snapshot_ok, with_clone_ok, with_bookmark_ok, read_keeps, list_keeps, list_objects_keeps}
 use Rattle.zst_laws.proofs.pools.LawfulHeads.{number_from, object_items, object_items_are_lawful}
 use Rattle.zst_laws.proofs.histories.Agreement.{Keeps, keeps_one, keeps_all}
-use Rattle.zst_laws.proofs.pools.Descent.{IsNext, next_remembers}
+use Rattle.zst_laws.proofs.pools.Descent.{Rises, IsNext, next_remembers}
 use Rattle.zst_laws.proofs.pools.OtherDatasets.{KeepsDatasets, datasets_next, datasets_sound}
 use Rattle.zst_laws.proofs.pools.SoundHeads.{head_keeps}
-use Rattle.zst_laws.proofs.pools.SoundDatasets.{with_new, dataset_keeps}
+use Rattle.zst_laws.proofs.pools.SoundDatasets.{with_new, dataset_keeps, new_is_first, clone_comes}
+use Rattle.zst_laws.proofs.pools.SoundBookmarks.{bookmark_next, bookmark_sound}
+use Rattle.zst_laws.proofs.pools.SoundRest.{fewer_next, fewer_sound, left_next, left_sound, rolled_next, rolled_sound}
+use Rattle.zst_laws.proofs.pools.Filters.{filter_contains}
+use Rattle.zst_laws.proofs.pools.Departed.{with_rollback_ok, dataset_destroyed_ok, snapshot_destroyed_ok, bookmark_destroyed_ok}
 use Rattle.zst_laws.proofs.pools.SoundSnapshots.{IsNew, snapshot_next, snapshot_sound}
 
 -- a pool of the next commit that is sound
@@ -41,15 +48,72 @@ other_datasets : (pool : Pool) (datasets : List Dataset) (after : Stepped) → I
     → committed (record pool { datasets = datasets }) ≡ Ok after → IsSoundNext pool after.pool
 other_datasets pool datasets after is sound keeps made =
     subst (λ s. IsSoundNext pool s.pool) (committed_ok _ after made).1
-    (record { next = datasets_next pool datasets keeps; sound = datasets_sound pool datasets keeps is.linked sound })
+    (record { next = datasets_next pool datasets is.linked keeps; sound = datasets_sound pool datasets is.linked keeps sound })
 
 -- fs and volume
-new_follows : (kind : ℕ) (name : List ℕ) (pool : Pool) (after : Stepped) → IsPool pool → Sound pool → with_dataset kind name pool ≡ Ok after → IsSoundNext pool after.pool
+new_follows : (kind : ℕ) (name : List ℕ) (pool : Pool) (after : Stepped) → IsPool pool → Sound pool → with_dataset (new_dataset kind name) pool ≡ Ok after → IsSoundNext pool after.pool
 new_follows kind name pool after is sound h =
-    let new = with_dataset_ok kind name pool after h in
-    other_datasets pool (with_new kind name pool.datasets) after is sound
-    (dataset_keeps pool kind name (λ (d, there, named). none_named (λ d. d.name) name pool.datasets new.absent d there named)
-    (λ p there target. none_named (λ p. p.target) name pool.partials new.free p there target)) new.made
+    let row = new_dataset kind name in
+    let new = with_dataset_ok row pool after h in
+    let absent : HasDataset pool name → ⊥ = λ (d, there, named). none_named (λ d. d.name) name pool.datasets new.absent d there named in
+    let free : (p : Partial) → Contains pool.partials p → p.target ≡ name → ⊥ = none_named (λ p. p.target) name pool.partials new.free in
+    other_datasets pool (with_new row pool.datasets) after is sound
+    (dataset_keeps pool row is.linked absent free (new_is_first pool kind name is.linked absent free)) new.made
+
+-- a clone
+cloned_follows : (origin name : List ℕ) (pool : Pool) (after : Stepped) → IsPool pool → Sound pool → with_clone origin name pool ≡ Ok after → IsSoundNext pool after.pool
+cloned_follows origin name pool after is sound h =
+    let cloned = with_clone_ok origin name pool after h in
+    let row = clone_of name cloned.source cloned.snapshot in
+    let found = named_found (λ s. s.name) origin pool.snapshots cloned.snapshot cloned.there in
+    let absent : HasDataset pool name → ⊥ = λ (d, there, named). none_named (λ d. d.name) name pool.datasets cloned.new.absent d there named in
+    let free : (p : Partial) → Contains pool.partials p → p.target ≡ name → ⊥ = none_named (λ p. p.target) name pool.partials cloned.new.free in
+    other_datasets pool (with_new row pool.datasets) after is sound
+    (dataset_keeps pool row is.linked absent free (clone_comes pool name cloned.source cloned.snapshot is.named is.linked sound found.0 absent free)) cloned.new.made
+
+-- a bookmark
+marked_follows : (of name : List ℕ) (pool : Pool) (after : Stepped) → IsPool pool → Sound pool → with_bookmark of name pool ≡ Ok after → IsSoundNext pool after.pool
+marked_follows of name pool after is sound h =
+    let new = with_bookmark_ok of name pool after h in
+    let there = (named_found (λ s. s.name) of pool.snapshots new.snapshot new.there).0 in
+    subst (λ s. IsSoundNext pool s.pool) (committed_ok _ after new.made).1 (record {
+      next = bookmark_next pool name new.snapshot is.linked sound there new.same;
+      sound = bookmark_sound pool name new.snapshot is.linked sound there new.same;
+    })
+
+-- a rollback
+rolled_follows : (held : List Held) (destroys : Bool) (name : List ℕ) (pool : Pool) (after : Stepped) → IsPool pool → Sound pool
+    → with_rollback held destroys name pool ≡ Ok after → IsSoundNext pool after.pool
+rolled_follows held destroys name pool after is sound h =
+    let rolled = with_rollback_ok held destroys name pool after h in
+    let there = (named_found (λ s. s.name) name pool.snapshots rolled.snapshot rolled.there).0 in
+    subst (λ s. IsSoundNext pool s.pool) (committed_ok _ after rolled.made).1
+    (record { next = rolled_next pool rolled.snapshot is.linked sound there; sound = rolled_sound pool rolled.snapshot is.linked sound there })
+
+-- a destroy
+destroyed_follows : (held : List Held) (name : Name) (pool : Pool) (after : Stepped) → IsPool pool → Sound pool
+    → with_destroyed held name pool ≡ Ok after → IsSoundNext pool after.pool
+destroyed_follows held (names.Dataset name) pool after is sound h =
+    let gone = dataset_destroyed_ok held name pool after h in
+    subst (λ s. IsSoundNext pool s.pool) (committed_ok _ after gone.made).1
+    (record { next = left_next pool name is.linked sound gone.unused.such; sound = left_sound pool name is.linked sound gone.unused.such })
+destroyed_follows held (names.Snapshot name) pool after is sound h =
+    let gone = snapshot_destroyed_ok held name pool after h in
+    let stays = λ (s : Snapshot). not (bytes_eq s.name name) in
+    let some = filter_contains stays pool.snapshots in
+    let rise = AllPairs-filter Rises stays pool.snapshots sound.dated.rise in
+    subst (λ s. IsSoundNext pool s.pool) (committed_ok _ after gone.made).1 (record {
+      next = fewer_next pool (filter stays pool.snapshots) pool.bookmarks is.linked sound some rise (λ b there. there);
+      sound = fewer_sound pool (filter stays pool.snapshots) pool.bookmarks is.linked sound some rise (λ b there. there);
+    })
+destroyed_follows held (names.Bookmark name) pool after is sound h =
+    let gone = bookmark_destroyed_ok held name pool after h in
+    let stays = λ (b : Bookmark). not (bytes_eq b.name name) in
+    let some = filter_contains stays pool.bookmarks in
+    subst (λ s. IsSoundNext pool s.pool) (committed_ok _ after gone.made).1 (record {
+      next = fewer_next pool pool.snapshots (filter stays pool.bookmarks) is.linked sound (λ s there. there) sound.dated.rise some;
+      sound = fewer_sound pool pool.snapshots (filter stays pool.bookmarks) is.linked sound (λ s there. there) sound.dated.rise some;
+    })
 
 -- a snapshot
 taken_follows : (now : ℕ) (name : List ℕ) (pool : Pool) (after : Stepped) → IsPool pool → Sound pool → with_snapshot now name pool ≡ Ok after → IsSoundNext pool after.pool
@@ -134,6 +198,10 @@ steps_follow held now (commands.Punch name k first count) pool after command is 
 steps_follow held now (commands.Free name first count) pool after command is sound h =
     inr (changed_follows name pool (λ d. in_numbers (first + count) (applied pool (FreeObjects first count ∷ []) d)) after is sound (free_keeps pool first count) h)
 steps_follow held now (commands.Snapshot name) pool after command is sound h = inr (taken_follows now name pool after is sound h)
+steps_follow held now (commands.Clone origin name) pool after command is sound h = inr (cloned_follows origin name pool after is sound h)
+steps_follow held now (commands.Bookmark of name) pool after command is sound h = inr (marked_follows of name pool after is sound h)
+steps_follow held now (commands.Rollback destroys name) pool after command is sound h = inr (rolled_follows held destroys name pool after is sound h)
+steps_follow held now (commands.Destroy name) pool after command is sound h = inr (destroyed_follows held name pool after is sound h)
 steps_follow held now (commands.Read name k i) pool after command is sound h = inl (read_keeps held now name k i pool after h)
 steps_follow held now commands.List pool after command is sound h = inl (list_keeps held now pool after h)
 steps_follow held now (commands.ListObjects name) pool after command is sound h = inl (list_objects_keeps held now name pool after h)
@@ -145,7 +213,7 @@ steps_sound held now command pool after words is sound h = elim (steps_follow he
 ]
 
 pub steps_remember : StepsRemember
-steps_remember held now command pool after source state words is sound h here remembers = elim (steps_follow held now command pool after words is sound h) [
+steps_remember held now command pool after source state words is sound h here there remembers = elim (steps_follow held now command pool after words is sound h) [
   | inl same ↦ subst (λ p. SourceRemembers p source state) (sym same) remembers
-  | inr follows ↦ next_remembers pool after.pool is.linked sound follows.next source state here remembers
+  | inr follows ↦ next_remembers pool after.pool is.linked sound follows.next source state here there remembers
 ]

@@ -1,5 +1,5 @@
 -- What a source of a sound pool remembers, and that it is fit as a base.
-use Rattle.std.proofs.Common.{◌≡◌, inl, inr, ◌⊎◌, ℕ, ◌^◌, ◌<◌, List, [], ◌∷◌, Option, Some, None, AllPairs, Contains, refl, subst, sym, ◌∙◌, ap, arith}
+use Rattle.std.proofs.Common.{◌≡◌, inl, inr, ℕ, ◌^◌, ◌<◌, List, Option, Some, None, Contains, refl, subst, sym, ◌∙◌}
 use Rattle.std.proofs.lemmas.List.Elements.{All-contains}
 use Rattle.zst_model.specs.fields.Guids.{IsGuidSet}
 use Rattle.zst_model.specs.declared.pools.command.Command.TheVariants as commands
@@ -10,36 +10,17 @@ use Rattle.zst_model.specs.pools.Before.{Source, OfSnapshot, dataset_of_source, 
 use Rattle.zst_model.specs.pools.Rows.{Row}
 use Rattle.zst_model.specs.pools.Sound.{Agrees, Sound}
 use Rattle.zst_model.specs.pools.Step.{stepped, snapshot_of}
-use Rattle.zst_model.proofs.InsertedLaws.{contains_nothing, contains_cases, inserted_has_row, AllPairs-head, AllPairs-tail}
+use Rattle.zst_model.proofs.InsertedLaws.{inserted_has_row}
 use Rattle.zst_model.specs.sends.Target.{Remembers}
 use Rattle.zst_laws.specs.Remembering.{IsOwn, SourceRemembers, OwnIsRemembered, TakenRemembers, RememberedIsBase, SourcesAreBases, HistoryIsBase, Leads, Stays, Steps}
 use Rattle.zst_laws.proofs.histories.Dating.{remembered_itself}
 use Rattle.zst_laws.proofs.sends.More.{before_base}
 use Rattle.zst_laws.proofs.pools.Standing.{marks_dataset, marks_number}
-use Rattle.zst_laws.proofs.pools.Descent.{Rises, IsRow, SnapshotRow, HeadRow, PartialRow, row_cases}
+use Rattle.zst_laws.proofs.pools.Descent.{same_snapshot, IsRow, SnapshotRow, HeadRow, PartialRow, row_cases}
 use Rattle.zst_laws.proofs.pools.Accepted.{with_snapshot_ok}
 use Rattle.zst_laws.proofs.pools.Rows.{committed_ok}
 use Rattle.zst_laws.proofs.pools.SoundSteps.{steps_sound, steps_remember}
 use Rattle.zst_laws.proofs.pools.LawfulPools.{steps_keep_lawful}
-
--- snapshots that rise, are of one dataset and have one number are one
-same_snapshot : (snapshots : List Snapshot) → AllPairs Rises snapshots → (a b : Snapshot)
-    → Contains snapshots a → Contains snapshots b → dataset_of_snapshot a ≡ dataset_of_snapshot b → a.number ≡ b.number → a ≡ b
-same_snapshot [] rise a b here there of same = absurd (contains_nothing a here)
-same_snapshot (x ∷ xs) rise a b here there of same =
-    go (same_snapshot xs (AllPairs-tail Rises x xs rise) a b) (contains_cases x xs a here) (contains_cases x xs b there)
-  where
-    -- no snapshot behind the first has its dataset and number
-    behind : (c d : Snapshot) → x ≡ c → Contains xs d → dataset_of_snapshot c ≡ dataset_of_snapshot d → c.number ≡ d.number → ⊥
-    behind c d e k f n =
-        let less : x.number < d.number = All-contains (Rises x) xs d (AllPairs-head Rises x xs rise) k (ap dataset_of_snapshot e ∙ f) in
-        let m : x.number ≡ c.number = ap (λ s. s.number) e in omega arith
-
-    go : (Contains xs a → Contains xs b → dataset_of_snapshot a ≡ dataset_of_snapshot b → a.number ≡ b.number → a ≡ b) → (x ≡ a) ⊎ Contains xs a → (x ≡ b) ⊎ Contains xs b → a ≡ b
-    go rest (inl e) (inl f) = sym e ∙ f
-    go rest (inl e) (inr k) = absurd (behind a b e k of same)
-    go rest (inr k) (inl f) = absurd (behind b a f k (sym of) (sym same))
-    go rest (inr k) (inr l) = rest k l of same
 
 module _ (pool : Pool) (source : Source) (own : Snapshot) (sound : Sound pool) (there : Contains pool.snapshots own) (is : IsOwn source own) where
   one_own : (other : Snapshot) → Contains pool.snapshots other → dataset_of_source source ≡ dataset_of_snapshot other → number_of_source source ≡ other.number → own ≡ other
@@ -126,7 +107,7 @@ kept_on source state pool last (Steps held now command _ after _ words fits made
   lawful = steps_keep_lawful held now command pool after words fits kept.lawful made;
   sound = steps_sound held now command pool after words kept.lawful kept.sound made;
   here = here;
-  remembers = steps_remember held now command pool after source state words kept.lawful kept.sound made kept.here kept.remembers;
+  remembers = steps_remember held now command pool after source state words kept.lawful kept.sound made kept.here here kept.remembers;
 })
 
 pub history_base : HistoryIsBase

@@ -1,7 +1,7 @@
 -- What stands before what, from one pool to another.
 use Rattle.std.proofs.Common.{◌≡◌, inl, inr, ℕ, ◌<◌, ◌≤◌, List, Option, Some, None, All, Contains, ap, arith}
 use Rattle.std.proofs.lemmas.List.Elements.{All-contains}
-use Rattle.zst_model.specs.pools.Pool.{Pool, Snapshot, Partial, HasDataset, dataset_of_snapshot}
+use Rattle.zst_model.specs.pools.Pool.{Pool, Snapshot, Partial, HasDataset, IsLinked, dataset_of_snapshot}
 use Rattle.zst_model.specs.pools.Before.{IsOrigin, IsBase, Source, OfSnapshot, OfBookmark, dataset_of_source, number_of_source, Marks, StandsBefore, Earlier, AtOrigin, BeforeOrigin, IsBeforeClone, BaseCounts, IsBeforePartial}
 
 -- each origin of a pool is one of the other
@@ -16,30 +16,49 @@ stands_on pool other source h name bound (AtOrigin _ _ origin is marks) = AtOrig
 stands_on pool other source h name bound (BeforeOrigin _ _ origin is before) =
     BeforeOrigin name bound origin (h origin name is) (stands_on pool other source h (dataset_of_snapshot origin) (Some origin.number) before)
 
--- so it is with a partial state whose base is one of the other, and whose target is there in both or in neither
+-- each origin that a dataset of the old pool has in the new one is its origin there
+abbrev pub HasOldOrigins : Pool → Pool → Type 0
+HasOldOrigins old new = (origin : Snapshot) (name : List ℕ) → HasDataset old name → IsOrigin new origin name → IsOrigin old origin name
+
+-- then what stands before one of these datasets in the new pool did so in the old one
+pub stood_before : (old new : Pool) (source : Source) → IsLinked old → HasOldOrigins old new → (name : List ℕ) (bound : Option ℕ)
+    → HasDataset old name → StandsBefore new source name bound → StandsBefore old source name bound
+stood_before old new source linked h name bound has (Earlier _ _ same below) = Earlier name bound same below
+stood_before old new source linked h name bound has (AtOrigin _ _ origin is marks) = AtOrigin name bound origin (h origin name has is) marks
+stood_before old new source linked h name bound has (BeforeOrigin _ _ origin is before) =
+    let was = h origin name has is in
+    let of = All-contains (λ s. HasDataset old (dataset_of_snapshot s)) old.snapshots origin linked.snapshots was.snapshot_there in
+    BeforeOrigin name bound origin was (stood_before old new source linked h (dataset_of_snapshot origin) (Some origin.number) of before)
+
+-- a partial state whose base is one of the other pool, and whose target is there in both or in neither: what stands before these in the
+-- pool does so in the other
 pub record IsAlike (other pool : Pool) (partial : Partial) : Type 0 where
-  pub origins : HasOrigins other pool
   pub bases : (base : Snapshot) → IsBase pool base partial → IsBase other base partial
   pub target : HasDataset pool partial.target → HasDataset other partial.target
   pub target_back : HasDataset other partial.target → HasDataset pool partial.target
+  pub before_target : (source : Source) → HasDataset other partial.target → StandsBefore pool source partial.target None → StandsBefore other source partial.target None
+  pub before_base : (source : Source) (base : Snapshot) → IsBase other base partial
+      → StandsBefore pool source (dataset_of_snapshot base) (Some base.number) → StandsBefore other source (dataset_of_snapshot base) (Some base.number)
 
 base_counts_on : (pool other : Pool) (source : Source) (partial : Partial) → IsAlike other pool partial → BaseCounts pool source partial → BaseCounts other source partial
 base_counts_on pool other (OfSnapshot snapshot) partial alike counts = tt
 base_counts_on pool other (OfBookmark bookmark) partial alike counts = λ has. counts (alike.target_back has)
 
 before_clone_on : (pool other : Pool) (source : Source) (partial : Partial) → IsAlike other pool partial → IsBeforeClone pool source partial → IsBeforeClone other source partial
-before_clone_on pool other source partial alike clone = record {
-  base = clone.base;
-  is_base = alike.bases clone.base clone.is_base;
-  before = elim clone.before [
-    | inl marks ↦ inl marks
-    | inr before ↦ inr (stands_on pool other source alike.origins (dataset_of_snapshot clone.base) (Some clone.base.number) before)
-  ];
-}
+before_clone_on pool other source partial alike clone =
+    let is = alike.bases clone.base clone.is_base in record {
+      base = clone.base;
+      is_base = is;
+      before = elim clone.before [
+        | inl marks ↦ inl marks
+        | inr before ↦ inr (alike.before_base source clone.base is before)
+      ];
+    }
 
+-- then what stands before the partial state in the pool does so in the other
 pub before_partial_on : (pool other : Pool) (source : Source) (partial : Partial) → IsAlike other pool partial → IsBeforePartial pool source partial → IsBeforePartial other source partial
 before_partial_on pool other source partial alike (inl h) =
-    inl (record { target = alike.target h.target; before = stands_on pool other source alike.origins partial.target None h.before })
+    let there = alike.target h.target in inl (record { target = there; before = alike.before_target source there h.before })
 before_partial_on pool other source partial alike (inr h) =
     inr (base_counts_on pool other source partial alike h.0, before_clone_on pool other source partial alike h.1)
 

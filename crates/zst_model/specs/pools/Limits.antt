@@ -14,6 +14,13 @@ most_datasets = 256
 unfoldable pub most_snapshots : ℕ
 most_snapshots = 1024
 
+unfoldable pub most_bookmarks : ℕ
+most_bookmarks = 1024
+
+-- and its partial states at most this
+unfoldable pub most_partials : ℕ
+most_partials = 16
+
 -- the most bytes that a command writes
 abbrev pub largest_write : ℕ
 largest_write = 2 ^ 20

@@ -1,7 +1,7 @@
 use crate::fields::bytes::Bytes;
 use crate::refusals::named::Name;
 use crate::states::attr::ObjectHead;
-use zst_names::{DatasetName, SnapName};
+use zst_names::{BookName, DatasetName, SnapName};
 
 /// A command on a pool, with the words that it was given.
 #[derive(Drop)]
@@ -46,6 +46,26 @@ pub enum Command {
     /// Takes a snapshot of a dataset's head.
     Snapshot {
         name: SnapName,
+    },
+    /// Makes a dataset whose head is this snapshot's (zfs-clone(8)).
+    Clone {
+        origin: SnapName,
+        dataset: DatasetName,
+    },
+    /// Keeps the place of a snapshot, without its objects (zfs-bookmark(8)).
+    Bookmark {
+        snapshot: SnapName,
+        bookmark: BookName,
+    },
+    /// Takes a dataset's head back to a snapshot (zfs-rollback(8)).
+    Rollback {
+        /// Whether the snapshots and bookmarks that are newer are destroyed (`-r`).
+        destroys: bool,
+        snapshot: SnapName,
+    },
+    /// Destroys a dataset with its snapshots and bookmarks, a snapshot, or a bookmark (zfs-destroy(8)).
+    Destroy {
+        name: Name,
     },
     /// Reads one block of a dataset's head or of a snapshot.
     Read {
