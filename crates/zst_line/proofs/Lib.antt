@@ -1,9 +1,13 @@
-pub mod Judged
-mod FirstWords
+pub mod FirstWords
+pub mod Halves
+pub mod InTurn
+pub mod LastWords
+pub mod NamesAtPlaces
+pub mod Numbers
 pub mod OneAnswer
-pub mod Places
-pub mod Said
-mod SameLine
-pub mod Shapes
+pub mod OptionByOption
+pub mod OptionPlaces
+pub mod SameLine
 pub mod Sizes
 pub mod Spills
+pub mod Texts

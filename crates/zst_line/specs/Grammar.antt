@@ -1,78 +1,60 @@
--- Which words may stand where in a command line, and the place of the first that can't.
-use Rattle.std.specs.Prelude.{◌≡◌, ◌≢◌, ◌⊎◌, ℕ, ◌+◌, ◌-◌, ◌/◌, ◌%◌, ◌^◌, ◌<◌, ◌≤◌, true, List, [], ◌∷◌, ◌++◌, length, slice_index, slice_index_or, codes, decimal}
-use Rattle.std.specs.List.{AllPass, AllZip, Contains}
-use Rattle.hex.specs.Hex.{is_hex_digit}
-use Rattle.zst_names.specs.Names.{IsDataset, IsSnapshot, StopsAt}
-use Rattle.zst_model.specs.states.State.{is_block_size, is_spill_size, largest_bonus}
+-- The lines, and which words may stand where in them.
+use Rattle.std.specs.Prelude.{ℕ, ◌-◌, ◌^◌, min, max, Bool, true, false, if◌then◌else◌, nat_lt, bytes_eq, Option, Some, None, List, [], ◌∷◌, ◌++◌, length, take, slice_index_or, replicate, codes}
+use Rattle.std.specs.List.{list_any}
 use Rattle.zst_model.specs.pools.Limits.{largest_write}
 use Rattle.zst_line.specs.declared.kind.Kind.{Kind}
-use Rattle.zst_line.specs.declared.kind.Kind.TheVariants.{Dump, Create, Fs, Volume, Object, Write, Punch, Free, Snapshot}
+use Rattle.zst_line.specs.declared.kind.Kind.TheVariants as kinds
+use Rattle.zst_line.specs.declared.named.Names.{Names}
+use Rattle.zst_line.specs.declared.options.Taking.{Taking}
+use Rattle.zst_line.specs.declared.options.Taking.TheVariants.{Nothing, NameOf}
 use Rattle.zst_line.specs.declared.slot.Slot.{Slot}
-use Rattle.zst_line.specs.declared.slot.Slot.TheVariants.{Image, DatasetName, SnapshotName, Number, BlockSize, Bonus, Spill, HexBytes}
-
--- a word that begins with `-`, as options do
-abbrev pub IsOption : List ℕ → Type 0
-IsOption word = slice_index word 0 ≡ 45
-
--- bytes in hexadecimal, two digits a byte: so many at least and at most
-pub record IsHex (least most : ℕ) (word : List ℕ) : Type 0 where
-  pub even : length word % 2 ≡ 0
-  pub enough : least ≤ length word / 2
-  pub room : length word / 2 ≤ most
-  pub digits : AllPass is_hex_digit word
-
--- a number in decimal, from the first to the second
-pub record IsNumber (low high : ℕ) (word : List ℕ) : Type 0 where
-  pub number : ℕ
-  pub spelled : word ≡ decimal number
-  pub least : low ≤ number
-  pub most : number ≤ high
-
--- a block size in decimal
-pub record IsSize (word : List ℕ) : Type 0 where
-  pub size : ℕ
-  pub spelled : word ≡ decimal size
-  pub block : is_block_size size ≡ true
-
--- a spill block: its size, `:`, and its first bytes in hexadecimal; zeros follow
-pub record IsSpill (word : List ℕ) : Type 0 where
-  pub size : ℕ
-  pub bytes : List ℕ
-  pub spelled : word ≡ decimal size ++ 58 ∷ bytes
-  pub block : is_spill_size size ≡ true
-  pub digits : IsHex 0 size bytes
-
--- a word that may stand at a place: `@` makes a name a snapshot's, `#` alone a bookmark's, and whether it is a name is judged after all places
-abbrev pub Fits : Slot → List ℕ → Type 0
-Fits Image word = (0 < length word) × ¬ (IsOption word)
-Fits DatasetName word = ¬ (IsOption word) × ¬ (Contains word 64) × ¬ (Contains word 35)
-Fits SnapshotName word = ¬ (IsOption word) × Contains word 64
-Fits (Number low high) word = IsNumber low high word
-Fits BlockSize word = IsSize word
-Fits Bonus word = (word ≡ codes "none") ⊎ IsHex 1 largest_bonus word
-Fits Spill word = (word ≡ codes "none") ⊎ IsSpill word
-Fits (HexBytes most) word = IsHex 1 most word
-
--- the word at a place, counted from 0
-abbrev pub word_at : List (List ℕ) → ℕ → List ℕ
-word_at words place = slice_index_or words place []
-
--- there is a word at the place, and it is a number of 64 bits
-pub record IsNumberAt (words : List (List ℕ)) (place : ℕ) : Type 0 where
-  pub there : place < length words
-  pub fits : IsNumber 0 (2 ^ 64 - 1) (word_at words place)
+use Rattle.zst_line.specs.declared.slot.Slot.TheVariants.{Image, Token, Name, Number, BlockSize, Bonus, Spill, HexBytes, Given}
 
 -- the first word of a line
 abbrev pub word_of : Kind → List ℕ
-word_of Dump = codes "dump"
-word_of Create = codes "create"
-word_of Fs = codes "fs"
-word_of Volume = codes "volume"
-word_of Object = codes "object"
-word_of Write = codes "write"
-word_of Punch = codes "punch"
-word_of Free = codes "free"
-word_of Snapshot = codes "snapshot"
+word_of kinds.Dump = codes "dump"
+word_of kinds.Create = codes "create"
+word_of kinds.Fs = codes "fs"
+word_of kinds.Volume = codes "volume"
+word_of kinds.Object = codes "object"
+word_of kinds.Write = codes "write"
+word_of kinds.Punch = codes "punch"
+word_of kinds.Free = codes "free"
+word_of kinds.Read = codes "read"
+word_of kinds.List = codes "list"
+word_of kinds.Snapshot = codes "snapshot"
+word_of kinds.Clone = codes "clone"
+word_of kinds.Bookmark = codes "bookmark"
+word_of kinds.Rollback = codes "rollback"
+word_of kinds.Destroy = codes "destroy"
+word_of kinds.Redact = codes "redact"
+word_of kinds.Send = codes "send"
+word_of kinds.Receive = codes "receive"
+word_of kinds.Abort = codes "abort"
+word_of kinds.Token = codes "token"
+word_of kinds.Check = codes "check"
+word_of kinds.Gen = codes "gen"
+word_of kinds.Reclaim = codes "reclaim"
+word_of kinds.Replay = codes "replay"
+
+-- the places of names, by the kinds of names that they take
+abbrev pub dataset : Names
+dataset = record { datasets = true; snapshots = false; bookmarks = false }
+
+abbrev pub snapshot : Names
+snapshot = record { datasets = false; snapshots = true; bookmarks = false }
+
+abbrev pub bookmark : Names
+bookmark = record { datasets = false; snapshots = false; bookmarks = true }
+
+abbrev pub dataset_or_snapshot : Names
+dataset_or_snapshot = record { datasets = true; snapshots = true; bookmarks = false }
+
+abbrev pub snapshot_or_bookmark : Names
+snapshot_or_bookmark = record { datasets = false; snapshots = true; bookmarks = true }
+
+abbrev pub any_name : Names
+any_name = record { datasets = true; snapshots = true; bookmarks = true }
 
 -- a number of 64 bits that isn't 0, and any number of 64 bits
 abbrev pub count : Slot
@@ -81,74 +63,97 @@ count = Number 1 (2 ^ 64 - 1)
 abbrev pub index : Slot
 index = Number 0 (2 ^ 64 - 1)
 
--- the places behind the first word
-abbrev pub slots_of : Kind → List Slot
-slots_of Dump = []
-slots_of Create = Image ∷ Number 128 (2 ^ 31) ∷ Number 1 (2 ^ 31 - 1) ∷ []
-slots_of Fs = Image ∷ DatasetName ∷ []
-slots_of Volume = Image ∷ DatasetName ∷ []
-slots_of Object = Image ∷ DatasetName ∷ count ∷ Number 1 (2 ^ 32 - 1) ∷ BlockSize ∷ Number 0 (2 ^ 32 - 1) ∷ Bonus ∷ Spill ∷ []
-slots_of Write = Image ∷ DatasetName ∷ count ∷ index ∷ HexBytes largest_write ∷ []
-slots_of Punch = Image ∷ DatasetName ∷ count ∷ index ∷ count ∷ []
-slots_of Free = Image ∷ DatasetName ∷ count ∷ count ∷ []
-slots_of Snapshot = Image ∷ SnapshotName ∷ []
+-- the places of the named words of a line, of which so many stand; `list` may have a name, and the last snapshots of `redact` aren't here
+abbrev pub front : Kind → ℕ → List Slot
+front kinds.Dump words = []
+front kinds.Create words = Image ∷ Number 128 (2 ^ 31) ∷ Number 1 (2 ^ 31 - 1) ∷ []
+front kinds.Fs words = Image ∷ Name dataset ∷ []
+front kinds.Volume words = Image ∷ Name dataset ∷ []
+front kinds.Object words = Image ∷ Name dataset ∷ count ∷ Number 1 (2 ^ 32 - 1) ∷ BlockSize ∷ Number 0 (2 ^ 32 - 1) ∷ Bonus ∷ Spill ∷ []
+front kinds.Write words = Image ∷ Name dataset ∷ count ∷ index ∷ HexBytes largest_write ∷ []
+front kinds.Punch words = Image ∷ Name dataset ∷ count ∷ index ∷ count ∷ []
+front kinds.Free words = Image ∷ Name dataset ∷ count ∷ count ∷ []
+front kinds.Read words = Image ∷ Name dataset_or_snapshot ∷ count ∷ index ∷ []
+front kinds.List words = if nat_lt words 2 then Image ∷ [] else Image ∷ Name dataset_or_snapshot ∷ []
+front kinds.Snapshot words = Image ∷ Name snapshot ∷ []
+front kinds.Clone words = Image ∷ Name snapshot ∷ Name dataset ∷ []
+front kinds.Bookmark words = Image ∷ Name snapshot ∷ Name bookmark ∷ []
+front kinds.Rollback words = Image ∷ Name snapshot ∷ []
+front kinds.Destroy words = Image ∷ Name any_name ∷ []
+front kinds.Redact words = Image ∷ Name snapshot ∷ Name bookmark ∷ []
+front kinds.Send words = Image ∷ Name snapshot ∷ []
+front kinds.Receive words = Image ∷ Name dataset_or_snapshot ∷ []
+front kinds.Abort words = Image ∷ Name dataset ∷ []
+front kinds.Token words = Image ∷ Name dataset ∷ []
+front kinds.Check words = Image ∷ []
+front kinds.Gen words = Image ∷ Number 1 64 ∷ []
+front kinds.Reclaim words = Image ∷ []
+front kinds.Replay words = Image ∷ Image ∷ []
 
--- the place of the first word that can't stand there, counted from a place on: one that doesn't fit, one too many, or the count of words where one is missing
-abbrev pub Stops : ℕ → List Slot → List (List ℕ) → ℕ → Type 0
-Stops place [] [] at = ⊥
-Stops place [] (word ∷ words) at = at ≡ place
-Stops place (slot ∷ slots) [] at = at ≡ place
-Stops place (slot ∷ slots) (word ∷ words) at = (¬ (Fits slot word) × (at ≡ place)) ⊎ (Fits slot word × Stops (place + 1) slots words at)
+-- how many snapshots stand at the end of `redact`: one to sixteen
+abbrev pub last_snapshots : Kind → ℕ → ℕ
+last_snapshots kinds.Redact words = max 1 (min 16 (words - 3))
+last_snapshots kind words = 0
 
--- a word is a name where one has to stand
-abbrev pub IsNameFor : Slot → List ℕ → Type 0
-IsNameFor DatasetName word = IsDataset word
-IsNameFor SnapshotName word = IsSnapshot word
-IsNameFor slot word = Unit {0}
+-- the places of the named words of a line, of which so many stand
+abbrev pub named : Kind → ℕ → List Slot
+named kind words = front kind words ++ replicate (last_snapshots kind words) (Name snapshot)
 
--- where a word stops being the name that has to stand there
-abbrev pub NameStopsAt : Slot → List ℕ → ℕ → Type 0
-NameStopsAt DatasetName word at = StopsAt IsDataset word at
-NameStopsAt SnapshotName word at = StopsAt IsSnapshot word at
-NameStopsAt slot word at = ⊥
+-- the word at a place, counted from 0
+abbrev pub word_at : List (List ℕ) → ℕ → List ℕ
+word_at words place = slice_index_or words place []
 
--- where the first word that has to be a name and is none stops being one
-abbrev pub NameStops : List Slot → List (List ℕ) → ℕ → Type 0
-NameStops [] words at = ⊥
-NameStops (slot ∷ slots) [] at = ⊥
-NameStops (slot ∷ slots) (word ∷ words) at = NameStopsAt slot word at ⊎ (IsNameFor slot word × NameStops slots words at)
+-- what the option of a line takes that a word is
+abbrev pub option_of : Kind → List ℕ → Option Taking
+option_of kinds.Rollback word = if bytes_eq word (codes "-r") then Some Nothing else None
+option_of kinds.Send word = if bytes_eq word (codes "-i") then Some (NameOf snapshot_or_bookmark) else (if bytes_eq word (codes "--redact") then Some (NameOf bookmark) else None)
+option_of kinds.Receive word =
+    if bytes_eq word (codes "-s") then Some Nothing
+    else (if bytes_eq word (codes "-F") then Some Nothing
+    else (if bytes_eq word (codes "--origin") then Some (NameOf snapshot)
+    else None))
+option_of kind word = None
 
--- a bonus or a spill block
-abbrev pub IsUnbuilt : Slot → List ℕ → Type 0
-IsUnbuilt Bonus word = word ≢ codes "none"
-IsUnbuilt Spill word = word ≢ codes "none"
-IsUnbuilt slot word = ⊥
+-- whether a word stands among these
+abbrev pub stands_in : List (List ℕ) → List ℕ → Bool
+stands_in words word = list_any (λ other. bytes_eq other word) words
 
--- some word is a bonus or a spill block, which no line takes yet
-abbrev pub HasUnbuilt : List Slot → List (List ℕ) → Type 0
-HasUnbuilt [] words = ⊥
-HasUnbuilt (slot ∷ slots) [] = ⊥
-HasUnbuilt (slot ∷ slots) (word ∷ words) = IsUnbuilt slot word ⊎ HasUnbuilt slots words
+-- what the option takes that a word is, unless it stands among the words before
+abbrev pub new_option : Kind → List (List ℕ) → List ℕ → Option Taking
+new_option kind before word = elim (option_of kind word) [
+  | None ↦ None
+  | Some taking ↦ if stands_in before word then None else Some taking
+]
 
--- words whose first names a line; the others and their places have this fact
-pub record OfLine (Fact : List Slot → List (List ℕ) → Type 0) (words : List (List ℕ)) : Type 0 where
-  pub kind : Kind
-  pub rest : List (List ℕ)
-  pub spelled : words ≡ word_of kind ∷ rest
-  pub fact : Fact (slots_of kind) rest
+-- the same of the word at a place, counted from 0
+abbrev pub option_at : Kind → List (List ℕ) → ℕ → Option Taking
+option_at kind words place = if nat_lt place (length words) then new_option kind (take place words) (word_at words place) else None
 
--- E1: there is no first word or it names no line, or the place of the first of the others that can't stand there
-abbrev pub UsageAt : List (List ℕ) → ℕ → Type 0
-UsageAt words at = (((kind : Kind) (rest : List (List ℕ)) → words ≢ word_of kind ∷ rest) × (at ≡ 0)) ⊎ OfLine (λ slots rest. Stops 1 slots rest at) words
+-- the place of an option's value, where it takes one
+abbrev pub value_of : Taking → Option Slot
+value_of Nothing = None
+value_of (NameOf names) = Some (Name names)
 
--- E2: each word can stand where it is, and the first name that is none stops there
-abbrev pub BadNameAt : List (List ℕ) → ℕ → Type 0
-BadNameAt words at = OfLine (λ slots rest. AllZip Fits slots rest × NameStops slots rest at) words
+-- the places of an option: its own, and that of its value
+abbrev pub option_places : Taking → List Slot
+option_places Nothing = Given ∷ []
+option_places (NameOf names) = Given ∷ Name names ∷ []
 
--- E19: each word can stand where it is and each name is one, and there is a bonus or a spill block
-abbrev pub IsUnbuiltLine : List (List ℕ) → Type 0
-IsUnbuiltLine words = OfLine (λ slots rest. AllZip Fits slots rest × AllZip IsNameFor slots rest × HasUnbuilt slots rest) words
+-- The places of the words behind those before, the first of them perhaps an option's value. Options come in any order, each once and with its value behind it; then come the named words.
+abbrev pub places_behind : Kind → List (List ℕ) → Option Slot → List (List ℕ) → List Slot
+places_behind kind before (Some value) [] = value ∷ named kind 0
+places_behind kind before (Some value) (word ∷ words) = value ∷ places_behind kind (before ++ word ∷ []) None words
+places_behind kind before None [] = named kind 0
+places_behind kind before None (word ∷ words) = elim (new_option kind before word) [
+  | None ↦ named kind (length (word ∷ words))
+  | Some taking ↦ Given ∷ places_behind kind (before ++ word ∷ []) (value_of taking) words
+]
 
--- a line that can be run
-abbrev pub IsLine : List (List ℕ) → Type 0
-IsLine words = OfLine (λ slots rest. AllZip Fits slots rest × AllZip IsNameFor slots rest × ¬ (HasUnbuilt slots rest)) words
+-- `-t` directly behind `send`: a stream goes on from a token
+abbrev pub goes_on : Kind → List (List ℕ) → Bool
+goes_on kinds.Send words = bytes_eq (word_at words 0) (codes "-t")
+goes_on kind words = false
+
+-- the places of the words behind the first one
+abbrev pub places_of : Kind → List (List ℕ) → List Slot
+places_of kind words = if goes_on kind words then Given ∷ Token ∷ Image ∷ [] else places_behind kind [] None words

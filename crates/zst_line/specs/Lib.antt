@@ -1,2 +1,5 @@
 pub mod Grammar
+pub mod Judged
 pub mod Lines
+pub mod Named
+pub mod Words

@@ -1,25 +1,91 @@
-use zst_model::{Command, Lack, PlanFault, Refusal};
+use crate::snapshots::Snapshots;
+use crate::text::Text;
+use std::alloc::AllocError;
+use zst_model::{Command, Name, PlanFault, Refusal};
+use zst_names::{BookName, DatasetName, SnapName};
 
-/// What a command line asks for. The image that it names is opened before it is run.
+/// What a command line asks for, with the images that it names.
 #[derive(Drop)]
 pub enum Line {
     /// Prints a stream, record by record.
     Dump,
     /// Makes a pool of so many sectors, 128 to 2^31, with this id, 1 to 2^31 - 1.
-    Create { sectors: u64, id: u32 },
+    Create {
+        image: Text,
+        sectors: u64,
+        id: u32,
+    },
     /// A command on a pool.
-    Step(Command),
+    Step {
+        image: Text,
+        command: Command,
+    },
+    /// Makes a bookmark that keeps what these snapshots have of another (zfs-redact(8)).
+    Redact {
+        image: Text,
+        snapshot: SnapName,
+        bookmark: BookName,
+        kept: Snapshots,
+    },
+    /// Sends a snapshot, whole or from another one or a bookmark, and redacted where a bookmark says so (zfs-send(8)).
+    Send {
+        image: Text,
+        from: Option<Name>,
+        redacts: Option<BookName>,
+        snapshot: SnapName,
+    },
+    /// Sends what a token says is still to be sent.
+    Resume {
+        image: Text,
+        token: Text,
+    },
+    /// Receives a stream (zfs-receive(8)).
+    Receive {
+        image: Text,
+        /// Whether what has come is kept where the stream is cut (`-s`).
+        keeps: bool,
+        /// Whether the head goes back to its latest snapshot first (`-F`).
+        forces: bool,
+        origin: Option<SnapName>,
+        target: Name,
+    },
+    /// Drops the partial state of a dataset.
+    Abort {
+        image: Text,
+        dataset: DatasetName,
+    },
+    /// Tells the token of a dataset's partial state.
+    Token {
+        image: Text,
+        dataset: DatasetName,
+    },
+    /// Looks for blocks that are newer than what points to them.
+    Check {
+        image: Text,
+    },
+    /// Makes a pool's content for trials, of 1 to 64 steps.
+    Gen {
+        image: Text,
+        steps: u64,
+    },
+    /// Finds the extents that nothing reaches, and frees them.
+    Reclaim {
+        image: Text,
+    },
+    /// Runs a script of events on two images.
+    Replay {
+        here: Text,
+        there: Text,
+    },
 }
 
-/// Why words aren't a line that can be run.
+/// Why words aren't a line.
 #[derive(Clone, Copy, Debug, PartialEq, Eq)]
 pub enum LineFault {
     /// E1: the first word that can't stand where it is, counted from 0, or the count of words where one is missing.
     Usage { place: u64 },
     /// E2: the byte at which a name stops being one.
     BadName { place: u64 },
-    /// E19: a bonus or a spill block, which no line takes yet.
-    NotBuilt,
     /// E32: no memory was left.
     Memory,
 }
@@ -34,8 +100,18 @@ impl From<LineFault> for Refusal {
         match fault {
             LineFault::Usage { place } => Refusal::Usage { place },
             LineFault::BadName { place } => Refusal::Plan(PlanFault::BadName { place }),
-            LineFault::NotBuilt => Refusal::Plan(PlanFault::Unsupported(Lack::NotBuilt)),
             LineFault::Memory => Refusal::OutOfMemory,
         }
+    }
+}
+
+impl From<AllocError> for LineFault {
+    ghost use Rattle.std.specs.Prelude.{◌≡◌};
+    ghost use Rattle.zst_line.specs.declared.line.LineFault.TheVariants.{Memory};
+
+    ghost from_gives = { λ error fault. fault ≡ Memory };
+
+    fn from(_: AllocError) -> LineFault {
+        LineFault::Memory
     }
 }

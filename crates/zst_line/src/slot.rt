@@ -1,8 +1,11 @@
-ghost use Rattle.std.specs.Prelude.{◌≡◌, ◌↔◌, IsTrue, codes};
-ghost use Rattle.std.specs.List.{AllPass, Contains};
+ghost use Rattle.std.specs.Prelude.{◌≡◌, ◌↔◌, IsTrue, MatchOption, codes};
+ghost use Rattle.std.specs.List.{AllPass};
 ghost use Rattle.hex.specs.Hex.{is_hex_digit};
-ghost use Rattle.zst_line.specs.Grammar.{IsOption, IsHex, IsNumber, IsSize, IsSpill, Fits};
+ghost use Rattle.zst_line.specs.Words.{IsOption, IsText, IsHex, IsNumber, IsSize, IsSpill};
+ghost use Rattle.zst_line.specs.Named.{FitsName};
+ghost use Rattle.zst_line.specs.Judged.{Fits, IsNameFor, NameStopsAt};
 
+use crate::named::{Names, kind_of_name, stop_of};
 use zst_bytes::decimal;
 use zst_model::limits::{LARGEST_BONUS, is_block_size, is_spill_size};
 
@@ -14,8 +17,10 @@ const NONE: &str = "none";
 pub enum Slot {
     /// The path of an image.
     Image,
-    DatasetName,
-    SnapshotName,
+    /// What a stream goes on from.
+    Token,
+    /// A name of one of these kinds.
+    Name(Names),
     /// A number in decimal, both bounds included.
     Number { low: u64, high: u64 },
     /// The size of a block, in bytes.
@@ -26,6 +31,8 @@ pub enum Slot {
     Spill,
     /// At least one byte and at most so many, in hexadecimal.
     HexBytes { most: u64 },
+    /// The word of an option, which was read as one.
+    Given,
 }
 
 /// Whether a word begins as an option does.
@@ -33,6 +40,12 @@ fn is_option(word: &str) -> bool
     ensures { IsTrue result ↔ IsOption word.now }
 {
     word.starts_with('-')
+}
+
+fn is_text(word: &str) -> bool
+    ensures { IsTrue result ↔ IsText word.now }
+{
+    !word.is_empty() && !is_option(word)
 }
 
 fn is_digit(byte: u8) -> bool
@@ -45,12 +58,6 @@ fn are_digits(text: &[u8]) -> bool
     ensures { IsTrue result ↔ AllPass is_hex_digit text.now }
 {
     text.iter().all(|byte| is_digit(*byte))
-}
-
-fn has_byte(word: &str, byte: u8) -> bool
-    ensures { IsTrue result ↔ Contains word.now byte }
-{
-    word.as_bytes().contains(&byte)
 }
 
 /// Whether a word says that there is no bonus, or no spill block.
@@ -102,18 +109,35 @@ fn is_spill(word: &str) -> bool
     }
 }
 
+/// Whether a word is read as a name that may stand there. Whether it is one isn't asked.
+fn fits_name(names: Names, word: &str) -> bool
+    ensures { IsTrue result ↔ FitsName names word.now }
+{
+    !is_option(word) && names.takes(kind_of_name(word))
+}
+
 /// Whether a word may stand at a place. Whether a name is one isn't asked.
 pub fn fits(slot: Slot, word: &str) -> bool
     ensures { IsTrue result ↔ Fits slot word.now }
 {
     match slot {
-        Slot::Image => !word.is_empty() && !is_option(word),
-        Slot::DatasetName => !is_option(word) && !has_byte(word, b'@') && !has_byte(word, b'#'),
-        Slot::SnapshotName => !is_option(word) && has_byte(word, b'@'),
+        Slot::Image | Slot::Token => is_text(word),
+        Slot::Name(names) => fits_name(names, word),
         Slot::Number { low, high } => is_number(word, low, high),
         Slot::BlockSize => is_size(word),
         Slot::Bonus => is_none(word) || is_hex(word, 1, u64::from(LARGEST_BONUS)),
         Slot::Spill => is_none(word) || is_spill(word),
         Slot::HexBytes { most } => is_hex(word, 1, most),
+        Slot::Given => true,
+    }
+}
+
+/// The byte at which a word stops being the name that has to stand at a place, or None where it is one or none has to.
+pub fn name_stop(slot: Slot, word: &str) -> Option<u64>
+    ensures { MatchOption result (IsNameFor slot word.now) (λ at. NameStopsAt slot word.now at) }
+{
+    match slot {
+        Slot::Name(_) => stop_of(word),
+        _ => None,
     }
 }

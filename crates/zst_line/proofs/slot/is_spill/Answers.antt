@@ -1,7 +1,7 @@
 use Rattle.std.proofs.Common.{◌≡◌, Some, decimal, sym, ◌∙◌, arith, lit<}
 use Rattle.std.proofs.lemmas.Bool.{false≢true}
 use Rattle.std.proofs.lemmas.Str.Pattern.{split_parts}
-use Rattle.zst_line.specs.Grammar.{IsHex}
+use Rattle.zst_line.specs.Words.{IsHex}
 use Rattle.zst_line.proofs.Sizes.{spill_size_below}
 use Rattle.zst_line.proofs.Spills.{spill_halves, no_halves}
 use Rattle.zst_line.proofs.slot.is_spill.Goals as goal

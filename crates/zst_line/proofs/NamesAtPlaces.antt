@@ -1,0 +1,19 @@
+-- A word in the place of a dataset's or a snapshot's name is a name that has objects.
+use Rattle.std.proofs.Common.{◌≡◌, ℕ, true, List}
+use Rattle.std.proofs.lemmas.Bool.{false≢true}
+use Rattle.zst_model.specs.pools.Step.{HasObjects}
+use Rattle.zst_line.specs.declared.named.NameKind.{NameKind}
+use Rattle.zst_line.specs.declared.named.NameKind.TheVariants as kinds
+use Rattle.zst_line.specs.declared.slot.Slot.TheVariants as slots
+use Rattle.zst_line.specs.Grammar.{dataset_or_snapshot}
+use Rattle.zst_line.specs.Judged.{Takes}
+use Rattle.zst_line.specs.Lines.{as_name, name_of}
+use Rattle.zst_line.specs.Named.{IsNameOf, kind_of_name, takes}
+
+of_kind : (kind : NameKind) (word : List ℕ) → takes dataset_or_snapshot kind ≡ true → IsNameOf kind word → HasObjects (as_name kind word)
+of_kind kinds.Dataset word taken is = is
+of_kind kinds.Snapshot word taken is = is
+of_kind kinds.Bookmark word taken is = absurd (false≢true taken)
+
+pub has_objects : (word : List ℕ) → Takes (slots.Name dataset_or_snapshot) word → HasObjects (name_of word)
+has_objects word fits = of_kind (kind_of_name word) word fits.0.1 fits.1

@@ -1,0 +1,12 @@
+use Rattle.std.proofs.Common.{◌^◌, ◌-◌, arith, lit<, refl}
+use Rattle.std.proofs.lemmas.Grind.{common_steps}
+use Rattle.zst_line.specs.declared.kind.Kind.TheVariants as kinds
+use Rattle.zst_line.specs.Grammar.{front}
+use Rattle.zst_line.proofs.Numbers.{number_at}
+use Rattle.zst_line.proofs.commands.punch.Goals as goal
+
+pub returns : goal.returns
+returns c =
+    let object = number_at (front kinds.Punch 0) c.args.words.now 2 1 (2 ^ 64 - 1) c.number.result c.object-item.result c.as_str-3.result.now c.requires (lit< tt) refl (lit< tt) c.object-item.is c.as_str-3.ensures.value c.number.ensures c.number.type_inv in
+    let count = number_at (front kinds.Punch 0) c.args.words.now 4 1 (2 ^ 64 - 1) c.number-3.result c.count-item.result c.as_str-5.result.now c.requires (lit< tt) refl (lit< tt) c.count-item.is c.as_str-5.ensures.value c.number-3.ensures c.number-3.type_inv in
+    (grind (arith, common_steps), (c.dataset.ensures.name, omega (arith, object.0), omega (arith, count.0)), (c.number.type_inv, c.number-2.type_inv, c.number-3.type_inv))

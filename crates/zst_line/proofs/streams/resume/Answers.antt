@@ -1,0 +1,24 @@
+use Rattle.std.proofs.Common.{◌≡◌, map, codes, string_bytes, arith}
+use Rattle.std.proofs.lemmas.List.{length-map}
+use Rattle.zst_line.specs.Grammar.{word_at}
+use Rattle.zst_line.proofs.InTurn.{word_here, three_words}
+use Rattle.zst_line.proofs.Texts.{same_bytes}
+use Rattle.zst_line.proofs.streams.resume.Goals as goal
+
+pub returns : goal.returns
+returns c =
+    let words = map string_bytes c.args.words.now in
+    let count = length-map c.args.words.now string_bytes in
+    let least = c.in-len3.len_at_least in
+    let most = c.in-len3.len_below in
+    let are = three_words words (omega arith) in
+    let option : word_at words 0 ≡ codes "-t" = same_bytes (word_at words 0) (codes "-t") c.requires.goes_on in
+    let one = word_here c.args.words.now 1 c.token-item.result (omega arith) in
+    let two = word_here c.args.words.now 2 c.image-item.result (omega arith) in
+    let token_is = c.token-item.is in
+    let image_is = c.image-item.is in
+    let image_text = c.as_str.ensures.value in
+    let token_text = c.as_str-2.ensures.value in
+    let image = c.in_ok-text.ensures in
+    let token = c.in_ok-text-2.ensures in
+    cc
