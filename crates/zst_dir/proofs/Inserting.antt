@@ -6,9 +6,10 @@ use Rattle.zst_names.specs.Names.{dataset_of}
 use Rattle.zst_model.specs.pools.Pool.{is_before, inserted}
 use Rattle.zst_model.proofs.InsertedLaws.{inserted-place, All-from_contains, contains-inserted, inserted_has_rest, All-inserted}
 use Rattle.zst_model.proofs.OrderLaws.{names_differ-inserted, names_rise-inserted, rows_rise-inserted}
-use Rattle.zst_dir.specs.Rows.{Rows, snapshot_is_before, with_partial, HasDataset, HasSnapshot, IsDatasetRow, IsSnapshotRow, IsPartialRow, IsLawful}
+use Rattle.zst_dir.specs.Rows.{Rows, snapshot_is_before, with_partial, HasDataset, HasSnapshot, IsBookmarkRow, IsDatasetRow, IsSnapshotRow, IsPartialRow, IsLawful}
 use Rattle.zst_dir.specs.declared.rows.Dataset.{Dataset}
 use Rattle.zst_dir.specs.declared.rows.Snapshot.{Snapshot}
+use Rattle.zst_dir.specs.declared.rows.Bookmark.{Bookmark}
 use Rattle.zst_dir.specs.declared.rows.Partial.{Partial}
 
 -- what holds of a value that is there holds more weakly
@@ -117,4 +118,30 @@ partial_added rows row lawful is_row new base component =
       snapshots = lawful.snapshots;
       bookmarks = lawful.bookmarks;
       partials = All-inserted IsPartialRow by_target row rows.partials is_row lawful.partials;
+    }
+
+-- a lawful directory with a new bookmark
+pub bookmark_added : (rows : Rows) (row : Bookmark) → IsLawful rows → IsBookmarkRow row → All (λ other. other.name ≢ row.name) rows.bookmarks
+    → IsLawful (record rows { bookmarks = inserted (λ a b. is_before a.name b.name) row rows.bookmarks })
+bookmark_added rows row lawful is_row new =
+    let by_name = λ (a b : Bookmark). is_before a.name b.name in
+    let differs : (x : Bookmark) → Contains rows.bookmarks x → x.name ≢ row.name = λ x there. All-contains (λ (other : Bookmark). other.name ≢ row.name) rows.bookmarks x new there in
+    record {
+      ordered = record {
+        datasets = lawful.ordered.datasets;
+        snapshots = lawful.ordered.snapshots;
+        snapshots_differ = lawful.ordered.snapshots_differ;
+        bookmarks = names_rise-inserted (λ (b : Bookmark). b.name) row rows.bookmarks differs lawful.ordered.bookmarks;
+        partials = lawful.ordered.partials;
+      };
+      linked = record {
+        snapshots = lawful.linked.snapshots;
+        origins = lawful.linked.origins;
+        bases = lawful.linked.bases;
+        components = lawful.linked.components;
+      };
+      datasets = lawful.datasets;
+      snapshots = lawful.snapshots;
+      bookmarks = All-inserted IsBookmarkRow by_name row rows.bookmarks is_row lawful.bookmarks;
+      partials = lawful.partials;
     }

@@ -16,10 +16,13 @@ use Rattle.zst_model.specs.fields.Guids.{IsGuidSet}
 use Rattle.zst_model.specs.pools.Pool.{is_before, inserted, IsStated}
 use Rattle.zst_tree.specs.Sets.{set_bytes}
 use Rattle.zst_tree.specs.declared.tree.ObjSet.{ObjSet}
-use Rattle.zst_dir.specs.Rows.{Rows, with_head, with_head_at, with_objects, with_objects_at, with_partial, snapshot_is_before, IsDatasetRow, IsSnapshotRow, IsPartialRow, IsLawful}
+use Rattle.zst_dir.specs.declared.going.Going.{Going}
+use Rattle.zst_dir.specs.Going.{takes_bookmark, takes_dataset, takes_snapshot, without}
+use Rattle.zst_dir.specs.Rows.{Rows, with_head, with_head_at, with_objects, with_partial, snapshot_is_before, IsBookmarkRow, IsDatasetRow, IsSnapshotRow, IsPartialRow, IsLawful}
 use Rattle.zst_dir.specs.Spelling.{name_bytes, snapshot_bytes, snapshots_of, dataset_bytes, bookmark_bytes, header_bytes, partial_bytes, dir_bytes}
 use Rattle.zst_dir.specs.declared.rows.Dataset.{Dataset}
 use Rattle.zst_dir.specs.declared.rows.Snapshot.{Snapshot}
+use Rattle.zst_dir.specs.declared.rows.Bookmark.{Bookmark}
 use Rattle.zst_dir.specs.declared.rows.Partial.{Partial}
 use Rattle.zst_model.proofs.InsertedLaws.{inserted-place, AllPairs-head, AllPairs-tail}
 use Rattle.zst_model.proofs.OrderLaws.{same_bytes, not_before_itself}
@@ -257,4 +260,43 @@ objects_grow rows name head redact lawful is =
       dir_long rows,
       dir_long (record rows { datasets = with_objects name head redact rows.datasets }),
       all_objects_long rows.snapshots name head redact rows.datasets is lawful.ordered.datasets,
+    )
+
+-- a bookmark has at most 600 bytes
+bookmark_short : (bookmark : Bookmark) → IsBookmarkRow bookmark → length (bookmark_bytes bookmark) ≤ 600
+unfolding bookmark_bytes
+bookmark_short bookmark is =
+    simp (length-append, length-number_bytes, length-ptr_bytes) (omega (
+      arith,
+      text_short bookmark.name,
+      ap length (joined 35 bookmark.name is.name.1),
+      length-append (dataset_of 35 bookmark.name) (35 ∷ component_of 35 bookmark.name),
+      is.name.0.short,
+      is.name.1.short,
+      guids_short bookmark.redact is.redact,
+    ))
+
+-- so a new bookmark adds few bytes
+pub bookmark_grows : (rows : Rows) (row : Bookmark) → IsBookmarkRow row
+    → length (dir_bytes (record rows { bookmarks = inserted (λ a b. is_before a.name b.name) row rows.bookmarks })) ≤ length (dir_bytes rows) + 1024
+bookmark_grows rows row is =
+    let by_name = λ (a b : Bookmark). is_before a.name b.name in
+    omega (
+      arith,
+      dir_long rows,
+      dir_long (record rows { bookmarks = inserted by_name row rows.bookmarks }),
+      inserted_long bookmark_bytes by_name row rows.bookmarks,
+      bookmark_short row is,
+    )
+
+-- rows that go add none
+pub left_shrinks : (going : Going) (rows : Rows) → IsLawful rows → IsLawful (without going rows) → length (dir_bytes (without going rows)) ≤ length (dir_bytes rows)
+left_shrinks going rows lawful lawful_then =
+    omega (
+      arith,
+      lawful_long rows lawful,
+      lawful_long (without going rows) lawful_then,
+      left_short (dataset_bytes []) (λ dataset. not (takes_dataset going dataset)) rows.datasets,
+      left_short snapshot_bytes (λ snapshot. not (takes_snapshot going snapshot)) rows.snapshots,
+      left_short bookmark_bytes (λ bookmark. not (takes_bookmark going bookmark)) rows.bookmarks,
     )

@@ -1,19 +1,23 @@
 mod Guids
 mod Heads
 mod Inserting
+pub mod Left
 mod Lengths
 mod Loops
 mod Namesets
 mod Nested
+mod OneDirectory
 mod Parsed
 mod Parts
 mod Places
 mod Rising
+mod RowsTold
 mod Sections
 pub mod SnapshotRuns
 mod SpelledRows
 mod Standing
+mod Telling
 mod Texts
 mod Verdict
-mod Dropped
+pub mod Dropped
 pub mod Lookups

@@ -69,7 +69,7 @@ sections_are : (rows : Rows) → dir_bytes rows ≡ rows_bytes (dataset_bytes ro
 unfolding dir_bytes
 sections_are rows = ap (λ partials. rows_bytes (dataset_bytes rows.snapshots) rows.datasets ++ (rows_bytes bookmark_bytes rows.bookmarks ++ partials)) (sym (append-nil (rows_bytes partial_bytes rows.partials)))
 
-pub sections : (rows : Rows) (bytes : List ℕ) → length bytes < 2 ^ 63 → IsDir rows bytes → AreSections rows bytes
+pub sections : (rows : Rows) (bytes : List ℕ) → length bytes < 2 ^ 64 → IsDir rows bytes → AreSections rows bytes
 sections rows bytes short is =
     let all = rows.snapshots in
     let datasets = rows_bytes (dataset_bytes all) rows.datasets in

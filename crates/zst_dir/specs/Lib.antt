@@ -1,3 +1,4 @@
+pub mod Going
 pub mod Reading
 pub mod Rows
 pub mod Spelling

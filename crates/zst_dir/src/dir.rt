@@ -3,7 +3,7 @@ ghost use Rattle.std.specs.List.{position_or_len};
 ghost use Rattle.zst_model.specs.pools.Pool.{is_before, inserted};
 ghost use Rattle.zst_names.specs.Names.{dataset_of};
 ghost use Rattle.zst_tree.specs.Sets.{SetFits};
-ghost use Rattle.zst_dir.specs.Rows.{Rows, no_rows, snapshot_is_before, HasDataset, HasSnapshot, IsDatasetRow, IsSnapshotRow, IsPartialRow, IsLawful, with_head, with_objects, with_partial, is_unkept_for};
+ghost use Rattle.zst_dir.specs.Rows.{Rows, no_rows, snapshot_is_before, HasDataset, HasSnapshot, IsBookmarkRow, IsDatasetRow, IsSnapshotRow, IsPartialRow, IsLawful, with_head, with_objects, with_partial, is_unkept_for};
 ghost use Rattle.zst_model.specs.fields.Guids.{IsGuidSet};
 ghost use Rattle.zst_dir.specs.Spelling.{dir_bytes};
 ghost use Rattle.zst_dir.specs.declared.rows.Dataset.{Dataset};
@@ -155,6 +155,14 @@ impl Dir {
             .retain(|partial| partial.target != *name || partial.keep);
     }
 
+    /// Leaves out each partial state that isn't kept.
+    pub fn retain_kept(&mut self)
+        ensures retained { self.new ≡ record self.old { partials = filter (λ partial. partial.keep) self.old.partials } }
+        ensures shrinks { length (dir_bytes self.new) ≤ length (dir_bytes self.old) }
+    {
+        self.partials.retain(|partial| partial.keep);
+    }
+
     /// Adds a partial state at its place. Without memory nothing is added.
     pub fn add_partial(&mut self, partial: Partial) -> Result<(), AllocError>
         requires row { IsPartialRow partial }
@@ -204,6 +212,19 @@ impl Dir {
         Ok(())
     }
 
+    /// Adds a bookmark at its place. Without memory nothing is added.
+    pub fn add_bookmark(&mut self, bookmark: Bookmark) -> Result<(), AllocError>
+        requires row { IsBookmarkRow bookmark }
+        requires new { All (λ other. other.name ≢ bookmark.name) self.old.bookmarks }
+        ensures added { OnOk result (self.new ≡ record self.old { bookmarks = inserted (λ a b. is_before a.name b.name) bookmark self.old.bookmarks }) }
+        ensures same { OnErr result (self.new ≡ self.old) }
+        ensures grows { length (dir_bytes self.new) ≤ length (dir_bytes self.old) + 1024 }
+    {
+        let place = place_of_bookmark(self.bookmarks.as_slice(), &bookmark.name);
+        self.bookmarks.insert(place, bookmark)?;
+        Ok(())
+    }
+
     /// The same directory.
     pub fn copy(&self, alloc: Global) -> Result<Dir, AllocError>
         ensures { IfOk result (λ dir. dir ≡ self.now) }
@@ -239,6 +260,14 @@ fn place_of_snapshot(snapshots: &[Snapshot], snapshot: &Snapshot) -> usize
     ensures { result ≡ position_or_len (snapshot_is_before snapshot.now) snapshots.now }
 {
     snapshots.partition_point(|other| !snapshot.is_before(other))
+}
+
+// The place of the first bookmark that one of this name stands before, or the end.
+fn place_of_bookmark(bookmarks: &[Bookmark], name: &BookName) -> usize
+    requires { AllPairs (λ a b. is_before a.name b.name ≡ true) bookmarks.now }
+    ensures { result ≡ position_or_len (λ other. is_before name.now other.name) bookmarks.now }
+{
+    bookmarks.partition_point(|other| other.name <= *name)
 }
 
 // The place of the first partial state that one of this target stands before, or the end.

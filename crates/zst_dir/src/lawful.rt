@@ -8,7 +8,6 @@ ghost use Rattle.zst_dir.specs.Tested.{AreNamesOf, AreRead, LinkTo, Rise, has, n
 use crate::rows::{Bookmark, Dataset, Partial, Snapshot};
 use std::alloc::{AllocError, Global};
 use std::collections::BTreeSet;
-use std::str;
 use zst_names::SnapName;
 
 // Whether datasets stand by name, and no two have one.
@@ -71,11 +70,7 @@ fn is_free(partial: &Partial, names: &BTreeSet<SnapName>) -> bool
     requires { IsComponent partial.now.snapshot }
     ensures { IsTrue result ↔ (has names.now (name_to_be partial.now) ≡ false) }
 {
-    match str::from_utf8(partial.snapshot.as_bytes()) {
-        Ok(component) => !names.contains(&SnapName::of(&partial.target, component)),
-        // A component is ASCII.
-        Err(_) => false,
-    }
+    !names.contains(&partial.snapshot_name())
 }
 
 // Whether each origin is there.

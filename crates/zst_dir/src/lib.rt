@@ -5,7 +5,9 @@ mod decoding;
 mod dir;
 mod encoding;
 mod fields;
+mod going;
 mod lawful;
+mod laws;
 mod lists;
 mod reading;
 mod rows;
@@ -13,4 +15,6 @@ mod rows;
 mod tests;
 
 pub use dir::Dir;
+pub use going::Going;
+pub use laws::bytes_are_one_directory;
 pub use rows::{Bookmark, Dataset, Partial, Snapshot};

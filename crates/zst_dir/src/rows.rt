@@ -1,6 +1,8 @@
-ghost use Rattle.std.specs.Prelude.{◌≡◌};
+ghost use Rattle.std.specs.Prelude.{◌≡◌, ◌++◌, ◌∷◌};
+ghost use Rattle.zst_names.specs.Names.{IsComponent, IsSnapshot, dataset_of};
 ghost use Rattle.zst_dir.specs.Rows.{snapshot_is_before};
 
+use std::str;
 use zst_block::Ptr;
 use zst_model::{GuidSet, Header, NameText, Point};
 use zst_names::{BookName, DatasetName, SnapName};
@@ -143,6 +145,20 @@ impl Partial {
             base: duplicate_name(&self.base),
             objects: self.objects,
             point: self.point,
+        }
+    }
+
+    /// The name of the snapshot that it is to become.
+    pub fn snapshot_name(&self) -> SnapName
+        requires { IsComponent self.now.snapshot }
+        ensures text { result ≡ self.now.target ++ 64 ∷ self.now.snapshot }
+        ensures dataset { dataset_of 64 result ≡ self.now.target }
+        ensures name { IsSnapshot result }
+    {
+        match str::from_utf8(self.snapshot.as_bytes()) {
+            Ok(component) => SnapName::of(&self.target, component),
+            // A component is ASCII.
+            Err(_) => unreachable!(),
         }
     }
 }

@@ -5,14 +5,15 @@ use Rattle.std.proofs.lemmas.List.{drop_at, length-take-le, take_all, take_at}
 use Rattle.std.proofs.lemmas.List.Elements.{All-head, All-replicate, All-tail}
 use Rattle.zst_bytes.specs.Fields.{zeros}
 use Rattle.zst_bytes.proofs.FieldsLaws.{length-zeros}
-use Rattle.zst_block.specs.Blocks.{IsBlock}
+use Rattle.zst_space.specs.FreeSectors.{FreeSectors}
+use Rattle.zst_block.specs.Blocks.{IsBlock, Has}
 use Rattle.zst_block.specs.Reading.{GivesBlock}
 use Rattle.zst_block.specs.declared.fault.BlockFault.{BlockFault}
 use Rattle.zst_block.specs.declared.fault.BlockFault.TheVariants.{Full, Damaged, DiskFault}
 use Rattle.zst_block.specs.declared.ptr.Ptr.{Ptr}
 use Rattle.zst_tree.specs.Indices.{Blocks, IsNoDamage, child}
-use Rattle.zst_leaves.specs.Leaves.{Appends, IsLeaf, LeavesBelow, bytes_below, part}
-use Rattle.zst_leaves.proofs.LeavesLaws.{leaf_below, none_of}
+use Rattle.zst_leaves.specs.Leaves.{Appends, HasLeaves, IsLeaf, LeavesBelow, bytes_below, part}
+use Rattle.zst_leaves.proofs.LeavesLaws.{LeavesBelow-grows, leaf_below, none_of}
 use Rattle.zst_leaves.proofs.Pieces.{length-part, parts_same}
 use Rattle.zst_leaves.proofs.Span.{span-suc}
 
@@ -85,3 +86,9 @@ LeavesBelow-only image (suc level) ptr one other long room (inr (any, (node, ove
     (subst (λ (bytes : List ℕ). LeavesBelow (IsBlock image) level (child bytes k) (part size other k)) same (same_parts k less)) in
     let front = parts_same size one other 128 each in
     sym (take_all (128 * size) one (omega (arith, span-suc level))) ∙ front ∙ take_all (128 * size) other (omega (arith, span-suc level, long))
+
+-- and below a root
+pub HasLeaves-only : (image : List ℕ) (space : FreeSectors) (levels : ℕ) (root : Ptr) (one other : List ℕ) → length one ≡ length other → HasLeaves (Has image space) levels root one → HasLeaves (Has image space) levels root other → one ≡ other
+HasLeaves-only image space levels root one other long first second =
+    let blocks : (text : List ℕ) → HasLeaves (Has image space) levels root text → LeavesBelow (IsBlock image) levels root text = λ text is. LeavesBelow-grows (Has image space) (IsBlock image) (λ ptr bytes has. has.block) levels root text is.below in
+    LeavesBelow-only image levels root one other long first.least.enough (blocks one first) (blocks other second)

@@ -2,6 +2,7 @@
 #![tactic(auto)]
 
 mod fault;
+mod laws;
 mod reading;
 mod sizes;
 #[cfg(test)]
@@ -9,6 +10,7 @@ mod tests;
 mod writing;
 
 pub use fault::LeavesFault;
+pub use laws::root_has_one_text;
 pub use reading::read_leaves;
 pub use sizes::MOST_BYTES;
 pub use writing::write_leaves;

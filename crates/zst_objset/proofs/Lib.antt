@@ -9,6 +9,7 @@ pub mod LeafLaws
 pub mod LimitLaws
 pub mod ObjectLaws
 pub mod RangeLaws
+pub mod SearchLaws
 pub mod SetGrows
 pub mod SetLaws
 pub mod SetOnly

@@ -6,5 +6,6 @@ pub mod Dnodes
 pub mod Freeing
 pub mod Putting
 pub mod Ranges
+pub mod Searching
 pub mod Sets
 pub mod Writing

@@ -6,9 +6,10 @@ ghost use Rattle.zst_block.specs.Working.{Looks};
 ghost use Rattle.zst_dnode.specs.Dnode.{DnodeFits};
 ghost use Rattle.zst_dnode.specs.Slot.{SlotFits};
 ghost use Rattle.zst_model.specs.states.Dated.{DatedState};
-ghost use Rattle.zst_model.specs.states.State.{Block, BlockFits, Object};
+ghost use Rattle.zst_model.specs.declared.refusals.faults.Quantity.TheVariants as quantities;
+ghost use Rattle.zst_model.specs.states.State.{Block, BlockFits, Object, index_bound};
 ghost use Rattle.zst_tree.specs.Damage.{IsSeen};
-ghost use Rattle.zst_objset.specs.Answers.{FindsObject, FindsSlot, FindsThere, IsOfBlock, NotLimit, ReadsBlock, ReadsData, stop_of};
+ghost use Rattle.zst_objset.specs.Answers.{FindsObject, FindsSlot, FindsThere, IsOfBlock, LimitOnly, NotLimit, ReadsBlock, ReadsData, stop_of};
 ghost use Rattle.zst_objset.specs.Changes.{block_found, found_at};
 ghost use Rattle.zst_objset.specs.Damage.{IfSetDamaged, IsDamagedBlock, IsDamagedData, IsDamagedSet, StandsIn};
 ghost use Rattle.zst_objset.specs.Dnodes.{BlockIs};
@@ -105,6 +106,7 @@ fn read_leaf<D: Disk>(
     requires fits { FitsDisk (D.state io.old.disk.now).size io.old.space }
     ensures read { (block : Block) → (D.state io.new.disk.now).honest → BlockIs (Has (D.state io.old.disk.now).seen io.old.space) ptr block → BlockFits (length into.old) block
         → ReadsBlock (block_found object index block) into.new result }
+    ensures limits { IfErr result NotLimit }
     ensures damaged { (D.state io.new.disk.now).honest → IfSetDamaged result (IsDamagedData (IsSeen (D.state io.old.disk.now).seen) (D.state io.old.disk.now).size (length into.old) ptr) }
     ensures looks { Looks (D.state io.old.disk.now) io.old.space io.old.failed (D.state io.new.disk.now) io.new.space io.new.failed (stop_of result) }
     ensures calls { (D.state io.new.disk.now).calls ≤ (D.state io.old.disk.now).calls + 1 }
@@ -128,6 +130,7 @@ fn read_leaf<D: Disk>(
 fn read_data<D: Disk>(io: &mut Io<'_, D>, ptr: Ptr, into: &mut [u8]) -> Result<Cell, ObjFault>
     requires fits { FitsDisk (D.state io.old.disk.now).size io.old.space }
     ensures read { (bytes : List ℕ) → (D.state io.new.disk.now).honest → Has (D.state io.old.disk.now).seen io.old.space ptr bytes → length bytes ≡ length into.old → ReadsData bytes into.new result }
+    ensures limits { IfErr result NotLimit }
     ensures damaged { is_flat ptr ≡ false → (D.state io.new.disk.now).honest → IfSetDamaged result (IsDamagedData (IsSeen (D.state io.old.disk.now).seen) (D.state io.old.disk.now).size (length into.old) ptr) }
     ensures looks { Looks (D.state io.old.disk.now) io.old.space io.old.failed (D.state io.new.disk.now) io.new.space io.new.failed (stop_of result) }
     ensures calls { (D.state io.new.disk.now).calls ≤ (D.state io.old.disk.now).calls + 1 }
@@ -143,6 +146,7 @@ fn read_data<D: Disk>(io: &mut Io<'_, D>, ptr: Ptr, into: &mut [u8]) -> Result<C
 }
 
 /// Reads one index of an object, whose blocks are as long as the buffer.
+#[tactic(auto, unfolding(zst_model::specs::states::State::index_bound))]
 pub(crate) fn read_block<D: Disk>(
     set: &ObjSet,
     io: &mut Io<'_, D>,
@@ -154,6 +158,7 @@ pub(crate) fn read_block<D: Disk>(
     requires fits { FitsDisk (D.state io.old.disk.now).size io.old.space }
     ensures read { (snap : DatedState) → (D.state io.new.disk.now).honest → SetHolds (Has (D.state io.old.disk.now).seen io.old.space) set.now snap
         → ((there : Object) → snap.state object ≡ Some there → length into.old ≡ there.attr.block_size) → ReadsBlock (found_at object index snap) into.new result }
+    ensures limits { IfErr result (LimitOnly quantities.Block index_bound (index + 1)) }
     ensures damaged { (D.state io.new.disk.now).honest → IfSetDamaged result (IsDamagedBlock (IsSeen (D.state io.old.disk.now).seen) (D.state io.old.disk.now).size (length into.old) set.now) }
     ensures looks { Looks (D.state io.old.disk.now) io.old.space io.old.failed (D.state io.new.disk.now) io.new.space io.new.failed (stop_of result) }
     ensures calls { (D.state io.new.disk.now).calls ≤ (D.state io.old.disk.now).calls + 16 }

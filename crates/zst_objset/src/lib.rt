@@ -13,6 +13,7 @@ mod objects;
 mod putting;
 mod ranges;
 mod reading;
+mod searching;
 mod set;
 mod slots;
 #[cfg(test)]

@@ -14,6 +14,7 @@ ghost use Rattle.zst_tree.specs.Indices.{Blocks};
 ghost use Rattle.zst_objset.specs.Answers.{Changes, FindsObject, FindsSlot, IsOfBlock, LimitOnly, NotLimit, ReadsBlock, stop_of};
 ghost use Rattle.zst_objset.specs.Changes.{block_written, found_at, holes_made, object_put, objects_freed, range_redacted, spill_put};
 ghost use Rattle.zst_objset.specs.Damage.{DamageFact, IfSetDamaged};
+ghost use Rattle.zst_objset.specs.Searching.{FindsNext};
 
 use crate::fault::ObjFault;
 use zst_block::Io;
@@ -77,6 +78,18 @@ pub trait Objects<D: Disk> {
         ensures calls { (D.state io.new.disk.now).calls ≤ (D.state io.old.disk.now).calls + 8 }
         ensures same { io.new.disk.ghost_name ≡ io.old.disk.ghost_name };
 
+    /// The first object from a number on, with its number. A run of holes costs one look.
+    fn next_object(&self, io: &mut Io<'_, D>, from: u64) -> Result<Option<(u64, Dnode)>, ObjFault>
+        requires from { 0 < from }
+        requires fits { FitsDisk (D.state io.old.disk.now).size io.old.space }
+        ensures found { (state : DatedState) → (D.state io.new.disk.now).honest → holds self.now (Has (D.state io.old.disk.now).seen io.old.space) state
+            → FindsNext (Has (D.state io.new.disk.now).seen io.new.space) state from result }
+        ensures ranges { IfOk result (λ found. IfSome found (λ next. (from ≤ next.0) × (next.0 < number_bound) × DnodeFits next.1)) }
+        ensures known { IfErr result IsOfBlock }
+        ensures damaged { (D.state io.new.disk.now).honest → IfSetDamaged result (slot_damage (IsSeen (D.state io.old.disk.now).seen) (D.state io.old.disk.now).size self.now) }
+        ensures looks { Looks (D.state io.old.disk.now) io.old.space io.old.failed (D.state io.new.disk.now) io.new.space io.new.failed (stop_of result) }
+        ensures same { io.new.disk.ghost_name ≡ io.old.disk.ghost_name };
+
     /// Reads one index of an object, whose blocks are as long as the buffer.
     fn read_block(
         &self,
@@ -90,6 +103,7 @@ pub trait Objects<D: Disk> {
         ensures read { (state : DatedState) → (D.state io.new.disk.now).honest → holds self.now (Has (D.state io.old.disk.now).seen io.old.space) state
             → ((there : Object) → state.state object ≡ Some there → length into.old ≡ there.attr.block_size)
             → ReadsBlock (found_at object index state) into.new result }
+        ensures limits { IfErr result (LimitOnly quantities.Block index_bound (index + 1)) }
         ensures damaged { (D.state io.new.disk.now).honest → IfSetDamaged result (block_damage (IsSeen (D.state io.old.disk.now).seen) (D.state io.old.disk.now).size (length into.old) self.now) }
         ensures looks { Looks (D.state io.old.disk.now) io.old.space io.old.failed (D.state io.new.disk.now) io.new.space io.new.failed (stop_of result) }
         ensures calls { (D.state io.new.disk.now).calls ≤ (D.state io.old.disk.now).calls + 16 }

@@ -6,6 +6,7 @@ use crate::fault::ObjFault;
 use crate::freeing::free_objects;
 use crate::objects::Objects;
 use crate::ranges::{punch, redact_range};
+use crate::searching::next_object;
 use crate::writing::write_block;
 use zst_block::Io;
 use zst_dnode::{Dnode, Slot};
@@ -40,6 +41,11 @@ impl<D: Disk> Objects<D> for ObjSet {
     #[tactic(auto, unfolding(zst_model::specs::states::State::number_bound))]
     fn slot(&self, io: &mut Io<'_, D>, object: u64) -> Result<Slot, ObjFault> {
         slot(self, io, object)
+    }
+
+    #[tactic(auto, unfolding(zst_model::specs::states::State::number_bound))]
+    fn next_object(&self, io: &mut Io<'_, D>, from: u64) -> Result<Option<(u64, Dnode)>, ObjFault> {
+        next_object(self, io, from)
     }
 
     fn read_block(

@@ -3,6 +3,7 @@ ghost use Rattle.std.specs.Prelude.{◌≡◌, ◌+◌, ◌^◌, ◌<◌, ◌≤
 ghost use Rattle.zst_block.specs.Blocks.{FitsDisk, Has};
 ghost use Rattle.zst_block.specs.Working.{Looks, stop_of};
 ghost use Rattle.zst_tree.specs.Damage.{HangsIn, IsSeen, MayHave, NamesDamage, NamesNode};
+ghost use Rattle.zst_tree.specs.Finding.{Shows};
 ghost use Rattle.zst_tree.specs.Indices.{Delivers, Map, TreeIs};
 ghost use Rattle.zst_objset.specs.Dnodes.{tree_of};
 
@@ -41,24 +42,47 @@ pub(crate) fn leaf_at<D: Disk>(
     ensures kept_fit { FitsDisk (D.state io.new.disk.now).size io.new.space }
     ensures same { io.new.disk.ghost_name ≡ io.old.disk.ghost_name }
 {
+    let found = run_at(tree, io, index)?;
+    Ok(found.0)
+}
+
+/// The leaf of an index, and of how many indices from it on it is the leaf.
+pub(crate) fn run_at<D: Disk>(
+    tree: &Tree,
+    io: &mut Io<'_, D>,
+    index: u64,
+) -> Result<(Ptr, u64), BlockFault>
+    requires levels { tree.now.levels ≤ 7 }
+    requires index { index < 2 ^ 44 }
+    requires fits { FitsDisk (D.state io.old.disk.now).size io.old.space }
+    ensures shows { (map : Map) → (D.state io.new.disk.now).honest → TreeIs (Has (D.state io.old.disk.now).seen io.old.space) tree.now map → Delivers (Shows map index) result }
+    ensures range { IfOk result (λ found. (0 < found.1) × (index + found.1 ≤ 2 ^ 49)) }
+    ensures hangs { (D.state io.new.disk.now).honest → IfOk result (λ found. HangsIn (MayHave (IsSeen (D.state io.old.disk.now).seen)) tree.now found.0) }
+    ensures damaged { (D.state io.new.disk.now).honest → NamesDamage (IsSeen (D.state io.old.disk.now).seen) (D.state io.old.disk.now).size NamesNode tree.now.levels tree.now.root result }
+    ensures looks { Looks (D.state io.old.disk.now) io.old.space io.old.failed (D.state io.new.disk.now) io.new.space io.new.failed (stop_of result) }
+    ensures calls { (D.state io.new.disk.now).calls ≤ (D.state io.old.disk.now).calls + 7 }
+    ensures kept_fit { FitsDisk (D.state io.new.disk.now).size io.new.space }
+    ensures same { io.new.disk.ghost_name ≡ io.old.disk.ghost_name }
+{
     counted::<D, Brand>(tree, io, index, Blank::new(1))
 }
 
-// The leaf of an index, with the nodes on the way counted from 0.
+// That, with the nodes on the way counted from 0.
 fn counted<D: Disk, L: Ledger>(
     tree: &Tree,
     io: &mut Io<'_, D>,
     index: u64,
     blank: Blank,
-) -> Result<Ptr, BlockFault>
+) -> Result<(Ptr, u64), BlockFault>
     requires name { blank.name ≡ L.name }
     requires parts { blank.parts ≡ L.parts }
     requires some { 0 < blank.parts }
     requires levels { tree.now.levels ≤ 7 }
     requires index { index < 2 ^ 44 }
     requires fits { FitsDisk (D.state io.old.disk.now).size io.old.space }
-    ensures shows { (map : Map) → (D.state io.new.disk.now).honest → TreeIs (Has (D.state io.old.disk.now).seen io.old.space) tree.now map → Delivers (λ ptr. ptr ≡ map index) result }
-    ensures hangs { (D.state io.new.disk.now).honest → IfOk result (HangsIn (MayHave (IsSeen (D.state io.old.disk.now).seen)) tree.now) }
+    ensures shows { (map : Map) → (D.state io.new.disk.now).honest → TreeIs (Has (D.state io.old.disk.now).seen io.old.space) tree.now map → Delivers (Shows map index) result }
+    ensures range { IfOk result (λ found. (0 < found.1) × (index + found.1 ≤ 2 ^ 49)) }
+    ensures hangs { (D.state io.new.disk.now).honest → IfOk result (λ found. HangsIn (MayHave (IsSeen (D.state io.old.disk.now).seen)) tree.now found.0) }
     ensures damaged { (D.state io.new.disk.now).honest → NamesDamage (IsSeen (D.state io.old.disk.now).seen) (D.state io.old.disk.now).size NamesNode tree.now.levels tree.now.root result }
     ensures looks { Looks (D.state io.old.disk.now) io.old.space io.old.failed (D.state io.new.disk.now) io.new.space io.new.failed (stop_of result) }
     ensures calls { (D.state io.new.disk.now).calls ≤ (D.state io.old.disk.now).calls + 7 }
@@ -66,6 +90,5 @@ fn counted<D: Disk, L: Ledger>(
     ensures same { io.new.disk.ghost_name ≡ io.old.disk.ghost_name }
 {
     let mut steps = Steps::<L>::new(blank);
-    let found = tree.get(io, index, &mut steps)?;
-    Ok(found.0)
+    tree.get(io, index, &mut steps)
 }

@@ -17,7 +17,7 @@ is_lawful-requires c =
 
 pub returns-then-not-branch : goal.returns-then-not-branch
 returns-then-not-branch c = λ rows is.
-    let short : length c.args.bytes.now < 2 ^ 63 = omega arith in
+    let short : length c.args.bytes.now < 2 ^ 64 = omega arith in
     let are = sections rows c.args.bytes.now short is in
     let first = datasets_read rows c.args.bytes.now c.new-cursor.result c.read_datasets.new.cursor c.new-datasets.result.items c.read_datasets.new.datasets.items c.new-snapshots.result.items c.read_datasets.new.snapshots.items
     c.in_ok-read_datasets.field-0 are c.new-cursor.ensures c.new-datasets.ensures.items c.new-snapshots.ensures.items c.in_ok-read_datasets.ensures.exact in
@@ -25,7 +25,7 @@ returns-then-not-branch c = λ rows is.
 
 pub returns-then-not-branch-2 : goal.returns-then-not-branch-2
 returns-then-not-branch-2 c = λ rows is.
-    let short : length c.args.bytes.now < 2 ^ 63 = omega arith in
+    let short : length c.args.bytes.now < 2 ^ 64 = omega arith in
     let are = sections rows c.args.bytes.now short is in
     let first = datasets_read rows c.args.bytes.now c.new-cursor.result c.read_datasets.new.cursor c.new-datasets.result.items c.read_datasets.new.datasets.items c.new-snapshots.result.items c.read_datasets.new.snapshots.items
     c.in_ok-read_datasets.field-0 are c.new-cursor.ensures c.new-datasets.ensures.items c.new-snapshots.ensures.items c.in_ok-read_datasets.ensures.exact in
@@ -35,7 +35,7 @@ returns-then-not-branch-2 c = λ rows is.
 
 pub returns-then-not-branch-3 : goal.returns-then-not-branch-3
 returns-then-not-branch-3 c = λ rows is.
-    let short : length c.args.bytes.now < 2 ^ 63 = omega arith in
+    let short : length c.args.bytes.now < 2 ^ 64 = omega arith in
     let are = sections rows c.args.bytes.now short is in
     let first = datasets_read rows c.args.bytes.now c.new-cursor.result c.read_datasets.new.cursor c.new-datasets.result.items c.read_datasets.new.datasets.items c.new-snapshots.result.items c.read_datasets.new.snapshots.items
     c.in_ok-read_datasets.field-0 are c.new-cursor.ensures c.new-datasets.ensures.items c.new-snapshots.ensures.items c.in_ok-read_datasets.ensures.exact in
@@ -47,7 +47,7 @@ returns-then-not-branch-3 c = λ rows is.
 
 pub returns-then-not-branch-4 : goal.returns-then-not-branch-4
 returns-then-not-branch-4 c = λ rows is.
-    let short : length c.args.bytes.now < 2 ^ 63 = omega arith in
+    let short : length c.args.bytes.now < 2 ^ 64 = omega arith in
     let are = sections rows c.args.bytes.now short is in
     let first = datasets_read rows c.args.bytes.now c.new-cursor.result c.read_datasets.new.cursor c.new-datasets.result.items c.read_datasets.new.datasets.items c.new-snapshots.result.items c.read_datasets.new.snapshots.items
     c.in_ok-read_datasets.field-0 are c.new-cursor.ensures c.new-datasets.ensures.items c.new-snapshots.ensures.items c.in_ok-read_datasets.ensures.exact in
@@ -61,7 +61,7 @@ returns-then-not-branch-4 c = λ rows is.
 
 pub returns : goal.returns
 returns c = λ rows is.
-    let short : length c.args.bytes.now < 2 ^ 63 = omega arith in
+    let short : length c.args.bytes.now < 2 ^ 64 = omega arith in
     let are = sections rows c.args.bytes.now short is in
     let first = datasets_read rows c.args.bytes.now c.new-cursor.result c.read_datasets.new.cursor c.new-datasets.result.items c.read_datasets.new.datasets.items c.new-snapshots.result.items c.read_datasets.new.snapshots.items
     c.in_ok-read_datasets.field-0 are c.new-cursor.ensures c.new-datasets.ensures.items c.new-snapshots.ensures.items c.in_ok-read_datasets.ensures.exact in

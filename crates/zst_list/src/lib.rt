@@ -1,0 +1,12 @@
+//! Lists of redacted blocks, as they stand in the leaves of a redaction bookmark's tree.
+#![tactic(auto)]
+
+mod coding;
+mod laws;
+mod reading;
+#[cfg(test)]
+mod tests;
+
+pub use coding::{decode_list, encode_list};
+pub use laws::root_has_one_list;
+pub use reading::read_list;
