@@ -17,12 +17,12 @@ use Rattle.zst_model.specs.pools.Pool.{Pool}
 use Rattle.zst_tree.specs.Indices.{Blocks}
 use Rattle.zst_dir.specs.Rows.{Rows}
 use Rattle.zst_image.specs.Committing.{CommitAnswer, Commits, CommitsOver, KeepsImage, NextIs, OldOrNext, Ready, Stays}
-use Rattle.zst_image.specs.Reads.{Describes, DirStands, HasDir, ReadsAs, Reads, Rests, free_by}
+use Rattle.zst_image.specs.Reads.{Describes, DirStands, HasDir, ReadsAs, Reads, Rests, free_by, kept_rows}
 use Rattle.zst_image.specs.declared.commit_fault.CommitFault.{CommitFault}
 use Rattle.zst_image.specs.declared.commit_fault.CommitFault.TheVariants.{Full, DiskFault, OutOfMemory}
 use Rattle.zst_image.specs.declared.kept.Kept.{Kept}
 use Rattle.zst_image.proofs.Directories.{DirStands-lawful}
-use Rattle.zst_image.proofs.Growing.{Describes-grows, RowsAre-grows}
+use Rattle.zst_image.proofs.Growing.{Describes-grows, RunsBy-grows}
 use Rattle.zst_image.proofs.Settled.{HeadSettled-fills, latest-spared}
 
 -- each sector that is free in the first is free in the second
@@ -143,7 +143,7 @@ Describes-next old mid space less body next guids rows pool fills fewer id numbe
       guids = is.guid_counter ∙ sym guid_counter;
       extents = extents;
       directory = directory;
-      rows_are = RowsAre-grows (Has old.seen space) (Has mid.seen less) (KeepsBlocks-fills old mid space less fills) rows pool is.rows_are;
+      rows_are = RunsBy-grows (Has old.seen space) (Has mid.seen less) (KeepsBlocks-fills old mid space less fills) (kept_rows rows) pool is.rows_are;
       lawful = is.lawful;
     })
 

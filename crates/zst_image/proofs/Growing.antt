@@ -1,16 +1,18 @@
 -- What stands over some blocks stands over more.
-use Rattle.std.proofs.Common.{ℕ, List, [], ◌∷◌, filter}
+use Rattle.std.proofs.Common.{ℕ, List, [], ◌∷◌}
 use Rattle.zst_uber.specs.declared.uber.Uber.{Uber}
 use Rattle.zst_block.specs.declared.ptr.Ptr.{Ptr}
 use Rattle.zst_model.specs.pools.Pool.{Pool}
 use Rattle.zst_model.specs.pools.Pool as plain
 use Rattle.zst_tree.specs.Indices.{Blocks}
 use Rattle.zst_objset.proofs.SetGrows.{SetHolds-grows}
+use Rattle.zst_list.proofs.Growing.{HasList-grows}
 use Rattle.zst_dir.specs.Rows.{Rows}
 use Rattle.zst_dir.specs.declared.rows.Dataset.{Dataset}
 use Rattle.zst_dir.specs.declared.rows.Snapshot.{Snapshot}
+use Rattle.zst_dir.specs.declared.rows.Bookmark.{Bookmark}
 use Rattle.zst_dir.specs.declared.rows.Partial.{Partial}
-use Rattle.zst_image.specs.Reads.{Match, DatasetIs, SnapshotIs, PartialIs, RowsAre, HasDir, Describes}
+use Rattle.zst_image.specs.Reads.{Match, DatasetIs, SnapshotIs, BookmarkIs, PartialIs, RunsBy, HasDir, Describes, kept_rows}
 use Rattle.zst_image.proofs.Directories.{DirStands-grows}
 
 -- what some blocks describe, those and more describe too
@@ -33,6 +35,12 @@ SnapshotIs-grows has more up row snapshot is = record {
   objects = SetHolds-grows has more up row.objects snapshot.objects is.objects;
 }
 
+BookmarkIs-grows : (has more : Blocks) → AreMore has more → (row : Bookmark) (bookmark : plain.Bookmark) → BookmarkIs has row bookmark → BookmarkIs more row bookmark
+BookmarkIs-grows has more up row bookmark is = record {
+  named = is.named;
+  list = HasList-grows has more up row.levels row.root row.runs bookmark.runs is.list;
+}
+
 PartialIs-grows : (has more : Blocks) → AreMore has more → (row : Partial) (partial : plain.Partial) → PartialIs has row partial → PartialIs more row partial
 PartialIs-grows has more up row partial is = record {
   named = is.named;
@@ -46,12 +54,12 @@ Match-weaker Is Weaker weaker [] (y ∷ ys) is = is
 Match-weaker Is Weaker weaker (x ∷ xs) [] is = is
 Match-weaker Is Weaker weaker (x ∷ xs) (y ∷ ys) is = (weaker x y is.0, Match-weaker Is Weaker weaker xs ys is.1)
 
-pub RowsAre-grows : (has more : Blocks) → AreMore has more → (rows : Rows) (pool : Pool) → RowsAre has rows pool → RowsAre more rows pool
-RowsAre-grows has more up rows pool is = record {
+pub RunsBy-grows : (has more : Blocks) → AreMore has more → (rows : Rows) (pool : Pool) → RunsBy has rows pool → RunsBy more rows pool
+RunsBy-grows has more up rows pool is = record {
   datasets = Match-weaker (DatasetIs has) (DatasetIs more) (DatasetIs-grows has more up) rows.datasets pool.datasets is.datasets;
   snapshots = Match-weaker (SnapshotIs has) (SnapshotIs more) (SnapshotIs-grows has more up) rows.snapshots pool.snapshots is.snapshots;
-  bookmarks = is.bookmarks;
-  partials = Match-weaker (PartialIs has) (PartialIs more) (PartialIs-grows has more up) (filter (λ row. row.keep) rows.partials) pool.partials is.partials;
+  bookmarks = Match-weaker (BookmarkIs has) (BookmarkIs more) (BookmarkIs-grows has more up) rows.bookmarks pool.bookmarks is.bookmarks;
+  partials = Match-weaker (PartialIs has) (PartialIs more) (PartialIs-grows has more up) rows.partials pool.partials is.partials;
 }
 
 pub HasDir-grows : (has more : Blocks) → AreMore has more → (uber : Uber) (rows : Rows) → HasDir has uber rows → HasDir more uber rows
@@ -64,6 +72,6 @@ Describes-grows uber rows pool has more up is = record {
   guids = is.guids;
   extents = is.extents;
   directory = HasDir-grows has more up uber rows is.directory;
-  rows_are = RowsAre-grows has more up rows pool is.rows_are;
+  rows_are = RunsBy-grows has more up (kept_rows rows) pool is.rows_are;
   lawful = is.lawful;
 }

@@ -3,6 +3,7 @@ pub mod Committed
 pub mod Created
 pub mod Directories
 pub mod Growing
+pub mod Lasting
 pub mod One
 pub mod Opened
 pub mod Settled

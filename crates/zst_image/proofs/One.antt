@@ -1,27 +1,49 @@
 -- An image reads as one pool.
-use Rattle.std.proofs.Common.{◌≡◌, ℕ, List, [], ◌∷◌, filter, refl, sym, ◌∙◌, ap, subst}
+use Rattle.std.proofs.Common.{◌≡◌, ℕ, ◌<◌, ◌^◌, List, [], ◌∷◌, length, filter, refl, sym, ◌∙◌, ap, subst, arith}
 use Rattle.zst_space.specs.FreeSectors.{FreeSectors}
 use Rattle.zst_block.specs.Blocks.{Has}
+use Rattle.zst_block.specs.declared.ptr.Ptr.{Ptr}
 use Rattle.zst_uber.specs.Body.{body_bytes, uber_at}
 use Rattle.zst_uber.proofs.BodyLaws.{uber_at-body_bytes}
 use Rattle.zst_uber.specs.declared.uber.Uber.{Uber}
 use Rattle.zst_model.specs.states.Dated.{DatedState}
+use Rattle.zst_model.specs.fields.Lists.{Runs}
 use Rattle.zst_model.specs.pools.Pool.{Pool}
 use Rattle.zst_model.specs.pools.Pool as plain
 use Rattle.zst_tree.specs.declared.tree.ObjSet.{ObjSet}
 use Rattle.zst_objset.specs.Sets.{SetHolds}
+use Rattle.zst_list.specs.Standing.{HasList}
+use Rattle.zst_list.proofs.OneList.{RootsHaveOne}
 use Rattle.zst_dir.specs.Rows.{Rows}
+use Rattle.zst_dir.specs.Spelling.{IsDir, dir_bytes}
 use Rattle.zst_dir.specs.declared.rows.Dataset.{Dataset}
 use Rattle.zst_dir.specs.declared.rows.Snapshot.{Snapshot}
 use Rattle.zst_dir.specs.declared.rows.Bookmark.{Bookmark}
 use Rattle.zst_dir.specs.declared.rows.Partial.{Partial}
-use Rattle.zst_image.specs.Reads.{Match, DatasetIs, SnapshotIs, BookmarkIs, PartialIs, ReadsAs, free_by}
+use Rattle.zst_image.specs.Reads.{Match, DatasetIs, SnapshotIs, BookmarkIs, PartialIs, HasDir, ReadsAs, free_by}
 
 -- two bodies that an image has as its latest are one
 pub one_body : (uber other : Uber) (rows others : Rows) (pool another : Pool) (image : List ℕ) → ReadsAs uber rows pool image → ReadsAs other others another image → uber ≡ other
 one_body uber other rows others pool another image first second =
     let same : body_bytes uber ≡ body_bytes other = cc (first.stands, second.stands) in
     sym (uber_at-body_bytes uber first.fits) ∙ ap uber_at same ∙ uber_at-body_bytes other second.fits
+
+-- bytes are those of one directory
+abbrev pub BytesAreOne : Type 0
+BytesAreOne = (rows others : Rows) (bytes : List ℕ) → length bytes < 2 ^ 64 → IsDir rows bytes → IsDir others bytes → rows ≡ others
+
+-- two directories that a body names are one
+one_dir : RootsHaveOne → BytesAreOne → (uber : Uber) (rows others : Rows) (image : List ℕ) → uber.dir_bytes < 2 ^ 64 → HasDir (Has image (free_by uber)) uber rows → HasDir (Has image (free_by uber)) uber others → rows ≡ others
+one_dir one_text one_directory uber rows others image short first second =
+    let text = one_text image (free_by uber) uber.dir_levels uber.dir_root (dir_bytes rows) (dir_bytes others) (sym first.count_is ∙ second.count_is) first.leaves second.leaves in
+    one_directory rows others (dir_bytes rows) (omega (arith, short, first.count_is)) first.directory (subst (λ (bytes : List ℕ). IsDir others bytes) (sym text) second.directory)
+
+-- and so are the rows by which an image reads as a pool
+pub one_rows : RootsHaveOne → BytesAreOne → (uber other : Uber) (rows others : Rows) (pool another : Pool) (image : List ℕ) → ReadsAs uber rows pool image → ReadsAs other others another image → rows ≡ others
+one_rows one_text one_directory uber other rows others pool another image first second =
+    let body = one_body uber other rows others pool another image first second in
+    let again = subst (λ (u : Uber). ReadsAs u others another image) (sym body) second in
+    one_dir one_text one_directory uber rows others image first.fits.trees.dir_bytes first.described.directory again.described.directory
 
 -- lists that match the same are one, where each row stands for one thing
 Match-one : {A B : Type 0} (Is : A → B → Type 0) → ((x : A) (y z : B) → Is x y → Is x z → y ≡ z) → (xs : List A) (ys zs : List B) → Match Is xs ys → Match Is xs zs → ys ≡ zs
@@ -61,12 +83,18 @@ one_pool_is y z id number guids datasets snapshots bookmarks partials =
     let made : ◌≡◌ {A = Pool} (record { id = y.id; number = y.number; guids = y.guids; datasets = y.datasets; snapshots = y.snapshots; bookmarks = y.bookmarks; partials = y.partials }) (record { id = z.id; number = z.number; guids = z.guids; datasets = z.datasets; snapshots = z.snapshots; bookmarks = z.bookmarks; partials = z.partials }) = cc (id, number, guids, datasets, snapshots, bookmarks, partials) in
     made
 
-BookmarkIs-one : (row : Bookmark) (y z : plain.Bookmark) → BookmarkIs row y → BookmarkIs row z → y ≡ z
-BookmarkIs-one row y z first second = one_bookmark y z (first.name ∙ sym second.name) (first.guid ∙ sym second.guid) (first.time ∙ sym second.time) (first.number ∙ sym second.number) (first.redact ∙ sym second.redact) (first.runs ∙ sym second.runs)
-
 -- a set holds one dated state
 abbrev pub SetsHoldOne : Type 0
 SetsHoldOne = (set : ObjSet) (image : List ℕ) (space : FreeSectors) (state other : DatedState) → SetHolds (Has image space) set state → SetHolds (Has image space) set other → state ≡ other
+
+-- below a root stands one list of a count
+abbrev pub ListsAreOne : Type 0
+ListsAreOne = (image : List ℕ) (space : FreeSectors) (levels : ℕ) (root : Ptr) (count : ℕ) (runs other : Runs) → HasList (Has image space) levels root count runs → HasList (Has image space) levels root count other → runs ≡ other
+
+BookmarkIs-one : ListsAreOne → (image : List ℕ) (space : FreeSectors) (row : Bookmark) (y z : plain.Bookmark) → BookmarkIs (Has image space) row y → BookmarkIs (Has image space) row z → y ≡ z
+BookmarkIs-one one image space row y z first second =
+    let runs = one image space row.levels row.root row.runs y.runs z.runs first.list second.list in
+    one_bookmark y z (first.named.name ∙ sym second.named.name) (first.named.guid ∙ sym second.named.guid) (first.named.time ∙ sym second.named.time) (first.named.number ∙ sym second.named.number) (first.named.redact ∙ sym second.named.redact) runs
 
 module _ (one : SetsHoldOne) (image : List ℕ) (space : FreeSectors) where
   DatasetIs-one : (row : Dataset) (y z : plain.Dataset) → DatasetIs (Has image space) row y → DatasetIs (Has image space) row z → y ≡ z
@@ -84,16 +112,21 @@ module _ (one : SetsHoldOne) (image : List ℕ) (space : FreeSectors) where
       let objects = one row.objects image space y.objects z.objects first.objects second.objects in
       one_partial y z (first.named.target ∙ sym second.named.target) (first.named.component ∙ sym second.named.component) (first.named.keep ∙ sym second.named.keep) (first.named.header ∙ sym second.named.header) (first.named.base ∙ sym second.named.base) objects (first.named.point ∙ sym second.named.point)
 
--- the pool by these rows
-pub one_pool : SetsHoldOne → (uber other : Uber) (rows : Rows) (pool another : Pool) (image : List ℕ) → ReadsAs uber rows pool image → ReadsAs other rows another image → pool ≡ another
-one_pool one uber other rows pool another image first second =
-    let same = one_body uber other rows rows pool another image first second in
-    let last = subst (λ (u : Uber). ReadsAs u rows another image) (sym same) second in
+-- the pool by one body and these rows
+pool_by : SetsHoldOne → ListsAreOne → (uber : Uber) (rows : Rows) (pool another : Pool) (image : List ℕ) → ReadsAs uber rows pool image → ReadsAs uber rows another image → pool ≡ another
+pool_by one one_list uber rows pool another image first second =
     let a = first.described in
-    let b = last.described in
+    let b = second.described in
     let space = free_by uber in
     let datasets = Match-one (DatasetIs (Has image space)) (DatasetIs-one one image space) rows.datasets pool.datasets another.datasets a.rows_are.datasets b.rows_are.datasets in
     let snapshots = Match-one (SnapshotIs (Has image space)) (SnapshotIs-one one image space) rows.snapshots pool.snapshots another.snapshots a.rows_are.snapshots b.rows_are.snapshots in
-    let bookmarks = Match-one BookmarkIs BookmarkIs-one rows.bookmarks pool.bookmarks another.bookmarks a.rows_are.bookmarks b.rows_are.bookmarks in
+    let bookmarks = Match-one (BookmarkIs (Has image space)) (BookmarkIs-one one_list image space) rows.bookmarks pool.bookmarks another.bookmarks a.rows_are.bookmarks b.rows_are.bookmarks in
     let partials = Match-one (PartialIs (Has image space)) (PartialIs-one one image space) (filter (λ row. row.keep) rows.partials) pool.partials another.partials a.rows_are.partials b.rows_are.partials in
     one_pool_is pool another (a.id ∙ sym b.id) (a.number ∙ sym b.number) (a.guids ∙ sym b.guids) datasets snapshots bookmarks partials
+
+-- an image reads as one pool
+pub one_pool : RootsHaveOne → BytesAreOne → SetsHoldOne → ListsAreOne → (uber other : Uber) (rows others : Rows) (pool another : Pool) (image : List ℕ) → ReadsAs uber rows pool image → ReadsAs other others another image → pool ≡ another
+one_pool one_text one_directory one_state one_list uber other rows others pool another image first second =
+    let body = one_body uber other rows others pool another image first second in
+    let same = one_rows one_text one_directory uber other rows others pool another image first second in
+    pool_by one_state one_list uber rows pool another image first (subst (λ (u : Uber). ReadsAs u rows another image) (sym body) (subst (λ (r : Rows). ReadsAs other r another image) (sym same) second))

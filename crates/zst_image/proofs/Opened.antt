@@ -96,8 +96,8 @@ module _ (disk : DiskState) where
 pub IsSynced-reads : (old new : DiskState) → OnlyReads old new → IsSynced old → IsSynced new
 IsSynced-reads old new reads synced c image = synced c (reads.crash c image) ∙ sym reads.seen
 
--- a disk that reads as a pool and was opened rests as that pool, by what is kept of it
-pub Rests-opened : (old new : DiskState) (uber body : Uber) (rows dir : Rows) (pool : Pool) → ReadsAs uber rows pool old.seen → OnlyReads old new → IsSynced new → (body ≡ uber) × (dir ≡ rows) → Rests new body dir pool
-Rests-opened old new uber body rows dir pool is reads synced same =
-    let read : ReadsAs body dir pool new.seen = rw (same.0, same.1, reads.seen) is in
-    record { reads = read; each = λ c image. subst (λ (bytes : List ℕ). ReadsAs body dir pool bytes) (sym (synced c image)) read }
+-- a disk that reads as a pool and was opened rests as that pool, by the body that is kept of it
+pub Rests-opened : (old new : DiskState) (uber body : Uber) (rows : Rows) (pool : Pool) → ReadsAs uber rows pool old.seen → OnlyReads old new → IsSynced new → body ≡ uber → Rests new body rows pool
+Rests-opened old new uber body rows pool is reads synced same =
+    let read : ReadsAs body rows pool new.seen = rw (same, reads.seen) is in
+    record { reads = read; each = λ c image. subst (λ (bytes : List ℕ). ReadsAs body rows pool bytes) (sym (synced c image)) read }

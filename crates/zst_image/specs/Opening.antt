@@ -14,7 +14,7 @@ use Rattle.zst_dir.specs.Rows.{Rows}
 use Rattle.zst_leaves.specs.Damage.{TellsText}
 use Rattle.zst_leaves.specs.declared.fault.LeavesFault.{LeavesFault}
 use Rattle.zst_leaves.specs.declared.fault.LeavesFault.TheVariants as leaves
-use Rattle.zst_image.specs.Reads.{free_by, HasDir}
+use Rattle.zst_image.specs.Reads.{free_by, kept_rows, HasDir}
 use Rattle.zst_image.specs.declared.open_fault.OpenFault.{OpenFault}
 use Rattle.zst_image.specs.declared.open_fault.OpenFault.TheVariants.{Damaged, NoPool, BadVersion, DiskFault, OutOfMemory}
 use Rattle.zst_image.specs.declared.kept.Kept.{Kept}
@@ -47,9 +47,9 @@ abbrev pub ReadAnswer : {T : Type 0} → (T → Type 0) → Result T OpenFault �
 ReadAnswer Is (Ok value) = Is value
 ReadAnswer Is (Err fault) = ReadFault fault
 
--- where the image reads as a pool, this is what is kept of it, unless the disk or the memory failed
+-- where the image reads as a pool, this is what is kept of it, its rows that last, unless the disk or the memory failed
 abbrev pub GivesPool : Uber → Rows → Result Kept OpenFault → Type 0
-GivesPool uber rows result = ReadAnswer (λ kept. (kept.body ≡ uber) × (kept.dir ≡ rows)) result
+GivesPool uber rows result = ReadAnswer (λ kept. (kept.body ≡ uber) × (kept.dir ≡ kept_rows rows)) result
 
 -- this body and a directory of the layout are there, the directory with these rows
 pub record IsOpened (disk : DiskState) (body : List ℕ) (uber : Uber) (rows : Rows) : Type 0 where
@@ -92,7 +92,7 @@ TellsFault disk uber OutOfMemory = Unit {0}
 
 -- each answer of opening, where it comes
 abbrev pub OpenAnswers : DiskState → Result Kept OpenFault → Type 0
-OpenAnswers disk (Ok kept) = (body : List ℕ) × (latest disk.seen ≡ Some body) × IsOpened disk body kept.body kept.dir
+OpenAnswers disk (Ok kept) = (body : List ℕ) × (rows : Rows) × (latest disk.seen ≡ Some body) × IsOpened disk body kept.body rows × (kept.dir ≡ kept_rows rows)
 OpenAnswers disk (Err (Damaged sector stated found)) = TellsBody disk sector stated found ⊎ TellsDir disk sector stated found
 OpenAnswers disk (Err NoPool) = latest disk.seen ≡ None
 OpenAnswers disk (Err (BadVersion number)) = (body : List ℕ) × (latest disk.seen ≡ Some body) × (number ≡ number_at body 8 4) × (number ≢ VERSION)

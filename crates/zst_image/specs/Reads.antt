@@ -11,6 +11,7 @@ use Rattle.zst_model.specs.pools.Pool.{Pool, IsPool}
 use Rattle.zst_model.specs.pools.Pool as plain
 use Rattle.zst_tree.specs.Indices.{Blocks}
 use Rattle.zst_leaves.specs.Leaves.{HasLeaves, leaves_for}
+use Rattle.zst_list.specs.Standing.{HasList}
 use Rattle.zst_dir.specs.Rows.{Rows}
 use Rattle.zst_dir.specs.Spelling.{IsDir, dir_bytes}
 use Rattle.zst_dir.specs.declared.rows.Dataset.{Dataset}
@@ -57,15 +58,19 @@ pub record SnapshotIs (has : Blocks) (row : Snapshot) (snapshot : plain.Snapshot
   pub named : NamesSnapshot row snapshot
   pub objects : SetHolds has row.objects snapshot.objects
 
--- a bookmark's row stands for this bookmark; none has a list as long as lists aren't built
-pub record BookmarkIs (row : Bookmark) (bookmark : plain.Bookmark) : Type 0 where
+-- a bookmark's row names this bookmark, whatever its list has; one that nothing redacted has no runs
+pub record NamesBookmark (row : Bookmark) (bookmark : plain.Bookmark) : Type 0 where
   pub name : bookmark.name ≡ row.name
   pub guid : bookmark.guid ≡ row.guid
   pub time : bookmark.time ≡ row.time
   pub number : bookmark.number ≡ row.number
   pub redact : bookmark.redact ≡ row.redact
-  pub no_runs : row.runs ≡ 0
-  pub runs : bookmark.runs ≡ []
+  pub no_list : row.redact ≡ [] → row.runs ≡ 0
+
+-- a bookmark's row stands for this bookmark: it names it, and its leaves have its list
+pub record BookmarkIs (has : Blocks) (row : Bookmark) (bookmark : plain.Bookmark) : Type 0 where
+  pub named : NamesBookmark row bookmark
+  pub list : HasList has row.levels row.root row.runs bookmark.runs
 
 -- a partial state's row names this partial state, whatever its object set holds
 pub record NamesPartial (row : Partial) (partial : plain.Partial) : Type 0 where
@@ -81,12 +86,12 @@ pub record PartialIs (has : Blocks) (row : Partial) (partial : plain.Partial) : 
   pub named : NamesPartial row partial
   pub objects : SetHolds has row.objects partial.objects
 
--- the rows name what the pool lists, whatever the object sets hold; partial states that aren't kept are no part of it
-pub record AreNamed (rows : Rows) (pool : Pool) : Type 0 where
-  pub datasets : Match NamesDataset rows.datasets pool.datasets
-  pub snapshots : Match NamesSnapshot rows.snapshots pool.snapshots
-  pub bookmarks : Match BookmarkIs rows.bookmarks pool.bookmarks
-  pub partials : Match NamesPartial (filter (λ row. row.keep) rows.partials) pool.partials
+-- the rows name what a pool that runs lists, whatever the object sets and the lists hold
+pub record AreNamed (rows : Rows) (running : Pool) : Type 0 where
+  pub datasets : Match NamesDataset rows.datasets running.datasets
+  pub snapshots : Match NamesSnapshot rows.snapshots running.snapshots
+  pub bookmarks : Match NamesBookmark rows.bookmarks running.bookmarks
+  pub partials : Match NamesPartial rows.partials running.partials
 
 -- the body has the pool's id, number and guid counter, and the rows name what the pool lists
 pub record IsNamedBy (uber : Uber) (rows : Rows) (pool : Pool) : Type 0 where
@@ -95,12 +100,20 @@ pub record IsNamedBy (uber : Uber) (rows : Rows) (pool : Pool) : Type 0 where
   pub guids : pool.guids ≡ uber.guids
   pub are_named : AreNamed rows pool
 
--- the rows stand for what the pool lists; partial states that aren't kept are no part of it
-pub record RowsAre (has : Blocks) (rows : Rows) (pool : Pool) : Type 0 where
-  pub datasets : Match (DatasetIs has) rows.datasets pool.datasets
-  pub snapshots : Match (SnapshotIs has) rows.snapshots pool.snapshots
-  pub bookmarks : Match BookmarkIs rows.bookmarks pool.bookmarks
-  pub partials : Match (PartialIs has) (filter (λ row. row.keep) rows.partials) pool.partials
+-- the rows stand for what a pool that runs lists, also for its partial states that last no longer than their sessions
+pub record RunsBy (has : Blocks) (rows : Rows) (running : Pool) : Type 0 where
+  pub datasets : Match (DatasetIs has) rows.datasets running.datasets
+  pub snapshots : Match (SnapshotIs has) rows.snapshots running.snapshots
+  pub bookmarks : Match (BookmarkIs has) rows.bookmarks running.bookmarks
+  pub partials : Match (PartialIs has) rows.partials running.partials
+
+-- the rows that last: all but those of partial states without `keep`
+abbrev pub kept_rows : Rows → Rows
+kept_rows rows = record rows { partials = filter (λ row. row.keep) rows.partials }
+
+-- the rows that last stand for what the pool lists
+abbrev pub RowsAre : Blocks → Rows → Pool → Type 0
+RowsAre has rows pool = RunsBy has (kept_rows rows) pool
 
 -- so many sectors a directory of so many bytes takes at most: 16 for each leaf, and for each of the nodes above
 abbrev pub dir_sectors : ℕ → ℕ

@@ -24,7 +24,8 @@ use zst_uber::{Uber, latest};
 
 impl Kept {
     /// Opens the pool of a disk: reads its latest body and its directory. It begins with a sync and
-    /// writes nothing.
+    /// writes nothing. The session of a partial state that isn't kept has ended, so its row is left
+    /// out.
     ///
     /// A directory that isn't of its layout, or that doesn't stand where blocks may, is damaged,
     /// with both sums alike.
@@ -33,14 +34,15 @@ impl Kept {
         ensures there { (uber : Uber) (rows : Rows) (pool : Pool) → (D.state disk.new).honest → ReadsAs uber rows pool (D.state disk.old).seen → GivesPool uber rows result }
         ensures answer { (D.state disk.new).honest → OpenAnswers (D.state disk.old) result }
         // And of the one image that there is now it is what stands.
-        ensures rests { (uber : Uber) (rows : Rows) (pool : Pool) → (D.state disk.new).honest → ReadsAs uber rows pool (D.state disk.old).seen → IfOk result (λ kept. Rests (D.state disk.new) kept.body kept.dir pool) }
+        ensures rests { (uber : Uber) (rows : Rows) (pool : Pool) → (D.state disk.new).honest → ReadsAs uber rows pool (D.state disk.old).seen → IfOk result (λ kept. Rests (D.state disk.new) kept.body rows pool) }
         ensures ready { IfOk result (λ kept. Ready (D.state disk.new) kept.body) }
         ensures synced { ¬ (result ≡ Err OpenFault.DiskFault) → IsSynced (D.state disk.new) }
         ensures reads { OnlyReads (D.state disk.old) (D.state disk.new) }
         ensures cause { HasDiskCause OpenFault.DiskFault (D.state disk.old).faults (D.state disk.new).faults result }
     {
         let body = latest(disk)?;
-        let dir = read_dir(alloc, disk, &body)?;
+        let mut dir = read_dir(alloc, disk, &body)?;
+        dir.retain_kept();
         Ok(Kept { body, dir })
     }
 }

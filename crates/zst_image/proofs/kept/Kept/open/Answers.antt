@@ -6,6 +6,7 @@ use Rattle.zst_uber.specs.declared.fault.UberFault.{UberFault}
 use Rattle.zst_uber.specs.declared.fault.UberFault.TheVariants as ubers
 use Rattle.zst_uber.specs.declared.uber.Uber.{Uber}
 use Rattle.zst_image.specs.Faults.{of_uber}
+use Rattle.zst_image.specs.Reads.{kept_rows}
 use Rattle.zst_image.proofs.Opened.{IsBody-latest, IsLatest-reads, IsSynced-reads, HasDir-same, OpenAnswers-body, OpenAnswers-refused, Rests-opened, TellsFault-reads}
 use Rattle.zst_image.proofs.kept.Kept.open.Goals as goal
 
@@ -45,7 +46,8 @@ pub returns-clause-there : goal.returns-clause-there
 returns-clause-there g c = λ uber rows pool told reads.
     let old = g.D.Disk.state c.args.disk.now in
     let same : c.in_ok-body.body ≡ uber = c.in_ok-body.ensures.there uber (c.read_dir.ensures.reads.honest told) (IsLatest-reads old.size uber rows pool old.seen (g.met.D.Disk.seen_size c.args.disk.now) reads) in
-    (same, c.in_ok-dir.ensures.there rows told (ap (λ (u : Uber). u.free_count) same ∙ reads.described.extents) (HasDir-same uber c.in_ok-body.body rows old.seen _ same c.latest.ensures.reads.seen reads.described.directory))
+    let read = c.in_ok-dir.ensures.there rows told (ap (λ (u : Uber). u.free_count) same ∙ reads.described.extents) (HasDir-same uber c.in_ok-body.body rows old.seen _ same c.latest.ensures.reads.seen reads.described.directory) in
+    (same, c.retain_kept.ensures.retained ∙ ap kept_rows read)
 
 pub returns-clause-answer : goal.returns-clause-answer
 returns-clause-answer g c = λ told.
@@ -54,14 +56,16 @@ returns-clause-answer g c = λ told.
     let last = c.in_ok-body.ensures.stands (c.read_dir.ensures.reads.honest told) in
     let only = c.in_ok-dir.ensures.only told in (
       body_bytes body,
+      _,
       last.stands,
       record {
         is_body = IsBody-latest old.size body old.seen last;
         extents = only.0;
         directory = HasDir-same body body c.in_ok-dir.dir _ old.seen refl (sym c.latest.ensures.reads.seen) only.1;
       },
+      c.retain_kept.ensures.retained,
     )
 
 pub returns-clause-rests : goal.returns-clause-rests
 returns-clause-rests g c = λ uber rows pool told reads.
-    Rests-opened (g.D.Disk.state c.args.disk.now) _ uber c.in_ok-body.body rows c.in_ok-dir.dir pool reads (search rules) (search rules) (returns-clause-there g c uber rows pool told reads)
+    Rests-opened (g.D.Disk.state c.args.disk.now) _ uber c.in_ok-body.body rows pool reads (search rules) (search rules) ((returns-clause-there g c uber rows pool told reads).0)
