@@ -1,41 +1,28 @@
 -- What a command did, from what its parts did.
-use Rattle.std.specs.Prelude.{Result, Ok, Err}
-use Rattle.std.proofs.Common.{◌≡◌, ◌⊎◌, inl, inr, ⊎_elim, ℕ, List, sym, ◌∙◌, subst}
+use Rattle.std.specs.Prelude.{Result, Ok, Err, IfOk, OnErr}
+use Rattle.std.proofs.Common.{◌≡◌, ◌⊎◌, inl, inr, ⊎_elim, ℕ, ◌<◌, ◌^◌}
 use Rattle.zst_outside.specs.Images.{DiskState, Leaves, Leaves-weaker}
 use Rattle.zst_space.specs.FreeSectors.{FreeSectors}
-use Rattle.zst_block.specs.Blocks.{Has, FitsDisk, FillsFree, IsTaken, SparesTaken, Spared}
-use Rattle.zst_block.proofs.BlocksLaws.{Has-spared}
-use Rattle.zst_uber.specs.Body.{InRange}
-use Rattle.zst_uber.specs.declared.uber.Uber.{Uber}
+use Rattle.zst_block.specs.Blocks.{FillsFree, Has, KeepsBlocks}
 use Rattle.zst_model.specs.declared.refusals.refusal.Refusal.{Refusal}
+use Rattle.zst_model.specs.pools.Kept.{kept_of}
 use Rattle.zst_model.specs.pools.Pool.{Pool}
 use Rattle.zst_model.specs.pools.Step.{Stepped}
-use Rattle.zst_dir.specs.Rows.{Rows}
+use Rattle.zst_dir.specs.Rows.{Rows, IsLawful}
 use Rattle.zst_image.specs.declared.commit_fault.CommitFault.{CommitFault}
 use Rattle.zst_image.specs.declared.commit_fault.CommitFault.TheVariants as commits
-use Rattle.zst_pool.specs.Faults.{StepFault, of_commit, of_committed}
-use Rattle.zst_image.specs.Reads.{ReadsAs, Reads, Rests, free_by}
+use Rattle.zst_pool.specs.Calls.{IsAtRest, IsUnderWay}
+use Rattle.zst_pool.specs.Checks.{next_of}
+use Rattle.zst_pool.specs.Faults.{StepFault, of_committed}
+use Rattle.zst_pool.specs.Making.{MakesRows}
+use Rattle.zst_image.specs.Reads.{Reads, free_by}
 use Rattle.zst_pool.specs.Stepping.{BeforeOrAfter}
-use Rattle.zst_image.specs.Committing.{Commits, Stays}
+use Rattle.zst_image.specs.Committing.{Commits, NextIs}
 use Rattle.zst_pool.specs.Runs.{Did}
 use Rattle.zst_pool.specs.declared.fault.PoolFault.{PoolFault}
 use Rattle.zst_pool.specs.declared.fault.PoolFault.TheVariants.{Plan, CannotApply, Redacted, Full, Damaged, DiskFault, Failed, OutOfMemory}
 use Rattle.zst_image.specs.declared.kept.Kept.{Kept}
-use Rattle.zst_pool.proofs.Growing.{Describes-grows}
-use Rattle.zst_pool.proofs.Working.{latest-spared}
-
--- the sectors that are free by a body in its ranges fit its disk
-pub free_by_fits : (size : ℕ) (uber : Uber) → InRange size uber → FitsDisk size (free_by uber)
-free_by_fits size uber in_range = record { extents = record { end = in_range.end.1; extents = in_range.end.0 }; sectors = in_range.sectors }
-
--- an image that reads as a pool still does with other bytes in free sectors
-pub ReadsAs-spared : (uber : Uber) (rows : Rows) (pool : Pool) (d c : List ℕ) → IsTaken (free_by uber) 0 4096 → SparesTaken (free_by uber) d c → ReadsAs uber rows pool d → ReadsAs uber rows pool c
-ReadsAs-spared uber rows pool d c head spares reads = record {
-  stands = latest-spared (free_by uber) d c head spares ∙ reads.stands;
-  fits = reads.fits;
-  in_range = subst (λ (n : ℕ). InRange n uber) (sym spares.size) reads.in_range;
-  described = Describes-grows uber rows pool (Has d (free_by uber)) (Has c (free_by uber)) (λ ptr bytes has. Has-spared (free_by uber) d c ptr bytes spares has) reads.described;
-}
+use Rattle.zst_pool.proofs.Resting.{kept_is_next, next_lawful, rests_next, rests_on, rests_unless, since, way_runs}
 
 -- where the pool still stands, it does after each fault
 keeps : (before : Type 0) (definition : Result Stepped Refusal) → before → (fault : PoolFault) → StepFault (Unit {0}) definition fault → StepFault before definition fault
@@ -48,38 +35,39 @@ keeps before definition still DiskFault is = tt
 keeps before definition still Failed is = is
 keeps before definition still OutOfMemory is = still
 
--- and so it does after each fault of a commit, which comes only where the definition accepts
-commit_fault : (before : Type 0) (definition : Result Stepped Refusal) (done : Stepped) → definition ≡ Ok done → (fault : CommitFault) → Stays before fault → StepFault before definition (of_commit fault)
-commit_fault before definition done made (commits.Full need largest) still = ((done, made), still)
-commit_fault before definition done made commits.DiskFault still = tt
-commit_fault before definition done made commits.OutOfMemory still = still
+-- a command that fell before its commit
+pub fell : (start now : DiskState) (space : FreeSectors) (kept : Kept) (running : Pool) → IsUnderWay start now space kept running → (definition : Result Stepped Refusal) (fault : PoolFault) → StepFault (Unit {0}) definition fault
+    → Did start now kept running definition (Err fault)
+fell start now space kept running way definition fault is = record {
+  moments = Leaves-weaker start now (Reads (kept_of running)) (BeforeOrAfter running definition) (since start now space kept running way) (λ c reads. inl reads);
+  answer = keeps (IsAtRest now kept running) definition (rests_on start now space kept running way) fault is;
+}
 
-module _ (start now : DiskState) (space : FreeSectors) (uber : Uber) (rows : Rows) (pool : Pool) (head : IsTaken (free_by uber) 0 4096)
-    (rests : Rests start uber rows pool) (fills : FillsFree start (free_by uber) now space) where
-  spared : (c : List ℕ) → Spared (free_by uber) start c → ReadsAs uber rows pool c
-  spared c from = ReadsAs-spared uber rows pool from.0 c head from.2 (rests.each from.0 from.1)
-
-  -- while a command wrote into free sectors alone, the pool still stands
-  pub still : Rests now uber rows pool
-  still = record { reads = ReadsAs-spared uber rows pool start.seen now.seen head fills.seen rests.reads; each = λ c image. spared c (fills.crash c image) }
-
-  pub since : Leaves start now (Reads pool)
-  since = Leaves-weaker start now (Spared (free_by uber) start) (Reads pool) fills.time (λ c from. (uber, rows, spared c from))
-
-  -- a command that fell before its commit
-  pub fell : (definition : Result Stepped Refusal) (fault : PoolFault) → StepFault (Unit {0}) definition fault → Did start now uber rows pool definition (Err fault)
-  fell definition fault is = record {
-    moments = Leaves-weaker start now (Reads pool) (BeforeOrAfter pool definition) since (λ c reads. inl reads);
-    answer = keeps (Rests now uber rows pool) definition still fault is;
-  }
-
--- a command that committed what its definition makes
-module _ (start now : DiskState) (uber : Uber) (rows : Rows) (pool : Pool) (definition : Result Stepped Refusal) (done : Stepped) (is : definition ≡ Ok done) where
-  moments_of : (made : Result Kept CommitFault) → Commits start now uber rows pool done.pool made → Leaves start now (BeforeOrAfter pool definition)
-  moments_of made commits =
-      Leaves-weaker start now (λ c. Reads pool c ⊎ Reads done.pool c) (BeforeOrAfter pool definition) commits.moments
+-- a command that came to the commit of what its definition makes
+module _ (start now : DiskState) (kept : Kept) (rows : Rows) (running : Pool) (definition : Result Stepped Refusal) (done : Stepped) (is : definition ≡ Ok done) where
+  moments_of : (made : Result Kept CommitFault) → Commits start now kept.body rows (kept_of running) (kept_of done.pool) made → Leaves start now (BeforeOrAfter running definition)
+  moments_of made event =
+      Leaves-weaker start now (λ c. Reads (kept_of running) c ⊎ Reads (kept_of done.pool) c) (BeforeOrAfter running definition) event.moments
       (λ c either. ⊎_elim (λ before. inl before) (λ after. inr (done, is, after)) either)
 
-  pub did : (made : Result Kept CommitFault) → Commits start now uber rows pool done.pool made → Did start now uber rows pool definition (of_committed made)
-  did (Ok kept) commits = record { moments = moments_of (Ok kept) commits; answer = (done, is, commits.answer) }
-  did (Err fault) commits = record { moments = moments_of (Err fault) commits; answer = commit_fault (Rests now uber rows pool) definition done is fault commits.answer }
+  pub did : (made : Result Kept CommitFault) → Commits start now kept.body rows (kept_of running) (kept_of done.pool) made → IfOk made (λ next. IsAtRest now next done.pool)
+      → (¬ (made ≡ Err commits.DiskFault) → OnErr made (IsAtRest now kept running)) → Did start now kept running definition (of_committed made)
+  did (Ok next) event after before = record { moments = moments_of (Ok next) event; answer = (done, is, after) }
+  did (Err (commits.Full need largest)) event after before = record { moments = moments_of (Err (commits.Full need largest)) event; answer = ((done, is), before (λ disk. cc)) }
+  did (Err commits.DiskFault) event after before = record { moments = moments_of (Err commits.DiskFault) event; answer = tt }
+  did (Err commits.OutOfMemory) event after before = record { moments = moments_of (Err commits.OutOfMemory) event; answer = before (λ disk. cc) }
+
+-- a command that came to the commit of the rows that its definition makes
+pub did_rows : (start old new : DiskState) (space less : FreeSectors) (kept : Kept) (running : Pool) (definition : Result Stepped Refusal) (guids : ℕ) (dir : Rows) (made : Result Kept CommitFault)
+    → (way : IsUnderWay start old space kept running) → MakesRows (Has old.seen space) definition running guids dir → IsLawful dir → kept.body.number < 2 ^ 63
+    → ((next : Pool) → NextIs (Has old.seen space) kept.body guids dir next → Commits start new kept.body way.rested.rows (kept_of running) next made)
+    → IfOk made (λ after. after.dir ≡ dir) → IfOk made (λ after. KeepsBlocks old.seen space new.seen (free_by after.body)) → (¬ (made ≡ Err commits.DiskFault) → OnErr made (FillsFree old space new less))
+    → Did start new kept running definition (of_committed made)
+did_rows start old new space less kept running definition guids dir made way makes lawful below commit same blocks fills =
+    let runs = way_runs start old space kept running way in
+    let next = makes.next in
+    let is = kept_is_next (Has old.seen space) kept running next guids dir lawful runs makes.id makes.number makes.guid_counter makes.few below makes.runs_by in
+    let after = next_lawful (Has old.seen space) kept running next guids dir lawful runs makes.id makes.number makes.guid_counter makes.few below makes.runs_by in
+    let committed = commit (kept_of (next_of next).pool) is in
+    did start new kept way.rested.rows running definition (next_of next) makes.made made committed
+    (rests_next start old new space kept way.rested.rows dir running next made committed makes.runs_by after same blocks) (rests_unless start old new space less kept running made way fills)

@@ -1,10 +1,9 @@
 -- What the rows of a directory say of the pool that they stand for.
-use Rattle.std.proofs.Common.{◌≡◌, ℕ, ◌+◌, ◌≤◌, ◌<◌, ◌^◌, ◌-◌, get_or, true, false, ◌&&◌, not, List, length, Option, Some, None, is_some, is_none, Result, Ok, Err, nat_lt, refl, sym, ap, ◌∙◌, arith}
+use Rattle.std.proofs.Common.{◌≡◌, ℕ, ◌+◌, ◌≤◌, ◌<◌, ◌^◌, ◌-◌, get_or, true, false, not, List, length, Option, Some, None, is_some, is_none, Result, Ok, Err, nat_lt, refl, sym, ap, ◌∙◌, arith}
 use Rattle.std.specs.Prelude.{IsErrAnd}
-use Rattle.std.specs.List.{position, list_any, filter, count_by}
+use Rattle.std.specs.List.{position, list_any, count_by}
 use Rattle.std.specs.Str.{bytes_eq}
 use Rattle.std.proofs.lemmas.Bool.Decides.{nat_tests}
-use Rattle.std.proofs.lemmas.List.Sums.{length-filter}
 use Rattle.zst_model.specs.declared.refusals.faults.Quantity.{Quantity}
 use Rattle.zst_model.specs.declared.refusals.faults.Quantity.TheVariants as quantities
 use Rattle.zst_model.specs.declared.refusals.refusal.Refusal.{Refusal}
@@ -18,9 +17,8 @@ use Rattle.zst_pool.specs.Checks.{next_of, with_new, if_new_snapshot, if_guid_le
 use Rattle.zst_dir.specs.Rows.{Rows, HasDataset, HasSnapshot}
 use Rattle.zst_image.specs.Reads.{AreNamed, NamesDataset, NamesSnapshot, NamesPartial, StandAlike}
 use Rattle.zst_dir.specs.declared.rows.Dataset.{Dataset}
-use Rattle.zst_dir.specs.declared.rows.Partial.{Partial}
 use Rattle.zst_dir.specs.declared.rows.Snapshot.{Snapshot}
-use Rattle.zst_pool.proofs.Matching.{length-Match, is_some-position, list_any-Match, count_by-Match, list_any-filter, count_by-filter, none_named, find-Match}
+use Rattle.zst_pool.proofs.Matching.{length-Match, is_some-position, list_any-Match, count_by-Match, none_named, find-Match}
 
 -- what a `?` answers
 pub err_is : {T F : Type 0} (result : Result T F) (fault : F) → IsErrAnd result (λ e. e ≡ fault) → result ≡ Err fault
@@ -42,7 +40,7 @@ pub below_last_number : (pool : Pool) → pool.number < 2 ^ 63 → committed poo
 unfolding last_number
 below_last_number pool lt = within quantities.Number (2 ^ 63) (pool.number + 1) (Ok (next_of pool)) (omega (arith, lt))
 
-none_there : {A : Type 0} (o : Option A) → is_some o ≡ false → o ≡ None
+pub none_there : {A : Type 0} (o : Option A) → is_some o ≡ false → o ≡ None
 none_there None h = refl
 none_there (Some x) h = absurd (cc)
 
@@ -54,22 +52,20 @@ module _ (rows : Rows) (pool : Pool) (are : AreNamed rows pool) where
       ∙ list_any-Match NamesDataset (λ dataset. bytes_eq dataset.name name) (λ dataset. bytes_eq dataset.name name)
       (λ x y is. ap (λ n. bytes_eq n name) (sym is.name)) rows.datasets pool.datasets are.datasets
 
-  -- a partial state is, among those that are kept
-  pub partial_is_there : (name : List ℕ) → list_any (λ partial. partial.keep && bytes_eq partial.target name) rows.partials ≡ is_some (partial_of name pool)
+  -- a partial state is
+  pub partial_is_there : (name : List ℕ) → list_any (λ partial. bytes_eq partial.target name) rows.partials ≡ is_some (partial_of name pool)
   partial_is_there name =
-      sym (list_any-filter (λ (partial : Partial). partial.keep) (λ partial. bytes_eq partial.target name) rows.partials)
-      ∙ list_any-Match NamesPartial (λ partial. bytes_eq partial.target name) (λ partial. bytes_eq partial.target name)
-      (λ x y is. ap (λ n. bytes_eq n name) (sym is.target)) (filter (λ row. row.keep) rows.partials) pool.partials are.partials
+      list_any-Match NamesPartial (λ partial. bytes_eq partial.target name) (λ partial. bytes_eq partial.target name)
+      (λ x y is. ap (λ n. bytes_eq n name) (sym is.target)) rows.partials pool.partials are.partials
 
   -- partial states of absent datasets are as many
-  pub absent_are_counted : count_by (λ partial. partial.keep && is_none (position (λ dataset. bytes_eq dataset.name partial.target) rows.datasets)) rows.partials
+  pub absent_are_counted : count_by (λ partial. is_none (position (λ dataset. bytes_eq dataset.name partial.target) rows.datasets)) rows.partials
       ≡ count_by (λ partial. not (is_some (dataset_named partial.target pool))) pool.partials
   absent_are_counted =
-      sym (count_by-filter (λ (partial : Partial). partial.keep) (λ partial. is_none (position (λ dataset. bytes_eq dataset.name partial.target) rows.datasets)) rows.partials)
-      ∙ count_by-Match NamesPartial (λ partial. is_none (position (λ dataset. bytes_eq dataset.name partial.target) rows.datasets)) (λ partial. not (is_some (dataset_named partial.target pool)))
-      (λ x y is. ap not (dataset_is_there x.target ∙ ap (λ n. is_some (dataset_named n pool)) (sym is.target))) (filter (λ row. row.keep) rows.partials) pool.partials are.partials
+      count_by-Match NamesPartial (λ partial. is_none (position (λ dataset. bytes_eq dataset.name partial.target) rows.datasets)) (λ partial. not (is_some (dataset_named partial.target pool)))
+      (λ x y is. ap not (dataset_is_there x.target ∙ ap (λ n. is_some (dataset_named n pool)) (sym is.target))) rows.partials pool.partials are.partials
 
-  pub datasets_are_counted : (absent : ℕ) → absent ≡ count_by (λ partial. partial.keep && is_none (position (λ dataset. bytes_eq dataset.name partial.target) rows.datasets)) rows.partials
+  pub datasets_are_counted : (absent : ℕ) → absent ≡ count_by (λ partial. is_none (position (λ dataset. bytes_eq dataset.name partial.target) rows.datasets)) rows.partials
       → length rows.datasets + absent ≡ count_datasets pool
   datasets_are_counted absent is = ap (λ n. n + absent) (length-Match NamesDataset rows.datasets pool.datasets are.datasets) ∙ ap (λ n. length pool.datasets + n) (is ∙ absent_are_counted)
 
@@ -80,11 +76,12 @@ module _ (rows : Rows) (pool : Pool) (are : AreNamed rows pool) where
       ∙ list_any-Match NamesSnapshot (λ snapshot. bytes_eq snapshot.name name) (λ snapshot. bytes_eq snapshot.name name)
       (λ x y is. ap (λ n. bytes_eq n name) (sym is.name)) rows.snapshots pool.snapshots are.snapshots
 
-  pub snapshots_are_counted : (kept : ℕ) → kept ≡ count_by (λ partial. partial.keep) rows.partials → length rows.snapshots + kept ≡ length pool.snapshots + length pool.partials
-  snapshots_are_counted kept is =
-      ap (λ n. n + kept) (length-Match NamesSnapshot rows.snapshots pool.snapshots are.snapshots)
-      ∙ ap (λ n. length pool.snapshots + n) (is ∙ sym (length-filter (λ (partial : Partial). partial.keep) rows.partials)
-      ∙ length-Match NamesPartial (filter (λ row. row.keep) rows.partials) pool.partials are.partials)
+  pub partials_are_counted : length rows.partials ≡ length pool.partials
+  partials_are_counted = length-Match NamesPartial rows.partials pool.partials are.partials
+
+  pub snapshots_are_counted : length rows.snapshots + length rows.partials ≡ length pool.snapshots + length pool.partials
+  snapshots_are_counted =
+      ap (λ n. n + length rows.partials) (length-Match NamesSnapshot rows.snapshots pool.snapshots are.snapshots) ∙ ap (λ n. length pool.snapshots + n) partials_are_counted
 
   -- the row of a dataset stands at the place of the pool's
   pub dataset_at : (name : List ℕ) (place : ℕ) (d : Dataset) → position (λ dataset. bytes_eq dataset.name name) rows.datasets ≡ Some place
@@ -119,22 +116,22 @@ module _ (rows : Rows) (pool : Pool) (are : AreNamed rows pool) where
     dataset_is_open dataset there free = rw (there, free) refl
 
   -- what making a dataset is refused for, and what else it makes
-  module _ (kind : ℕ) (name : List ℕ) where
-    pub dataset_is_taken : is_some (dataset_named name pool) ≡ true → with_dataset kind name pool ≡ Err (exists_already (names.Dataset name))
+  module _ (dataset : plain.Dataset) where
+    pub dataset_is_taken : is_some (dataset_named dataset.name pool) ≡ true → with_dataset dataset pool ≡ Err (exists_already (names.Dataset dataset.name))
     dataset_is_taken there = rw there refl
 
-    pub dataset_is_partial : is_some (dataset_named name pool) ≡ false → is_some (partial_of name pool) ≡ true → with_dataset kind name pool ≡ Err (exists_already (names.Dataset name))
+    pub dataset_is_partial : is_some (dataset_named dataset.name pool) ≡ false → is_some (partial_of dataset.name pool) ≡ true → with_dataset dataset pool ≡ Err (exists_already (names.Dataset dataset.name))
     dataset_is_partial absent there = rw (absent, there) refl
 
-    pub datasets_are_many : is_some (dataset_named name pool) ≡ false → is_some (partial_of name pool) ≡ false → 256 ≤ count_datasets pool
-        → with_dataset kind name pool ≡ Err (refusals.Limit quantities.Datasets 256)
+    pub datasets_are_many : is_some (dataset_named dataset.name pool) ≡ false → is_some (partial_of dataset.name pool) ≡ false → 256 ≤ count_datasets pool
+        → with_dataset dataset pool ≡ Err (refusals.Limit quantities.Datasets 256)
     unfolding most_datasets
-    datasets_are_many absent free many = rw (absent, free) (over quantities.Datasets 256 (count_datasets pool + 1) (committed (with_new kind name pool)) (omega (arith, many)))
+    datasets_are_many absent free many = rw (absent, free) (over quantities.Datasets 256 (count_datasets pool + 1) (committed (with_new dataset pool)) (omega (arith, many)))
 
-    pub dataset_is_new : is_some (dataset_named name pool) ≡ false → is_some (partial_of name pool) ≡ false → count_datasets pool < 256
-        → with_dataset kind name pool ≡ committed (with_new kind name pool)
+    pub dataset_is_new : is_some (dataset_named dataset.name pool) ≡ false → is_some (partial_of dataset.name pool) ≡ false → count_datasets pool < 256
+        → with_dataset dataset pool ≡ committed (with_new dataset pool)
     unfolding most_datasets
-    dataset_is_new absent free few = rw (absent, free) (within quantities.Datasets 256 (count_datasets pool + 1) (committed (with_new kind name pool)) (omega (arith, few)))
+    dataset_is_new absent free few = rw (absent, free) (within quantities.Datasets 256 (count_datasets pool + 1) (committed (with_new dataset pool)) (omega (arith, few)))
 
 -- the guids that are left
 pub at_last_guid : (guids : ℕ) (rest : Result Stepped Refusal) → 2 ^ 32 - 1 ≤ guids → if_guid_left guids rest ≡ Err (refusals.Limit quantities.Guids (2 ^ 32 - 1))

@@ -1,9 +1,9 @@
 -- Lawful rows stand for a lawful pool.
-use Rattle.std.proofs.Common.{inl, inr, ◌⊎◌, ◌≡◌, ◌≢◌, ℕ, zero, suc, ◌<◌, ◌≤◌, ◌^◌, ◌&&◌, ◌||◌, Bool, true, false, List, [], ◌∷◌, ◌++◌, filter, nat_lt, Option, Some, None, IfSome, refl, sym, ap, ◌∙◌, subst, arith}
+use Rattle.std.proofs.Common.{inl, inr, ◌⊎◌, ◌≡◌, ◌≢◌, ℕ, zero, suc, ◌<◌, ◌≤◌, ◌^◌, ◌&&◌, ◌||◌, Bool, true, false, List, [], ◌∷◌, ◌++◌, nat_lt, Option, Some, None, IfSome, refl, sym, ap, ◌∙◌, subst, arith}
 use Rattle.std.specs.List.{All, AllPairs, Contains}
 use Rattle.std.specs.Str.{bytes_eq}
-use Rattle.std.proofs.lemmas.List.Elements.{All-nil, All-cons, All-head, All-tail, All-filter}
-use Rattle.std.proofs.lemmas.List.Kept.{AllPairs-cons, AllPairs-filter}
+use Rattle.std.proofs.lemmas.List.Elements.{All-nil, All-cons, All-head, All-tail}
+use Rattle.std.proofs.lemmas.List.Kept.{AllPairs-cons}
 use Rattle.zst_names.specs.Names.{IsDataset, IsSnapshot, IsBookmark, IsComponent, dataset_of}
 use Rattle.zst_model.specs.fields.Guids.{IsGuidSet}
 use Rattle.zst_model.specs.fields.Lists.{IsRunList}
@@ -15,8 +15,7 @@ use Rattle.zst_tree.specs.Indices.{Blocks}
 use Rattle.zst_dir.specs.Rows.{Rows, HasDataset, HasSnapshot, IsDatasetRow, IsSnapshotRow, IsBookmarkRow, IsPartialRow, IsLawful}
 use Rattle.zst_dir.specs.Rows as dir_rows
 use Rattle.zst_dir.specs.declared.rows.Snapshot.{Snapshot}
-use Rattle.zst_dir.specs.declared.rows.Partial.{Partial}
-use Rattle.zst_image.specs.Reads.{Match, RowsAre, DatasetIs, SnapshotIs, BookmarkIs, PartialIs}
+use Rattle.zst_image.specs.Reads.{Match, RunsBy, DatasetIs, SnapshotIs, BookmarkIs, PartialIs}
 
 -- what holds of all rows holds of all that they stand for
 All-Match : {A B : Type 0} (Is : A → B → Type 0) (P : A → Type 0) (Q : B → Type 0) → ((x : A) (y : B) → Is x y → P x → Q y) → (xs : List A) (ys : List B) → Match Is xs ys → All P xs → All Q ys
@@ -63,7 +62,16 @@ weaker (Some x) P Q up h = up x h
 stands_before : List ℕ → ℕ → List ℕ → ℕ → Bool
 stands_before n k m l = is_before (dataset_of 64 n) (dataset_of 64 m) || (bytes_eq (dataset_of 64 n) (dataset_of 64 m) && nat_lt k l)
 
-module _ (has : Blocks) (rows : Rows) (pool : Pool) (lawful : IsLawful rows) (are : RowsAre has rows pool) where
+-- rows stand as what they stand for does
+pub stand_alike : (has : Blocks) (a b : Snapshot) (c d : plain.Snapshot) → SnapshotIs has a c → SnapshotIs has b d → plain.snapshot_is_before d c ≡ dir_rows.snapshot_is_before b a
+unfolding stands_before
+stand_alike has a b c d ac bd =
+    ap (λ (n : List ℕ). stands_before n d.number c.name c.number) bd.named.name
+    ∙ ap (λ (k : ℕ). stands_before b.name k c.name c.number) bd.named.number
+    ∙ ap (λ (n : List ℕ). stands_before b.name b.number n c.number) ac.named.name
+    ∙ ap (λ (k : ℕ). stands_before b.name b.number a.name k) ac.named.number
+
+module _ (has : Blocks) (rows : Rows) (pool : Pool) (lawful : IsLawful rows) (are : RunsBy has rows pool) where
   dataset_there : (name : List ℕ) → HasDataset rows name → plain.HasDataset pool name
   dataset_there name h = let found = contains-Match (DatasetIs has) rows.datasets pool.datasets are.datasets h.0 h.1 in (found.0, found.1, found.2.named.name ∙ h.2)
 
@@ -75,20 +83,6 @@ module _ (has : Blocks) (rows : Rows) (pool : Pool) (lawful : IsLawful rows) (ar
       let found = contains-Match (λ y x. SnapshotIs has x y) pool.snapshots rows.snapshots (turned (SnapshotIs has) rows.snapshots pool.snapshots are.snapshots) h.0 h.1 in
       (found.0, found.1, sym found.2.named.name ∙ h.2)
 
-  stand_alike : (a b : Snapshot) (c d : plain.Snapshot) → SnapshotIs has a c → SnapshotIs has b d → plain.snapshot_is_before d c ≡ dir_rows.snapshot_is_before b a
-  unfolding stands_before
-  stand_alike a b c d ac bd =
-      ap (λ (n : List ℕ). stands_before n d.number c.name c.number) bd.named.name
-      ∙ ap (λ (k : ℕ). stands_before b.name k c.name c.number) bd.named.number
-      ∙ ap (λ (n : List ℕ). stands_before b.name b.number n c.number) ac.named.name
-      ∙ ap (λ (k : ℕ). stands_before b.name b.number a.name k) ac.named.number
-
-  abbrev kept : List Partial
-  kept = filter (λ row. row.keep) rows.partials
-
-  kept_rows : All IsPartialRow kept
-  kept_rows = All-filter (λ (row : Partial). row.keep) IsPartialRow rows.partials lawful.partials
-
   named : IsNamed pool
   named = record {
     dataset_names = All-Match (DatasetIs has) IsDatasetRow (λ d. IsDataset d.name) (λ x y is row. subst IsDataset (sym is.named.name) row.name) rows.datasets pool.datasets are.datasets lawful.datasets;
@@ -98,20 +92,19 @@ module _ (has : Blocks) (rows : Rows) (pool : Pool) (lawful : IsLawful rows) (ar
     snapshot_names = All-Match (SnapshotIs has) IsSnapshotRow (λ s. IsSnapshot s.name) (λ x y is row. subst IsSnapshot (sym is.named.name) row.name) rows.snapshots pool.snapshots are.snapshots lawful.snapshots;
     snapshots =
         AllPairs-Match (SnapshotIs has) (λ a b. dir_rows.snapshot_is_before b a ≡ false) (λ a b. plain.snapshot_is_before b a ≡ false)
-        (λ a b c d ac bd r. stand_alike a b c d ac bd ∙ r) rows.snapshots pool.snapshots are.snapshots lawful.ordered.snapshots;
+        (λ a b c d ac bd r. stand_alike has a b c d ac bd ∙ r) rows.snapshots pool.snapshots are.snapshots lawful.ordered.snapshots;
     snapshots_differ =
         AllPairs-Match (SnapshotIs has) (λ a b. a.name ≢ b.name) (λ a b. a.name ≢ b.name) (λ a b c d ac bd r e. r (sym ac.named.name ∙ e ∙ bd.named.name)) rows.snapshots pool.snapshots are.snapshots lawful.ordered.snapshots_differ;
-    bookmark_names = All-Match BookmarkIs IsBookmarkRow (λ b. IsBookmark b.name) (λ x y is row. subst IsBookmark (sym is.name) row.name) rows.bookmarks pool.bookmarks are.bookmarks lawful.bookmarks;
+    bookmark_names = All-Match (BookmarkIs has) IsBookmarkRow (λ b. IsBookmark b.name) (λ x y is row. subst IsBookmark (sym is.named.name) row.name) rows.bookmarks pool.bookmarks are.bookmarks lawful.bookmarks;
     bookmarks =
-        AllPairs-Match BookmarkIs (λ a b. is_before a.name b.name ≡ true) (λ a b. is_before a.name b.name ≡ true)
-        (λ a b c d ac bd r. ap (λ (n : List ℕ). is_before n d.name) ac.name ∙ ap (λ (n : List ℕ). is_before a.name n) bd.name ∙ r) rows.bookmarks pool.bookmarks are.bookmarks lawful.ordered.bookmarks;
+        AllPairs-Match (BookmarkIs has) (λ a b. is_before a.name b.name ≡ true) (λ a b. is_before a.name b.name ≡ true)
+        (λ a b c d ac bd r. ap (λ (n : List ℕ). is_before n d.name) ac.named.name ∙ ap (λ (n : List ℕ). is_before a.name n) bd.named.name ∙ r) rows.bookmarks pool.bookmarks are.bookmarks lawful.ordered.bookmarks;
     targets =
         All-Match (PartialIs has) IsPartialRow (λ p. IsDataset p.target × IsComponent p.component)
-        (λ x y is row. (subst IsDataset (sym is.named.target) row.target, subst IsComponent (sym is.named.component) row.snapshot)) kept pool.partials are.partials kept_rows;
+        (λ x y is row. (subst IsDataset (sym is.named.target) row.target, subst IsComponent (sym is.named.component) row.snapshot)) rows.partials pool.partials are.partials lawful.partials;
     partials =
         AllPairs-Match (PartialIs has) (λ a b. is_before a.target b.target ≡ true) (λ a b. is_before a.target b.target ≡ true)
-        (λ a b c d ac bd r. ap (λ (n : List ℕ). is_before n d.target) ac.named.target ∙ ap (λ (n : List ℕ). is_before a.target n) bd.named.target ∙ r) kept pool.partials are.partials
-        (AllPairs-filter (λ a b. is_before a.target b.target ≡ true) (λ (row : Partial). row.keep) rows.partials lawful.ordered.partials);
+        (λ a b c d ac bd r. ap (λ (n : List ℕ). is_before n d.target) ac.named.target ∙ ap (λ (n : List ℕ). is_before a.target n) bd.named.target ∙ r) rows.partials pool.partials are.partials lawful.ordered.partials;
   }
 
   linked : IsLinked pool
@@ -124,13 +117,11 @@ module _ (has : Blocks) (rows : Rows) (pool : Pool) (lawful : IsLawful rows) (ar
         (λ x y is h. subst (λ (o : Option (List ℕ)). IfSome o (plain.HasSnapshot pool)) (sym is.named.origin) (weaker x.origin (HasSnapshot rows) (plain.HasSnapshot pool) snapshot_there h)) rows.datasets pool.datasets are.datasets lawful.linked.origins;
     bases =
         All-Match (PartialIs has) (λ p. IfSome p.base (HasSnapshot rows)) (λ p. IfSome p.base (plain.HasSnapshot pool))
-        (λ x y is h. subst (λ (o : Option (List ℕ)). IfSome o (plain.HasSnapshot pool)) (sym is.named.base) (weaker x.base (HasSnapshot rows) (plain.HasSnapshot pool) snapshot_there h)) kept pool.partials are.partials
-        (All-filter (λ (row : Partial). row.keep) (λ p. IfSome p.base (HasSnapshot rows)) rows.partials lawful.linked.bases);
+        (λ x y is h. subst (λ (o : Option (List ℕ)). IfSome o (plain.HasSnapshot pool)) (sym is.named.base) (weaker x.base (HasSnapshot rows) (plain.HasSnapshot pool) snapshot_there h)) rows.partials pool.partials are.partials lawful.linked.bases;
     components =
         All-Match (PartialIs has) (λ p. HasSnapshot rows (p.target ++ 64 ∷ p.snapshot) → ⊥) (λ p. plain.HasSnapshot pool (p.target ++ 64 ∷ p.component) → ⊥)
         (λ x y is none found. none (subst (λ (t : List ℕ). HasSnapshot rows (t ++ 64 ∷ x.snapshot)) is.named.target
-        (subst (λ (s : List ℕ). HasSnapshot rows (y.target ++ 64 ∷ s)) is.named.component (snapshot_back (y.target ++ 64 ∷ y.component) found)))) kept pool.partials are.partials
-        (All-filter (λ (row : Partial). row.keep) (λ p. HasSnapshot rows (p.target ++ 64 ∷ p.snapshot) → ⊥) rows.partials lawful.linked.components);
+        (subst (λ (s : List ℕ). HasSnapshot rows (y.target ++ 64 ∷ s)) is.named.component (snapshot_back (y.target ++ 64 ∷ y.component) found)))) rows.partials pool.partials are.partials lawful.linked.components;
   }
 
   -- besides its names its numbers are to be in their ranges
@@ -149,10 +140,10 @@ module _ (has : Blocks) (rows : Rows) (pool : Pool) (lawful : IsLawful rows) (ar
         (λ x y is row. (subst IsGuid (sym is.named.guid) row.guid, subst IsGuidSet (sym is.named.redact) row.redact, is.objects.lawful, subst (λ (t : ℕ). t < 2 ^ 64) (sym is.named.time) row.time))
         rows.snapshots pool.snapshots are.snapshots lawful.snapshots;
     bookmarks =
-        All-Match BookmarkIs IsBookmarkRow (λ b. IsGuid b.guid × IsGuidSet b.redact × IsRunList b.runs × (b.time < 2 ^ 64))
-        (λ x y is row. (subst IsGuid (sym is.guid) row.guid, subst IsGuidSet (sym is.redact) row.redact, subst IsRunList (sym is.runs) refl, subst (λ (t : ℕ). t < 2 ^ 64) (sym is.time) row.time))
+        All-Match (BookmarkIs has) IsBookmarkRow (λ b. IsGuid b.guid × IsGuidSet b.redact × IsRunList b.runs × (b.time < 2 ^ 64))
+        (λ x y is row. (subst IsGuid (sym is.named.guid) row.guid, subst IsGuidSet (sym is.named.redact) row.redact, is.list.lawful, subst (λ (t : ℕ). t < 2 ^ 64) (sym is.named.time) row.time))
         rows.bookmarks pool.bookmarks are.bookmarks lawful.bookmarks;
     partials =
         All-Match (PartialIs has) IsPartialRow (λ p. IsStated p.header × IsState p.objects.state)
-        (λ x y is row. (subst IsStated (sym is.named.header) row.header, is.objects.lawful)) kept pool.partials are.partials kept_rows;
+        (λ x y is row. (subst IsStated (sym is.named.header) row.header, is.objects.lawful)) rows.partials pool.partials are.partials lawful.partials;
   }

@@ -1,5 +1,5 @@
 -- Rows that match: what a look-up, a count and a change of both lists have in common.
-use Rattle.std.proofs.Common.{◌≡◌, ℕ, zero, suc, ◌<◌, Bool, true, false, cond, ◌&&◌, ◌||◌, not, List, [], ◌∷◌, length, map, Some, None, is_some, if◌then◌else◌, get_or, inl, inr, refl, sym, ap, ◌∙◌, subst, arith}
+use Rattle.std.proofs.Common.{◌≡◌, ℕ, zero, suc, ◌<◌, Bool, true, false, cond, ◌&&◌, ◌||◌, not, List, [], ◌∷◌, length, map, Option, Some, None, is_some, if◌then◌else◌, get_or, inl, inr, refl, sym, ap, ◌∙◌, subst, arith}
 use Rattle.std.specs.List.{find, position, list_any, filter, count_by, position_or_len, Contains}
 use Rattle.std.proofs.Math.Numerals.{one-add}
 use Prim.Native.Nat.compare.{suc-suc}
@@ -145,6 +145,23 @@ find-Match {A = A} {B = B} Is p q same d xs ys m i is =
     first (x ∷ xs) (y ∷ ys) m (suc i) below here before =
         let rest = first xs ys m.1 i (omega (arith, below)) here (λ k lt. before (suc k) (omega (arith, lt))) in
         (rest.0, ap (λ b. cond b (Some y) (find q ys)) (sym (same x y m.0) ∙ before 0 (omega arith)) ∙ rest.1, inr rest.2)
+
+-- what two look-ups find matches, or they find none
+abbrev pub FoundAlike : {A B : Type 0} → (A → B → Type 0) → Option A → Option B → Type 0
+FoundAlike Is None None = Unit {0}
+FoundAlike Is None (Some y) = ⊥
+FoundAlike Is (Some x) None = ⊥
+FoundAlike Is (Some x) (Some y) = Is x y
+
+pub found-Match : {A B : Type 0} (Is : A → B → Type 0) (p : A → Bool) (q : B → Bool) → ((x : A) (y : B) → Is x y → p x ≡ q y) → (xs : List A) (ys : List B) → Match Is xs ys → FoundAlike Is (find p xs) (find q ys)
+found-Match Is p q same [] [] m = tt
+found-Match Is p q same [] (y ∷ ys) m = absurd m
+found-Match Is p q same (x ∷ xs) [] m = absurd m
+found-Match {A = A} {B = B} Is p q same (x ∷ xs) (y ∷ ys) m = rw (same x y m.0) (go (q y) (found-Match Is p q same xs ys m.1))
+  where
+    go : (b : Bool) → FoundAlike Is (find p xs) (find q ys) → FoundAlike Is (cond b (Some x) (find p xs)) (cond b (Some y) (find q ys))
+    go true rest = m.0
+    go false rest = rest
 
 -- what stands at the same place of lists that match matches
 pub Match-alike : {A B : Type 0} (Is : A → B → Type 0) (xs : List A) (ys : List B) (a : A) (b : B) → Match Is xs ys → StandAlike xs ys a b → Is a b

@@ -14,10 +14,10 @@ use Rattle.zst_dir.specs.Rows.{Rows, HasSnapshot, is_for, is_unkept_for, with_ob
 use Rattle.zst_dir.specs.declared.rows.Dataset.{Dataset}
 use Rattle.zst_dir.specs.declared.rows.Snapshot.{Snapshot}
 use Rattle.zst_dir.specs.declared.rows.Partial.{Partial}
-use Rattle.zst_pool.specs.PartialRows.{RunsBy, latest_row, rolled_rows, rows_with_partial}
+use Rattle.zst_pool.specs.PartialRows.{latest_row, rolled_rows, rows_with_partial}
 use Rattle.zst_pool.specs.Partials.{changed_at, latest_snapshot, partials_of_others, rolled, rolled_back, rolled_to}
 use Rattle.zst_pool.specs.Partials as plains
-use Rattle.zst_image.specs.Reads.{Match, DatasetIs, SnapshotIs, PartialIs}
+use Rattle.zst_image.specs.Reads.{Match, DatasetIs, SnapshotIs, PartialIs, RunsBy}
 use Rattle.zst_pool.proofs.Latest.{MatchIf, last-Match}
 use Rattle.zst_pool.proofs.Matching.{filter-Match, inserted-Match, map-Match}
 
@@ -35,7 +35,7 @@ has_snapshot_still rows next (Some name) same has = (has.0, subst (λ (l : _). C
 
 module _ (has : Blocks) where
   -- a dataset with the objects and the redaction guids of a snapshot
-  objects_at_is : (name : List ℕ) (row : Snapshot) (snapshot : plain.Snapshot) (x : Dataset) (y : plain.Dataset) → SnapshotIs has row snapshot → DatasetIs has x y
+  pub objects_at_is : (name : List ℕ) (row : Snapshot) (snapshot : plain.Snapshot) (x : Dataset) (y : plain.Dataset) → SnapshotIs has row snapshot → DatasetIs has x y
       → DatasetIs has (with_objects_at name row.objects row.redact x) (changed_at name (rolled_to snapshot) y)
   objects_at_is name row snapshot x y of is =
       subst (λ (n : List ℕ). DatasetIs has (with_objects_at name row.objects row.redact x) (if bytes_eq n name then rolled_to snapshot y else y)) (sym is.named.name) (go (bytes_eq x.name name))
@@ -61,7 +61,7 @@ module _ (has : Blocks) where
 
     module _ (row : Partial) (partial : plain.Partial) (is : PartialIs has row partial) where
       -- the partial states of other targets
-      others_match : Match (PartialIs has) (filter (λ other. not (is_for row.target other)) rows.partials) (partials_of_others partial.target running)
+      pub others_match : Match (PartialIs has) (filter (λ other. not (is_for row.target other)) rows.partials) (partials_of_others partial.target running)
       others_match =
           filter-Match (PartialIs has) (λ other. not (is_for row.target other)) (λ other. not (bytes_eq other.target partial.target))
           (λ x y xy. ap (λ (t : List ℕ). not (bytes_eq t row.target)) (sym xy.named.target) ∙ ap (λ (t : List ℕ). not (bytes_eq y.target t)) (sym is.named.target)) rows.partials running.partials runs.partials

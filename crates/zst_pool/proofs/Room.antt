@@ -1,6 +1,6 @@
 -- Where a command finds no room, and what it takes otherwise.
 use Rattle.std.specs.Prelude.{Option, None, Err}
-use Rattle.std.proofs.Common.{◌≡◌, inl, ℕ, ◌+◌, ◌/◌, ◌≤◌, Bool, true, length, arith}
+use Rattle.std.proofs.Common.{◌≡◌, inl, ℕ, ◌+◌, ◌*◌, ◌/◌, ◌≤◌, Bool, true, length, arith}
 use Rattle.zst_outside.specs.Images.{DiskState}
 use Rattle.zst_space.specs.FreeSectors.{FreeSectors}
 use Rattle.zst_block.specs.Blocks.{FillsFree}
@@ -16,7 +16,7 @@ use Rattle.zst_image.specs.Committing.{IsDirFull}
 use Rattle.zst_pool.specs.Runs.{as_kept}
 use Rattle.zst_pool.specs.declared.fault.PoolFault.{PoolFault}
 use Rattle.zst_image.specs.declared.kept.Kept.{Kept}
-use Rattle.zst_pool.proofs.Taking.{ends_later, takes_then, was_free}
+use Rattle.zst_pool.proofs.Taking.{ends_later, takes_more, takes_then, was_free}
 
 -- a block of data has 256 sectors at most
 pub block-sectors : (size : ℕ) → is_block_size size ≡ true → size / 512 ≤ 256
@@ -35,7 +35,8 @@ module _ (kept : Kept) (cells block : ℕ) {old : DiskState} {old_failed : Bool}
     full = λ need largest same.
         let full = works.full need largest (stops.full need largest same) in
         let was = was_free kept.body less works.takes works.fills.fewer in
-        record { shorter = full.shorter; needed = full.needed; is_longest = full.is_longest; was_free = omega (arith, full.is_longest, was); room = omega (arith, full.before) };
+        let taken_more = takes_more (block + 640 * cells) (most_sectors cells block kept.dir) (free_by kept.body) less (omega arith) works.takes in
+        record { taken = taken_more; shorter = full.shorter; needed = full.needed; is_longest = full.is_longest; was_free = omega (arith, full.is_longest, was); room = omega (arith, full.before) };
     grows = tt;
   }
 
@@ -46,7 +47,8 @@ module _ (kept : Kept) (cells block : ℕ) {old : DiskState} {old_failed : Bool}
     spends_full need largest fills told =
         let more = dir-more (length (dir_bytes dir)) (length (dir_bytes kept.dir) + 1024) grows in
         let was = was_free kept.body least (takes_then (free_by kept.body) less least works.takes takes) (λ sector free. works.fills.fewer sector (fills.fewer sector free)) in
-        record { shorter = told.shorter; needed = inl told.needed; is_longest = told.is_longest; was_free = omega (arith, told.is_longest, was); room = omega (arith, told.before, works.takes.longest, more) }
+        let taken_more = takes_more (block + 640 * cells + dir_sectors (length (dir_bytes dir))) (most_sectors cells block kept.dir) (free_by kept.body) least (omega (arith, more)) (takes_then (free_by kept.body) less least works.takes takes) in
+        record { taken = taken_more; shorter = told.shorter; needed = inl told.needed; is_longest = told.is_longest; was_free = omega (arith, told.is_longest, was); room = omega (arith, told.before, works.takes.longest, more) }
 
     pub spends_grows : (next : Kept) → kept.body.end ≤ kept.body.sectors → next.body.end ≤ next.body.sectors → next.body.end ≡ least.end → next.body.sectors ≡ kept.body.sectors
         → Grows (most_sectors cells block kept.dir) kept.body next.body

@@ -24,13 +24,14 @@ use Rattle.zst_objset.specs.Damage.{DamageFact}
 use Rattle.zst_objset.specs.declared.fault.ObjFault.TheVariants as set_faults
 use Rattle.zst_model.specs.declared.refusals.plan_fault.PlanFault.{PlanFault}
 use Rattle.zst_model.specs.refusals.Refusal.{refusal_of}
+use Rattle.zst_pool.specs.Calls.{IsAtRest}
 use Rattle.zst_pool.specs.Cost.{Cost, HasNoRoom, Spends}
 use Rattle.zst_pool.specs.Damage.{HasHead, IfHeadDamaged, IsOf, OfHead}
 use Rattle.zst_pool.specs.declared.head_fault.HeadFault.TheVariants.{Set}
 use Rattle.zst_pool.proofs.Judged.{memory_stops, plan_stops}
 use Rattle.zst_pool.specs.Faults.{StepFault, is_disk_fault, of_committed}
 use Rattle.zst_pool.specs.Heads.{ChangedHead, ChangesHead, Stops, Works, stop_of}
-use Rattle.zst_image.specs.Reads.{AreNamed, DatasetIs, Rests, RowsAre, dir_sectors, free_by}
+use Rattle.zst_image.specs.Reads.{AreNamed, DatasetIs, RunsBy, dir_sectors, free_by}
 use Rattle.zst_image.specs.Committing.{IsDirFull}
 use Rattle.zst_pool.specs.Runs.{Did, Ran, Runs, as_kept}
 use Rattle.zst_image.specs.Committing.{Ready}
@@ -42,11 +43,12 @@ use Rattle.zst_image.specs.Faults.{stop_of_commit}
 use Rattle.zst_image.specs.declared.commit_fault.CommitFault.{CommitFault}
 use Rattle.zst_image.specs.declared.commit_fault.CommitFault.TheVariants as commits
 use Rattle.zst_image.specs.declared.kept.Kept.{Kept}
-use Rattle.zst_pool.proofs.Doing.{fell, free_by_fits}
+use Rattle.zst_pool.proofs.Doing.{fell}
+use Rattle.zst_pool.proofs.Resting.{begun, free_by_fits, way_runs}
 use Rattle.zst_pool.proofs.Committed.{committed_cause, committed_err, committed_fails, committed_ok, committed_open}
 use Rattle.zst_pool.proofs.Matching.{Match-alike}
 use Rattle.zst_pool.proofs.Naming.{rows_named}
-use Rattle.zst_pool.proofs.Parts.{described_in, disk_fault_same, failed_then, taken}
+use Rattle.zst_pool.proofs.Parts.{disk_fault_same, failed_then}
 use Rattle.zst_pool.proofs.Room.{spends_fell, spends_full, spends_grows}
 use Rattle.zst_pool.proofs.Taking.{works_none}
 
@@ -54,21 +56,21 @@ use Rattle.zst_pool.proofs.Taking.{works_none}
 abbrev pub Wrote : Kept → Cost → DiskState → Bool → DiskState → FreeSectors → Bool → Option BlockFault → Type 0
 Wrote kept cost old old_failed new less new_failed stop =
     ((block : ℕ) × (block ≤ cost.most) × Works cost.cells block old (free_by kept.body) old_failed new less new_failed stop)
-    × ((pool : Pool) → new.honest → Rests old kept.body kept.dir pool → Works cost.cells (cost.block pool) old (free_by kept.body) old_failed new less new_failed stop)
+    × ((running : Pool) → new.honest → IsAtRest old kept running → Works cost.cells (cost.block running) old (free_by kept.body) old_failed new less new_failed stop)
 
 module _ (definition : Pool → Result Stepped Refusal) (cost : Cost) (kept : Kept) where
   -- a command that fell once it had written into free sectors alone
   pub runs_fell : {old : DiskState} {old_failed : Bool} {new : DiskState} {less : FreeSectors} {new_failed : Bool} {stop : Option BlockFault} (fault : PoolFault) {answer : Result Kept PoolFault} → answer ≡ Err fault → Ready new kept.body
       → Stops stop fault → Wrote kept cost old old_failed new less new_failed stop
-      → ((pool : Pool) → new.honest → Rests old kept.body kept.dir pool → StepFault (Unit {0}) (definition pool) fault) → Ran definition cost kept old old_failed new less new_failed answer
+      → ((running : Pool) → new.honest → IsAtRest old kept running → StepFault (Unit {0}) (definition running) fault) → Ran definition cost kept old old_failed new less new_failed answer
   runs_fell {old = old} {old_failed = old_failed} {new = new} {less = less} {new_failed = new_failed} {stop = stop} fault same ready stops wrote refused =
       let one = wrote.0 in
       let works = one.2 in
       let fell_so : Ran definition cost kept old old_failed new less new_failed (Err fault) = record {
-        did = λ pool told rests. fell old new less kept.body kept.dir pool (taken old kept.body kept.dir pool rests) rests works.fills (definition pool) fault (refused pool told rests);
+        did = λ running told rested. fell old new less kept running (record { rested = rested; fills = works.fills }) (definition running) fault (refused running told rested);
         open_still = λ is. stops.open_still (cc);
         spends = (one.0, one.1, spends_fell kept cost.cells one.0 fault stops works);
-        exact = λ pool told rests. spends_fell kept cost.cells (cost.block pool) fault stops (wrote.1 pool told rests);
+        exact = λ running told rested. spends_fell kept cost.cells (cost.block running) fault stops (wrote.1 running told rested);
         spares = λ apart. works.fills.seen;
         ready = tt;
         stays = λ standing. ready;
@@ -81,7 +83,7 @@ module _ (definition : Pool → Result Stepped Refusal) (cost : Cost) (kept : Ke
   -- one that came to its commit
   pub runs_committed : {old : DiskState} {old_failed : Bool} {new : DiskState} {less : FreeSectors} {new_failed : Bool} {last : DiskState} {least : FreeSectors} {last_failed : Bool} (dir : Rows) (made : Result Kept CommitFault) {answer : Result Kept PoolFault} → answer ≡ of_committed made
       → Ready new kept.body → Wrote kept cost old old_failed new less new_failed None
-      → ((pool : Pool) → last.honest → Rests old kept.body kept.dir pool → Did old last kept.body kept.dir pool (definition pool) (of_committed made))
+      → ((running : Pool) → last.honest → IsAtRest old kept running → Did old last kept running (definition running) (of_committed made))
       → length (dir_bytes dir) ≤ length (dir_bytes kept.dir) + 1024
       → ((need largest : ℕ) → made ≡ Err (commits.Full need largest) → IsDirFull less least dir need largest)
       → TakesAtMost (dir_sectors (length (dir_bytes dir))) less least → IfOk made (λ next. (next.body.end ≡ least.end) × (next.body.sectors ≡ kept.body.sectors))
@@ -97,7 +99,7 @@ module _ (definition : Pool → Result Stepped Refusal) (cost : Cost) (kept : Ke
         did = did;
         open_still = committed_open made;
         spends = (one.0, one.1, spends made full ends fills ready one.0 works);
-        exact = λ pool told rests. spends made full ends fills ready (cost.block pool) (wrote.1 pool (falls told) rests);
+        exact = λ running told rested. spends made full ends fills ready (cost.block running) (wrote.1 running (falls told) rested);
         spares = λ apart. spares made works.fills fills apart;
         ready = committed_ok (λ kept. Ready last kept.body) made ready;
         stays = λ standing. committed_err (Ready last kept.body) made (stays standing);
@@ -139,14 +141,14 @@ idle_wrote kept cost disk space failed stop none free ready =
     let idle = λ (block : ℕ). subst (Works cost.cells block disk (free_by kept.body) failed disk space failed) (sym none)
     (subst (λ (s : FreeSectors). Works cost.cells block disk (free_by kept.body) failed disk s failed None) (sym free)
     (works_none (block + 640 * cost.cells) block disk (free_by kept.body) failed (free_by_fits disk.size kept.body ready.in_range))) in
-    ((0, omega arith, idle 0), λ pool told rests. idle (cost.block pool))
+    ((0, omega arith, idle 0), λ running told rested. idle (cost.block running))
 
 module _ (definition : Pool → Result Stepped Refusal) (cost : Cost) (kept : Kept) where
   -- one that fell before it did anything
   pub runs_idle : {disk : DiskState} {space : FreeSectors} {failed : Bool} (fault : PoolFault) {answer : Result Kept PoolFault} → answer ≡ Err fault → space ≡ free_by kept.body → Ready disk kept.body → Stops None fault
-      → ((pool : Pool) → Rests disk kept.body kept.dir pool → StepFault (Unit {0}) (definition pool) fault) → Ran definition cost kept disk failed disk space failed answer
+      → ((running : Pool) → IsAtRest disk kept running → StepFault (Unit {0}) (definition running) fault) → Ran definition cost kept disk failed disk space failed answer
   runs_idle {disk = disk} {space = space} {failed = failed} fault same free ready stops refused =
-      runs_fell definition cost kept fault same ready stops (idle_wrote kept cost disk space failed None refl free ready) (λ pool told rests. refused pool rests)
+      runs_fell definition cost kept fault same ready stops (idle_wrote kept cost disk space failed None refl free ready) (λ running told rested. refused running rested)
 
 -- what is so of each damage that is answered
 pub told_of : (Is : DamageFact) (answer : Result Kept PoolFault) → ((sector : ℕ) (stated found : List ℕ) → answer ≡ Err (Damaged sector stated found) → Is sector stated found) → IfErr answer (IsOf Is)
@@ -161,14 +163,14 @@ module _ (definition : Pool → Result Stepped Refusal) (cost : Cost) (damage : 
 
   -- one that fell before it did anything, for a plan or for memory
   pub runs_planned : {disk : DiskState} {space : FreeSectors} {failed : Bool} (plan : PlanFault) {answer : Result Kept PoolFault} → answer ≡ Err (Plan plan) → space ≡ free_by kept.body → Ready disk kept.body
-      → ((pool : Pool) → Rests disk kept.body kept.dir pool → definition pool ≡ Err (refusal_of plan)) → Runs definition cost damage kept disk failed disk space failed answer
+      → ((running : Pool) → IsAtRest disk kept running → definition running ≡ Err (refusal_of plan)) → Runs definition cost damage kept disk failed disk space failed answer
   runs_planned plan {answer = answer} same free ready refused =
-      runs_sound answer (λ sector stated found is. cc) (runs_idle definition cost kept (Plan plan) same free ready (plan_stops None plan refl) (λ pool rests. (refused pool rests, tt)))
+      runs_sound answer (λ sector stated found is. cc) (runs_idle definition cost kept (Plan plan) same free ready (plan_stops None plan refl) (λ running rested. (refused running rested, tt)))
 
   pub runs_starved : {disk : DiskState} {space : FreeSectors} {failed : Bool} {answer : Result Kept PoolFault} → answer ≡ Err OutOfMemory → space ≡ free_by kept.body → Ready disk kept.body
       → Runs definition cost damage kept disk failed disk space failed answer
   runs_starved {answer = answer} same free ready =
-      runs_sound answer (λ sector stated found is. cc) (runs_idle definition cost kept OutOfMemory same free ready (memory_stops None refl) (λ pool rests. tt))
+      runs_sound answer (λ sector stated found is. cc) (runs_idle definition cost kept OutOfMemory same free ready (memory_stops None refl) (λ running rested. tt))
 
 -- one that changed the head of a dataset, or fell as that did
 pub runs_head : (definition : Pool → Result Stepped Refusal) (cost : Cost) (kept : Kept) (name : List ℕ) (Is : FreeSectors → ObjSet → DamageFact) {old : DiskState} {old_failed : Bool} {new : DiskState} {less : FreeSectors} {new_failed : Bool} (mid : DiskState) (space : FreeSectors) (set : ObjSet) (changed : Result (Unit {0}) HeadFault) (answer : Result Kept PoolFault)
@@ -188,11 +190,11 @@ unfolding last_number
 number_is number next pool lawful same is = let le : number ≤ 2 ^ 63 = omega (arith, same, lawful.number) in omega (arith, same, is le)
 
 -- what a set holds that was opened
-head_there : (kept : Kept) (name : List ℕ) (old : DiskState) (space : FreeSectors) (was : ObjSet) (pool : Pool) → RowsAre (Has old.seen space) kept.dir pool → FindsHead kept.dir name pool (Ok was)
+head_there : (kept : Kept) (name : List ℕ) (old : DiskState) (space : FreeSectors) (was : ObjSet) (pool : Pool) → RunsBy (Has old.seen space) kept.dir pool → FindsHead kept.dir name pool (Ok was)
     → (head : DatedState) × SetHolds (Has old.seen space) was head × ((change : DatedState → Result DatedState Refusal) → on_head name pool change ≡ (change head >>= λ after. committed (with_head_of name after pool)))
-head_there kept name old space was pool rows_are there =
+head_there kept name old space was pool runs_by there =
     let has = Has old.seen space in
-    let stands = Match-alike (DatasetIs has) kept.dir.datasets pool.datasets there.0 there.1 rows_are.datasets there.2 in
+    let stands = Match-alike (DatasetIs has) kept.dir.datasets pool.datasets there.0 there.1 runs_by.datasets there.2 in
     (there.1.head, subst (λ (set : ObjSet). SetHolds has set there.1.head) there.3 stands.head, there.4)
 
 -- a head that was opened and changed
@@ -200,24 +202,22 @@ pub changed_head : (kept : Kept) (name : List ℕ) (make : Pool → DatedState �
     → space ≡ free_by kept.body → (kept.body.number ≤ 2 ^ 63 → number ≡ kept.body.number + 1)
     → ((pool : Pool) → AreNamed kept.dir pool → FindsHead kept.dir name pool (Ok was))
     → ((pool : Pool) (head : DatedState) → new.honest → pool.number + 1 ≡ number → SetHolds (Has old.seen space) was head → ChangesHead (Has new.seen less) set (make pool head) changed)
-    → ((pool : Pool) (done : Stepped) → IsPool pool → on_head name pool (make pool) ≡ Ok done → IsPool done.pool)
     → ((block : ℕ) × (block ≤ cost.most) × Works cost.cells block old space old_failed new less new_failed (stop_of changed))
     → ((pool : Pool) (head : DatedState) → new.honest → SetHolds (Has old.seen space) was head
     → ((change : DatedState → Result DatedState Refusal) → on_head name pool change ≡ (change head >>= λ after. committed (with_head_of name after pool)))
     → Works cost.cells (cost.block pool) old space old_failed new less new_failed (stop_of changed))
     → ChangedHead kept name make cost old old_failed new less new_failed set changed
-changed_head kept name make cost {number = number} {old = old} {space = space} {old_failed = old_failed} {new = new} {less = less} {new_failed = new_failed} {was = was} {changed = changed} free next found changes lawful works exact =
+changed_head kept name make cost {number = number} {old = old} {space = space} {old_failed = old_failed} {new = new} {less = less} {new_failed = new_failed} {was = was} {changed = changed} free next found changes works exact =
     let over = λ (block : ℕ) (w : Works cost.cells block old space old_failed new less new_failed (stop_of changed)).
     subst (λ (s : FreeSectors). Works cost.cells block old s old_failed new less new_failed (stop_of changed)) free w in
     record {
-      made = λ pool told rests.
-          let described = described_in old space kept.body kept.dir pool free rests in
-          let there = head_there kept name old space was pool described.rows_are (found pool (rows_named (Has old.seen space) kept.dir pool described.rows_are)) in
-          (there.0, changes pool there.0 told (number_is kept.body.number number pool described.lawful described.number next) there.1, there.2 (make pool));
-      lawful = lawful;
+      made = λ running told rested.
+          let runs = way_runs old old space kept running (begun old kept running rested space free) in
+          let there = head_there kept name old space was running runs.runs_by (found running (rows_named (Has old.seen space) kept.dir running runs.runs_by)) in
+          (there.0, changes running there.0 told (number_is kept.body.number number running runs.lawful runs.number next) there.1, there.2 (make running));
       works = (works.0, works.1, over works.0 works.2);
-      exact = λ pool told rests.
-          let described = described_in old space kept.body kept.dir pool free rests in
-          let there = head_there kept name old space was pool described.rows_are (found pool (rows_named (Has old.seen space) kept.dir pool described.rows_are)) in
-          over (cost.block pool) (exact pool there.0 told there.1 there.2);
+      exact = λ running told rested.
+          let runs = way_runs old old space kept running (begun old kept running rested space free) in
+          let there = head_there kept name old space was running runs.runs_by (found running (rows_named (Has old.seen space) kept.dir running runs.runs_by)) in
+          over (cost.block running) (exact running there.0 told there.1 there.2);
     }

@@ -1,8 +1,10 @@
 -- What a step spends and spares, from what its run did.
-use Rattle.std.specs.Prelude.{Result, Ok, Err, OnErr}
+use Rattle.std.specs.Prelude.{◌||◌, Bool, true, false, Result, Ok, Err, OnErr}
+use Rattle.std.proofs.lemmas.Bool.{or_parts}
 use Rattle.std.proofs.Common.{◌≡◌, ℕ, sym, ap, ◌∙◌, subst}
 use Rattle.zst_space.specs.FreeSectors.{FreeSectors}
-use Rattle.zst_pool.specs.Cost.{Spends}
+use Rattle.zst_pool.specs.Cost.{FindsNoRoom, HasNoRoom, Spends}
+use Rattle.zst_pool.specs.Faults.{is_full, tells_full}
 use Rattle.zst_pool.specs.Runs.{as_kept}
 use Rattle.zst_pool.specs.declared.fault.PoolFault.{PoolFault}
 use Rattle.zst_pool.specs.declared.fault.PoolFault.TheVariants.{DiskFault, Full}
@@ -10,14 +12,16 @@ use Rattle.zst_image.specs.declared.kept.Kept.{Kept}
 
 module _ {T : Type 0} (cells block : ℕ) (kept : Kept) (left : FreeSectors) where
   -- a step that went well
-  pub spends_ok : (next : Kept) (reply : T) → Spends cells block kept left as_kept (Ok next) → Spends cells block kept left (λ value. next) (Ok reply)
-  spends_ok next reply spends = record { full = tt; grows = spends.grows }
+  pub spends_ok : (next : Kept) (reply : T) (later : FreeSectors) → Spends cells block kept left as_kept (Ok next) → Spends cells block kept later (λ value. next) (Ok reply)
+  spends_ok next reply later spends = record { full = tt; grows = spends.grows }
 
-  -- one that fell as its run did
-  pub spends_err : (next : Kept) (fault : PoolFault) (r : Result T PoolFault) → r ≡ Err fault → Spends cells block kept left as_kept (Err fault) → Spends cells block kept left (λ value. next) r
-  spends_err next fault r same spends =
-      let fell : Spends {T = T} cells block kept left (λ value. next) (Err fault) = record { full = spends.full; grows = tt } in
-      subst (Spends cells block kept left (λ value. next)) (sym same) fell
+  -- one that fell as its run did, whose sectors stay where the disk was full
+  pub spends_err : (next : Kept) (fault : PoolFault) (r : Result T PoolFault) (later : FreeSectors) → r ≡ Err fault → (tells_full fault ≡ true → later ≡ left)
+      → Spends cells block kept left as_kept (Err fault) → Spends cells block kept later (λ value. next) r
+  spends_err next fault r later same stays spends =
+      let found : FindsNoRoom cells block kept later fault = λ need largest is. subst (λ (space : FreeSectors). HasNoRoom cells block kept.body kept.dir space need largest) (sym (stays (ap tells_full is))) (spends.full need largest is) in
+      let fell : Spends {T = T} cells block kept later (λ value. next) (Err fault) = record { full = found; grows = tt } in
+      subst (Spends cells block kept later (λ value. next)) (sym same) fell
 
   -- one that fell apart from E24
   pub spends_apart : (next : Kept) (fault : PoolFault) (r : Result T PoolFault) → r ≡ Err fault → ((need largest : ℕ) → ¬ (fault ≡ Full need largest)) → Spends cells block kept left (λ value. next) r
@@ -29,3 +33,9 @@ module _ {T : Type 0} (cells block : ℕ) (kept : Kept) (left : FreeSectors) whe
 pub spares_err : {T : Type 0} (P : Type 0) (fault : PoolFault) (r : Result T PoolFault) → r ≡ Err fault → (¬ (◌≡◌ {A = Result Kept PoolFault} (Err fault) (Err DiskFault)) → P) → ¬ (r ≡ Err DiskFault) → OnErr r P
 spares_err {T = T} P fault r same spares apart =
     subst (λ (x : Result T PoolFault). OnErr x P) (sym same) (spares (λ is. let disk : fault ≡ DiskFault = cc in apart (same ∙ ap (λ (f : PoolFault). Err f) disk)))
+
+-- a run whose fault isn't a full disk is none
+pub free_again : {T U : Type 0} (fault : PoolFault) (failed : Bool) (r : Result T PoolFault) (run : Result U PoolFault) → r ≡ Err fault → Err fault ≡ run → (failed || is_full r) ≡ false → is_full run ≡ false
+free_again {T = T} {U = U} fault failed r run same ran told =
+    let apart : is_full {T = T} (Err fault) ≡ false = subst (λ (x : Result T PoolFault). is_full x ≡ false) same (or_parts failed (is_full r) told).1 in
+    subst (λ (x : Result U PoolFault). is_full x ≡ false) ran apart

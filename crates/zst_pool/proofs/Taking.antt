@@ -26,6 +26,10 @@ takes_then old mid new one two = record {
   unbroken = λ none. two.unbroken (one.unbroken none);
 }
 
+-- what takes so many takes no more than more
+pub takes_more : (most more : ℕ) (old new : FreeSectors) → most ≤ more → TakesAtMost most old new → TakesAtMost more old new
+takes_more most more old new le takes = record { sectors = takes.sectors; left = omega (arith, takes.left, le); longest = omega (arith, takes.longest, le); unbroken = takes.unbroken }
+
 -- a part that does nothing to the disk
 pub works_none : (most block : ℕ) (disk : DiskState) (space : FreeSectors) (failed : Bool) → FitsDisk disk.size space → blocks.Works most block disk space failed disk space failed None
 works_none most block disk space failed fits = record {
@@ -52,10 +56,10 @@ module _ {old : DiskState} {space : FreeSectors} {failed : Bool} {new : DiskStat
   -- one that takes fewer sectors, for fewer blocks
   pub works_wider : {most block : ℕ} (more wider : ℕ) → most ≤ more → ((need : ℕ) → (need ≡ 16) ⊎ (need ≡ block) → (need ≡ 16) ⊎ (need ≡ wider))
       → blocks.Works most block old space failed new less now stop → blocks.Works more wider old space failed new less now stop
-  works_wider more wider le needed works = record {
+  works_wider {most = most} more wider le needed works = record {
     fills = works.fills;
     fits = works.fits;
-    takes = record { sectors = works.takes.sectors; left = omega (arith, works.takes.left, le); longest = omega (arith, works.takes.longest, le); unbroken = works.takes.unbroken };
+    takes = takes_more most more space less le works.takes;
     full = λ need largest is.
         let full = works.full need largest is in
         record { shorter = full.shorter; is_longest = full.is_longest; needed = needed need full.needed; before = omega (arith, full.before, le) };

@@ -9,11 +9,10 @@ use Rattle.zst_model.specs.declared.refusals.plan_fault.PlanFault.TheVariants.{L
 use Rattle.zst_model.specs.declared.refusals.refusal.Refusal.{Refusal}
 use Rattle.zst_model.specs.refusals.Refusal.{refusal_of}
 use Rattle.zst_model.specs.pools.Kept.{kept_of}
-use Rattle.zst_model.specs.pools.Pool.{Pool}
+use Rattle.zst_model.specs.pools.Pool.{Pool, IsPool}
 use Rattle.zst_dir.specs.Rows.{Rows}
 use Rattle.zst_dir.specs.Spelling.{dir_bytes}
-use Rattle.zst_pool.specs.PartialRows.{RunsBy}
-use Rattle.zst_image.specs.Reads.{Reads, Rests, dir_sectors, free_by}
+use Rattle.zst_image.specs.Reads.{Reads, Rests, RunsBy, dir_sectors, free_by}
 use Rattle.zst_image.specs.Committing.{Ready}
 use Rattle.zst_pool.specs.declared.fault.PoolFault.{PoolFault}
 use Rattle.zst_pool.specs.declared.fault.PoolFault.TheVariants.{Plan, CannotApply, Redacted, Full, Damaged, DiskFault, Failed, OutOfMemory}
@@ -31,25 +30,17 @@ pub record ListsAnew (running next : Pool) : Type 0 where
   pub number : next.number ≡ running.number
   pub guids : next.guids ≡ running.guids
 
--- at a start the disk rested as what is kept of this pool, and since then blocks alone were written
-pub record IsFrom (start now : DiskState) (space : FreeSectors) (body : Uber) (running : Pool) : Type 0 where
-  pub rows : Rows
-  pub rests : Rests start body rows (kept_of running)
-  pub fills : FillsFree start (free_by body) now space
-
--- and by the blocks that are there now, the rows in memory stand for this pool
-pub record IsUnderWay (start now : DiskState) (space : FreeSectors) (kept : Kept) (running : Pool) : Type 0 where
-  pub from : IsFrom start now space kept.body running
-  pub runs_by : RunsBy (Has now.seen space) kept.dir running
-
--- the disk rests as what is kept of this pool, which runs by the rows in memory
+-- between its events: the disk rests, by its rows, as what is kept of this pool, and the rows in memory stand for the lawful pool that runs
 pub record IsAtRest (now : DiskState) (kept : Kept) (running : Pool) : Type 0 where
-  pub rests : Rests now kept.body kept.dir (kept_of running)
+  pub rows : Rows
+  pub rests : Rests now kept.body rows (kept_of running)
   pub runs_by : RunsBy (Has now.seen (free_by kept.body)) kept.dir running
+  pub lawful : IsPool running
 
--- the disk still rests as what is kept of a pool
-abbrev pub StillRests : DiskState → Uber → Pool → Type 0
-StillRests now body running = (rows : Rows) × Rests now body rows (kept_of running)
+-- within an event: at a start the pool was at rest, and since then blocks alone were written
+pub record IsUnderWay (start now : DiskState) (space : FreeSectors) (kept : Kept) (running : Pool) : Type 0 where
+  pub rested : IsAtRest start kept running
+  pub fills : FillsFree start (free_by kept.body) now space
 
 -- why a call is refused, and what then stands: a limit where the definition says so, and a full disk only where it accepts
 abbrev pub CallFault : Type 0 → Result Pool Refusal → PoolFault → Type 0
@@ -74,14 +65,14 @@ IsCallFault Failed = ⊥
 IsCallFault OutOfMemory = Unit {0}
 
 -- what stands after a call's answer: what the definition makes of the pool, or the pool as it was
-abbrev pub CallAnswer : DiskState → Uber → Pool → Result Pool Refusal → Result Kept PoolFault → Type 0
-CallAnswer now body running definition (Ok kept) = (next : Pool) × (definition ≡ Ok next) × (kept.body.number ≡ next.number) × IsAtRest now kept next
-CallAnswer now body running definition (Err fault) = CallFault (StillRests now body running) definition fault
+abbrev pub CallAnswer : DiskState → Kept → Pool → Result Pool Refusal → Result Kept PoolFault → Type 0
+CallAnswer now old running definition (Ok kept) = (next : Pool) × (definition ≡ Ok next) × (kept.body.number ≡ next.number) × IsAtRest now kept next
+CallAnswer now old running definition (Err fault) = CallFault (IsAtRest now old running) definition fault
 
 -- a call that commits: inside it each image reads as what is kept of the pool before, or of the one that the definition makes, and then by its answer
-pub record CallDid (start now : DiskState) (body : Uber) (running : Pool) (definition : Result Pool Refusal) (result : Result Kept PoolFault) : Type 0 where
+pub record CallDid (start now : DiskState) (kept : Kept) (running : Pool) (definition : Result Pool Refusal) (result : Result Kept PoolFault) : Type 0 where
   pub moments : Leaves start now (λ c. Reads (kept_of running) c ⊎ ((next : Pool) × (definition ≡ Ok next) × Reads (kept_of next) c))
-  pub answer : CallAnswer now body running definition result
+  pub answer : CallAnswer now kept running definition result
 
 -- a call's answer with what the pool then keeps
 abbrev pub keeping : Kept → Result ℕ PoolFault → Result Kept PoolFault

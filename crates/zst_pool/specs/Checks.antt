@@ -15,7 +15,7 @@ use Rattle.zst_model.specs.pools.Lines.{ok_line}
 use Rattle.zst_model.specs.pools.Pool.{Pool, is_before, snapshot_is_before, inserted, snapshot_named}
 use Rattle.zst_model.specs.pools.Pool as plain
 use Rattle.zst_model.specs.refusals.Refusal.{refusal_of}
-use Rattle.zst_model.specs.pools.Step.{Stepped, exists_already, limited, last_guid, most_snapshots, on_dataset, on_head, committed, with_head, new_dataset, snapshot_of, with_snapshot, applied, in_numbers}
+use Rattle.zst_model.specs.pools.Step.{Stepped, exists_already, limited, last_guid, most_snapshots, on_dataset, on_head, committed, with_head, snapshot_of, with_snapshot, applied, in_numbers}
 use Rattle.zst_tree.specs.declared.tree.ObjSet.{ObjSet}
 use Rattle.zst_dir.specs.Rows.{Rows}
 use Rattle.zst_dir.specs.declared.rows.Dataset.{Dataset}
@@ -40,14 +40,15 @@ if_guid_left guids rest = limited quantities.Guids last_guid (guids + 1) rest
 abbrev pub next_of : Pool → Stepped
 next_of pool = record { reply = ok_line (pool.number + 1) ∷ []; pool = record pool { number = pool.number + 1 } }
 
--- a pool with a new dataset, and one with another head of a dataset
-abbrev pub with_new : ℕ → List ℕ → Pool → Pool
-with_new kind name pool = record pool { datasets = inserted (λ a b. is_before a.name b.name) (new_dataset kind name) pool.datasets }
+-- a pool with a new dataset
+abbrev pub with_new : plain.Dataset → Pool → Pool
+with_new dataset pool = record pool { datasets = inserted (λ a b. is_before a.name b.name) dataset pool.datasets }
 
 -- one with a new snapshot
 abbrev pub with_taken : ℕ → List ℕ → plain.Dataset → Pool → Pool
 with_taken now name dataset pool = record pool { guids = pool.guids + 1; snapshots = inserted snapshot_is_before (snapshot_of now name pool dataset) pool.snapshots }
 
+-- one with another head of a dataset
 abbrev pub with_head_of : List ℕ → DatedState → Pool → Pool
 with_head_of name head pool = record pool { datasets = with_head name head pool.datasets }
 

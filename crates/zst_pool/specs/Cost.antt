@@ -9,7 +9,8 @@ use Rattle.zst_model.specs.pools.Pool.{Pool, dataset_named}
 use Rattle.zst_model.specs.pools.Pool as plain
 use Rattle.zst_dir.specs.Rows.{Rows}
 use Rattle.zst_dir.specs.Spelling.{dir_bytes}
-use Rattle.zst_image.specs.Reads.{dir_sectors}
+use Rattle.zst_block.specs.Working.{TakesAtMost}
+use Rattle.zst_image.specs.Reads.{dir_sectors, free_by}
 use Rattle.zst_pool.specs.declared.fault.PoolFault.{PoolFault}
 use Rattle.zst_pool.specs.declared.fault.PoolFault.TheVariants.{Full}
 use Rattle.zst_image.specs.declared.kept.Kept.{Kept}
@@ -54,6 +55,10 @@ cost_of (commands.Write dataset k i bytes) = write_cost dataset k
 cost_of (commands.Punch dataset k first count) = cells_only 2
 cost_of (commands.Free dataset first count) = cells_only 2
 cost_of (commands.Snapshot name) = cells_only 0
+cost_of (commands.Clone origin dataset) = cells_only 0
+cost_of (commands.Bookmark snapshot bookmark) = cells_only 0
+cost_of (commands.Rollback destroys snapshot) = cells_only 0
+cost_of (commands.Destroy name) = cells_only 0
 cost_of (commands.Read name k i) = cells_only 0
 cost_of commands.List = cells_only 0
 cost_of (commands.ListObjects name) = cells_only 0
@@ -62,8 +67,9 @@ cost_of (commands.ListObjects name) = cells_only 0
 abbrev pub most_sectors : ℕ → ℕ → Rows → ℕ
 most_sectors cells block rows = block + 640 * cells + dir_sectors (length (dir_bytes rows) + 1024)
 
--- E24: what is to be written, a block of a tree or the data, is longer than the longest run that is left, which was free before; and before, fewer sectors were free than the event takes at most
+-- E24: what is to be written, a block of a tree or the data, is longer than the longest run of the sectors that are left then, which were free before; and before, fewer sectors were free than the event takes at most
 pub record HasNoRoom (cells block : ℕ) (uber : Uber) (rows : Rows) (left : FreeSectors) (need largest : ℕ) : Type 0 where
+  pub taken : TakesAtMost (most_sectors cells block rows) (free_by uber) left
   pub shorter : largest < need
   pub needed : (need ≡ 16) ⊎ (need ≡ block)
   pub is_longest : largest ≡ largest_of left

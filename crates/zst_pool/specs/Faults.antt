@@ -10,6 +10,8 @@ use Rattle.zst_model.specs.pools.Step.{Stepped}
 use Rattle.zst_model.specs.declared.refusals.plan_fault.PlanFault.TheVariants as plans
 use Rattle.zst_objset.specs.declared.fault.ObjFault.{ObjFault}
 use Rattle.zst_objset.specs.declared.fault.ObjFault.TheVariants as sets
+use Rattle.zst_leaves.specs.declared.fault.LeavesFault.{LeavesFault}
+use Rattle.zst_leaves.specs.declared.fault.LeavesFault.TheVariants as leaves
 use Rattle.zst_image.specs.declared.commit_fault.CommitFault.{CommitFault}
 use Rattle.zst_image.specs.declared.commit_fault.CommitFault.TheVariants as commits
 use Rattle.zst_pool.specs.declared.fault.PoolFault.{PoolFault}
@@ -39,6 +41,11 @@ of_set (sets.Redacted object block) = faults.Redacted object block
 of_set (sets.Limit which number) = faults.Plan (plans.Limit which number)
 of_set (sets.Block fault) = of_block fault
 
+-- a fault of the leaves of a list as a pool's
+abbrev pub of_leaves : LeavesFault → PoolFault
+of_leaves (leaves.Block fault) = of_block fault
+of_leaves leaves.Memory = faults.OutOfMemory
+
 -- a commit's fault as a pool's
 abbrev pub of_commit : CommitFault → PoolFault
 of_commit (commits.Full need largest) = faults.Full need largest
@@ -61,6 +68,15 @@ is_disk_fault (Err (faults.Damaged sector stated found)) = false
 is_disk_fault (Err faults.DiskFault) = true
 is_disk_fault (Err faults.Failed) = false
 is_disk_fault (Err faults.OutOfMemory) = false
+
+-- whether the disk is full
+abbrev pub tells_full : PoolFault → Bool
+tells_full (faults.Full need largest) = true
+tells_full _ = false
+
+abbrev pub is_full : {T : Type 0} → Result T PoolFault → Bool
+is_full (Ok value) = false
+is_full (Err fault) = tells_full fault
 
 -- a count of faults never falls, and a fault of the disk is answered only where it rose
 pub record HasDiskCause {T : Type 0} (before now : ℕ) (result : Result T PoolFault) : Type 0 where

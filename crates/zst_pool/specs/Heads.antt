@@ -9,8 +9,8 @@ use Rattle.zst_block.specs.declared.fault.BlockFault.TheVariants as block_faults
 use Rattle.zst_model.specs.declared.refusals.refusal.Refusal.{Refusal}
 use Rattle.zst_model.specs.states.Apply.{◌>>=◌}
 use Rattle.zst_model.specs.states.Dated.{DatedState}
-use Rattle.zst_model.specs.pools.Pool.{Pool, IsPool}
-use Rattle.zst_model.specs.pools.Step.{Stepped, committed, on_head}
+use Rattle.zst_model.specs.pools.Pool.{Pool}
+use Rattle.zst_model.specs.pools.Step.{committed, on_head}
 use Rattle.zst_tree.specs.Indices.{Blocks}
 use Rattle.zst_tree.specs.declared.tree.ObjSet.{ObjSet}
 use Rattle.zst_objset.specs.Answers as sets
@@ -20,7 +20,8 @@ use Rattle.zst_objset.specs.declared.fault.ObjFault.TheVariants as set_faults
 use Rattle.zst_pool.specs.Checks.{next_of, with_head_of}
 use Rattle.zst_pool.specs.Cost.{Cost}
 use Rattle.zst_pool.specs.Faults.{StepFault, of_set, is_disk_fault}
-use Rattle.zst_image.specs.Reads.{Rests, free_by}
+use Rattle.zst_image.specs.Reads.{free_by}
+use Rattle.zst_pool.specs.Calls.{IsAtRest}
 use Rattle.zst_pool.specs.declared.fault.PoolFault.{PoolFault}
 use Rattle.zst_pool.specs.declared.fault.PoolFault.TheVariants as faults
 use Rattle.zst_pool.specs.declared.head_fault.HeadFault.{HeadFault}
@@ -92,12 +93,11 @@ JudgesHead has set name pool change (Err fault) = StepFault (Unit {0}) (change >
 abbrev pub Works : ℕ → ℕ → DiskState → FreeSectors → Bool → DiskState → FreeSectors → Bool → Option BlockFault → Type 0
 Works cells block old old_space old_failed new new_space new_failed stop = blocks.Works (block + 640 * cells) block old old_space old_failed new new_space new_failed stop
 
--- Since a start a command changed the head of a dataset as `make` says, or could not: what stands then, and what was answered. What it makes is lawful.
+-- Since a start at which a pool was at rest a command changed the head of a dataset as `make` says, or could not: what stands then, and what was answered.
 pub record ChangedHead (kept : Kept) (name : List ℕ) (make : Pool → DatedState → Result DatedState Refusal) (cost : Cost) (start : DiskState) (start_failed : Bool) (now : DiskState) (space : FreeSectors) (failed : Bool) (set : ObjSet) (changed : Result (Unit {0}) HeadFault) : Type 0 where
-  pub made : (pool : Pool) → now.honest → Rests start kept.body kept.dir pool
-      → (head : DatedState) × ChangesHead (Has now.seen space) set (make pool head) changed
-      × (on_head name pool (make pool) ≡ (make pool head >>= λ after. committed (with_head_of name after pool)))
-  pub lawful : (pool : Pool) (done : Stepped) → IsPool pool → on_head name pool (make pool) ≡ Ok done → IsPool done.pool
-  -- whatever is there, and where the image reads as a pool
+  pub made : (running : Pool) → now.honest → IsAtRest start kept running
+      → (head : DatedState) × ChangesHead (Has now.seen space) set (make running head) changed
+      × (on_head name running (make running) ≡ (make running head >>= λ after. committed (with_head_of name after running)))
+  -- whatever is there, and where a pool was at rest
   pub works : (block : ℕ) × (block ≤ cost.most) × Works cost.cells block start (free_by kept.body) start_failed now space failed (stop_of changed)
-  pub exact : (pool : Pool) → now.honest → Rests start kept.body kept.dir pool → Works cost.cells (cost.block pool) start (free_by kept.body) start_failed now space failed (stop_of changed)
+  pub exact : (running : Pool) → now.honest → IsAtRest start kept running → Works cost.cells (cost.block running) start (free_by kept.body) start_failed now space failed (stop_of changed)

@@ -4,10 +4,15 @@ pub mod Cost
 pub mod Damage
 pub mod Faults
 pub mod Finding
+pub mod FinishedRows
 pub mod Heads
+pub mod Lineage
+pub mod Lists
+pub mod Making
 pub mod PartialRows
 pub mod Partials
 pub mod Plans
 pub mod Reopening
 pub mod Runs
 pub mod Stepping
+pub mod Telling

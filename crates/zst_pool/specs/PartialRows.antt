@@ -4,20 +4,11 @@ use Rattle.zst_names.specs.Names.{dataset_of}
 use Rattle.zst_model.specs.declared.refusals.plan_fault.PlanFault.{PlanFault}
 use Rattle.zst_model.specs.pools.Pool.{Pool}
 use Rattle.zst_model.specs.refusals.Refusal.{refusal_of}
-use Rattle.zst_tree.specs.Indices.{Blocks}
 use Rattle.zst_dir.specs.Rows.{Rows, with_objects, with_partial, is_for}
 use Rattle.zst_dir.specs.declared.rows.Dataset.{Dataset}
 use Rattle.zst_dir.specs.declared.rows.Snapshot.{Snapshot}
 use Rattle.zst_dir.specs.declared.rows.Partial.{Partial}
 use Rattle.zst_pool.specs.Partials.{last_where, next_commit}
-use Rattle.zst_image.specs.Reads.{Match, DatasetIs, SnapshotIs, BookmarkIs, PartialIs}
-
--- the rows stand for the pool that runs: also those of partial states that aren't kept
-pub record RunsBy (has : Blocks) (rows : Rows) (running : Pool) : Type 0 where
-  pub datasets : Match (DatasetIs has) rows.datasets running.datasets
-  pub snapshots : Match (SnapshotIs has) rows.snapshots running.snapshots
-  pub bookmarks : Match BookmarkIs rows.bookmarks running.bookmarks
-  pub partials : Match (PartialIs has) rows.partials running.partials
 
 -- the row of the latest snapshot of a dataset
 abbrev pub latest_row : List ℕ → Rows → Option Snapshot

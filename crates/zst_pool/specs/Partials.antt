@@ -3,11 +3,8 @@ use Rattle.std.specs.Prelude.{ℕ, ◌+◌, Bool, List, [], ◌∷◌, ◌++◌,
 use Rattle.zst_model.specs.declared.refusals.faults.Quantity.TheVariants as quantities
 use Rattle.zst_model.specs.declared.refusals.refusal.Refusal.{Refusal}
 use Rattle.zst_model.specs.pools.Pool.{Pool, Dataset, Snapshot, Partial, dataset_of_snapshot, dataset_named, is_before, snapshot_is_before, inserted}
+use Rattle.zst_model.specs.pools.Limits.{most_partials}
 use Rattle.zst_model.specs.pools.Step.{limited, count_datasets, last_number, most_datasets, most_snapshots}
-
--- a pool has at most so many partial states
-abbrev pub most_partials : ℕ
-most_partials = 16
 
 -- this pool as that of the next commit, or the first limit that it passes (E23)
 abbrev pub next_commit : Pool → Result Pool Refusal

@@ -1,5 +1,5 @@
 -- What a command's plan refuses, whatever the object sets hold.
-use Rattle.std.specs.Prelude.{◌≡◌, ◌⊎◌, ◌↔◌, ℕ, ◌+◌, ◌<◌, ◌≤◌, ◌^◌, Bool, true, false, [], filter, map, Result, Err}
+use Rattle.std.specs.Prelude.{◌≡◌, ◌⊎◌, ◌↔◌, ℕ, ◌+◌, ◌<◌, ◌≤◌, ◌^◌, Bool, true, false, [], map, Result, Err}
 use Rattle.zst_uber.specs.declared.uber.Uber.{Uber}
 use Rattle.zst_model.specs.declared.pools.command.Command.{Command}
 use Rattle.zst_model.specs.declared.pools.command.Command.TheVariants as commands
@@ -27,13 +27,15 @@ abbrev pub is_counted : Quantity → Bool
 is_counted quantities.Datasets = true
 is_counted quantities.Snapshots = true
 is_counted quantities.Guids = true
+is_counted quantities.Bookmarks = true
 is_counted which = false
 
--- whether the directory and the latest body alone tell a refusal: E3, E4, E5, and E23 of what is counted there
+-- whether the directory and the latest body alone tell a refusal: E3 to E6, and E23 of what is counted there
 abbrev pub is_by_rows : PlanFault → Bool
 is_by_rows (plans.NoSuch missing) = true
 is_by_rows (plans.Exists present) = true
 is_by_rows (plans.Busy holder) = true
+is_by_rows (plans.NotAncestor to from) = true
 is_by_rows (plans.Limit which number) = is_counted which
 is_by_rows fault = false
 
@@ -46,6 +48,7 @@ numbers_end command = 0
 abbrev pub indices_end : Command → ℕ
 indices_end (commands.Write dataset k i bytes) = i + 1
 indices_end (commands.Punch dataset k first count) = first + count
+indices_end (commands.Read name k i) = i + 1
 indices_end command = 0
 
 -- E23 of a number or an index: those that a command names end past 2^48, or past 2^43, and the limit is told
@@ -88,5 +91,5 @@ bare_pool uber rows = record {
   datasets = map bare_dataset rows.datasets;
   snapshots = map bare_snapshot rows.snapshots;
   bookmarks = map bare_bookmark rows.bookmarks;
-  partials = map bare_partial (filter (λ row. row.keep) rows.partials);
+  partials = map bare_partial rows.partials;
 }

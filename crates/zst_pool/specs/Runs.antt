@@ -3,16 +3,15 @@ use Rattle.std.specs.Prelude.{◌≡◌, ◌||◌, ◌≤◌, ℕ, Bool, false, 
 use Rattle.zst_outside.specs.Images.{DiskState, Leaves}
 use Rattle.zst_space.specs.FreeSectors.{FreeSectors}
 use Rattle.zst_block.specs.Blocks.{SparesTaken}
-use Rattle.zst_uber.specs.declared.uber.Uber.{Uber}
 use Rattle.zst_model.specs.declared.refusals.refusal.Refusal.{Refusal}
 use Rattle.zst_model.specs.pools.Pool.{Pool}
 use Rattle.zst_model.specs.pools.Step.{Stepped}
-use Rattle.zst_dir.specs.Rows.{Rows}
 use Rattle.zst_objset.specs.Damage.{DamageFact}
 use Rattle.zst_pool.specs.Cost.{Cost, Spends}
 use Rattle.zst_pool.specs.Damage.{IsOf}
 use Rattle.zst_pool.specs.Faults.{HasDiskCause, is_disk_fault, StepFault}
-use Rattle.zst_image.specs.Reads.{Rests, free_by}
+use Rattle.zst_image.specs.Reads.{free_by}
+use Rattle.zst_pool.specs.Calls.{IsAtRest}
 use Rattle.zst_pool.specs.Stepping.{BeforeOrAfter}
 use Rattle.zst_image.specs.Committing.{Ready}
 use Rattle.zst_pool.specs.declared.fault.PoolFault.{PoolFault}
@@ -20,26 +19,26 @@ use Rattle.zst_pool.specs.declared.fault.PoolFault.TheVariants.{DiskFault, Faile
 use Rattle.zst_image.specs.declared.kept.Kept.{Kept}
 
 -- what stands after a command's answer: what the definition makes of the pool, or the pool as it was
-abbrev pub DidAnswer : (Kept → Pool → Type 0) → Type 0 → Result Stepped Refusal → Result Kept PoolFault → Type 0
-DidAnswer after before definition (Ok kept) = (done : Stepped) × (definition ≡ Ok done) × after kept done.pool
-DidAnswer after before definition (Err fault) = StepFault before definition fault
+abbrev pub DidAnswer : DiskState → Kept → Pool → Result Stepped Refusal → Result Kept PoolFault → Type 0
+DidAnswer now old running definition (Ok kept) = (done : Stepped) × (definition ≡ Ok done) × IsAtRest now kept done.pool
+DidAnswer now old running definition (Err fault) = StepFault (IsAtRest now old running) definition fault
 
--- a command that commits: inside it each image reads as the pool before or as what the definition makes of it, and then by its answer
-pub record Did (start now : DiskState) (uber : Uber) (rows : Rows) (pool : Pool) (definition : Result Stepped Refusal) (result : Result Kept PoolFault) : Type 0 where
-  pub moments : Leaves start now (BeforeOrAfter pool definition)
-  pub answer : DidAnswer (λ kept next. Rests now kept.body kept.dir next) (Rests now uber rows pool) definition result
+-- a command that commits: inside it each image reads as what is kept of the pool before or of what the definition makes of it, and then by its answer
+pub record Did (start now : DiskState) (kept : Kept) (running : Pool) (definition : Result Stepped Refusal) (result : Result Kept PoolFault) : Type 0 where
+  pub moments : Leaves start now (BeforeOrAfter running definition)
+  pub answer : DidAnswer now kept running definition result
 
 -- what is kept after a command that went well is what it answers
 abbrev pub as_kept : Kept → Kept
 as_kept kept = kept
 
--- what a command at this cost did: by its definition where the image read as a pool, and what stands then whatever the image was
+-- what a command at this cost did: by its definition where a pool was at rest, and what stands then whatever the image was
 pub record Ran (definition : Pool → Result Stepped Refusal) (cost : Cost) (kept : Kept) (old : DiskState) (old_failed : Bool) (new : DiskState) (left : FreeSectors) (new_failed : Bool) (result : Result Kept PoolFault) : Type 0 where
-  pub did : (pool : Pool) → new.honest → Rests old kept.body kept.dir pool → Did old new kept.body kept.dir pool (definition pool) result
+  pub did : (running : Pool) → new.honest → IsAtRest old kept running → Did old new kept running (definition running) result
   pub open_still : ¬ (result ≡ Err Failed)
   -- it takes no more than the cost at most, and no more than the cost in the pool
   pub spends : (block : ℕ) × (block ≤ cost.most) × Spends cost.cells block kept left as_kept result
-  pub exact : (pool : Pool) → new.honest → Rests old kept.body kept.dir pool → Spends cost.cells (cost.block pool) kept left as_kept result
+  pub exact : (running : Pool) → new.honest → IsAtRest old kept running → Spends cost.cells (cost.block running) kept left as_kept result
   -- where it is refused, unless the disk failed, free sectors alone were written
   pub spares : ¬ (result ≡ Err DiskFault) → OnErr result (SparesTaken (free_by kept.body) old.seen new.seen)
   pub ready : IfOk result (λ kept. Ready new kept.body)

@@ -5,7 +5,7 @@ ghost use Rattle.zst_block.specs.Blocks.{Has};
 ghost use Rattle.zst_model.specs.pools.Pool.{Pool as Plain};
 ghost use Rattle.zst_model.specs.pools.Step.{state_named};
 ghost use Rattle.zst_pool.specs.Finding.{FindsState, set_named};
-ghost use Rattle.zst_image.specs.Reads.{RowsAre};
+ghost use Rattle.zst_image.specs.Reads.{RunsBy};
 
 use crate::pool::Pool;
 use zst_dir::Dir;
@@ -60,13 +60,21 @@ impl<'d, D: Disk> Pool<'d, D> {
     pub fn objects_of(&self, name: &Name) -> Option<ObjSet>
         ensures rows { result ≡ set_named name.now self.now.kept.dir }
         // Where the rows stand for a pool, it is there exactly where that has a state, and holds it.
-        ensures found { (image : List ℕ) (space : FreeSectors) (pool : Plain) → RowsAre (Has image space) self.now.kept.dir pool → FindsState (Has image space) (state_named name.now pool) result }
+        ensures found { (image : List ℕ) (space : FreeSectors) (pool : Plain) → RunsBy (Has image space) self.now.kept.dir pool → FindsState (Has image space) (state_named name.now pool) result }
     {
-        match name {
-            Name::Dataset(name) => head_of(&self.kept.dir, name),
-            Name::Snapshot(name) => objects_at(&self.kept.dir, name),
-            Name::Bookmark(_) => None,
-        }
+        set_of(&self.kept.dir, name)
+    }
+}
+
+/// The object set of a dataset's head, or of a snapshot; a bookmark has none.
+pub(crate) fn set_of(dir: &Dir, name: &Name) -> Option<ObjSet>
+    ensures rows { result ≡ set_named name.now dir.now }
+    ensures found { (image : List ℕ) (space : FreeSectors) (pool : Plain) → RunsBy (Has image space) dir.now pool → FindsState (Has image space) (state_named name.now pool) result }
+{
+    match name {
+        Name::Dataset(name) => head_of(dir, name),
+        Name::Snapshot(name) => objects_at(dir, name),
+        Name::Bookmark(_) => None,
     }
 }
 

@@ -1,8 +1,8 @@
 // What a command looks up before it changes anything, in the order of its definition.
-ghost use Rattle.std.specs.Prelude.{◌≡◌, ◌⊎◌, ◌&&◌, ◌+◌, ◌<◌, ◌≤◌, ◌^◌, ℕ, List, false, true, Contains, Result, Ok, OnOk, IfErr, IfOk, bytes_eq, count_by, is_some, is_none, length, position};
+ghost use Rattle.std.specs.Prelude.{◌≡◌, ◌⊎◌, ◌+◌, ◌<◌, ◌≤◌, ◌^◌, ℕ, List, false, true, Contains, Result, Ok, OnOk, IfErr, IfOk, bytes_eq, count_by, is_some, is_none, length, position};
 ghost use Rattle.std.specs.List.{list_any};
 ghost use Rattle.zst_names.specs.Names.{dataset_of};
-ghost use Rattle.zst_model.specs.pools.Pool.{Pool, partial_of, dataset_named};
+ghost use Rattle.zst_model.specs.pools.Pool.{Pool, Dataset as Plain, partial_of, dataset_named};
 ghost use Rattle.zst_model.specs.declared.refusals.refusal.Refusal.{Refusal};
 ghost use Rattle.zst_model.specs.pools.Step.{Stepped, committed, with_dataset, count_datasets};
 ghost use Rattle.zst_pool.specs.Checks.{Judges, FindsDataset, if_guid_left, if_new_snapshot, JudgesSnapshot, next_of, with_new};
@@ -16,14 +16,6 @@ use zst_model::limits::{LAST_GUID, LAST_NUMBER, MOST_DATASETS, MOST_SNAPSHOTS};
 use zst_model::{Holder, Missing, Name, PlanFault, Present, Quantity};
 use zst_names::{DatasetName, SnapName};
 
-/// How many partial states are kept.
-fn count_kept(dir: &Dir) -> usize
-    ensures kept { result ≡ count_by (λ partial. partial.keep) dir.now.partials }
-    ensures few { result < 2 ^ 63 }
-{
-    dir.partials().iter().filter(|partial| partial.keep).count()
-}
-
 /// E4 where the name is taken, and E23 where there are too many snapshots; partial states count as
 /// the snapshots that they are to become.
 pub fn check_new_snapshot(dir: &Dir, name: &SnapName) -> Result<(), PlanFault>
@@ -34,7 +26,7 @@ pub fn check_new_snapshot(dir: &Dir, name: &SnapName) -> Result<(), PlanFault>
     if dir.snapshot(name).is_some() {
         return Err(PlanFault::Exists(Present::Named(Name::Snapshot(name.duplicate()))));
     }
-    if dir.snapshots().len() + count_kept(dir) >= MOST_SNAPSHOTS {
+    if dir.snapshots().len() + dir.partials().len() >= MOST_SNAPSHOTS {
         return Err(PlanFault::Limit {
             which: Quantity::Snapshots,
             number: MOST_SNAPSHOTS as u64,
@@ -58,20 +50,18 @@ pub fn check_guids(guids: u64) -> Result<(), PlanFault>
     Ok(())
 }
 
-/// Whether a partial state that is kept is for this dataset.
+/// Whether a partial state is for this dataset.
 pub fn has_partial(dir: &Dir, name: &DatasetName) -> bool
-    ensures { result ≡ list_any (λ partial. partial.keep && bytes_eq partial.target name.now) dir.now.partials }
+    ensures { result ≡ list_any (λ partial. bytes_eq partial.target name.now) dir.now.partials }
 {
-    dir.partials()
-        .iter()
-        .any(|partial| partial.keep && partial.target == *name)
+    dir.partials().iter().any(|partial| partial.target == *name)
 }
 
 /// The dataset of this name: E3 where there is none, and E5 where it has a partial state.
 pub fn open_dataset<'a>(dir: &'a Dir, name: &DatasetName) -> Result<&'a Dataset, PlanFault>
     ensures lawful { IsLawful dir.now }
     ensures there { IfOk result (λ row. Contains dir.now.datasets row.now × (row.now.name ≡ name.now)) }
-    ensures free { OnOk result (list_any (λ partial. partial.keep && bytes_eq partial.target name.now) dir.now.partials ≡ false) }
+    ensures free { OnOk result (list_any (λ partial. bytes_eq partial.target name.now) dir.now.partials ≡ false) }
     ensures rows { IfErr result (λ fault. is_by_rows fault ≡ true) }
     ensures found { (pool : Pool) → AreNamed dir.now pool → FindsDataset dir.now name.now pool result }
 {
@@ -86,31 +76,33 @@ pub fn open_dataset<'a>(dir: &'a Dir, name: &DatasetName) -> Result<&'a Dataset,
     Ok(&datasets[place])
 }
 
-fn no_such(name: &DatasetName) -> PlanFault
+/// E3 of a dataset.
+pub fn no_such(name: &DatasetName) -> PlanFault
     ensures { result ≡ PlanFault.NoSuch (Missing.Named (Name.Dataset name.now)) }
 {
     PlanFault::NoSuch(Missing::Named(Name::Dataset(name.duplicate())))
 }
 
-fn busy_partial(name: &DatasetName) -> PlanFault
+/// E5 of a partial state of this target.
+pub fn busy_partial(name: &DatasetName) -> PlanFault
     ensures { result ≡ PlanFault.Busy (Holder.Partial name.now) }
 {
     PlanFault::Busy(Holder::Partial(name.duplicate()))
 }
 
-/// How many partial states are kept whose dataset is absent.
+/// How many partial states are for datasets that are absent.
 fn count_absent(dir: &Dir) -> usize
-    ensures kept { result ≡ count_by (λ partial. partial.keep && is_none (position (λ dataset. bytes_eq dataset.name partial.target) dir.now.datasets)) dir.now.partials }
+    ensures all { result ≡ count_by (λ partial. is_none (position (λ dataset. bytes_eq dataset.name partial.target) dir.now.datasets)) dir.now.partials }
     ensures few { result < 2 ^ 63 }
 {
     dir.partials()
         .iter()
-        .filter(|partial| partial.keep && dir.dataset(&partial.target).is_none())
+        .filter(|partial| dir.dataset(&partial.target).is_none())
         .count()
 }
 
 /// How many datasets there are, with those of which there is a partial state alone.
-fn count_datasets(dir: &Dir) -> usize
+pub fn count_datasets(dir: &Dir) -> usize
     ensures { (pool : Pool) → AreNamed dir.now pool → result ≡ count_datasets pool }
 {
     dir.datasets().len() + count_absent(dir)
@@ -120,8 +112,8 @@ fn count_datasets(dir: &Dir) -> usize
 pub fn check_new_dataset(dir: &Dir, name: &DatasetName) -> Result<(), PlanFault>
     ensures absent { OnOk result (HasDataset dir.now name.now → ⊥) }
     ensures rows { IfErr result (λ fault. is_by_rows fault ≡ true) }
-    ensures judged { (kind : ℕ) (pool : Pool) → AreNamed dir.now pool
-        → Judges (with_dataset kind name.now pool) (committed (with_new kind name.now pool)) result }
+    ensures judged { (dataset : Plain) (pool : Pool) → dataset.name ≡ name.now → AreNamed dir.now pool
+        → Judges (with_dataset dataset pool) (committed (with_new dataset pool)) result }
 {
     if dir.dataset(name).is_some() {
         return Err(exists_already(name));
@@ -163,7 +155,7 @@ pub fn check_number(number: u64) -> Result<(), PlanFault>
 pub fn plan_snapshot<'a>(kept: &'a Kept, name: &SnapName) -> Result<&'a Dataset, PlanFault>
     ensures lawful { IsLawful kept.now.dir }
     ensures there { IfOk result (λ row. Contains kept.now.dir.datasets row.now × (row.now.name ≡ dataset_of 64 name.now)) }
-    ensures free { OnOk result (list_any (λ partial. partial.keep && bytes_eq partial.target (dataset_of 64 name.now)) kept.now.dir.partials ≡ false) }
+    ensures free { OnOk result (list_any (λ partial. bytes_eq partial.target (dataset_of 64 name.now)) kept.now.dir.partials ≡ false) }
     ensures absent { OnOk result (HasSnapshot kept.now.dir name.now → ⊥) }
     ensures guids { OnOk result (kept.now.body.guids + 1 < 2 ^ 32) }
     ensures number { OnOk result (kept.now.body.number < 2 ^ 63) }

@@ -1,11 +1,16 @@
 // The commands that commit, each over the Io of a pool that hasn't failed.
-ghost use Rattle.std.specs.Prelude.{◌≡◌, ◌⊎◌, ◌+◌, ◌*◌, ◌<◌, ◌≤◌, ◌^◌, [], None, bytes_eq, filter, length, not, IfOk};
+ghost use Rattle.std.specs.Prelude.{◌≡◌, ◌⊎◌, ◌+◌, ◌*◌, ◌<◌, ◌≤◌, ◌^◌, [], None, false, Result, Err, bytes_eq, length, IfOk};
+ghost use Rattle.std.specs.List.{list_any};
 ghost use Rattle.zst_names.specs.Names.{dataset_of};
 ghost use Rattle.zst_model.specs.pools.Pool.{inserted};
-ghost use Rattle.zst_model.specs.pools.Step.{with_dataset, with_snapshot};
+ghost use Rattle.zst_model.specs.declared.refusals.plan_fault.PlanFault.{PlanFault};
+ghost use Rattle.zst_model.specs.declared.refusals.refusal.Refusal.{Refusal};
+ghost use Rattle.zst_model.specs.pools.Pool.{Pool as Plain};
+ghost use Rattle.zst_model.specs.pools.Step.{Stepped, new_dataset, with_dataset, with_snapshot};
 ghost use Rattle.zst_tree.specs.Sets.{no_objects};
 ghost use Rattle.zst_dir.specs.Rows.{HasDataset, HasSnapshot, IsDatasetRow, IsLawful, IsSnapshotRow, snapshot_is_before};
 ghost use Rattle.zst_dir.specs.Spelling.{dir_bytes};
+ghost use Rattle.zst_pool.specs.Making.{MakesOfEach};
 ghost use Rattle.zst_pool.specs.Plans.{Plans};
 ghost use Rattle.zst_image.specs.Reads.{free_by};
 ghost use Rattle.zst_pool.specs.Cost.{cells_only};
@@ -19,7 +24,6 @@ use std::alloc::{AllocError, Global};
 use zst_block::Io;
 use zst_dir::{Dataset, Dir, Snapshot};
 use zst_image::{Kept, commit_dir};
-use zst_laws::steps_keep_pools;
 use zst_model::GuidSet;
 use zst_names::{DatasetName, SnapName};
 use zst_outside::Disk;
@@ -41,6 +45,28 @@ fn new_dataset(kind: u32, name: &DatasetName) -> Dataset
     }
 }
 
+/// Ends a command that changes the directory alone: commits these rows with this guid counter.
+pub fn commit_rows<D: Disk>(
+    io: &mut Io<'_, D>,
+    alloc: Global,
+    kept: &Kept,
+    guids: u64,
+    dir: Dir,
+) -> Result<Kept, PoolFault>
+    requires space { io.old.space ≡ free_by kept.now.body }
+    requires ready { Ready (D.state io.old.disk.now) kept.now.body }
+    requires number { kept.now.body.number < 2 ^ 63 }
+    requires grows { length (dir_bytes dir) ≤ length (dir_bytes kept.now.dir) + 1024 }
+    // What each definition does that makes these rows of the pool that runs.
+    ensures runs { (definition : Plain → Result Stepped Refusal) → MakesOfEach definition kept.now guids dir
+        → Runs definition (cells_only 0) NoDamage kept.now (D.state io.old.disk.now) io.old.failed (D.state io.new.disk.now) io.new.space io.new.failed result }
+    ensures unplanned { (fault : PlanFault) → ¬ (result ≡ Err (PoolFault.Plan fault)) }
+    ensures same { io.new.disk.ghost_name ≡ io.old.disk.ghost_name }
+{
+    let _lawful = dir.datasets();
+    of_committed(commit_dir(io, alloc, &kept.body, guids, dir))
+}
+
 /// Makes a dataset of this kind: 2 a file system, 3 a volume.
 pub fn make_dataset<D: Disk>(
     io: &mut Io<'_, D>,
@@ -52,16 +78,15 @@ pub fn make_dataset<D: Disk>(
     requires kind { (kind ≡ 2) ⊎ (kind ≡ 3) }
     requires space { io.old.space ≡ free_by kept.now.body }
     requires ready { Ready (D.state io.old.disk.now) kept.now.body }
-    ensures runs { Runs (λ pool. with_dataset kind name.now pool) (cells_only 0) NoDamage kept.now (D.state io.old.disk.now) io.old.failed (D.state io.new.disk.now) io.new.space io.new.failed result }
-    ensures plans { Plans (λ pool. with_dataset kind name.now pool) 0 0 kept.now result }
+    ensures runs { Runs (with_dataset (new_dataset kind name.now)) (cells_only 0) NoDamage kept.now (D.state io.old.disk.now) io.old.failed (D.state io.new.disk.now) io.new.space io.new.failed result }
+    ensures plans { Plans (with_dataset (new_dataset kind name.now)) 0 0 kept.now result }
     ensures same { io.new.disk.ghost_name ≡ io.old.disk.ghost_name }
 {
     check_new_dataset(&kept.dir, name)?;
     check_number(kept.body.number)?;
     let mut dir = kept.dir.copy(alloc)?;
     dir.add_dataset(new_dataset(kind, name))?;
-    steps_keep_pools();
-    of_committed(commit_dir(io, alloc, &kept.body, kept.body.guids, dir))
+    commit_rows(io, alloc, kept, kept.body.guids, dir)
 }
 
 /// The snapshot of a dataset's head, with the next number and the next guid.
@@ -83,18 +108,17 @@ fn new_snapshot(body: &Uber, dataset: &Dataset, now: u64, name: &SnapName) -> Sn
     }
 }
 
-/// The directory with one more snapshot, and without a partial state of its dataset.
+/// The directory with one more snapshot, of a dataset that has no partial state.
 fn dir_with_snapshot(alloc: Global, dir: &Dir, snapshot: Snapshot) -> Result<Dir, AllocError>
     requires lawful { IsLawful dir.now }
     requires row { IsSnapshotRow snapshot }
     requires new { HasSnapshot dir.now snapshot.name → ⊥ }
     requires dataset { HasDataset dir.now (dataset_of 64 snapshot.name) }
-    ensures taken { IfOk result (λ next. next ≡ record dir.now { snapshots = inserted snapshot_is_before snapshot dir.now.snapshots; partials = filter (λ partial. not (bytes_eq partial.target (dataset_of 64 snapshot.name))) dir.now.partials }) }
+    requires free { list_any (λ partial. bytes_eq partial.target (dataset_of 64 snapshot.name)) dir.now.partials ≡ false }
+    ensures taken { IfOk result (λ next. next ≡ record dir.now { snapshots = inserted snapshot_is_before snapshot dir.now.snapshots }) }
     ensures grows { IfOk result (λ next. length (dir_bytes next) ≤ length (dir_bytes dir.now) + 1024) }
 {
-    let dataset = snapshot.name.dataset();
     let mut next = dir.copy(alloc)?;
-    next.drop_partial(&dataset);
     next.add_snapshot(snapshot)?;
     Ok(next)
 }
@@ -109,13 +133,12 @@ pub fn take_snapshot<D: Disk>(
 ) -> Result<Kept, PoolFault>
     requires space { io.old.space ≡ free_by kept.now.body }
     requires ready { Ready (D.state io.old.disk.now) kept.now.body }
-    ensures runs { Runs (λ pool. with_snapshot now name.now pool) (cells_only 0) NoDamage kept.now (D.state io.old.disk.now) io.old.failed (D.state io.new.disk.now) io.new.space io.new.failed result }
-    ensures plans { Plans (λ pool. with_snapshot now name.now pool) 0 0 kept.now result }
+    ensures runs { Runs (with_snapshot now name.now) (cells_only 0) NoDamage kept.now (D.state io.old.disk.now) io.old.failed (D.state io.new.disk.now) io.new.space io.new.failed result }
+    ensures plans { Plans (with_snapshot now name.now) 0 0 kept.now result }
     ensures same { io.new.disk.ghost_name ≡ io.old.disk.ghost_name }
 {
     let dataset = plan_snapshot(kept, name)?;
     let snapshot = new_snapshot(&kept.body, dataset, now, name);
     let dir = dir_with_snapshot(alloc, &kept.dir, snapshot)?;
-    steps_keep_pools();
-    of_committed(commit_dir(io, alloc, &kept.body, kept.body.guids + 1, dir))
+    commit_rows(io, alloc, kept, kept.body.guids + 1, dir)
 }

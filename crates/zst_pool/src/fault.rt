@@ -5,6 +5,7 @@ use crate::head_fault::HeadFault;
 use std::alloc::AllocError;
 use zst_block::BlockFault;
 use zst_image::{CommitFault, Kept};
+use zst_leaves::LeavesFault;
 use zst_model::{ApplyFault, PlanFault, Refusal};
 use zst_objset::ObjFault;
 
@@ -113,6 +114,20 @@ impl From<HeadFault> for PoolFault {
         match fault {
             HeadFault::Set(fault) => PoolFault::from(fault),
             HeadFault::Memory => PoolFault::OutOfMemory,
+        }
+    }
+}
+
+impl From<LeavesFault> for PoolFault {
+    ghost use Rattle.std.specs.Prelude.{◌≡◌};
+    ghost use Rattle.zst_pool.specs.Faults.{of_leaves};
+
+    ghost from_gives = { λ leaves fault. fault ≡ of_leaves leaves };
+
+    fn from(fault: LeavesFault) -> Self {
+        match fault {
+            LeavesFault::Block(fault) => PoolFault::from(fault),
+            LeavesFault::Memory => PoolFault::OutOfMemory,
         }
     }
 }

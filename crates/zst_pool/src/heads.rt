@@ -28,7 +28,6 @@ use std::alloc::Global;
 use zst_block::{BlockFault, Io};
 use zst_dir::Dir;
 use zst_image::{Kept, commit_dir};
-use zst_laws::steps_keep_pools;
 use zst_model::{Bytes, ObjectHead, PlanFault};
 use zst_names::DatasetName;
 use zst_objset::ObjFault;
@@ -120,6 +119,7 @@ fn commit_head<D: Disk>(
     judge(kept.body.number, changed)?;
     let mut dir = kept.dir.copy(alloc)?;
     dir.set_head(name, set);
+    let _lawful = dir.datasets();
     of_committed(commit_dir(io, alloc, &kept.body, kept.body.guids, dir))
 }
 
@@ -147,7 +147,6 @@ pub fn put_object<D: Disk>(
     let mut set = open_head(&kept.dir, name)?;
     let number = next_number(&kept.body);
     let changed = change_object(io, &mut set, number, object, head, bonus, spill);
-    steps_keep_pools();
     commit_head(io, alloc, kept, name, set, changed)
 }
 
@@ -173,7 +172,6 @@ pub fn write_block<D: Disk>(
     let mut set = open_head(&kept.dir, name)?;
     let number = next_number(&kept.body);
     let changed = change_block(io, alloc, &mut set, number, object, index, bytes);
-    steps_keep_pools();
     commit_head(io, alloc, kept, name, set, changed)
 }
 
@@ -198,7 +196,6 @@ pub fn punch<D: Disk>(
     let mut set = open_head(&kept.dir, name)?;
     let number = next_number(&kept.body);
     let changed = change_holes(io, &mut set, number, object, first, count);
-    steps_keep_pools();
     commit_head(io, alloc, kept, name, set, changed)
 }
 
@@ -222,6 +219,5 @@ pub fn free_objects<D: Disk>(
     let mut set = open_head(&kept.dir, name)?;
     let number = next_number(&kept.body);
     let changed = change_numbers(io, &mut set, number, first, count);
-    steps_keep_pools();
     commit_head(io, alloc, kept, name, set, changed)
 }

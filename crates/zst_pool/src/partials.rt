@@ -1,35 +1,21 @@
 // The directories that a receive commits.
-ghost use Rattle.std.specs.Prelude.{◌≡◌, ◌≢◌, ◌+◌, ◌<◌, ◌≤◌, ◌^◌, ◌++◌, ◌∷◌, ℕ, List, true, Contains, IfErr, IfOk, IfSome, OnOk, count_by, filter, if◌then◌else◌, is_none, length, not, position, bytes_eq};
+ghost use Rattle.std.specs.Prelude.{◌≡◌, ◌≢◌, ◌+◌, ◌<◌, ◌≤◌, ◌^◌, ◌++◌, ◌∷◌, ℕ, List, true, Contains, IfErr, IfOk, IfSome, OnOk, filter, if◌then◌else◌, length, not, bytes_eq};
 ghost use Rattle.zst_names.specs.Names.{dataset_of};
-ghost use Rattle.zst_space.specs.FreeSectors.{FreeSectors};
-ghost use Rattle.zst_block.specs.Blocks.{Has};
 ghost use Rattle.zst_model.specs.declared.refusals.faults.Quantity.{Quantity};
 ghost use Rattle.zst_model.specs.declared.refusals.plan_fault.PlanFault.TheVariants.{Limit};
 ghost use Rattle.zst_model.specs.pools.Pool.{Pool as Plain};
 ghost use Rattle.zst_dir.specs.Rows.{HasSnapshot, IsLawful, IsPartialRow, IsSnapshotRow, is_for};
 ghost use Rattle.zst_dir.specs.Spelling.{dir_bytes};
 ghost use Rattle.zst_dir.specs.declared.rows.Snapshot.{Snapshot as Row};
-ghost use Rattle.zst_pool.specs.PartialRows.{JudgesLimits, RunsBy, latest_row, rolled_rows, rows_with_partial};
+ghost use Rattle.zst_pool.specs.PartialRows.{JudgesLimits, latest_row, rolled_rows, rows_with_partial};
+ghost use Rattle.zst_image.specs.Reads.{AreNamed};
 
+use crate::checks::count_datasets;
 use std::alloc::{AllocError, Global};
 use zst_dir::{Dir, Partial, Snapshot};
-use zst_model::limits::{LAST_NUMBER, MOST_DATASETS, MOST_SNAPSHOTS};
+use zst_model::limits::{LAST_NUMBER, MOST_DATASETS, MOST_PARTIALS, MOST_SNAPSHOTS};
 use zst_model::{PlanFault, Quantity};
 use zst_names::DatasetName;
-
-// A pool has at most so many partial states.
-const MOST_PARTIALS: usize = 16;
-
-// How many partial states are for datasets that are absent.
-fn count_targets(dir: &Dir) -> usize
-    ensures all { result ≡ count_by (λ partial. is_none (position (λ dataset. bytes_eq dataset.name partial.target) dir.now.datasets)) dir.now.partials }
-    ensures few { result < 2 ^ 63 }
-{
-    dir.partials()
-        .iter()
-        .filter(|partial| dir.dataset(&partial.target).is_none())
-        .count()
-}
 
 fn limit(which: Quantity, number: u64) -> PlanFault
     ensures { result ≡ PlanFault.Limit which number }
@@ -41,13 +27,13 @@ fn limit(which: Quantity, number: u64) -> PlanFault
 pub fn check_limits(dir: &Dir, number: u64) -> Result<(), PlanFault>
     ensures below { OnOk result (number < 2 ^ 63) }
     ensures limit { IfErr result (λ fault. (which : Quantity) × (most : ℕ) × (fault ≡ Limit which most)) }
-    ensures judged { (image : List ℕ) (space : FreeSectors) (pool : Plain) → RunsBy (Has image space) dir.now pool → pool.number ≡ number → JudgesLimits pool result }
+    ensures judged { (pool : Plain) → AreNamed dir.now pool → pool.number ≡ number → JudgesLimits pool result }
 {
     let partials = dir.partials().len();
     if partials > MOST_PARTIALS {
         return Err(limit(Quantity::Partials, MOST_PARTIALS as u64));
     }
-    if dir.datasets().len() + count_targets(dir) > MOST_DATASETS {
+    if count_datasets(dir) > MOST_DATASETS {
         return Err(limit(Quantity::Datasets, MOST_DATASETS as u64));
     }
     if dir.snapshots().len() + partials > MOST_SNAPSHOTS {

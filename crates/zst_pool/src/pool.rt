@@ -5,15 +5,17 @@ ghost use Rattle.zst_model.specs.pools.Lines.{ok_line};
 ghost use Rattle.zst_model.specs.pools.Pool.{Pool as Plain};
 ghost use Rattle.zst_model.specs.pools.Sound.{Sound};
 ghost use Rattle.zst_model.specs.pools.Step.{Stepped, stepped, IsCommand};
-ghost use Rattle.zst_pool.specs.Faults.{HasDiskCause, is_disk_fault};
+ghost use Rattle.zst_pool.specs.Faults.{HasDiskCause, is_disk_fault, is_full};
 ghost use Rattle.zst_pool.specs.Plans.{Plans, indices_end, numbers_end};
-ghost use Rattle.zst_image.specs.Reads.{Rests, free_by};
+ghost use Rattle.zst_image.specs.Reads.{free_by};
+ghost use Rattle.zst_pool.specs.Calls.{CanCommit, IsAtRest, keeping};
 ghost use Rattle.zst_pool.specs.Stepping.{BeforeOrAfter, is_built, StepAnswer};
 ghost use Rattle.zst_pool.specs.Cost.{Spends, cost_of};
 ghost use Rattle.zst_pool.specs.Damage.{IsOf, TellsDamage};
 ghost use Rattle.zst_pool.specs.Runs.{Runs};
 ghost use Rattle.zst_image.specs.Committing.{Ready};
 
+use crate::branching::{destroy, make_bookmark, make_clone, roll_back};
 use crate::commands::{make_dataset, take_snapshot};
 use crate::fault::PoolFault;
 use crate::heads::{free_objects, punch, put_object, write_block};
@@ -40,6 +42,8 @@ impl<'d, D: Disk> Pool<'d, D> {
         ensures same { result.io.disk.ghost_name ≡ disk.entry.ghost_name }
         ensures disk { result.io.disk.now ≡ disk.old }
         ensures kept { result.kept ≡ kept }
+        ensures space { result.io.space ≡ free_by kept.body }
+        ensures works { Ready (D.state disk.old) kept.body → CanCommit (D.state result.io.disk.now) result.io.space kept.body }
         ensures failed { result.io.failed ≡ false }
     {
         let space = Space::new(kept.body.end, kept.body.sectors, Vec::new(alloc));
@@ -61,38 +65,39 @@ impl<'d, D: Disk> Pool<'d, D> {
         io.into_disk()
     }
 
-    /// Runs a command at this time: it commits once where it changes what the image stands for, and
-    /// not at all where it is refused.
+    /// Runs a command at this time on the pool that runs: it commits once where it changes that, and not
+    /// at all where it is refused. Afterwards what the latest body leaves free is free again, but after
+    /// E24 the sectors stay as they were when it was found, until `renew` or the next step.
     ///
     /// After E28 the pool answers E31.
     pub fn step(&mut self, alloc: Global, now: u64, command: Command) -> Result<Reply, PoolFault>
         requires command { IsCommand command }
         requires ready { self.old.io.failed ≡ false → Ready (D.state self.old.io.disk.now) self.old.kept.body }
 
-        // At every moment each image reads as the pool before the command, or as what the command makes of it.
-        ensures moments { (pool : Plain) → (D.state self.new.io.disk.now).honest → Rests (D.state self.old.io.disk.now) self.old.kept.body self.old.kept.dir pool
-            → Leaves (D.state self.old.io.disk.now) (D.state self.new.io.disk.now) (BeforeOrAfter pool (stepped [] now command pool)) }
-        // After its answer it is as the definition says; after a refusal the pool is as it was.
-        ensures answer { (pool : Plain) → (D.state self.new.io.disk.now).honest → is_built command ≡ true → self.old.io.failed ≡ false
-            → Rests (D.state self.old.io.disk.now) self.old.kept.body self.old.kept.dir pool
-            → StepAnswer (D.state self.new.io.disk.now) self.new.kept.body self.new.kept.dir pool (stepped [] now command pool) result }
+        // At every moment each image reads as what is kept of the pool before the command, or of what the command makes of it.
+        ensures moments { (running : Plain) → (D.state self.new.io.disk.now).honest → IsAtRest (D.state self.old.io.disk.now) self.old.kept running
+            → Leaves (D.state self.old.io.disk.now) (D.state self.new.io.disk.now) (BeforeOrAfter running (stepped [] now command running)) }
+        // After its answer what the definition makes of the pool is at rest; after a refusal the pool as it was is.
+        ensures answer { (running : Plain) → (D.state self.new.io.disk.now).honest → is_built command ≡ true → self.old.io.failed ≡ false
+            → IsAtRest (D.state self.old.io.disk.now) self.old.kept running
+            → StepAnswer (D.state self.new.io.disk.now) self.new.kept running (stepped [] now command running) result }
         // E3, E4, E5 and E23 of datasets, snapshots and guids come exactly where the directory says so, whatever the object sets hold, unless no memory is left before; E23 of numbers only past them.
         ensures planned { self.old.io.failed ≡ false → is_built command ≡ true → ¬ (result ≡ Err PoolFault.OutOfMemory)
             → Plans (λ pool. stepped [] now command pool) (numbers_end command) (indices_end command) self.old.kept result }
         ensures open_still { self.old.io.failed ≡ false → ¬ (result ≡ Err PoolFault.Failed) }
         // Whatever the image is, no more is taken than the command costs at most, and E24 comes only where that isn't there.
         ensures spends { self.old.io.failed ≡ false → (block : ℕ) × (block ≤ (cost_of command).most) × Spends (cost_of command).cells block self.old.kept self.new.io.space (λ reply. self.new.kept) result }
-        // Where it reads as a pool, no more is taken than the command costs there.
-        ensures exact { (pool : Plain) → (D.state self.new.io.disk.now).honest → self.old.io.failed ≡ false → Rests (D.state self.old.io.disk.now) self.old.kept.body self.old.kept.dir pool
-            → Spends (cost_of command).cells ((cost_of command).block pool) self.old.kept self.new.io.space (λ reply. self.new.kept) result }
+        // Where a pool was at rest, no more is taken than the command costs there.
+        ensures exact { (running : Plain) → (D.state self.new.io.disk.now).honest → self.old.io.failed ≡ false → IsAtRest (D.state self.old.io.disk.now) self.old.kept running
+            → Spends (cost_of command).cells ((cost_of command).block running) self.old.kept self.new.io.space (λ reply. self.new.kept) result }
         // E25 tells a damage of the object set of the command's dataset, also where the image reads as no pool.
         ensures damaged { (D.state self.new.io.disk.now).honest → IfErr result (IsOf (TellsDamage command self.old.kept.dir (D.state self.old.io.disk.now) (free_by self.old.kept.body))) }
         // What is refused changes nothing that is kept, and free sectors alone, unless the disk failed.
         ensures kept { OnErr result (self.new.kept ≡ self.old.kept) }
         ensures spares { ¬ (result ≡ Err PoolFault.DiskFault) → OnErr result (SparesTaken (free_by self.old.kept.body) (D.state self.old.io.disk.now).seen (D.state self.new.io.disk.now).seen) }
         // What later states haven't dated since stays as it was in each snapshot.
-        ensures sound { (pool : Plain) (done : Stepped) → Rests (D.state self.old.io.disk.now) self.old.kept.body self.old.kept.dir pool → Sound pool
-            → stepped [] now command pool ≡ Ok done → Sound done.pool }
+        ensures sound { (running : Plain) (done : Stepped) → IsAtRest (D.state self.old.io.disk.now) self.old.kept running → Sound running
+            → stepped [] now command running ≡ Ok done → Sound done.pool }
 
         // A pool that has failed answers nothing else, and a command that isn't built is refused. Both do nothing.
         ensures failed_pool { self.old.io.failed ≡ true → result ≡ Err PoolFault.Failed }
@@ -100,6 +105,9 @@ impl<'d, D: Disk> Pool<'d, D> {
         ensures idle_disk { (self.old.io.failed || not (is_built command)) ≡ true → self.new.io.disk.now ≡ self.old.io.disk.now }
         ensures idle_pool { (self.old.io.failed || not (is_built command)) ≡ true → self.new.kept ≡ self.old.kept }
 
+        // After E24 the sectors are those that were left when it was found.
+        ensures space { (self.old.io.failed || is_full result) ≡ false → self.new.io.space ≡ free_by self.new.kept.body }
+        ensures works { (self.new.io.failed || is_full result) ≡ false → CanCommit (D.state self.new.io.disk.now) self.new.io.space self.new.kept.body }
         ensures ready { self.new.io.failed ≡ false → Ready (D.state self.new.io.disk.now) self.new.kept.body }
         ensures failed { self.new.io.failed ≡ (self.old.io.failed || is_disk_fault result) }
         ensures cause { HasDiskCause (D.state self.old.io.disk.now).faults (D.state self.new.io.disk.now).faults result }
@@ -110,19 +118,47 @@ impl<'d, D: Disk> Pool<'d, D> {
         if self.io.failed {
             return Err(PoolFault::Failed);
         }
+        self.io.space = Space::new(self.kept.body.end, self.kept.body.sectors, Vec::new(alloc));
         if is_not_built(&command) {
             return Err(PoolFault::Plan(PlanFault::Unsupported(Lack::NotBuilt)));
         }
         let reply = committed(alloc, self.kept.body.number.saturating_add(1))?;
-        self.io.space = Space::new(self.kept.body.end, self.kept.body.sectors, Vec::new(alloc));
-        let kept = run(&mut self.io, alloc, &self.kept, now, command)?;
-        self.kept = kept;
+        let ran = run(&mut self.io, alloc, &self.kept, now, command);
+        self.settle_command(alloc, ran)?;
         Ok(reply)
+    }
+
+    // Keeps what a command committed. What the latest body leaves free is free again, but where the disk
+    // was full: the numbers of that refusal are those of the sectors that were left then.
+    fn settle_command(
+        &mut self,
+        alloc: Global,
+        ran: Result<Kept, PoolFault>,
+    ) -> Result<u64, PoolFault>
+        ensures kept { keeping self.new.kept result ≡ ran }
+        ensures stays { OnErr result (self.new.kept ≡ self.old.kept) }
+        ensures space { is_full ran ≡ false → self.new.io.space ≡ free_by self.new.kept.body }
+        ensures left { is_full ran ≡ true → self.new.io.space ≡ self.old.io.space }
+        ensures disk { self.new.io.disk.now ≡ self.old.io.disk.now }
+        ensures failed { self.new.io.failed ≡ self.old.io.failed }
+        ensures same { self.new.io.disk.ghost_name ≡ self.old.io.disk.ghost_name }
+    {
+        if is_full(&ran) {
+            return self.keep(ran);
+        }
+        self.settle(alloc, ran)
     }
 }
 
+/// Whether a command found the disk full.
+fn is_full(ran: &Result<Kept, PoolFault>) -> bool
+    ensures { result ≡ is_full ran.now }
+{
+    matches!(ran, Err(PoolFault::Full { .. }))
+}
+
 /// Whether a command isn't built yet.
-fn is_not_built(command: &Command) -> bool
+pub fn is_not_built(command: &Command) -> bool
     ensures { result ≡ not (is_built command.now) }
 {
     matches!(
@@ -186,6 +222,14 @@ fn run<D: Disk>(
             count,
         } => free_objects(io, alloc, kept, &dataset, first, count),
         Command::Snapshot { name } => take_snapshot(io, alloc, kept, now, &name),
+        Command::Clone { origin, dataset } => make_clone(io, alloc, kept, &origin, &dataset),
+        Command::Bookmark { snapshot, bookmark } => {
+            make_bookmark(io, alloc, kept, &snapshot, &bookmark)
+        }
+        Command::Rollback { destroys, snapshot } => {
+            roll_back(io, alloc, kept, destroys, &snapshot)
+        }
+        Command::Destroy { name } => destroy(io, alloc, kept, name),
         Command::Read { .. } | Command::List | Command::ListObjects { .. } => unreachable!(),
     }
 }

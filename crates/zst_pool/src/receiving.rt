@@ -1,15 +1,13 @@
 // What a receive does to a pool: it commits a partial state, or drops one.
-ghost use Rattle.std.specs.Prelude.{◌≡◌, ◌+◌, ◌<◌, ◌∷◌, ◌++◌, ◌||◌, ℕ, List, false, true, filter, not, IfErr, IfOk, IfSome, OnErr, OnOk, Err};
+ghost use Rattle.std.specs.Prelude.{◌≡◌, ◌+◌, ◌<◌, ◌∷◌, ◌++◌, ◌||◌, ℕ, false, true, filter, not, IfErr, IfOk, IfSome, OnErr, OnOk, Err};
 ghost use Rattle.zst_block.specs.Blocks.{Has};
 ghost use Rattle.zst_model.specs.pools.Pool.{Pool as Plain, Partial as PlainPartial};
 ghost use Rattle.zst_model.specs.pools.Kept.{kept_of};
-ghost use Rattle.zst_space.specs.FreeSectors.{FreeSectors};
 ghost use Rattle.zst_dir.specs.Rows.{HasSnapshot, IsPartialRow, is_unkept_for};
-ghost use Rattle.zst_pool.specs.Calls.{CallDid, CanCommit, IsCallFault, IsCallFull, IsFrom, IsUnderWay, ListsAnew, keeping};
+ghost use Rattle.zst_pool.specs.Calls.{CallDid, CanCommit, IsAtRest, IsCallFault, IsCallFull, IsUnderWay, ListsAnew, keeping};
 ghost use Rattle.zst_pool.specs.Faults.{HasDiskCause, is_disk_fault};
-ghost use Rattle.zst_pool.specs.PartialRows.{RunsBy};
 ghost use Rattle.zst_pool.specs.Partials.{next_commit, partial_put, without_unkept};
-ghost use Rattle.zst_image.specs.Reads.{PartialIs, free_by};
+ghost use Rattle.zst_image.specs.Reads.{PartialIs, RunsBy, free_by};
 ghost use Rattle.zst_image.specs.Committing.{IsDirFull, Ready};
 
 use crate::fault::{PoolFault, of_committed};
@@ -23,16 +21,16 @@ use zst_names::DatasetName;
 use zst_outside::Disk;
 use zst_space::Space;
 
-// Commits a directory as the next one of a pool, where it passes no limit.
-fn commit_next<D: Disk>(
+/// Commits a directory as the next one of a pool, where it passes no limit.
+pub fn commit_next<D: Disk>(
     io: &mut Io<'_, D>,
     alloc: Global,
     kept: &Kept,
     dir: Dir,
 ) -> Result<Kept, PoolFault>
     requires works { CanCommit (D.state io.old.disk.now) io.old.space kept.now.body }
-    ensures did { (start : D) (running next : Plain) → (D.state io.new.disk.now).honest → IsFrom (D.state start) (D.state io.old.disk.now) io.old.space kept.now.body running
-        → ListsAnew running next → RunsBy (Has (D.state io.old.disk.now).seen io.old.space) dir next → CallDid (D.state start) (D.state io.new.disk.now) kept.now.body running (next_commit next) result }
+    ensures did { (start : D) (running next : Plain) → (D.state io.new.disk.now).honest → IsUnderWay (D.state start) (D.state io.old.disk.now) io.old.space kept.now running
+        → ListsAnew running next → RunsBy (Has (D.state io.old.disk.now).seen io.old.space) dir next → CallDid (D.state start) (D.state io.new.disk.now) kept.now running (next_commit next) result }
     ensures known { IfErr result IsCallFault }
     ensures full { (need largest : ℕ) → result ≡ Err (PoolFault.Full need largest) → IsDirFull io.old.space io.new.space dir need largest }
     ensures ready { IfOk result (λ next. Ready (D.state io.new.disk.now) next.body) }
@@ -59,7 +57,7 @@ fn commit_partial<D: Disk>(
     requires component { HasSnapshot kept.now.dir (partial.target ++ 64 ∷ partial.snapshot) → ⊥ }
     requires works { CanCommit (D.state io.old.disk.now) io.old.space kept.now.body }
     ensures did { (start : D) (running : Plain) (plain : PlainPartial) → (D.state io.new.disk.now).honest → IsUnderWay (D.state start) (D.state io.old.disk.now) io.old.space kept.now running
-        → PartialIs (Has (D.state io.old.disk.now).seen io.old.space) partial plain → CallDid (D.state start) (D.state io.new.disk.now) kept.now.body running (partial_put roll plain running) result }
+        → PartialIs (Has (D.state io.old.disk.now).seen io.old.space) partial plain → CallDid (D.state start) (D.state io.new.disk.now) kept.now running (partial_put roll plain running) result }
     ensures known { IfErr result IsCallFault }
     ensures full { (need largest : ℕ) → result ≡ Err (PoolFault.Full need largest) → IsCallFull io.old.space kept.now.dir need largest }
     ensures ready { IfOk result (λ next. Ready (D.state io.new.disk.now) next.body) }
@@ -74,8 +72,34 @@ fn commit_partial<D: Disk>(
 }
 
 impl<'d, D: Disk> Pool<'d, D> {
-    // Keeps what was committed. What the latest body leaves free is free again.
-    fn settle(
+    /// Makes free again what the latest body leaves free. An event that begins otherwise than by `step`
+    /// begins with it.
+    pub fn renew(&mut self, alloc: Global)
+        ensures space { self.new.io.space ≡ free_by self.old.kept.body }
+        ensures works { Ready (D.state self.old.io.disk.now) self.old.kept.body → CanCommit (D.state self.new.io.disk.now) self.new.io.space self.new.kept.body }
+        ensures kept { self.new.kept ≡ self.old.kept }
+        ensures disk { self.new.io.disk.now ≡ self.old.io.disk.now }
+        ensures failed { self.new.io.failed ≡ self.old.io.failed }
+        ensures same { self.new.io.disk.ghost_name ≡ self.old.io.disk.ghost_name }
+    {
+        self.io.space = Space::new(self.kept.body.end, self.kept.body.sectors, Vec::new(alloc));
+    }
+
+    /// Keeps what was committed. The sectors stay as they are.
+    pub(crate) fn keep(&mut self, committed: Result<Kept, PoolFault>) -> Result<u64, PoolFault>
+        ensures kept { keeping self.new.kept result ≡ committed }
+        ensures number { IfOk result (λ number. number ≡ self.new.kept.body.number) }
+        ensures stays { OnErr result (self.new.kept ≡ self.old.kept) }
+        ensures io { self.new.io ≡ self.old.io }
+    {
+        let kept = committed?;
+        let number = kept.body.number;
+        self.kept = kept;
+        Ok(number)
+    }
+
+    /// Keeps what was committed. What the latest body leaves free is free again.
+    pub(crate) fn settle(
         &mut self,
         alloc: Global,
         committed: Result<Kept, PoolFault>,
@@ -88,15 +112,8 @@ impl<'d, D: Disk> Pool<'d, D> {
         ensures failed { self.new.io.failed ≡ self.old.io.failed }
         ensures same { self.new.io.disk.ghost_name ≡ self.old.io.disk.ghost_name }
     {
-        let answer = match committed {
-            Ok(kept) => {
-                let number = kept.body.number;
-                self.kept = kept;
-                Ok(number)
-            }
-            Err(fault) => Err(fault),
-        };
-        self.io.space = Space::new(self.kept.body.end, self.kept.body.sectors, Vec::new(alloc));
+        let answer = self.keep(committed);
+        self.renew(alloc);
         answer
     }
 
@@ -115,11 +132,11 @@ impl<'d, D: Disk> Pool<'d, D> {
         requires component { HasSnapshot self.old.kept.dir (partial.target ++ 64 ∷ partial.snapshot) → ⊥ }
         requires works { self.old.io.failed ≡ false → CanCommit (D.state self.old.io.disk.now) self.old.io.space self.old.kept.body }
 
-        // From a start at which the disk rested as a pool, and since which blocks alone were written, each
-        // image is what is kept of that pool or of the next one, as the definition says.
+        // From a start at which a pool was at rest, and since which blocks alone were written, each image is
+        // what is kept of that pool or of the next one, as the definition says; then one of them is at rest.
         ensures did { (start : D) (running : Plain) (plain : PlainPartial) → (D.state self.new.io.disk.now).honest → self.old.io.failed ≡ false
             → IsUnderWay (D.state start) (D.state self.old.io.disk.now) self.old.io.space self.old.kept running → PartialIs (Has (D.state self.old.io.disk.now).seen self.old.io.space) partial plain
-            → CallDid (D.state start) (D.state self.new.io.disk.now) self.old.kept.body running (partial_put roll plain running) (keeping self.new.kept result) }
+            → CallDid (D.state start) (D.state self.new.io.disk.now) self.old.kept running (partial_put roll plain running) (keeping self.new.kept result) }
         ensures number { IfOk result (λ number. number ≡ self.new.kept.body.number) }
         // Whatever the image is, there is no other refusal than E23, E24, E28 and E32.
         ensures known { self.old.io.failed ≡ false → IfErr result IsCallFault }
@@ -148,12 +165,13 @@ impl<'d, D: Disk> Pool<'d, D> {
     /// nothing.
     pub fn drop_partial(&mut self, target: &DatasetName)
         ensures rows { self.new.kept.dir ≡ record self.old.kept.dir { partials = filter (λ partial. not (is_unkept_for target.now partial)) self.old.kept.dir.partials } }
-        ensures dropped { (image : List ℕ) (space : FreeSectors) (running : Plain) → RunsBy (Has image space) self.old.kept.dir running → RunsBy (Has image space) self.new.kept.dir (without_unkept target.now running) }
-        // What is kept of the pool stays.
+        // What is kept of the pool stays: it is at rest without that partial state.
+        ensures rests { (disk : D) (running : Plain) → IsAtRest (D.state disk) self.old.kept running → IsAtRest (D.state disk) self.new.kept (without_unkept target.now running) }
         ensures kept { (running : Plain) → kept_of (without_unkept target.now running) ≡ kept_of running }
         ensures body { self.new.kept.body ≡ self.old.kept.body }
         ensures io { self.new.io ≡ self.old.io }
     {
         self.kept.dir.drop_unkept(target);
+        let _lawful = self.kept.dir.datasets();
     }
 }

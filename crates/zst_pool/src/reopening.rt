@@ -7,7 +7,7 @@ ghost use Rattle.zst_dir.specs.Rows.{Rows};
 ghost use Rattle.zst_image.specs.Faults.{HasDiskCause};
 ghost use Rattle.zst_image.specs.Opening.{GivesPool, OpenAnswers};
 ghost use Rattle.zst_image.specs.Reads.{ReadsAs, free_by};
-ghost use Rattle.zst_pool.specs.Calls.{CanCommit};
+ghost use Rattle.zst_pool.specs.Calls.{CanCommit, IsAtRest};
 ghost use Rattle.zst_pool.specs.Reopening.{failed_after, reopened};
 
 use crate::pool::Pool;
@@ -33,6 +33,8 @@ impl<'d, D: Disk> Pool<'d, D> {
     pub fn reopen(&mut self, alloc: Global) -> Result<(), OpenFault>
         ensures there { (uber : Body) (rows : Rows) (pool : Plain) → (D.state self.new.io.disk.now).honest → ReadsAs uber rows pool (D.state self.old.io.disk.now).seen → GivesPool uber rows (reopened self.new.kept result) }
         ensures answer { (D.state self.new.io.disk.now).honest → OpenAnswers (D.state self.old.io.disk.now) (reopened self.new.kept result) }
+        // And the pool that was opened is at rest.
+        ensures rests { (uber : Body) (rows : Rows) (pool : Plain) → (D.state self.new.io.disk.now).honest → ReadsAs uber rows pool (D.state self.old.io.disk.now).seen → OnOk result (IsAtRest (D.state self.new.io.disk.now) self.new.kept pool) }
         ensures works { OnOk result (CanCommit (D.state self.new.io.disk.now) self.new.io.space self.new.kept.body) }
         ensures space { OnOk result (self.new.io.space ≡ free_by self.new.kept.body) }
         ensures synced { OnOk result (IsSynced (D.state self.new.io.disk.now)) }

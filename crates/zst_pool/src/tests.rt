@@ -4,6 +4,7 @@ ghost use Rattle.zst_model.specs.states.State.{is_block_size};
 ghost use Rattle.zst_model.specs.pools.Step.{IsCommand};
 
 mod answers;
+mod lineage;
 mod looks;
 mod stops;
 mod turned;

@@ -41,7 +41,7 @@ fn small_has_the_numbers_1_to_5(rt: HostRuntime) -> Result<(), Refused> {
 }
 
 // Checks that a command is refused with this text, and that the pool is as it was.
-fn check_refused(
+pub(super) fn check_refused(
     rt: &impl Abort,
     alloc: Global,
     disk: &mut MemDisk,

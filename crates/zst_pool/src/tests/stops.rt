@@ -1,12 +1,13 @@
 // Runs that are stopped at each call of the disk, and runs of which each call fails.
 ghost use Rattle.std.specs.Prelude.{◌≤◌, IfOk};
+ghost use Rattle.zst_model.specs.pools.Step.{IsCommand};
 
 use super::looks::{Look, bytes_of, disk_of, pool_of};
 use super::{Refused, number_of, small, step_on, with_small, zeros};
 use std::alloc::{AllocError, Global};
 use std::process::Abort;
 use zst_image::{CreateFault, Kept};
-use zst_model::Refusal;
+use zst_model::{Command, Refusal};
 use zst_outside::{Call, Disk, Entry, MemDisk};
 
 // What a stop leaves of a range that was written and not synced.
@@ -59,6 +60,11 @@ fn run_on(alloc: Global, bytes: Vec<u8>, place: u64) -> Result<Run, Refused> {
     let before = pool_of(alloc, bytes.clone()?)?;
     let mut disk = disk_of(alloc, bytes);
     run_small(alloc, &mut disk, place)?;
+    after_run(alloc, disk, before)
+}
+
+// What a disk has after a run, which began with this pool.
+fn after_run(alloc: Global, mut disk: MemDisk, before: Option<Look>) -> Result<Run, Refused> {
     let calls = disk.calls();
     let bytes = bytes_of(alloc, &mut disk)?;
     let after = pool_of(alloc, bytes.clone()?)?;
@@ -176,6 +182,24 @@ fn check_stops(rt: &impl Abort, alloc: Global, run: &Run, what: u64) -> Result<u
         most = most.max(images_at(run.disk.log(), stop));
     }
     Ok(most)
+}
+
+// Runs a command on a disk of these bytes, and checks each stop of it. Gives what the disk reads after it.
+pub(super) fn check_command(
+    rt: &impl Abort,
+    alloc: Global,
+    bytes: Vec<u8>,
+    command: Command,
+    what: u64,
+) -> Result<Vec<u8>, Refused>
+    requires { IsCommand command }
+{
+    let before = pool_of(alloc, bytes.clone()?)?;
+    let mut disk = disk_of(alloc, bytes);
+    step_on(alloc, &mut disk, command)?;
+    let run = after_run(alloc, disk, before)?;
+    check_stops(rt, alloc, &run, what)?;
+    Ok(run.bytes)
 }
 
 #[test]

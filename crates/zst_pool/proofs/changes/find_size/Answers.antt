@@ -1,26 +1,15 @@
-use Rattle.std.specs.Prelude.{Option, Some, None}
-use Rattle.std.proofs.Common.{◌≡◌, ℕ, ◌<◌, length, refl, sym, ap, ◌∙◌, subst, arith}
+use Rattle.std.specs.Prelude.{Option}
+use Rattle.std.proofs.Common.{◌<◌, length, sym, ap, ◌∙◌, subst, arith}
 use Rattle.zst_block.specs.Blocks.{Has}
 use Rattle.zst_dnode.specs.declared.dnode.Dnode.{Dnode}
 use Rattle.zst_model.specs.pools.Step.{written}
-use Rattle.zst_model.specs.states.State.{Object}
-use Rattle.zst_tree.specs.Indices.{Blocks}
 use Rattle.zst_objset.specs.Dnodes.{DnodeAt}
 use Rattle.zst_pool.specs.Heads.{ChangeFault, of_head}
 use Rattle.zst_pool.proofs.Changing.{written_absent, written_long}
+use Rattle.zst_pool.proofs.Finding.{none_found, some_found}
 use Rattle.zst_pool.proofs.Writing.{disk_is}
 use Rattle.zst_pool.proofs.Planned.{no_plan-block}
 use Rattle.zst_pool.proofs.changes.find_size.Goals as goal
-
--- what is found at a number, and what isn't
-none_found : (has : Blocks) (state : Option Object) (date : ℕ) (dates : ℕ → ℕ) → DnodeAt has state date dates None → state ≡ None
-none_found has None date dates is = refl
-none_found has (Some object) date dates is = absurd is
-
-some_found : (has : Blocks) (state : Option Object) (date : ℕ) (dates : ℕ → ℕ) (dnode : Dnode) → DnodeAt has state date dates (Some dnode)
-    → (object : Object) × (state ≡ Some object) × (dnode.block_size ≡ object.attr.block_size)
-some_found has None date dates dnode is = absurd is
-some_found has (Some object) date dates dnode is = (object, refl, is.1.size_is)
 
 pub returns-in-Ok-None-clause-found : goal.returns-in-Ok-None-clause-found
 returns-in-Ok-None-clause-found g c = λ pool index head told holds.

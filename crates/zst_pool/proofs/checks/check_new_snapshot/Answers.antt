@@ -1,6 +1,7 @@
-use Rattle.std.proofs.Common.{◌∙◌, sym, ap, is_some, ◌+◌, List, length, Err, arith}
+use Rattle.std.proofs.Common.{◌∙◌, sym, ap, is_some, List, length, Err, arith}
 use Rattle.zst_model.specs.pools.Step.{exists_already}
 use Rattle.zst_model.specs.declared.refusals.named.Name.TheVariants as names
+use Rattle.zst_dir.specs.declared.rows.Partial.{Partial}
 use Rattle.zst_dir.specs.declared.rows.Snapshot.{Snapshot}
 use Rattle.zst_pool.proofs.Judging.{snapshot_is_there, snapshots_are_counted, snapshot_is_taken, snapshots_are_many, snapshot_is_new, no_snapshot}
 use Rattle.zst_pool.proofs.checks.check_new_snapshot.Goals as goal
@@ -12,13 +13,13 @@ returns-then-is_some-clause-judged c = λ pool rest are.
     snapshot_is_taken c.args.dir.now pool are name rest (sym (snapshot_is_there c.args.dir.now pool are name) ∙ found)
     ∙ ap (λ (n : List _). Err (exists_already (names.Snapshot n))) (sym c.duplicate.ensures)
 
-pub returns-then-snapshots-count_kept-ge-MOST_SNAPSHOTS-clause-judged : goal.returns-then-snapshots-count_kept-ge-MOST_SNAPSHOTS-clause-judged
-returns-then-snapshots-count_kept-ge-MOST_SNAPSHOTS-clause-judged c = λ pool rest are.
+pub returns-then-snapshots-partials-ge-MOST_SNAPSHOTS-clause-judged : goal.returns-then-snapshots-partials-ge-MOST_SNAPSHOTS-clause-judged
+returns-then-snapshots-partials-ge-MOST_SNAPSHOTS-clause-judged c = λ pool rest are.
     let name = c.args.name.now in
     let found = ap is_some (sym c.snapshot.ensures) ∙ sym c.is_some.ensures ∙ c.if-is_some.false in
-    let count = ap (λ (xs : List Snapshot). length xs + c.count_kept.result) c.snapshots.ensures ∙ snapshots_are_counted c.args.dir.now pool are c.count_kept.result c.count_kept.ensures.kept in
+    let count = snapshots_are_counted c.args.dir.now pool are in
     snapshots_are_many c.args.dir.now pool are name rest (sym (snapshot_is_there c.args.dir.now pool are name) ∙ found)
-    (omega (arith, count, c.if-snapshots-count_kept-ge-MOST_SNAPSHOTS.true))
+    (omega (arith, count, ap (λ (xs : List Snapshot). length xs) c.snapshots.ensures, ap (λ (xs : List Partial). length xs) c.partials.ensures, c.if-snapshots-partials-ge-MOST_SNAPSHOTS.true))
 
 pub returns-clause-absent : goal.returns-clause-absent
 returns-clause-absent c =
@@ -28,6 +29,6 @@ pub returns-clause-judged : goal.returns-clause-judged
 returns-clause-judged c = λ pool rest are.
     let name = c.args.name.now in
     let found = ap is_some (sym c.snapshot.ensures) ∙ sym c.is_some.ensures ∙ c.if-is_some.false in
-    let count = ap (λ (xs : List Snapshot). length xs + c.count_kept.result) c.snapshots.ensures ∙ snapshots_are_counted c.args.dir.now pool are c.count_kept.result c.count_kept.ensures.kept in
+    let count = snapshots_are_counted c.args.dir.now pool are in
     snapshot_is_new c.args.dir.now pool are name rest (sym (snapshot_is_there c.args.dir.now pool are name) ∙ found)
-    (omega (arith, count, c.if-snapshots-count_kept-ge-MOST_SNAPSHOTS.false))
+    (omega (arith, count, ap (λ (xs : List Snapshot). length xs) c.snapshots.ensures, ap (λ (xs : List Partial). length xs) c.partials.ensures, c.if-snapshots-partials-ge-MOST_SNAPSHOTS.false))

@@ -5,4 +5,4 @@ use Rattle.zst_pool.proofs.checks.count_datasets.Goals as goal
 pub returns : goal.returns
 returns c = λ pool are.
     ap (λ xs. length xs + c.count_absent.result) c.datasets.ensures.same
-    ∙ datasets_are_counted c.args.dir.now pool are c.count_absent.result c.count_absent.ensures.kept
+    ∙ datasets_are_counted c.args.dir.now pool are c.count_absent.result c.count_absent.ensures.all

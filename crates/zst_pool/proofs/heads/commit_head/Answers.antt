@@ -1,5 +1,5 @@
 use Rattle.std.specs.Prelude.{Result, Err}
-use Rattle.std.proofs.Common.{◌≡◌, ◌+◌, ◌≤◌, Bool, length, sym, ap, ◌∙◌, subst, arith}
+use Rattle.std.proofs.Common.{◌≡◌, ◌+◌, ◌≤◌, Bool, length, refl, sym, ap, ◌∙◌, subst, arith}
 use Rattle.zst_tree.specs.Sets.{SetFits}
 use Rattle.zst_outside.specs.Images.{DiskState}
 use Rattle.zst_block.specs.Blocks.{Has}
@@ -11,16 +11,20 @@ use Rattle.zst_model.specs.pools.Pool.{Pool}
 use Rattle.zst_model.specs.pools.Step.{Stepped, committed, on_head}
 use Rattle.zst_dir.specs.Rows.{Rows, with_head}
 use Rattle.zst_dir.specs.Spelling.{dir_bytes}
-use Rattle.zst_pool.specs.Checks.{next_of, with_head_of}
+use Rattle.zst_model.specs.pools.Kept.{kept_of}
+use Rattle.zst_image.specs.Reads.{RunsBy}
+use Rattle.zst_pool.specs.Calls.{IsUnderWay}
+use Rattle.zst_pool.specs.Checks.{with_head_of}
+use Rattle.zst_pool.specs.Making.{MakesRows}
 use Rattle.zst_pool.specs.Faults.{StepFault}
 use Rattle.zst_pool.specs.Heads.{ChangedHead, stop_of}
 use Rattle.zst_pool.specs.Cost.{Cost}
 use Rattle.zst_pool.specs.declared.fault.PoolFault.{PoolFault}
 use Rattle.zst_pool.specs.declared.fault.PoolFault.TheVariants.{Damaged, OutOfMemory, Plan}
-use Rattle.zst_pool.proofs.Doing.{did}
+use Rattle.zst_pool.proofs.Doing.{did_rows}
 use Rattle.zst_pool.proofs.Judging.{err_is}
-use Rattle.zst_pool.proofs.NextPools.{head_is_next}
-use Rattle.zst_pool.proofs.Parts.{described_on}
+use Rattle.zst_pool.proofs.NextPools.{head_runs}
+use Rattle.zst_pool.proofs.Resting.{few_guids, way_runs}
 use Rattle.zst_pool.proofs.Committed.{committed_sound}
 use Rattle.zst_pool.proofs.Judged.{memory_stops, well_is}
 use Rattle.zst_pool.proofs.Running.{Wrote, runs_committed, runs_fell}
@@ -47,10 +51,10 @@ returns-in_err-judge-clause-ran g c = λ start start_failed make cost changed.
     let at = (goal.at.returns-in_err-judge-clause-ran g c).After-judge in
     let writes = wrote g at (g.D.Disk.state start) start_failed make cost changed in
     runs_fell (λ pool. on_head name pool (make pool)) cost c.args.kept.now fault (err_is c.from_residual.result fault c.from_residual.ensures.1) c.requires.ready c.in_err-judge.ensures.stops writes
-    (λ pool told rests.
-    let made = changed.made pool told rests in
+    (λ running told rested.
+    let made = changed.made running told rested in
     subst (λ (r : Result Stepped Refusal). StepFault (Unit {0}) r fault) (sym made.2)
-    (c.in_err-judge.ensures.judged now.seen space c.args.set name pool (make pool made.0) rests.reads.described.number made.1))
+    (c.in_err-judge.ensures.judged now.seen space c.args.set name running (make running made.0) rested.rests.reads.described.number made.1))
 
 pub returns-in_err-dir-clause-ran : goal.returns-in_err-dir-clause-ran
 returns-in_err-dir-clause-ran g c = λ start start_failed make cost changed.
@@ -59,7 +63,7 @@ returns-in_err-dir-clause-ran g c = λ start start_failed make cost changed.
     let writes = wrote g at (g.D.Disk.state start) start_failed make cost changed in
     let fell = c.from_residual-in_err-dir in
     runs_fell (λ pool. on_head name pool (make pool)) cost c.args.kept.now OutOfMemory (err_is fell.result OutOfMemory fell.ensures.1) c.requires.ready
-    (memory_stops (stop_of c.args.changed) (ap blocks.fails c.in_ok-judge.ensures.went_well)) writes (λ pool told rests. tt)
+    (memory_stops (stop_of c.args.changed) (ap blocks.fails c.in_ok-judge.ensures.went_well)) writes (λ running told rested. tt)
 
 pub returns-clause-ran : goal.returns-clause-ran
 returns-clause-ran g c = λ start start_failed make cost changed.
@@ -79,14 +83,23 @@ returns-clause-ran g c = λ start start_failed make cost changed.
     let dir = c.set_head.ensures.headed ∙ ap (λ (d : Rows). record d { datasets = with_head name set d.datasets }) c.in_ok-dir.ensures in
     runs_committed (λ pool. on_head name pool (make pool)) cost kept c.set_head.new.self c.commit_dir.result c.of_committed.ensures c.requires.ready
     (subst (Wrote kept cost from start_failed old space c.args.io.now.failed) c.in_ok-judge.ensures.went_well writes)
-    (λ pool told rests.
-    let made = changed.made pool (commit.honest told) rests in
-    let head = c.in_ok-judge.ensures.judged old.seen space set name pool (make pool made.0) rests.reads.described.number made.1 in
-    let done = next_of (with_head_of name head.0 pool) in
-    let is = made.2 ∙ ap (λ (r : Result DatedState Refusal). r >>= λ after. committed (with_head_of name after pool)) head.1 ∙ head.3 in
-    let described = described_on from old space kept.body kept.dir pool rests fills in
-    let next = head_is_next (Has old.seen space) kept.body kept.dir c.set_head.new.self pool name set head.0 described head.2 dir (changed.lawful pool done rests.reads.described.lawful is) in
-    did from last kept.body kept.dir pool (on_head name pool (make pool)) done is c.commit_dir.result (commit.commits start kept.dir pool done.pool told rests fills next))
+    (λ running told rested.
+    let made = changed.made running (commit.honest told) rested in
+    let head = c.in_ok-judge.ensures.judged old.seen space set name running (make running made.0) rested.rests.reads.described.number made.1 in
+    let is = made.2 ∙ ap (λ (r : Result DatedState Refusal). r >>= λ after. committed (with_head_of name after running)) head.1 ∙ head.3 in
+    let way : IsUnderWay from old space kept running = record { rested = rested; fills = fills } in
+    let runs = way_runs from old space kept running way in
+    let makes : MakesRows (Has old.seen space) (on_head name running (make running)) running kept.body.guids c.set_head.new.self = record {
+      next = with_head_of name head.0 running;
+      made = is;
+      id = refl;
+      number = refl;
+      guid_counter = runs.guids;
+      few = few_guids (Has old.seen space) kept running runs;
+      runs_by = subst (λ (r : Rows). RunsBy (Has old.seen space) r (with_head_of name head.0 running)) (sym dir) (head_runs (Has old.seen space) kept.dir running name set head.0 runs.runs_by head.2);
+    } in
+    did_rows from old last space c.commit_dir.new.io.space kept running (on_head name running (make running)) kept.body.guids c.set_head.new.self c.commit_dir.result way makes c.datasets-lawful.ensures.lawful c.in_ok-judge.ensures.below
+    (λ next told_next. commit.commits start rested.rows (kept_of running) next told rested.rests fills told_next) commit.dir commit.blocks commit.fills)
     grows commit.full commit.takes commit.ends commit.fills commit.ready commit.stays commit.failed commit.cause commit.honest
 
 pub returns-in_err-judge-clause-damaged : goal.returns-in_err-judge-clause-damaged

@@ -1,9 +1,7 @@
-use Rattle.std.proofs.Common.{sym, subst, arith, ◌+◌, inl}
-use Rattle.zst_block.specs.Blocks.{FitsDisk, Has}
+use Rattle.std.proofs.Common.{arith, ◌+◌, inl}
 use Rattle.zst_model.specs.pools.Pool.{Pool}
 use Rattle.zst_pool.specs.Checks.{freed}
 use Rattle.zst_pool.specs.Cost.{cells_only}
-use Rattle.zst_pool.proofs.Doing.{free_by_fits}
 use Rattle.zst_image.specs.Reads.{free_by}
 use Rattle.zst_pool.specs.declared.fault.PoolFault.TheVariants.{Plan}
 use Rattle.zst_model.specs.pools.Step.{on_head}
@@ -11,17 +9,14 @@ use Rattle.zst_pool.proofs.Judging.{err_is}
 use Rattle.zst_pool.specs.Damage.{OfHead, slots_damage}
 use Rattle.zst_tree.specs.Sets.{SetFits}
 use Rattle.zst_pool.proofs.Judged.{always}
-use Rattle.zst_pool.proofs.NextPools.{freed_is_lawful}
-use Rattle.zst_pool.proofs.Parts.{ready_fills}
 use Rattle.zst_pool.proofs.Running.{changed_head, runs_head, runs_planned}
-use Rattle.zst_pool.proofs.Naming.{described_is_named}
+use Rattle.zst_pool.proofs.Resting.{ready_after, rest_named}
 use Rattle.zst_pool.proofs.Planned.{freed_apart, head_apart, head_limits, plans_apart, plans_refused}
 use Rattle.zst_pool.proofs.heads.free_objects.Goals as goal
 
 pub commit_head-requires-clause-ready : goal.commit_head-requires-clause-ready
 commit_head-requires-clause-ready g c =
-    ready_fills (g.D.Disk.state c.args.io.now.disk.now) c.args.io.now.space (g.D.Disk.state c.change_numbers-changed.new.io.disk.now) c.change_numbers-changed.new.io.space c.args.kept.now.body
-    (subst (FitsDisk (g.D.Disk.state c.args.io.now.disk.now).size) (sym c.requires.space) (free_by_fits (g.D.Disk.state c.args.io.now.disk.now).size c.args.kept.now.body c.requires.ready.in_range)) c.change_numbers-changed.ensures.works.fills c.requires.ready
+    ready_after (g.D.Disk.state c.args.io.now.disk.now) (g.D.Disk.state c.change_numbers-changed.new.io.disk.now) c.args.io.now.space c.change_numbers-changed.new.io.space c.args.kept.now.body c.requires.space c.change_numbers-changed.ensures.works.fills c.requires.ready
 
 pub returns-clause-runs : goal.returns-clause-runs
 returns-clause-runs g c =
@@ -30,7 +25,7 @@ returns-clause-runs g c =
     c.requires.space c.in_ok-set.ensures.there c.change_numbers-changed.ensures.damaged c.commit_head.ensures.honest c.commit_head.ensures.damaged
     (c.commit_head.ensures.ran c.args.io.now.disk.now c.args.io.now.failed make (cells_only 2)
     (changed_head c.args.kept.now c.args.name.now make (cells_only 2) c.requires.space c.next_number-number.ensures c.in_ok-set.ensures.found c.change_numbers-changed.ensures.changed
-    (λ pool done. freed_is_lawful c.steps_keep_pools.ensures.pools c.args.name.now c.args.first c.args.count pool done (c.in_ok-set.ensures.named, c.requires.first, c.requires.some)) (0, omega arith, c.change_numbers-changed.ensures.works) (λ pool head told holds finds. c.change_numbers-changed.ensures.works)))
+    (0, omega arith, c.change_numbers-changed.ensures.works) (λ pool head told holds finds. c.change_numbers-changed.ensures.works)))
 
 pub returns-in_err-set-clause-runs : goal.returns-in_err-set-clause-runs
 returns-in_err-set-clause-runs g c =
@@ -38,9 +33,9 @@ returns-in_err-set-clause-runs g c =
     let plan = c.in_err-set.field-0.0 in
     let space = free_by c.args.kept.now.body in
     runs_planned (λ pool. on_head c.args.name.now pool (make pool)) (cells_only 2) (OfHead c.args.kept.now.dir c.args.name.now (slots_damage (g.D.Disk.state c.args.io.now.disk.now) space)) c.args.kept.now plan (err_is c.from_residual.result (Plan plan) c.from_residual.ensures.1) c.requires.space c.requires.ready
-    (λ pool rests.
-    let named = described_is_named c.args.kept.now.body c.args.kept.now.dir pool (Has (g.D.Disk.state c.args.io.now.disk.now).seen space) rests.reads.described in
-    c.in_err-set.ensures.found pool named.are_named (make pool))
+    (λ running rested.
+    let named = rest_named (g.D.Disk.state c.args.io.now.disk.now) c.args.kept.now running rested in
+    c.in_err-set.ensures.found running named.are_named (make running))
 
 pub commit_head-requires-clause-levels : goal.commit_head-requires-clause-levels
 commit_head-requires-clause-levels g c = always c.change_numbers-changed.result (SetFits c.change_numbers-changed.new.set) (c.change_numbers-changed.ensures.levels c.in_ok-set.ensures.levels)

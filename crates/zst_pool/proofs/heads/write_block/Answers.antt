@@ -1,26 +1,21 @@
 use Rattle.std.proofs.Common.{ℕ, sym, subst, ◌+◌, inl}
-use Rattle.zst_block.specs.Blocks.{FitsDisk, Has}
 use Rattle.zst_model.specs.pools.Pool.{Pool}
 use Rattle.zst_model.specs.pools.Step.{written, on_head}
 use Rattle.zst_pool.specs.Cost.{write_cost}
-use Rattle.zst_pool.proofs.Doing.{free_by_fits}
 use Rattle.zst_image.specs.Reads.{free_by}
 use Rattle.zst_pool.specs.declared.fault.PoolFault.TheVariants.{Plan}
 use Rattle.zst_pool.proofs.Judging.{err_is}
 use Rattle.zst_pool.specs.Damage.{OfHead, block_damage}
-use Rattle.zst_pool.proofs.NextPools.{written_is_lawful}
-use Rattle.zst_pool.proofs.Parts.{ready_fills}
 use Rattle.zst_pool.specs.Heads.{Works, stop_of}
 use Rattle.zst_pool.proofs.Costing.{block_is}
 use Rattle.zst_pool.proofs.Running.{changed_head, runs_head, runs_planned}
-use Rattle.zst_pool.proofs.Naming.{described_is_named}
+use Rattle.zst_pool.proofs.Resting.{ready_after, rest_named}
 use Rattle.zst_pool.proofs.Planned.{written_apart, head_apart, head_limits, plans_apart, plans_refused}
 use Rattle.zst_pool.proofs.heads.write_block.Goals as goal
 
 pub commit_head-requires-clause-ready : goal.commit_head-requires-clause-ready
 commit_head-requires-clause-ready g c =
-    ready_fills (g.D.Disk.state c.args.io.now.disk.now) c.args.io.now.space (g.D.Disk.state c.change_block-changed.new.io.disk.now) c.change_block-changed.new.io.space c.args.kept.now.body
-    (subst (FitsDisk (g.D.Disk.state c.args.io.now.disk.now).size) (sym c.requires.space) (free_by_fits (g.D.Disk.state c.args.io.now.disk.now).size c.args.kept.now.body c.requires.ready.in_range)) (let taken = c.change_block-changed.ensures.works in taken.2.fills) c.requires.ready
+    ready_after (g.D.Disk.state c.args.io.now.disk.now) (g.D.Disk.state c.change_block-changed.new.io.disk.now) c.args.io.now.space c.change_block-changed.new.io.space c.args.kept.now.body c.requires.space (let taken = c.change_block-changed.ensures.works in taken.2.fills) c.requires.ready
 
 pub returns-clause-runs : goal.returns-clause-runs
 returns-clause-runs g c =
@@ -29,7 +24,7 @@ returns-clause-runs g c =
     c.requires.space c.in_ok-set.ensures.there c.change_block-changed.ensures.damaged c.commit_head.ensures.honest c.commit_head.ensures.damaged
     (c.commit_head.ensures.ran c.args.io.now.disk.now c.args.io.now.failed make (write_cost c.args.name.now c.args.object)
     (changed_head c.args.kept.now c.args.name.now make (write_cost c.args.name.now c.args.object) c.requires.space c.next_number-number.ensures c.in_ok-set.ensures.found c.change_block-changed.ensures.changed
-    (λ pool done. written_is_lawful c.steps_keep_pools.ensures.pools c.args.name.now c.args.object c.args.index c.args.bytes.now pool done (c.in_ok-set.ensures.named, c.requires.object, c.requires.some, c.requires.small)) c.change_block-changed.ensures.works
+    c.change_block-changed.ensures.works
     (λ pool head told holds finds.
     subst (λ (n : ℕ). Works 1 n (g.D.Disk.state c.args.io.now.disk.now) c.args.io.now.space c.args.io.now.failed (g.D.Disk.state c.change_block-changed.new.io.disk.now) c.change_block-changed.new.io.space c.change_block-changed.new.io.failed (stop_of c.change_block-changed.result))
     (sym (block_is c.args.name.now c.args.object pool head finds)) (c.change_block-changed.ensures.exact head told holds))))
@@ -40,9 +35,9 @@ returns-in_err-set-clause-runs g c =
     let plan = c.in_err-set.field-0.0 in
     let space = free_by c.args.kept.now.body in
     runs_planned (λ pool. on_head c.args.name.now pool (make pool)) (write_cost c.args.name.now c.args.object) (OfHead c.args.kept.now.dir c.args.name.now (block_damage (g.D.Disk.state c.args.io.now.disk.now) space)) c.args.kept.now plan (err_is c.from_residual.result (Plan plan) c.from_residual.ensures.1) c.requires.space c.requires.ready
-    (λ pool rests.
-    let named = described_is_named c.args.kept.now.body c.args.kept.now.dir pool (Has (g.D.Disk.state c.args.io.now.disk.now).seen space) rests.reads.described in
-    c.in_err-set.ensures.found pool named.are_named (make pool))
+    (λ running rested.
+    let named = rest_named (g.D.Disk.state c.args.io.now.disk.now) c.args.kept.now running rested in
+    c.in_err-set.ensures.found running named.are_named (make running))
 
 pub returns-in_err-set-clause-plans : goal.returns-in_err-set-clause-plans
 returns-in_err-set-clause-plans g c =

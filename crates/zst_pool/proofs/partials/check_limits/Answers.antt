@@ -1,42 +1,42 @@
 use Rattle.std.proofs.Common.{length, Err, ap, sym, ◌∙◌, arith}
-use Rattle.zst_block.specs.Blocks.{Has}
 use Rattle.zst_model.specs.refusals.Refusal.{refusal_of}
-use Rattle.zst_pool.proofs.Limits.{datasets_counted, partials_counted, snapshots_counted, past_partials, past_datasets, past_snapshots, past_number, within_limits}
+use Rattle.zst_pool.proofs.Judging.{partials_are_counted, snapshots_are_counted}
+use Rattle.zst_pool.proofs.Limits.{past_partials, past_datasets, past_snapshots, past_number, within_limits}
 use Rattle.zst_pool.proofs.partials.check_limits.Goals as goal
 
 pub returns-then-partials-gt-MOST_PARTIALS-clause-judged : goal.returns-then-partials-gt-MOST_PARTIALS-clause-judged
-returns-then-partials-gt-MOST_PARTIALS-clause-judged c = λ image space pool are same.
-    let partials = partials_counted (Has image space) c.args.dir.now pool are in
+returns-then-partials-gt-MOST_PARTIALS-clause-judged c = λ pool are same.
+    let partials = partials_are_counted c.args.dir.now pool are in
     past_partials pool (omega (arith, partials, ap length c.partials-partials.ensures, c.if-partials-gt-MOST_PARTIALS.true)) ∙ ap (λ fault. Err (refusal_of fault)) (sym c.limit.ensures)
 
-pub returns-then-datasets-count_targets-gt-MOST_DATASETS-clause-judged : goal.returns-then-datasets-count_targets-gt-MOST_DATASETS-clause-judged
-returns-then-datasets-count_targets-gt-MOST_DATASETS-clause-judged c = λ image space pool are same.
-    let partials = partials_counted (Has image space) c.args.dir.now pool are in
-    let datasets = datasets_counted (Has image space) c.args.dir.now pool are c.count_targets.result c.count_targets.ensures.all in
-    past_datasets pool (omega (arith, partials, ap length c.partials-partials.ensures, c.if-partials-gt-MOST_PARTIALS.false)) (omega (arith, datasets, ap length c.datasets.ensures.same, c.if-datasets-count_targets-gt-MOST_DATASETS.true))
-    ∙ ap (λ fault. Err (refusal_of fault)) (sym c.limit-then-datasets-count_targets-gt-MOST_DATASETS.ensures)
+pub returns-then-count_datasets-gt-MOST_DATASETS-clause-judged : goal.returns-then-count_datasets-gt-MOST_DATASETS-clause-judged
+returns-then-count_datasets-gt-MOST_DATASETS-clause-judged c = λ pool are same.
+    let partials = partials_are_counted c.args.dir.now pool are in
+    let datasets = c.count_datasets.ensures pool are in
+    past_datasets pool (omega (arith, partials, ap length c.partials-partials.ensures, c.if-partials-gt-MOST_PARTIALS.false)) (omega (arith, datasets, c.if-count_datasets-gt-MOST_DATASETS.true))
+    ∙ ap (λ fault. Err (refusal_of fault)) (sym c.limit-then-count_datasets-gt-MOST_DATASETS.ensures)
 
 pub returns-then-snapshots-partials-gt-MOST_SNAPSHOTS-clause-judged : goal.returns-then-snapshots-partials-gt-MOST_SNAPSHOTS-clause-judged
-returns-then-snapshots-partials-gt-MOST_SNAPSHOTS-clause-judged c = λ image space pool are same.
-    let partials = partials_counted (Has image space) c.args.dir.now pool are in
-    let datasets = datasets_counted (Has image space) c.args.dir.now pool are c.count_targets.result c.count_targets.ensures.all in
-    let snapshots = snapshots_counted (Has image space) c.args.dir.now pool are in
-    past_snapshots pool (omega (arith, partials, ap length c.partials-partials.ensures, c.if-partials-gt-MOST_PARTIALS.false)) (omega (arith, datasets, ap length c.datasets.ensures.same, c.if-datasets-count_targets-gt-MOST_DATASETS.false))
+returns-then-snapshots-partials-gt-MOST_SNAPSHOTS-clause-judged c = λ pool are same.
+    let partials = partials_are_counted c.args.dir.now pool are in
+    let datasets = c.count_datasets.ensures pool are in
+    let snapshots = snapshots_are_counted c.args.dir.now pool are in
+    past_snapshots pool (omega (arith, partials, ap length c.partials-partials.ensures, c.if-partials-gt-MOST_PARTIALS.false)) (omega (arith, datasets, c.if-count_datasets-gt-MOST_DATASETS.false))
     (omega (arith, partials, snapshots, ap length c.partials-partials.ensures, ap length c.snapshots.ensures, c.if-snapshots-partials-gt-MOST_SNAPSHOTS.true))
     ∙ ap (λ fault. Err (refusal_of fault)) (sym c.limit-then-snapshots-partials-gt-MOST_SNAPSHOTS.ensures)
 
 pub returns-then-number-ge-LAST_NUMBER-clause-judged : goal.returns-then-number-ge-LAST_NUMBER-clause-judged
-returns-then-number-ge-LAST_NUMBER-clause-judged c = λ image space pool are same.
-    let partials = partials_counted (Has image space) c.args.dir.now pool are in
-    let datasets = datasets_counted (Has image space) c.args.dir.now pool are c.count_targets.result c.count_targets.ensures.all in
-    let snapshots = snapshots_counted (Has image space) c.args.dir.now pool are in
-    past_number pool (omega (arith, partials, ap length c.partials-partials.ensures, c.if-partials-gt-MOST_PARTIALS.false)) (omega (arith, datasets, ap length c.datasets.ensures.same, c.if-datasets-count_targets-gt-MOST_DATASETS.false)) (omega (arith, partials, snapshots, ap length c.partials-partials.ensures, ap length c.snapshots.ensures, c.if-snapshots-partials-gt-MOST_SNAPSHOTS.false))
+returns-then-number-ge-LAST_NUMBER-clause-judged c = λ pool are same.
+    let partials = partials_are_counted c.args.dir.now pool are in
+    let datasets = c.count_datasets.ensures pool are in
+    let snapshots = snapshots_are_counted c.args.dir.now pool are in
+    past_number pool (omega (arith, partials, ap length c.partials-partials.ensures, c.if-partials-gt-MOST_PARTIALS.false)) (omega (arith, datasets, c.if-count_datasets-gt-MOST_DATASETS.false)) (omega (arith, partials, snapshots, ap length c.partials-partials.ensures, ap length c.snapshots.ensures, c.if-snapshots-partials-gt-MOST_SNAPSHOTS.false))
     (omega (arith, same, c.if-number-ge-LAST_NUMBER.true))
     ∙ ap (λ fault. Err (refusal_of fault)) (sym c.limit-then-number-ge-LAST_NUMBER.ensures)
 
 pub returns-clause-judged : goal.returns-clause-judged
-returns-clause-judged c = λ image space pool are same.
-    let partials = partials_counted (Has image space) c.args.dir.now pool are in
-    let datasets = datasets_counted (Has image space) c.args.dir.now pool are c.count_targets.result c.count_targets.ensures.all in
-    let snapshots = snapshots_counted (Has image space) c.args.dir.now pool are in
-    within_limits pool (omega (arith, partials, ap length c.partials-partials.ensures, c.if-partials-gt-MOST_PARTIALS.false)) (omega (arith, datasets, ap length c.datasets.ensures.same, c.if-datasets-count_targets-gt-MOST_DATASETS.false)) (omega (arith, partials, snapshots, ap length c.partials-partials.ensures, ap length c.snapshots.ensures, c.if-snapshots-partials-gt-MOST_SNAPSHOTS.false)) (omega (arith, same, c.if-number-ge-LAST_NUMBER.false))
+returns-clause-judged c = λ pool are same.
+    let partials = partials_are_counted c.args.dir.now pool are in
+    let datasets = c.count_datasets.ensures pool are in
+    let snapshots = snapshots_are_counted c.args.dir.now pool are in
+    within_limits pool (omega (arith, partials, ap length c.partials-partials.ensures, c.if-partials-gt-MOST_PARTIALS.false)) (omega (arith, datasets, c.if-count_datasets-gt-MOST_DATASETS.false)) (omega (arith, partials, snapshots, ap length c.partials-partials.ensures, ap length c.snapshots.ensures, c.if-snapshots-partials-gt-MOST_SNAPSHOTS.false)) (omega (arith, same, c.if-number-ge-LAST_NUMBER.false))

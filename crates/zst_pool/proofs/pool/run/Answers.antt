@@ -66,3 +66,55 @@ pub returns-in-Free-clause-plans : goal.returns-in-Free-clause-plans
 unfolding stepped
 returns-in-Free-clause-plans g c =
     subst (λ (command : Command). Plans (λ pool. stepped [] c.args.now command pool) (numbers_end command) (indices_end command) c.args.kept.now c.free_objects.result) (sym c.in-Free.is) c.free_objects.ensures.plans
+
+pub returns-in-Fs-clause-runs : goal.returns-in-Fs-clause-runs
+unfolding stepped
+returns-in-Fs-clause-runs g c =
+    subst (λ (command : Command). Runs (λ pool. stepped [] c.args.now command pool) (cost_of command) (TellsDamage command c.args.kept.now.dir (g.D.Disk.state c.args.io.now.disk.now) (free_by c.args.kept.now.body)) c.args.kept.now (g.D.Disk.state c.args.io.now.disk.now) c.args.io.now.failed (g.D.Disk.state c.make_dataset.new.io.disk.now) c.make_dataset.new.io.space c.make_dataset.new.io.failed c.make_dataset.result)
+    (sym c.in-Fs.is) c.make_dataset.ensures.runs
+
+pub returns-in-Volume-clause-runs : goal.returns-in-Volume-clause-runs
+unfolding stepped
+returns-in-Volume-clause-runs g c =
+    subst (λ (command : Command). Runs (λ pool. stepped [] c.args.now command pool) (cost_of command) (TellsDamage command c.args.kept.now.dir (g.D.Disk.state c.args.io.now.disk.now) (free_by c.args.kept.now.body)) c.args.kept.now (g.D.Disk.state c.args.io.now.disk.now) c.args.io.now.failed (g.D.Disk.state c.make_dataset-in-Volume.new.io.disk.now) c.make_dataset-in-Volume.new.io.space c.make_dataset-in-Volume.new.io.failed c.make_dataset-in-Volume.result)
+    (sym c.in-Volume.is) c.make_dataset-in-Volume.ensures.runs
+
+pub returns-in-Snapshot-clause-runs : goal.returns-in-Snapshot-clause-runs
+unfolding stepped
+returns-in-Snapshot-clause-runs g c =
+    subst (λ (command : Command). Runs (λ pool. stepped [] c.args.now command pool) (cost_of command) (TellsDamage command c.args.kept.now.dir (g.D.Disk.state c.args.io.now.disk.now) (free_by c.args.kept.now.body)) c.args.kept.now (g.D.Disk.state c.args.io.now.disk.now) c.args.io.now.failed (g.D.Disk.state c.take_snapshot.new.io.disk.now) c.take_snapshot.new.io.space c.take_snapshot.new.io.failed c.take_snapshot.result)
+    (sym c.in-Snapshot.is) c.take_snapshot.ensures.runs
+
+pub returns-in-Clone-clause-runs : goal.returns-in-Clone-clause-runs
+unfolding stepped
+returns-in-Clone-clause-runs g c =
+    subst (λ (command : Command). Runs (λ pool. stepped [] c.args.now command pool) (cost_of command) (TellsDamage command c.args.kept.now.dir (g.D.Disk.state c.args.io.now.disk.now) (free_by c.args.kept.now.body)) c.args.kept.now (g.D.Disk.state c.args.io.now.disk.now) c.args.io.now.failed (g.D.Disk.state c.make_clone.new.io.disk.now) c.make_clone.new.io.space c.make_clone.new.io.failed c.make_clone.result)
+    (sym c.in-Clone.is) c.make_clone.ensures.runs
+
+pub returns-in-Bookmark-clause-runs : goal.returns-in-Bookmark-clause-runs
+unfolding stepped
+returns-in-Bookmark-clause-runs g c =
+    subst (λ (command : Command). Runs (λ pool. stepped [] c.args.now command pool) (cost_of command) (TellsDamage command c.args.kept.now.dir (g.D.Disk.state c.args.io.now.disk.now) (free_by c.args.kept.now.body)) c.args.kept.now (g.D.Disk.state c.args.io.now.disk.now) c.args.io.now.failed (g.D.Disk.state c.make_bookmark.new.io.disk.now) c.make_bookmark.new.io.space c.make_bookmark.new.io.failed c.make_bookmark.result)
+    (sym c.in-Bookmark.is) c.make_bookmark.ensures.runs
+
+pub returns-in-Destroy-clause-runs : goal.returns-in-Destroy-clause-runs
+unfolding stepped
+returns-in-Destroy-clause-runs g c =
+    subst (λ (command : Command). Runs (λ pool. stepped [] c.args.now command pool) (cost_of command) (TellsDamage command c.args.kept.now.dir (g.D.Disk.state c.args.io.now.disk.now) (free_by c.args.kept.now.body)) c.args.kept.now (g.D.Disk.state c.args.io.now.disk.now) c.args.io.now.failed (g.D.Disk.state c.destroy.new.io.disk.now) c.destroy.new.io.space c.destroy.new.io.failed c.destroy.result)
+    (sym c.in-Destroy.is) c.destroy.ensures.runs
+
+pub returns-in-Destroy-clause-plans : goal.returns-in-Destroy-clause-plans
+unfolding stepped
+returns-in-Destroy-clause-plans g c =
+    subst (λ (command : Command). Plans (λ pool. stepped [] c.args.now command pool) (numbers_end command) (indices_end command) c.args.kept.now c.destroy.result) (sym c.in-Destroy.is) c.destroy.ensures.plans
+
+pub returns-in-Rollback-clause-runs : goal.returns-in-Rollback-clause-runs
+unfolding stepped
+returns-in-Rollback-clause-runs g c =
+    subst (λ (command : Command). Runs (λ pool. stepped [] c.args.now command pool) (cost_of command) (TellsDamage command c.args.kept.now.dir (g.D.Disk.state c.args.io.now.disk.now) (free_by c.args.kept.now.body)) c.args.kept.now (g.D.Disk.state c.args.io.now.disk.now) c.args.io.now.failed (g.D.Disk.state c.roll_back.new.io.disk.now) c.roll_back.new.io.space c.roll_back.new.io.failed c.roll_back.result)
+    (sym c.in-Rollback.is) c.roll_back.ensures.runs
+
+pub returns-in-Rollback-clause-plans : goal.returns-in-Rollback-clause-plans
+unfolding stepped
+returns-in-Rollback-clause-plans g c =
+    subst (λ (command : Command). Plans (λ pool. stepped [] c.args.now command pool) (numbers_end command) (indices_end command) c.args.kept.now c.roll_back.result) (sym c.in-Rollback.is) c.roll_back.ensures.plans

@@ -4,26 +4,29 @@ use Rattle.zst_block.specs.Blocks.{Has}
 use Rattle.zst_dir.specs.Rows.{Rows}
 use Rattle.zst_image.specs.declared.kept.Kept.{Kept}
 use Rattle.zst_pool.specs.Calls.{CallDid}
-use Rattle.zst_pool.specs.PartialRows.{RunsBy}
+use Rattle.zst_image.specs.Reads.{RunsBy}
 use Rattle.zst_pool.specs.Partials.{partial_put, with_partial}
 use Rattle.zst_pool.specs.declared.fault.PoolFault.{PoolFault}
 use Rattle.zst_pool.specs.declared.fault.PoolFault.TheVariants.{OutOfMemory}
 use Rattle.zst_pool.proofs.Calling.{call_fell}
 use Rattle.zst_pool.proofs.Judging.{err_is}
 use Rattle.zst_pool.proofs.PartialRows.{partial_is_put}
+use Rattle.zst_pool.proofs.Resting.{way_runs}
 use Rattle.zst_pool.proofs.receiving.commit_partial.Goals as goal
 
 pub returns-in_err-dir-clause-did : goal.returns-in_err-dir-clause-did
 returns-in_err-dir-clause-did g c = λ start running plain told way is.
     let old = g.D.Disk.state c.args.io.now.disk.now in
-    let body = c.args.kept.now.body in
+    let kept = c.args.kept.now in
     let definition = partial_put c.args.roll plain running in
-    subst (λ (r : Result Kept PoolFault). CallDid (g.D.Disk.state start) old body running definition r) (sym (err_is c.from_residual.result OutOfMemory c.from_residual.ensures.1))
-    (call_fell (g.D.Disk.state start) old c.args.io.now.space body running definition OutOfMemory way.from tt)
+    subst (λ (r : Result Kept PoolFault). CallDid (g.D.Disk.state start) old kept running definition r) (sym (err_is c.from_residual.result OutOfMemory c.from_residual.ensures.1))
+    (call_fell (g.D.Disk.state start) old c.args.io.now.space kept running definition OutOfMemory way tt)
 
 pub returns-clause-did : goal.returns-clause-did
 returns-clause-did g c = λ start running plain told way is.
-    let has = Has (g.D.Disk.state c.args.io.now.disk.now).seen c.args.io.now.space in
+    let old = g.D.Disk.state c.args.io.now.disk.now in
+    let has = Has old.seen c.args.io.now.space in
     let next = with_partial c.args.roll plain running in
-    let runs = subst (λ (r : Rows). RunsBy has r next) (sym c.in_ok-dir.ensures.put) (partial_is_put has c.args.kept.now.dir running way.runs_by c.args.partial plain is c.args.roll) in
-    c.commit_next.ensures.did start running next told way.from (record { id = refl; number = refl; guids = refl }) runs
+    let was = way_runs (g.D.Disk.state start) old c.args.io.now.space c.args.kept.now running way in
+    let runs = subst (λ (r : Rows). RunsBy has r next) (sym c.in_ok-dir.ensures.put) (partial_is_put has c.args.kept.now.dir running was.runs_by c.args.partial plain is c.args.roll) in
+    c.commit_next.ensures.did start running next told way (record { id = refl; number = refl; guids = refl }) runs

@@ -1,102 +1,191 @@
-use Rattle.std.proofs.Common.{◌≡◌, ℕ, ◌+◌, List, [], ◌∷◌, sym, ap, ◌∙◌, subst, arith}
+use Rattle.std.specs.Prelude.{true, false, Result, Ok, Err, IfErr}
+use Rattle.std.proofs.Common.{◌≡◌, ℕ, ◌+◌, List, [], ◌∷◌, refl, sym, ap, ◌∙◌, subst, arith}
+use Rattle.std.proofs.lemmas.Bool.{or_parts}
 use Rattle.zst_model.specs.pools.Lines.{ok_line}
 use Rattle.zst_model.specs.pools.Step.{stepped}
-use Rattle.std.specs.Prelude.{Result, IfErr}
+use Rattle.zst_image.specs.declared.kept.Kept.{Kept}
 use Rattle.zst_image.specs.Reads.{free_by}
-use Rattle.zst_pool.specs.Damage.{IsOf, TellsDamage}
-use Rattle.zst_pool.specs.declared.fault.PoolFault.{PoolFault}
+use Rattle.zst_image.specs.Committing.{Ready}
 use Rattle.zst_pool.specs.Cost.{cost_of}
+use Rattle.zst_pool.specs.Damage.{IsOf, TellsDamage}
+use Rattle.zst_pool.specs.Faults.{is_full}
+use Rattle.zst_pool.specs.Plans.{Plans, indices_end, numbers_end}
+use Rattle.zst_pool.specs.Runs.{Runs}
 use Rattle.zst_pool.specs.Stepping.{StepAnswer}
+use Rattle.zst_pool.specs.declared.fault.PoolFault.{PoolFault}
 use Rattle.zst_pool.specs.declared.fault.PoolFault.TheVariants.{OutOfMemory}
 use Rattle.zst_pool.proofs.Judging.{err_is}
-use Rattle.zst_pool.proofs.Replying.{step_reply}
-use Rattle.zst_pool.proofs.Stepped.{spends_err, spends_ok, spares_err}
-use Rattle.zst_pool.specs.Plans.{indices_end, numbers_end}
 use Rattle.zst_pool.proofs.Planned.{plans_err, plans_ok}
+use Rattle.zst_pool.proofs.Replying.{step_reply}
+use Rattle.zst_pool.proofs.Stepped.{free_again, spends_apart, spends_err, spends_ok, spares_err}
+use Rattle.zst_pool.proofs.Resting.{commit_next_of}
+use Rattle.zst_pool.proofs.pool.Pool.step.Given.{Over}
 use Rattle.zst_pool.proofs.pool.Pool.step.Goals as goal
+use Rattle.zst_pool.proofs.pool.Pool.step.Goals.{After-settle_command}
+
+-- what was run, over the disk that the pool then has
+ran : (g : Over) (c : After-settle_command g) (answer : Result Kept PoolFault) → answer ≡ c.run-ran.result
+    → Runs (λ pool. stepped [] c.args.now c.args.command pool) (cost_of c.args.command) (TellsDamage c.args.command c.args.self.now.kept.dir (g.D.Disk.state c.args.self.now.io.disk.now) (free_by c.args.self.now.kept.body)) c.args.self.now.kept
+    (g.D.Disk.state c.args.self.now.io.disk.now) c.args.self.now.io.failed (g.D.Disk.state c.settle_command.new.self.io.disk.now) c.run-ran.new.io.space c.settle_command.new.self.io.failed answer
+ran g c answer same = rw (c.settle_command.ensures.disk, c.settle_command.ensures.failed, same) c.run-ran.ensures.runs
+
+planned : (g : Over) (c : After-settle_command g) (answer : Result Kept PoolFault) → answer ≡ c.run-ran.result
+    → Plans (λ pool. stepped [] c.args.now c.args.command pool) (numbers_end c.args.command) (indices_end c.args.command) c.args.self.now.kept answer
+planned g c answer same = rw same c.run-ran.ensures.plans
 
 pub returns-clause-moments : goal.returns-clause-moments
-returns-clause-moments g c = λ pool told rests.
-    let did = c.in_ok-kept.ensures.runs.ran.did pool told rests in
+returns-clause-moments g c = λ running told rested.
+    let runs = ran g (goal.at.returns-clause-moments g c).After-settle_command (Ok c.settle_command.new.self.kept) c.in_ok-settle_command.ensures.kept in
+    let did = runs.ran.did running told rested in
     did.moments
 
 pub returns-clause-answer : goal.returns-clause-answer
-returns-clause-answer g c = λ pool told built standing rests.
-    let did = c.in_ok-kept.ensures.runs.ran.did pool told rests in
+returns-clause-answer g c = λ running told built standing rested.
+    let runs = ran g (goal.at.returns-clause-answer g c).After-settle_command (Ok c.settle_command.new.self.kept) c.in_ok-settle_command.ensures.kept in
+    let did = runs.ran.did running told rested in
     let answer = did.answer in
-    let is = step_reply c.args.now c.args.command pool answer.0 built answer.1 in
-    let number : c.saturating_add.result ≡ pool.number + 1 = omega (arith, is.below, rests.reads.described.number, c.saturating_add.ensures) in
+    let is = step_reply c.args.now c.args.command running answer.0 built answer.1 in
+    let number : c.saturating_add.result ≡ running.number + 1 = omega (arith, is.below, rested.rests.reads.described.number, c.saturating_add.ensures) in
     (answer.0, answer.1, c.in_ok-reply.ensures ∙ ap (λ (n : ℕ). ok_line n ∷ []) number ∙ sym is.line, answer.2)
 
 pub returns-clause-sound : goal.returns-clause-sound
-returns-clause-sound g c = λ pool done rests sound made. c.steps_keep_sound.ensures [] c.args.now c.args.command pool done c.requires.command rests.reads.described.lawful sound made
-
-pub returns-in_err-kept-clause-moments : goal.returns-in_err-kept-clause-moments
-returns-in_err-kept-clause-moments g c = λ pool told rests.
-    let did = c.in_err-kept.ensures.runs.ran.did pool told rests in
-    did.moments
-
-pub returns-in_err-kept-clause-answer : goal.returns-in_err-kept-clause-answer
-returns-in_err-kept-clause-answer g c = λ pool told built standing rests.
-    let did = c.in_err-kept.ensures.runs.ran.did pool told rests in
-    subst (StepAnswer (g.D.Disk.state c.run.new.io.disk.now) c.args.self.now.kept.body c.args.self.now.kept.dir pool (stepped [] c.args.now c.args.command pool))
-    (sym (err_is c.from_residual-in_err-kept.result c.in_err-kept.field-0.0 c.from_residual-in_err-kept.ensures.1)) did.answer
-
-pub returns-in_err-kept-clause-sound : goal.returns-in_err-kept-clause-sound
-returns-in_err-kept-clause-sound g c = λ pool done rests sound made. c.steps_keep_sound.ensures [] c.args.now c.args.command pool done c.requires.command rests.reads.described.lawful sound made
-
-pub returns-in_err-reply-clause-answer : goal.returns-in_err-reply-clause-answer
-returns-in_err-reply-clause-answer g c = λ pool told built standing rests.
-    subst (StepAnswer (g.D.Disk.state c.args.self.now.io.disk.now) c.args.self.now.kept.body c.args.self.now.kept.dir pool (stepped [] c.args.now c.args.command pool))
-    (sym (err_is c.from_residual.result OutOfMemory c.from_residual.ensures.1)) rests
-
-pub returns-in_err-reply-clause-sound : goal.returns-in_err-reply-clause-sound
-returns-in_err-reply-clause-sound g c = λ pool done rests sound made. c.steps_keep_sound.ensures [] c.args.now c.args.command pool done c.requires.command rests.reads.described.lawful sound made
-
-pub returns-then-self-clause-sound : goal.returns-then-self-clause-sound
-returns-then-self-clause-sound g c = λ pool done rests sound made. c.steps_keep_sound.ensures [] c.args.now c.args.command pool done c.requires.command rests.reads.described.lawful sound made
-
-pub returns-then-is_not_built-clause-sound : goal.returns-then-is_not_built-clause-sound
-returns-then-is_not_built-clause-sound g c = λ pool done rests sound made. c.steps_keep_sound.ensures [] c.args.now c.args.command pool done c.requires.command rests.reads.described.lawful sound made
+returns-clause-sound g c = λ running done rested sound made. c.steps_keep_sound.ensures [] c.args.now c.args.command running done c.requires.command rested.lawful sound made
 
 pub returns-clause-spends : goal.returns-clause-spends
 returns-clause-spends g c = λ standing.
-    let spends = c.in_ok-kept.ensures.runs.ran.spends in
+    let runs = ran g (goal.at.returns-clause-spends g c).After-settle_command (Ok c.settle_command.new.self.kept) c.in_ok-settle_command.ensures.kept in
+    let spends = runs.ran.spends in
     let cost = cost_of c.args.command in
-    (spends.0, spends.1, spends_ok cost.cells spends.0 c.args.self.now.kept c.run.new.io.space c.in_ok-kept.kept c.in_ok-reply.reply spends.2)
+    (spends.0, spends.1, spends_ok cost.cells spends.0 c.args.self.now.kept c.run-ran.new.io.space c.settle_command.new.self.kept c.in_ok-reply.reply c.settle_command.new.self.io.space spends.2)
 
 pub returns-clause-exact : goal.returns-clause-exact
-returns-clause-exact g c = λ pool told standing rests.
+returns-clause-exact g c = λ running told standing rested.
+    let runs = ran g (goal.at.returns-clause-exact g c).After-settle_command (Ok c.settle_command.new.self.kept) c.in_ok-settle_command.ensures.kept in
     let cost = cost_of c.args.command in
-    spends_ok cost.cells (cost.block pool) c.args.self.now.kept c.run.new.io.space c.in_ok-kept.kept c.in_ok-reply.reply (c.in_ok-kept.ensures.runs.ran.exact pool told rests)
+    spends_ok cost.cells (cost.block running) c.args.self.now.kept c.run-ran.new.io.space c.settle_command.new.self.kept c.in_ok-reply.reply c.settle_command.new.self.io.space (runs.ran.exact running told rested)
 
-pub returns-in_err-kept-clause-spends : goal.returns-in_err-kept-clause-spends
-returns-in_err-kept-clause-spends g c = λ standing.
-    let spends = c.in_err-kept.ensures.runs.ran.spends in
+pub returns-clause-planned : goal.returns-clause-planned
+returns-clause-planned g c = λ standing built left.
+    plans_ok (stepped [] c.args.now c.args.command) (numbers_end c.args.command) (indices_end c.args.command) c.args.self.now.kept c.settle_command.new.self.kept c.in_ok-reply.reply
+    (planned g (goal.at.returns-clause-planned g c).After-settle_command (Ok c.settle_command.new.self.kept) c.in_ok-settle_command.ensures.kept)
+
+pub returns-clause-ready : goal.returns-clause-ready
+returns-clause-ready g c = λ standing.
+    let runs = ran g (goal.at.returns-clause-ready g c).After-settle_command (Ok c.settle_command.new.self.kept) c.in_ok-settle_command.ensures.kept in
+    runs.ran.ready
+
+pub returns-clause-works : goal.returns-clause-works
+returns-clause-works g c = λ standing.
+    let runs = ran g (goal.at.returns-clause-works g c).After-settle_command (Ok c.settle_command.new.self.kept) c.in_ok-settle_command.ensures.kept in
+    let free = c.settle_command.ensures.space (subst (λ (r : Result Kept PoolFault). is_full r ≡ false) c.in_ok-settle_command.ensures.kept refl) in
+    commit_next_of (g.D.Disk.state c.settle_command.new.self.io.disk.now) c.settle_command.new.self.io.space c.settle_command.new.self.kept.body free runs.ran.ready
+
+pub returns-clause-space : goal.returns-clause-space
+returns-clause-space g c = λ told. c.settle_command.ensures.space (subst (λ (r : Result Kept PoolFault). is_full r ≡ false) c.in_ok-settle_command.ensures.kept refl)
+
+-- where it was refused
+
+pub returns-in_err-settle_command-clause-moments : goal.returns-in_err-settle_command-clause-moments
+returns-in_err-settle_command-clause-moments g c = λ running told rested.
+    let runs = ran g (goal.at.returns-in_err-settle_command-clause-moments g c).After-settle_command (Err c.in_err-settle_command.field-0.0) c.in_err-settle_command.ensures.kept in
+    let did = runs.ran.did running told rested in
+    did.moments
+
+pub returns-in_err-settle_command-clause-answer : goal.returns-in_err-settle_command-clause-answer
+returns-in_err-settle_command-clause-answer g c = λ running told built standing rested.
+    let runs = ran g (goal.at.returns-in_err-settle_command-clause-answer g c).After-settle_command (Err c.in_err-settle_command.field-0.0) c.in_err-settle_command.ensures.kept in
+    let did = runs.ran.did running told rested in
+    let fell = c.from_residual-in_err-settle_command in
+    subst (λ (k : Kept). StepAnswer (g.D.Disk.state c.settle_command.new.self.io.disk.now) k running (stepped [] c.args.now c.args.command running) fell.result) (sym c.in_err-settle_command.ensures.stays)
+    (subst (StepAnswer (g.D.Disk.state c.settle_command.new.self.io.disk.now) c.args.self.now.kept running (stepped [] c.args.now c.args.command running)) (sym (err_is fell.result c.in_err-settle_command.field-0.0 fell.ensures.1)) did.answer)
+
+pub returns-in_err-settle_command-clause-sound : goal.returns-in_err-settle_command-clause-sound
+returns-in_err-settle_command-clause-sound g c = λ running done rested sound made. c.steps_keep_sound.ensures [] c.args.now c.args.command running done c.requires.command rested.lawful sound made
+
+pub returns-in_err-settle_command-clause-spends : goal.returns-in_err-settle_command-clause-spends
+returns-in_err-settle_command-clause-spends g c = λ standing.
+    let fault = c.in_err-settle_command.field-0.0 in
+    let kept = c.in_err-settle_command.ensures.kept in
+    let runs = ran g (goal.at.returns-in_err-settle_command-clause-spends g c).After-settle_command (Err fault) kept in
+    let spends = runs.ran.spends in
     let cost = cost_of c.args.command in
-    let fault = c.in_err-kept.field-0.0 in
-    let fell = c.from_residual-in_err-kept in
-    (spends.0, spends.1, spends_err cost.cells spends.0 c.args.self.now.kept c.run.new.io.space c.args.self.now.kept fault fell.result (err_is fell.result fault fell.ensures.1) spends.2)
+    let fell = c.from_residual-in_err-settle_command in
+    (spends.0, spends.1, spends_err cost.cells spends.0 c.args.self.now.kept c.run-ran.new.io.space c.settle_command.new.self.kept fault fell.result c.settle_command.new.self.io.space (err_is fell.result fault fell.ensures.1) (λ is. c.settle_command.ensures.left (subst (λ (r : Result Kept PoolFault). is_full r ≡ true) kept is)) spends.2)
 
-pub returns-in_err-kept-clause-exact : goal.returns-in_err-kept-clause-exact
-returns-in_err-kept-clause-exact g c = λ pool told standing rests.
+pub returns-in_err-settle_command-clause-exact : goal.returns-in_err-settle_command-clause-exact
+returns-in_err-settle_command-clause-exact g c = λ running told standing rested.
+    let fault = c.in_err-settle_command.field-0.0 in
+    let kept = c.in_err-settle_command.ensures.kept in
+    let runs = ran g (goal.at.returns-in_err-settle_command-clause-exact g c).After-settle_command (Err fault) kept in
     let cost = cost_of c.args.command in
-    let fault = c.in_err-kept.field-0.0 in
-    let fell = c.from_residual-in_err-kept in
-    spends_err cost.cells (cost.block pool) c.args.self.now.kept c.run.new.io.space c.args.self.now.kept fault fell.result (err_is fell.result fault fell.ensures.1) (c.in_err-kept.ensures.runs.ran.exact pool told rests)
+    let fell = c.from_residual-in_err-settle_command in
+    spends_err cost.cells (cost.block running) c.args.self.now.kept c.run-ran.new.io.space c.settle_command.new.self.kept fault fell.result c.settle_command.new.self.io.space (err_is fell.result fault fell.ensures.1) (λ is. c.settle_command.ensures.left (subst (λ (r : Result Kept PoolFault). is_full r ≡ true) kept is)) (runs.ran.exact running told rested)
 
-pub returns-in_err-kept-clause-spares : goal.returns-in_err-kept-clause-spares
-returns-in_err-kept-clause-spares g c =
-    let fault = c.in_err-kept.field-0.0 in
-    let fell = c.from_residual-in_err-kept in
-    spares_err _ fault fell.result (err_is fell.result fault fell.ensures.1) c.in_err-kept.ensures.runs.ran.spares
+pub returns-in_err-settle_command-clause-spares : goal.returns-in_err-settle_command-clause-spares
+returns-in_err-settle_command-clause-spares g c =
+    let fault = c.in_err-settle_command.field-0.0 in
+    let runs = ran g (goal.at.returns-in_err-settle_command-clause-spares g c).After-settle_command (Err fault) c.in_err-settle_command.ensures.kept in
+    let fell = c.from_residual-in_err-settle_command in
+    spares_err _ fault fell.result (err_is fell.result fault fell.ensures.1) runs.ran.spares
 
-pub returns-in_err-kept-clause-damaged : goal.returns-in_err-kept-clause-damaged
-returns-in_err-kept-clause-damaged g c = λ told.
-    let fault = c.in_err-kept.field-0.0 in
-    let fell = c.from_residual-in_err-kept in
+pub returns-in_err-settle_command-clause-damaged : goal.returns-in_err-settle_command-clause-damaged
+returns-in_err-settle_command-clause-damaged g c = λ told.
+    let fault = c.in_err-settle_command.field-0.0 in
+    let runs = ran g (goal.at.returns-in_err-settle_command-clause-damaged g c).After-settle_command (Err fault) c.in_err-settle_command.ensures.kept in
+    let fell = c.from_residual-in_err-settle_command in
     let Is = TellsDamage c.args.command c.args.self.now.kept.dir (g.D.Disk.state c.args.self.now.io.disk.now) (free_by c.args.self.now.kept.body) in
-    subst (λ (r : Result (List (List ℕ)) PoolFault). IfErr r (IsOf Is)) (sym (err_is fell.result fault fell.ensures.1)) (c.in_err-kept.ensures.runs.damaged told)
+    subst (λ (r : Result (List (List ℕ)) PoolFault). IfErr r (IsOf Is)) (sym (err_is fell.result fault fell.ensures.1)) (runs.damaged told)
+
+pub returns-in_err-settle_command-clause-planned : goal.returns-in_err-settle_command-clause-planned
+returns-in_err-settle_command-clause-planned g c = λ standing built left.
+    let fault = c.in_err-settle_command.field-0.0 in
+    let fell = c.from_residual-in_err-settle_command in
+    plans_err (stepped [] c.args.now c.args.command) (numbers_end c.args.command) (indices_end c.args.command) c.args.self.now.kept fault (err_is fell.result fault fell.ensures.1)
+    (planned g (goal.at.returns-in_err-settle_command-clause-planned g c).After-settle_command (Err fault) c.in_err-settle_command.ensures.kept)
+
+pub returns-in_err-settle_command-clause-space : goal.returns-in_err-settle_command-clause-space
+returns-in_err-settle_command-clause-space g c = λ told.
+    let fault = c.in_err-settle_command.field-0.0 in
+    let fell = c.from_residual-in_err-settle_command in
+    c.settle_command.ensures.space (free_again fault _ fell.result _ (err_is fell.result fault fell.ensures.1) c.in_err-settle_command.ensures.kept told)
+
+pub returns-in_err-settle_command-clause-works : goal.returns-in_err-settle_command-clause-works
+returns-in_err-settle_command-clause-works g c = λ told.
+    let fault = c.in_err-settle_command.field-0.0 in
+    let runs = ran g (goal.at.returns-in_err-settle_command-clause-works g c).After-settle_command (Err fault) c.in_err-settle_command.ensures.kept in
+    let fell = c.from_residual-in_err-settle_command in
+    let here = g.D.Disk.state c.settle_command.new.self.io.disk.now in
+    let free = c.settle_command.ensures.space (free_again fault _ fell.result _ (err_is fell.result fault fell.ensures.1) c.in_err-settle_command.ensures.kept told) in
+    commit_next_of here c.settle_command.new.self.io.space c.settle_command.new.self.kept.body free (subst (λ (k : Kept). Ready here k.body) (sym c.in_err-settle_command.ensures.stays) (runs.ran.stays (or_parts _ _ told).0))
+
+pub returns-in_err-settle_command-clause-ready : goal.returns-in_err-settle_command-clause-ready
+returns-in_err-settle_command-clause-ready g c = λ standing.
+    let fault = c.in_err-settle_command.field-0.0 in
+    let runs = ran g (goal.at.returns-in_err-settle_command-clause-ready g c).After-settle_command (Err fault) c.in_err-settle_command.ensures.kept in
+    let here = g.D.Disk.state c.settle_command.new.self.io.disk.now in
+    subst (λ (k : Kept). Ready here k.body) (sym c.in_err-settle_command.ensures.stays) (runs.ran.stays standing)
+
+-- where no memory was left for its reply
+
+pub returns-in_err-reply-clause-answer : goal.returns-in_err-reply-clause-answer
+returns-in_err-reply-clause-answer g c = λ running told built standing rested.
+    subst (StepAnswer (g.D.Disk.state c.args.self.now.io.disk.now) c.args.self.now.kept running (stepped [] c.args.now c.args.command running))
+    (sym (err_is c.from_residual.result OutOfMemory c.from_residual.ensures.1)) rested
+
+pub returns-in_err-reply-clause-sound : goal.returns-in_err-reply-clause-sound
+returns-in_err-reply-clause-sound g c = λ running done rested sound made. c.steps_keep_sound.ensures [] c.args.now c.args.command running done c.requires.command rested.lawful sound made
+
+pub returns-in_err-reply-clause-spends : goal.returns-in_err-reply-clause-spends
+returns-in_err-reply-clause-spends g c = λ standing.
+    let cost = cost_of c.args.command in
+    let fell = c.from_residual in
+    (0, omega arith, spends_apart cost.cells 0 c.args.self.now.kept c.new-2.result c.args.self.now.kept OutOfMemory fell.result (err_is fell.result OutOfMemory fell.ensures.1) (λ need largest is. cc))
+
+pub returns-in_err-reply-clause-exact : goal.returns-in_err-reply-clause-exact
+returns-in_err-reply-clause-exact g c = λ running told standing rested.
+    let cost = cost_of c.args.command in
+    let fell = c.from_residual in
+    spends_apart cost.cells (cost.block running) c.args.self.now.kept c.new-2.result c.args.self.now.kept OutOfMemory fell.result (err_is fell.result OutOfMemory fell.ensures.1) (λ need largest is. cc)
 
 pub returns-in_err-reply-clause-damaged : goal.returns-in_err-reply-clause-damaged
 returns-in_err-reply-clause-damaged g c = λ told.
@@ -104,16 +193,22 @@ returns-in_err-reply-clause-damaged g c = λ told.
     let Is = TellsDamage c.args.command c.args.self.now.kept.dir (g.D.Disk.state c.args.self.now.io.disk.now) (free_by c.args.self.now.kept.body) in
     subst (λ (r : Result (List (List ℕ)) PoolFault). IfErr r (IsOf Is)) (sym (err_is fell.result OutOfMemory fell.ensures.1)) (λ sector stated found is. absurd (cc))
 
-pub returns-clause-planned : goal.returns-clause-planned
-returns-clause-planned g c = λ standing built left.
-    plans_ok (stepped [] c.args.now c.args.command) (numbers_end c.args.command) (indices_end c.args.command) c.args.self.now.kept c.in_ok-kept.kept c.in_ok-reply.reply c.in_ok-kept.ensures.plans
-
-pub returns-in_err-kept-clause-planned : goal.returns-in_err-kept-clause-planned
-returns-in_err-kept-clause-planned g c = λ standing built left.
-    let fault = c.in_err-kept.field-0.0 in
-    let fell = c.from_residual-in_err-kept in
-    plans_err (stepped [] c.args.now c.args.command) (numbers_end c.args.command) (indices_end c.args.command) c.args.self.now.kept fault (err_is fell.result fault fell.ensures.1) c.in_err-kept.ensures.plans
-
 pub returns-in_err-reply-clause-planned : goal.returns-in_err-reply-clause-planned
 returns-in_err-reply-clause-planned g c = λ standing built left.
     absurd (left (err_is c.from_residual.result OutOfMemory c.from_residual.ensures.1))
+
+pub returns-in_err-reply-clause-works : goal.returns-in_err-reply-clause-works
+returns-in_err-reply-clause-works g c = λ standing.
+    commit_next_of (g.D.Disk.state c.args.self.now.io.disk.now) c.new-2.result c.args.self.now.kept.body (rw (c.new-2.ensures, c.new.ensures.items) refl) (c.requires.ready (or_parts _ _ standing).0)
+
+-- where it isn't run
+
+pub returns-then-self-clause-sound : goal.returns-then-self-clause-sound
+returns-then-self-clause-sound g c = λ running done rested sound made. c.steps_keep_sound.ensures [] c.args.now c.args.command running done c.requires.command rested.lawful sound made
+
+pub returns-then-is_not_built-clause-sound : goal.returns-then-is_not_built-clause-sound
+returns-then-is_not_built-clause-sound g c = λ running done rested sound made. c.steps_keep_sound.ensures [] c.args.now c.args.command running done c.requires.command rested.lawful sound made
+
+pub returns-then-is_not_built-clause-works : goal.returns-then-is_not_built-clause-works
+returns-then-is_not_built-clause-works g c = λ standing.
+    commit_next_of (g.D.Disk.state c.args.self.now.io.disk.now) c.new-2.result c.args.self.now.kept.body (rw (c.new-2.ensures, c.new.ensures.items) refl) (c.requires.ready (or_parts _ _ standing).0)

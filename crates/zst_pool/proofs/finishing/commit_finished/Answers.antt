@@ -1,0 +1,35 @@
+use Rattle.std.proofs.Common.{◌≡◌, ◌+◌, refl, sym, subst, arith}
+use Rattle.std.specs.Prelude.{Result}
+use Rattle.zst_block.specs.Blocks.{Has}
+use Rattle.zst_model.specs.pools.Limits.{last_number}
+use Rattle.zst_dir.specs.Rows.{Rows}
+use Rattle.zst_image.specs.declared.kept.Kept.{Kept}
+use Rattle.zst_image.specs.Reads.{RunsBy}
+use Rattle.zst_pool.specs.Calls.{CallDid}
+use Rattle.zst_pool.specs.Partials.{partial_finished, with_finished}
+use Rattle.zst_pool.specs.declared.fault.PoolFault.{PoolFault}
+use Rattle.zst_pool.specs.declared.fault.PoolFault.TheVariants.{OutOfMemory}
+use Rattle.zst_pool.proofs.Calling.{call_fell}
+use Rattle.zst_pool.proofs.FinishedRows.{partial_is_finished}
+use Rattle.zst_pool.proofs.Judging.{err_is}
+use Rattle.zst_pool.proofs.Resting.{way_runs}
+use Rattle.zst_pool.proofs.finishing.commit_finished.Goals as goal
+
+pub returns-in_err-dir-clause-did : goal.returns-in_err-dir-clause-did
+returns-in_err-dir-clause-did g c = λ start running plain told way is.
+    let old = g.D.Disk.state c.args.io.now.disk.now in
+    let kept = c.args.kept.now in
+    let definition = partial_finished plain running in
+    subst (λ (r : Result Kept PoolFault). CallDid (g.D.Disk.state start) old kept running definition r) (sym (err_is c.from_residual.result OutOfMemory c.from_residual.ensures.1))
+    (call_fell (g.D.Disk.state start) old c.args.io.now.space kept running definition OutOfMemory way tt)
+
+pub returns-clause-did : goal.returns-clause-did
+unfolding last_number
+returns-clause-did g c = λ start running plain told way is.
+    let old = g.D.Disk.state c.args.io.now.disk.now in
+    let has = Has old.seen c.args.io.now.space in
+    let next = with_finished plain running in
+    let was = way_runs (g.D.Disk.state start) old c.args.io.now.space c.args.kept.now running way in
+    let number : running.number + 1 ≡ c.saturating_add-number.result = omega (arith, was.number, was.lawful.number, c.saturating_add-number.ensures) in
+    let runs = subst (λ (r : Rows). RunsBy has r next) (sym c.in_ok-dir.ensures.finished) (partial_is_finished has c.args.kept.now.dir running was.runs_by c.args.partial.now plain is c.saturating_add-number.result number) in
+    c.commit_next.ensures.did start running next told way (record { id = refl; number = refl; guids = refl }) runs

@@ -1,0 +1,7 @@
+use Rattle.std.proofs.Common.{sym}
+use Rattle.zst_pool.proofs.pool.Pool.finish_partial.Goals as goal
+
+pub returns-clause-did : goal.returns-clause-did
+returns-clause-did g c = λ start running plain told standing way is.
+    rw (c.settle.ensures.disk, c.settle.ensures.kept)
+    (c.commit_finished-committed.ensures.did start running plain (rw (sym c.settle.ensures.disk) told) way is)

@@ -1,0 +1,37 @@
+use Rattle.std.specs.Prelude.{Err, IfErr, IfSome, Option}
+use Rattle.std.proofs.Common.{sym, ap, ◌∙◌, subst}
+use Rattle.zst_block.specs.Blocks.{Has}
+use Rattle.zst_model.specs.declared.refusals.plan_fault.PlanFault.{PlanFault}
+use Rattle.zst_model.specs.pools.Pool.{bookmark_named}
+use Rattle.zst_dir.specs.declared.rows.Bookmark.{Bookmark}
+use Rattle.zst_image.specs.Reads.{BookmarkIs}
+use Rattle.zst_pool.specs.declared.fault.PoolFault.TheVariants.{Plan}
+use Rattle.zst_pool.specs.Lists.{TellsRow, row_named}
+use Rattle.zst_pool.proofs.Listed.{bookmark_alike, option_map-same, given_none, given_some}
+use Rattle.zst_pool.proofs.Matching.{FoundAlike}
+use Rattle.zst_pool.proofs.pool.Pool.list_of.Goals as goal
+
+pub returns-in-None-clause-found : goal.returns-in-None-clause-found
+returns-in-None-clause-found g c = λ pool told works are.
+    let io = c.args.self.now.io in
+    let has = Has (g.D.Disk.state io.disk.now).seen io.space in
+    let name = c.args.book.now in
+    let alike = bookmark_alike has c.args.self.now.kept.dir pool name are in
+    given_none has name (bookmark_named name pool) _ (subst (λ (o : Option Bookmark). FoundAlike (BookmarkIs has) o (bookmark_named name pool)) (sym (option_map-same (row_named name c.args.self.now.kept.dir)) ∙ sym c.row_of.ensures ∙ c.in-None.is) alike)
+    (ap (λ (fault : PlanFault). Err (Plan fault)) c.no_such.ensures)
+
+pub returns-in-Some-clause-found : goal.returns-in-Some-clause-found
+returns-in-Some-clause-found g c = λ pool told works are.
+    let io = c.args.self.now.io in
+    let has = Has (g.D.Disk.state io.disk.now).seen io.space in
+    let name = c.args.book.now in
+    let alike = bookmark_alike has c.args.self.now.kept.dir pool name are in
+    given_some has name c.in-Some.row (bookmark_named name pool) c.read_row.result
+    (subst (λ (o : Option Bookmark). FoundAlike (BookmarkIs has) o (bookmark_named name pool)) (sym (option_map-same (row_named name c.args.self.now.kept.dir)) ∙ sym c.row_of.ensures ∙ c.in-Some.is) alike) (λ runs is. c.read_row.ensures.found runs told is)
+
+pub returns-in-Some-clause-damaged : goal.returns-in-Some-clause-damaged
+returns-in-Some-clause-damaged g c = λ told.
+    let io = c.args.self.now.io in
+    let disk = g.D.Disk.state io.disk.now in
+    let is = sym (option_map-same (row_named c.args.book.now c.args.self.now.kept.dir)) ∙ sym c.row_of.ensures ∙ c.in-Some.is in
+    subst (λ (o : Option Bookmark). IfErr c.read_row.result (λ fault. IfSome o (λ row. TellsRow io.space.end disk.seen disk.size row fault))) (sym is) (c.read_row.ensures.damaged told)

@@ -1,0 +1,268 @@
+// What clone, bookmark, rollback and destroy look up before they change anything.
+ghost use Rattle.std.specs.Prelude.{◌≡◌, ◌≢◌, ◌⊎◌, ◌<◌, ◌^◌, ◌&&◌, ◌||◌, List, true, All, Contains, Result, OnOk, IfErr, IfOk, IfSome, bytes_eq, find, option_map};
+ghost use Rattle.std.specs.List.{list_any};
+ghost use Rattle.zst_model.specs.pools.Pool.{Pool};
+ghost use Rattle.zst_model.specs.pools.Pool as plain;
+ghost use Rattle.zst_model.specs.declared.refusals.refusal.Refusal.{Refusal};
+ghost use Rattle.zst_model.specs.pools.Step.{Stepped, unless_used};
+ghost use Rattle.zst_dir.specs.Going.{AreUnused, names_going, takes_snapshot};
+ghost use Rattle.zst_dir.specs.Rows.{HasDataset, HasSnapshot, IsBookmarkRow, IsDatasetRow, IsSnapshotRow};
+ghost use Rattle.zst_image.specs.Reads.{AreNamed};
+ghost use Rattle.zst_pool.specs.Checks.{Judges};
+ghost use Rattle.zst_pool.specs.Lineage.{AreGoing, FindsGoing, FindsSnapshot, FindsSource, JudgesBookmark, JudgesClone, JudgesDestroyed, bookmark_row, clone_row, going_of, if_new_bookmark, if_of_dataset, is_on, is_there};
+ghost use Rattle.zst_pool.specs.Plans.{IsLast, is_by_rows};
+
+use crate::checks::{check_new_dataset, check_number, no_such};
+use zst_block::Ptr;
+use zst_dir::{Bookmark, Dataset, Dir, Going, Snapshot};
+use zst_image::Kept;
+use zst_model::limits::MOST_BOOKMARKS;
+use zst_model::{GuidSet, Holder, Missing, Name, PlanFault, Present, Quantity};
+use zst_names::{BookName, DatasetName, SnapName};
+
+// Whether there is a row of this name.
+fn is_there(dir: &Dir, name: &Name) -> bool
+    ensures { result ≡ is_there name.now dir.now }
+{
+    match name {
+        Name::Dataset(name) => dir.dataset(name).is_some(),
+        Name::Snapshot(name) => dir.snapshot(name).is_some(),
+        Name::Bookmark(name) => dir.bookmark(name).is_some(),
+    }
+}
+
+// What goes where this name is destroyed.
+fn going_of(name: Name) -> Going
+    ensures { result ≡ going_of name }
+{
+    match name {
+        Name::Dataset(name) => Going::Dataset(name),
+        Name::Snapshot(name) => Going::Snapshot(name),
+        Name::Bookmark(name) => Going::Bookmark(name),
+    }
+}
+
+// What goes where this name is destroyed: E3 where there is none.
+fn find_going(dir: &Dir, name: Name) -> Result<Going, PlanFault>
+    ensures rows { IfErr result (λ fault. is_by_rows fault ≡ true) }
+    ensures found { (pool : Pool) → AreNamed dir.now pool → FindsGoing name dir.now pool result }
+{
+    if !is_there(dir, &name) {
+        return Err(PlanFault::NoSuch(Missing::Named(name)));
+    }
+    Ok(going_of(name))
+}
+
+// Whether a partial state of this target is one of a dataset that goes, or that loses what is newer.
+fn is_on(going: &Going, target: &DatasetName) -> bool
+    ensures { result ≡ is_on going.now target.now }
+{
+    match going {
+        Going::Dataset(name) => *target == *name,
+        Going::Newer { dataset, .. } => *target == *dataset,
+        Going::Snapshot(_) | Going::Bookmark(_) => false,
+    }
+}
+
+// Whether the snapshot of this name goes.
+fn is_going(dir: &Dir, going: &Going, name: &SnapName) -> bool
+    ensures { result ≡ list_any (λ snapshot. takes_snapshot going.now snapshot && bytes_eq snapshot.name name.now) dir.now.snapshots }
+{
+    dir.snapshots().iter().any(|snapshot| going.takes_snapshot(snapshot) && snapshot.name == *name)
+}
+
+// Whether a name that may be none is that of a snapshot that goes.
+fn names_going(dir: &Dir, going: &Going, name: &Option<SnapName>) -> bool
+    ensures { result ≡ names_going going.now dir.now name.now }
+{
+    match name {
+        None => false,
+        Some(name) => is_going(dir, going, name),
+    }
+}
+
+// The target of the first partial state that holds what goes.
+fn holding_partial(dir: &Dir, going: &Going) -> Option<DatasetName>
+    ensures { result ≡ option_map (λ partial. partial.target) (find (λ partial. is_on going.now partial.target || names_going going.now dir.now partial.base) dir.now.partials) }
+{
+    dir.partials()
+        .iter()
+        .find(|partial| is_on(going, &partial.target) || names_going(dir, going, &partial.base))
+        .map(|partial| partial.target.duplicate())
+}
+
+// The first clone of what goes.
+fn holding_clone(dir: &Dir, going: &Going) -> Option<DatasetName>
+    ensures { result ≡ option_map (λ dataset. dataset.name) (find (λ dataset. names_going going.now dir.now dataset.origin) dir.now.datasets) }
+{
+    dir.datasets()
+        .iter()
+        .find(|dataset| names_going(dir, going, &dataset.origin))
+        .map(|dataset| dataset.name.duplicate())
+}
+
+/// E5 where a partial state or a clone holds what goes.
+pub fn check_unused(dir: &Dir, going: &Going) -> Result<(), PlanFault>
+    ensures unused { OnOk result (AreUnused going.now dir.now) }
+    ensures rows { IfErr result (λ fault. is_by_rows fault ≡ true) }
+    ensures judged { (pool : Pool) (gone : List plain.Snapshot) (rest : Result Stepped Refusal) → AreNamed dir.now pool → AreGoing going.now dir.now gone
+        → Judges (unless_used (λ partial. is_on going.now partial.target) gone pool rest) rest result }
+{
+    if let Some(target) = holding_partial(dir, going) {
+        return Err(PlanFault::Busy(Holder::Partial(target)));
+    }
+    if let Some(clone) = holding_clone(dir, going) {
+        return Err(PlanFault::Busy(Holder::Clone(clone)));
+    }
+    Ok(())
+}
+
+/// What goes where this name is destroyed, or the first refusal of its definition.
+pub fn plan_destroy(kept: &Kept, name: Name) -> Result<Going, PlanFault>
+    ensures unused { IfOk result (λ going. AreUnused going kept.now.dir) }
+    ensures number { OnOk result (kept.now.body.number < 2 ^ 63) }
+    ensures refused { IfErr result (λ fault. (is_by_rows fault ≡ true) ⊎ IsLast kept.now.body.number fault) }
+    ensures judged { (pool : Pool) → AreNamed kept.now.dir pool → pool.number ≡ kept.now.body.number → JudgesDestroyed name pool result }
+{
+    let going = find_going(&kept.dir, name)?;
+    check_unused(&kept.dir, &going)?;
+    check_number(kept.body.number)?;
+    Ok(going)
+}
+
+fn no_snapshot(name: &SnapName) -> PlanFault
+    ensures { result ≡ PlanFault.NoSuch (Missing.Named (Name.Snapshot name.now)) }
+{
+    PlanFault::NoSuch(Missing::Named(Name::Snapshot(name.duplicate())))
+}
+
+/// The snapshot of this name: E3 where there is none.
+pub fn find_snapshot<'a>(dir: &'a Dir, name: &SnapName) -> Result<&'a Snapshot, PlanFault>
+    ensures there { IfOk result (λ row. Contains dir.now.snapshots row.now × (row.now.name ≡ name.now)) }
+    ensures row { IfOk result (λ row. IsSnapshotRow row.now) }
+    ensures rows { IfErr result (λ fault. is_by_rows fault ≡ true) }
+    ensures found { (pool : Pool) → AreNamed dir.now pool → FindsSnapshot dir.now name.now pool result }
+{
+    let _lawful = dir.datasets();
+    let snapshots = dir.snapshots();
+    match dir.snapshot(name) {
+        None => Err(no_snapshot(name)),
+        Some(place) => Ok(&snapshots[place]),
+    }
+}
+
+// The dataset of this name, whether it has a partial state or not: E3 where there is none.
+fn find_source<'a>(dir: &'a Dir, name: &DatasetName) -> Result<&'a Dataset, PlanFault>
+    ensures row { IfOk result (λ row. IsDatasetRow row.now) }
+    ensures rows { IfErr result (λ fault. is_by_rows fault ≡ true) }
+    ensures found { (pool : Pool) → AreNamed dir.now pool → FindsSource dir.now name.now pool result }
+{
+    let datasets = dir.datasets();
+    match dir.dataset(name) {
+        None => Err(no_such(name)),
+        Some(place) => Ok(&datasets[place]),
+    }
+}
+
+// The row of a clone of a snapshot of this dataset.
+fn clone_row(name: &DatasetName, source: &Dataset, snapshot: &Snapshot) -> Dataset
+    requires source { IsDatasetRow source.now }
+    requires snapshot { IsSnapshotRow snapshot.now }
+    ensures same { result ≡ clone_row name.now source.now snapshot.now }
+    ensures row { IsDatasetRow result }
+{
+    Dataset {
+        name: name.duplicate(),
+        kind: source.kind,
+        origin: Some(snapshot.name.duplicate()),
+        head: snapshot.objects,
+        redact: snapshot.redact.duplicate(),
+    }
+}
+
+/// The row of a clone of a snapshot, or the first refusal of its definition.
+pub fn plan_clone(kept: &Kept, origin: &SnapName, name: &DatasetName) -> Result<Dataset, PlanFault>
+    ensures row { IfOk result IsDatasetRow }
+    ensures named { IfOk result (λ row. row.name ≡ name.now) }
+    ensures absent { OnOk result (HasDataset kept.now.dir name.now → ⊥) }
+    ensures origin { IfOk result (λ row. IfSome row.origin (HasSnapshot kept.now.dir)) }
+    ensures number { OnOk result (kept.now.body.number < 2 ^ 63) }
+    ensures refused { IfErr result (λ fault. (is_by_rows fault ≡ true) ⊎ IsLast kept.now.body.number fault) }
+    ensures judged { (pool : Pool) → AreNamed kept.now.dir pool → pool.number ≡ kept.now.body.number → JudgesClone kept.now.dir origin.now name.now pool result }
+{
+    let snapshot = find_snapshot(&kept.dir, origin)?;
+    let source = find_source(&kept.dir, &origin.dataset())?;
+    check_new_dataset(&kept.dir, name)?;
+    check_number(kept.body.number)?;
+    Ok(clone_row(name, source, snapshot))
+}
+
+// E6 where a bookmark is not of the snapshot's dataset.
+fn check_dataset(snapshot: &SnapName, name: &BookName) -> Result<(), PlanFault>
+    ensures rows { IfErr result (λ fault. is_by_rows fault ≡ true) }
+    ensures judged { (rest : Result Stepped Refusal) → Judges (if_of_dataset snapshot.now name.now rest) rest result }
+{
+    if snapshot.dataset() != name.dataset() {
+        return Err(PlanFault::NotAncestor {
+            to: Name::Bookmark(name.duplicate()),
+            from: Name::Snapshot(snapshot.duplicate()),
+        });
+    }
+    Ok(())
+}
+
+// E4 where the name is taken, and E23 where there are too many bookmarks.
+fn check_new_bookmark(dir: &Dir, name: &BookName) -> Result<(), PlanFault>
+    ensures absent { OnOk result (All (λ other. other.name ≢ name.now) dir.now.bookmarks) }
+    ensures rows { IfErr result (λ fault. is_by_rows fault ≡ true) }
+    ensures judged { (pool : Pool) (rest : Result Stepped Refusal) → AreNamed dir.now pool → Judges (if_new_bookmark name.now pool rest) rest result }
+{
+    if dir.bookmark(name).is_some() {
+        return Err(PlanFault::Exists(Present::Named(Name::Bookmark(name.duplicate()))));
+    }
+    if dir.bookmarks().len() >= MOST_BOOKMARKS {
+        return Err(PlanFault::Limit {
+            which: Quantity::Bookmarks,
+            number: MOST_BOOKMARKS as u64,
+        });
+    }
+    Ok(())
+}
+
+// The row of a bookmark of a snapshot: it has no list.
+fn bookmark_row(name: &BookName, snapshot: &Snapshot) -> Bookmark
+    requires { IsSnapshotRow snapshot.now }
+    ensures same { result ≡ bookmark_row name.now snapshot.now }
+    ensures row { IsBookmarkRow result }
+{
+    Bookmark {
+        name: name.duplicate(),
+        guid: snapshot.guid,
+        time: snapshot.time,
+        number: snapshot.number,
+        redact: GuidSet::empty(),
+        runs: 0,
+        levels: 0,
+        root: Ptr::hole(0),
+    }
+}
+
+/// The row of a bookmark of a snapshot, or the first refusal of its definition.
+pub fn plan_bookmark(
+    kept: &Kept,
+    snapshot: &SnapName,
+    name: &BookName,
+) -> Result<Bookmark, PlanFault>
+    ensures row { IfOk result IsBookmarkRow }
+    ensures named { IfOk result (λ row. row.name ≡ name.now) }
+    ensures absent { OnOk result (All (λ other. other.name ≢ name.now) kept.now.dir.bookmarks) }
+    ensures number { OnOk result (kept.now.body.number < 2 ^ 63) }
+    ensures refused { IfErr result (λ fault. (is_by_rows fault ≡ true) ⊎ IsLast kept.now.body.number fault) }
+    ensures judged { (pool : Pool) → AreNamed kept.now.dir pool → pool.number ≡ kept.now.body.number → JudgesBookmark kept.now.dir snapshot.now name.now pool result }
+{
+    let row = find_snapshot(&kept.dir, snapshot)?;
+    check_dataset(snapshot, name)?;
+    check_new_bookmark(&kept.dir, name)?;
+    check_number(kept.body.number)?;
+    Ok(bookmark_row(name, row))
+}
