@@ -7,6 +7,7 @@ use Rattle.zst_outside.specs.States.{SinkState}
 use Rattle.zst_space.specs.FreeSectors.{FreeSectors}
 use Rattle.zst_block.specs.Blocks.{SparesTaken}
 use Rattle.zst_uber.specs.declared.uber.Uber.{Uber}
+use Rattle.zst_model.specs.pools.Kept.{KeepsAll, kept_of}
 use Rattle.zst_model.specs.pools.Pool.{Pool}
 use Rattle.zst_model.specs.refusals.Refusal.{refusal_of}
 use Rattle.zst_model.specs.pools.Step.{Stepped, stepped}
@@ -17,24 +18,26 @@ use Rattle.zst_model.specs.declared.refusals.plan_fault.PlanFault.{PlanFault}
 use Rattle.zst_model.specs.declared.refusals.plan_fault.PlanFault.TheVariants as plans
 use Rattle.zst_model.specs.declared.refusals.refusal.Refusal.{Refusal}
 use Rattle.zst_model.specs.declared.refusals.refusal.Refusal.TheVariants as refusals
+use Rattle.zst_laws.specs.Stepping.{StepsKeepKept}
 use Rattle.zst_tree.specs.Damage.{IsSeen, NamesNode, SumsUp}
 use Rattle.zst_objset.specs.Damage.{IsDamagedObject, IsDamagedSet}
 use Rattle.zst_dir.specs.Rows.{Rows}
 use Rattle.zst_image.specs.Faults.{open_refusal}
 use Rattle.zst_image.specs.Faults as opening
 use Rattle.zst_image.specs.Opening.{GivesPool, OpenAnswers}
-use Rattle.zst_image.specs.Reads.{Reads, ReadsAs, Rests, free_by}
+use Rattle.zst_image.specs.Reads.{IsNamedBy, Reads, ReadsAs, Rests, free_by, kept_rows}
 use Rattle.zst_image.specs.declared.kept.Kept.{Kept}
 use Rattle.zst_image.specs.declared.open_fault.OpenFault.{OpenFault}
 use Rattle.zst_image.specs.declared.open_fault.OpenFault.TheVariants as opens
-use Rattle.zst_pool.specs.Cost.{FindsNoRoom, Grows, cost_of}
+use Rattle.zst_pool.specs.Calls.{IsAtRest}
+use Rattle.zst_pool.specs.Cost.{FindsNoRoom, Grows, HasNoRoom, cost_of, most_sectors}
 use Rattle.zst_pool.specs.Damage.{IsOf, OfHead, TellsDamage}
 use Rattle.zst_pool.specs.Faults.{HasDiskCause, StepFault, pool_refusal}
 use Rattle.zst_pool.specs.Plans.{Plans, indices_end, numbers_end}
 use Rattle.zst_pool.specs.Stepping.{BeforeOrAfter, StepAnswer}
 use Rattle.zst_pool.specs.declared.fault.PoolFault.{PoolFault}
 use Rattle.zst_pool.specs.declared.fault.PoolFault.TheVariants as faults
-use Rattle.zst.specs.Commands.{OldOrReads, IsPoolRefusal, OfStepping, Answers, Opened, Opens, Planned, Ran, Stepping, Steps, most_of}
+use Rattle.zst.specs.Commands.{OldOrReads, IsPoolRefusal, OfStepping, Answers, Opened, Opens, Planned, Ran, Stepping, Steps}
 use Rattle.zst.specs.Replies.{Replied}
 
 -- ---- plans' faults as refusals
@@ -182,18 +185,33 @@ rests_read here mid uber rows pool is reads synced =
     let read : ReadsAs uber rows pool mid.seen = subst (λ (bytes : List ℕ). ReadsAs uber rows pool bytes) (sym reads.seen) is in
     record { reads = read; each = λ c image. subst (λ (bytes : List ℕ). ReadsAs uber rows pool bytes) (sym (synced c image)) read }
 
--- what holds of what is kept holds of the body and the rows that it is
-for_kept : (P : Uber → Rows → Type 0) (kept : Kept) (uber : Uber) (rows : Rows) → GivesPool uber rows (Ok kept) → P kept.body kept.dir → P uber rows
-for_kept P kept uber rows same is = subst (λ (r : Rows). P uber r) same.1 (subst (λ (u : Uber). P u kept.dir) same.0 is)
+-- what holds of the body that is kept holds of the body that it is
+for_kept : (P : Uber → Type 0) (kept : Kept) (uber : Uber) (rows : Rows) → GivesPool uber rows (Ok kept) → P kept.body → P uber
+for_kept P kept uber rows same is = subst P same.0 is
+
+-- what is kept of a pool that an image reads as, and of what a command makes of it, is all of it
+abbrev pub KeepLaws : Type 0
+KeepLaws = ((pool : Pool) → KeepsAll pool → kept_of pool ≡ pool) × StepsKeepKept × ((uber : Uber) (rows : Rows) (pool : Pool) (image : List ℕ) → ReadsAs uber rows pool image → KeepsAll pool)
+
+module _ (laws : KeepLaws) where
+  -- what is kept of the pool that a command makes
+  kept_done : (now : ℕ) (command : Command) (pool : Pool) (done : Stepped) → KeepsAll pool → stepped [] now command pool ≡ Ok done → kept_of done.pool ≡ done.pool
+  kept_done now command pool done all is = laws.0 done.pool (laws.1 [] now command pool done is all)
+
+  -- an image that reads as what is kept before or after reads as the pool before or after
+  reads_whole : (now : ℕ) (command : Command) (here : DiskState) (pool : Pool) → KeepsAll pool → (c : List ℕ)
+      → BeforeOrAfter pool (stepped [] now command pool) c → OldOrReads here pool (stepped [] now command pool) c
+  reads_whole now command here pool all c (inl reads) = inr (inl (subst (λ (p : Pool). Reads p c) (laws.0 pool all) reads))
+  reads_whole now command here pool all c (inr after) = inr (inr (after.0, after.1, subst (λ (p : Pool). Reads p c) (kept_done now command pool after.0 all after.1) after.2))
 
 -- the moments of opening, and those of the command behind it
 pub moments_read : (here mid : DiskState) (pool : Pool) (after : Result Stepped Refusal) → OnlyReads here mid → Leaves here mid (OldOrReads here pool after)
 moments_read here mid pool after reads = Leaves-weaker here mid here.images (OldOrReads here pool after) reads.time (λ c image. inl image)
 
 pub moments_then : (here mid here' : DiskState) (pool : Pool) (after : Result Stepped Refusal) → OnlyReads here mid → Leaves mid here' (BeforeOrAfter pool after)
-    → Leaves here here' (OldOrReads here pool after)
-moments_then here mid here' pool after reads step =
-    Leaves-then here mid here' (OldOrReads here pool after) (BeforeOrAfter pool after) (moments_read here mid pool after reads) step (λ c is. inr is)
+    → ((c : List ℕ) → BeforeOrAfter pool after c → OldOrReads here pool after c) → Leaves here here' (OldOrReads here pool after)
+moments_then here mid here' pool after reads step whole =
+    Leaves-then here mid here' (OldOrReads here pool after) (BeforeOrAfter pool after) (moments_read here mid pool after reads) step whole
 
 -- ---- answers
 
@@ -206,20 +224,31 @@ answers_unopened command mid pool after uber rows (opens.BadVersion version) res
 answers_unopened command mid pool after uber rows opens.DiskFault rests gives = tt
 answers_unopened command mid pool after uber rows opens.OutOfMemory rests gives = rests (λ is. absurd (cc is))
 
+-- rows in memory that last, and what they tell of room
+with_rows : (P : Rows → Type 0) (kept : Kept) (rows : Rows) → kept.dir ≡ kept_rows rows → P kept.dir → P (kept_rows rows)
+with_rows P kept rows same is = subst P same is
+
 -- what a refused command leaves
-pub answers_refused : (command : Command) (here' : DiskState) (kept : Kept) (left : FreeSectors) (pool : Pool) (after : Result Stepped Refusal) (fault : PoolFault)
-    → FindsNoRoom (cost_of command).cells ((cost_of command).block pool) kept left fault → StepFault (Rests here' kept.body kept.dir pool) after fault
-    → Answers command kept.body kept.dir pool here' after (Err (pool_refusal fault))
-answers_refused command here' kept left pool after (faults.Plan fault) room is =
-    of_plan (λ r. after ≡ Err r → Answers command kept.body kept.dir pool here' after (Err r)) (λ f e. (e, is.1)) (λ w n e. (e, is.1)) fault is.0
-answers_refused command here' kept left pool after (faults.CannotApply fault) room is = (is.0, is.1)
-answers_refused command here' kept left pool after (faults.Redacted object block) room is = (is.0, is.1)
-answers_refused command here' kept left pool after (faults.Full need largest) room is =
-    (record { done = is.0.0; accepts = is.0.1; short = (left, room need largest refl) }, is.1)
-answers_refused command here' kept left pool after (faults.Damaged sector stated found) room is = absurd is
-answers_refused command here' kept left pool after faults.DiskFault room is = tt
-answers_refused command here' kept left pool after faults.Failed room is = absurd is
-answers_refused command here' kept left pool after faults.OutOfMemory room is = is
+pub answers_refused : (command : Command) (here' : DiskState) (kept : Kept) (rows : Rows) (pool : Pool) (after : Result Stepped Refusal) (fault : PoolFault) → kept.dir ≡ kept_rows rows
+    → ((left : FreeSectors) × FindsNoRoom (cost_of command).cells ((cost_of command).block pool) kept left fault) → (fault ≢ faults.DiskFault → IsAtRest here' kept pool → Rests here' kept.body rows pool) → StepFault (IsAtRest here' kept pool) after fault
+    → Answers command kept.body rows pool here' after (Err (pool_refusal fault))
+answers_refused command here' kept rows pool after (faults.Plan fault) same room still is =
+    let rests = still (λ e. absurd (cc e)) is.1 in
+    of_plan (λ r. after ≡ Err r → Answers command kept.body rows pool here' after (Err r)) (λ f e. (e, rests)) (λ w n e. (e, rests)) fault is.0
+answers_refused command here' kept rows pool after (faults.CannotApply fault) same room still is = (is.0, still (λ e. absurd (cc e)) is.1)
+answers_refused command here' kept rows pool after (faults.Redacted object block) same room still is = (is.0, still (λ e. absurd (cc e)) is.1)
+answers_refused command here' kept rows pool after (faults.Full need largest) same room still is = (
+  record {
+    done = is.0.0;
+    accepts = is.0.1;
+    short = (room.0, with_rows (λ r. HasNoRoom (cost_of command).cells ((cost_of command).block pool) kept.body r room.0 need largest) kept rows same (room.1 need largest refl));
+  },
+  still (λ e. absurd (cc e)) is.1,
+)
+answers_refused command here' kept rows pool after (faults.Damaged sector stated found) same room still is = absurd is
+answers_refused command here' kept rows pool after faults.DiskFault same room still is = tt
+answers_refused command here' kept rows pool after faults.Failed same room still is = absurd is
+answers_refused command here' kept rows pool after faults.OutOfMemory same room still is = still (λ e. absurd (cc e)) is
 
 -- ---- what answers say of any image
 
@@ -230,9 +259,6 @@ opened_refused now command here here' opens.NoPool reads is = (is, reads)
 opened_refused now command here here' (opens.BadVersion version) reads is = (record { body = is.0; there = is.1; version = is.2; other = is.3 }, reads)
 opened_refused now command here here' opens.DiskFault reads is = tt
 opened_refused now command here here' opens.OutOfMemory reads is = inl reads
-
-pub opens_kept : (here : DiskState) (kept : Kept) → OpenAnswers here (Ok kept) → Opens here kept.body kept.dir
-opens_kept here kept is = (is.0, is.1, is.2)
 
 -- what a command tells of a disk that was only read, it tells of the disk from before
 told_before : (here mid : DiskState) (P : List ℕ → ℕ → Type 0) → OnlyReads here mid → P mid.seen mid.size → P here.seen here.size
@@ -252,68 +278,81 @@ told_of_start here mid rows space sector stated found (commands.Punch dataset k 
 told_of_start here mid rows space sector stated found (commands.Free dataset first count) reads is =
     told_before here mid (λ seen size. OfHead rows dataset (IsDamagedSet (SparesTaken space seen) size) sector stated found) reads is
 told_of_start here mid rows space sector stated found (commands.Snapshot name) reads is = is
+told_of_start here mid rows space sector stated found (commands.Clone origin dataset) reads is = is
+told_of_start here mid rows space sector stated found (commands.Bookmark snapshot bookmark) reads is = is
+told_of_start here mid rows space sector stated found (commands.Rollback destroys snapshot) reads is = is
+told_of_start here mid rows space sector stated found (commands.Destroy name) reads is = is
 told_of_start here mid rows space sector stated found (commands.Read name k i) reads is = is
 told_of_start here mid rows space sector stated found commands.List reads is = is
 told_of_start here mid rows space sector stated found (commands.ListObjects name) reads is = is
 
 -- what a plan refuses, as a refusal of the whole
-planned_refused : (now : ℕ) (command : Command) (kept : Kept) (fault : PoolFault)
+planned_refused : (now : ℕ) (command : Command) (kept : Kept) (rows : Rows) (fault : PoolFault) → kept.dir ≡ kept_rows rows
     → Plans {T = List (List ℕ)} (λ pool. stepped [] now command pool) (numbers_end command) (indices_end command) kept (Err fault)
-    → Planned now command kept.body kept.dir (Err (pool_refusal fault))
-planned_refused now command kept fault is = record {
-  exact = λ pool plan named told. (
-    λ refused. let was = (is.exact pool plan named told).0 refused in let same : fault ≡ faults.Plan plan = cc was in ap (λ f. Err (pool_refusal f)) same,
-    λ was. (is.exact pool plan named told).1 (ap (λ f. Err f) (plan_only fault plan (cc was))),
-  );
+    → Planned now command kept.body rows (Err (pool_refusal fault))
+planned_refused now command kept rows fault same is = record {
+  exact = λ pool plan named told.
+      let by = subst (λ (r : Rows). IsNamedBy kept.body r pool) (sym same) named in (
+        λ refused. let was = (is.exact pool plan by told).0 refused in let one : fault ≡ faults.Plan plan = cc was in ap (λ f. Err (pool_refusal f)) one,
+        λ was. (is.exact pool plan by told).1 (ap (λ f. Err f) (plan_only fault plan (cc was))),
+      );
   limits = λ plan was. is.limits plan (ap (λ f. Err f) (plan_only fault plan (cc was)));
 }
 
-planned_done : (now : ℕ) (command : Command) (kept : Kept) (lines : List (List ℕ))
+planned_done : (now : ℕ) (command : Command) (kept : Kept) (rows : Rows) (lines : List (List ℕ)) → kept.dir ≡ kept_rows rows
     → Plans {T = List (List ℕ)} (λ pool. stepped [] now command pool) (numbers_end command) (indices_end command) kept (Ok lines)
-    → Planned now command kept.body kept.dir (Ok lines)
-planned_done now command kept lines is = record {
-  exact = λ pool plan named told. (λ refused. let was = (is.exact pool plan named told).0 refused in absurd (cc was), λ was. absurd (cc was));
+    → Planned now command kept.body rows (Ok lines)
+planned_done now command kept rows lines same is = record {
+  exact = λ pool plan named told. (
+    λ refused. let was = (is.exact pool plan (subst (λ (r : Rows). IsNamedBy kept.body r pool) (sym same) named) told).0 refused in absurd (cc was),
+    λ was. absurd (cc was),
+  );
   limits = λ plan was. absurd (cc was);
 }
 
 -- a command that was refused on what was opened
-ran_refused : (now : ℕ) (command : Command) (here mid here' : DiskState) (kept : Kept) (left : FreeSectors) (fault : PoolFault) → Opens here kept.body kept.dir → OnlyReads here mid
-    → SparesTaken (free_by kept.body) here.seen here'.seen → ((block : ℕ) × (block ≤ (cost_of command).most) × FindsNoRoom (cost_of command).cells block kept left fault)
+ran_refused : (now : ℕ) (command : Command) (here mid here' : DiskState) (kept : Kept) (rows : Rows) (fault : PoolFault) → kept.dir ≡ kept_rows rows → Opens here kept.body rows → OnlyReads here mid
+    → SparesTaken (free_by kept.body) here.seen here'.seen → ((left : FreeSectors) × (block : ℕ) × (block ≤ (cost_of command).most) × FindsNoRoom (cost_of command).cells block kept left fault)
     → IsOf (TellsDamage command kept.dir mid (free_by kept.body)) fault
     → (fault ≢ faults.OutOfMemory → Plans {T = List (List ℕ)} (λ pool. stepped [] now command pool) (numbers_end command) (indices_end command) kept (Err fault))
-    → Ran now command here here' (Err (pool_refusal fault)) kept.body kept.dir
-ran_refused now command here mid here' kept left fault opens reads spares room damaged plan = record {
+    → Ran now command here here' (Err (pool_refusal fault)) kept.body rows
+ran_refused now command here mid here' kept rows fault same opens reads spares room damaged plan = record {
   opens = opens;
   spares = spares;
-  full = λ need largest is. (room.0, room.1, (left, room.2 need largest (full_only fault need largest (cc is))));
+  full = λ need largest is. (
+    room.1,
+    room.2,
+    (room.0, with_rows (λ r. HasNoRoom (cost_of command).cells room.1 kept.body r room.0 need largest) kept rows same (room.3 need largest (full_only fault need largest (cc is)))),
+  );
   damaged = λ sector stated found is.
-      told_of_start here mid kept.dir (free_by kept.body) sector stated found command reads (damaged sector stated found (damaged_only fault sector stated found (cc is)));
-  planned = λ memory. planned_refused now command kept fault (plan (λ is. memory (ap (λ f. Err (pool_refusal f)) is)));
+      told_of_start here mid (kept_rows rows) (free_by kept.body) sector stated found command reads
+      (with_rows (λ r. TellsDamage command r mid (free_by kept.body) sector stated found) kept rows same (damaged sector stated found (damaged_only fault sector stated found (cc is))));
+  planned = λ memory. planned_refused now command kept rows fault same (plan (λ is. memory (ap (λ f. Err (pool_refusal f)) is)));
 }
 
-ran_done : (now : ℕ) (command : Command) (here here' : DiskState) (kept : Kept) (lines : List (List ℕ)) → Opens here kept.body kept.dir
+ran_done : (now : ℕ) (command : Command) (here here' : DiskState) (kept : Kept) (rows : Rows) (lines : List (List ℕ)) → kept.dir ≡ kept_rows rows → Opens here kept.body rows
     → Plans {T = List (List ℕ)} (λ pool. stepped [] now command pool) (numbers_end command) (indices_end command) kept (Ok lines)
-    → Ran now command here here' (Ok lines) kept.body kept.dir
-ran_done now command here here' kept lines opens plan = record {
+    → Ran now command here here' (Ok lines) kept.body rows
+ran_done now command here here' kept rows lines same opens plan = record {
   opens = opens;
   spares = tt;
   full = λ need largest is. absurd (cc is);
   damaged = λ sector stated found is. absurd (cc is);
-  planned = λ memory. planned_done now command kept lines plan;
+  planned = λ memory. planned_done now command kept rows lines same plan;
 }
 
-opened_then : (now : ℕ) (command : Command) (here here' : DiskState) (kept : Kept) (fault : PoolFault) → fault ≢ faults.Failed
-    → (fault ≢ faults.DiskFault → Ran now command here here' (Err (pool_refusal fault)) kept.body kept.dir) → Opened now command here here' (Err (pool_refusal fault))
-opened_then now command here here' kept (faults.Plan fault) alive ran =
-    of_plan (λ r. Ran now command here here' (Err r) kept.body kept.dir → Opened now command here here' (Err r)) (λ f is. (kept.body, kept.dir, is))
-    (λ w n is. (kept.body, kept.dir, is)) fault (ran (λ e. absurd (cc e)))
-opened_then now command here here' kept (faults.CannotApply fault) alive ran = (kept.body, kept.dir, ran (λ e. absurd (cc e)))
-opened_then now command here here' kept (faults.Redacted object block) alive ran = (kept.body, kept.dir, ran (λ e. absurd (cc e)))
-opened_then now command here here' kept (faults.Full need largest) alive ran = (kept.body, kept.dir, ran (λ e. absurd (cc e)))
-opened_then now command here here' kept (faults.Damaged sector stated found) alive ran = inr (kept.body, kept.dir, ran (λ e. absurd (cc e)))
-opened_then now command here here' kept faults.DiskFault alive ran = tt
-opened_then now command here here' kept faults.Failed alive ran = absurd (alive refl)
-opened_then now command here here' kept faults.OutOfMemory alive ran = inr (kept.body, kept.dir, ran (λ e. absurd (cc e)))
+opened_then : (now : ℕ) (command : Command) (here here' : DiskState) (kept : Kept) (rows : Rows) (fault : PoolFault) → fault ≢ faults.Failed
+    → (fault ≢ faults.DiskFault → Ran now command here here' (Err (pool_refusal fault)) kept.body rows) → Opened now command here here' (Err (pool_refusal fault))
+opened_then now command here here' kept rows (faults.Plan fault) alive ran =
+    of_plan (λ r. Ran now command here here' (Err r) kept.body rows → Opened now command here here' (Err r)) (λ f is. (kept.body, rows, is))
+    (λ w n is. (kept.body, rows, is)) fault (ran (λ e. absurd (cc e)))
+opened_then now command here here' kept rows (faults.CannotApply fault) alive ran = (kept.body, rows, ran (λ e. absurd (cc e)))
+opened_then now command here here' kept rows (faults.Redacted object block) alive ran = (kept.body, rows, ran (λ e. absurd (cc e)))
+opened_then now command here here' kept rows (faults.Full need largest) alive ran = (kept.body, rows, ran (λ e. absurd (cc e)))
+opened_then now command here here' kept rows (faults.Damaged sector stated found) alive ran = inr (kept.body, rows, ran (λ e. absurd (cc e)))
+opened_then now command here here' kept rows faults.DiskFault alive ran = tt
+opened_then now command here here' kept rows faults.Failed alive ran = absurd (alive refl)
+opened_then now command here here' kept rows faults.OutOfMemory alive ran = inr (kept.body, rows, ran (λ e. absurd (cc e)))
 
 -- ---- one command
 
@@ -339,74 +378,93 @@ stepping_unopened now command here here' fault there answer reads synced cause =
   later = cause.later;
 }
 
+-- by one image one pool is read, by one body and by rows that are one
+abbrev pub ReadsOne : Type 0
+ReadsOne = (uber other : Uber) (rows others : Rows) (pool another : Pool) (image : List ℕ) → ReadsAs uber rows pool image → ReadsAs other others another image → rows ≡ others
+
+abbrev pub ReadsStay : Type 0
+ReadsStay = (uber : Uber) (rows : Rows) (pool : Pool) (old new : List ℕ) → SparesTaken (free_by uber) old new → ReadsAs uber rows pool old → ReadsAs uber rows pool new
+
 -- the command ran on what was opened
-module _ (now : ℕ) (command : Command) (here mid here' : DiskState) (kept kept' : Kept)
+module _ (laws : KeepLaws) (one : ReadsOne) (stay : ReadsStay) (now : ℕ) (command : Command) (here mid here' : DiskState) (kept kept' : Kept)
     (there : (uber : Uber) (rows : Rows) (pool : Pool) → mid.honest → ReadsAs uber rows pool here.seen → GivesPool uber rows (Ok kept))
     (falls : here'.honest → mid.honest) (answer : mid.honest → OpenAnswers here (Ok kept)) (reads : OnlyReads here mid)
-    (stands : (uber : Uber) (rows : Rows) (pool : Pool) → mid.honest → ReadsAs uber rows pool here.seen → Rests mid kept.body kept.dir pool) (later : here.faults ≤ mid.faults)
-    (step : (pool : Pool) → here'.honest → Rests mid kept.body kept.dir pool → Leaves mid here' (BeforeOrAfter pool (stepped [] now command pool)))
+    (stands : (uber : Uber) (rows : Rows) (pool : Pool) → mid.honest → ReadsAs uber rows pool here.seen → Rests mid kept.body rows pool)
+    (opened : (rows : Rows) (pool : Pool) → Rests mid kept.body rows pool → kept.dir ≡ kept_rows rows → IsAtRest mid kept pool) (later : here.faults ≤ mid.faults)
+    (step : (pool : Pool) → here'.honest → IsAtRest mid kept pool → Leaves mid here' (BeforeOrAfter pool (stepped [] now command pool)))
     (only : (c : List ℕ) → here.left_since here.moment c → here.images c) (now_left : (t : ℕ) (c : List ℕ) → t ≤ here'.moment → here'.images c → here'.left_since t c) where
-  rests : (uber : Uber) (rows : Rows) (pool : Pool) → here'.honest → ReadsAs uber rows pool here.seen → Rests mid kept.body kept.dir pool
-  rests uber rows pool told is = stands uber rows pool (falls told) is
+  rests : (uber : Uber) (rows : Rows) (pool : Pool) → here'.honest → ReadsAs uber rows pool here.seen → IsAtRest mid kept pool
+  rests uber rows pool told is = let gives = there uber rows pool (falls told) is in opened rows pool (stands uber rows pool (falls told) is) gives.1
 
   moments : (pool : Pool) → here'.honest → Reads pool here.seen → Leaves here here' (OldOrReads here pool (stepped [] now command pool))
-  moments pool told is = moments_then here mid here' pool (stepped [] now command pool) reads (step pool told (rests is.0 is.1 pool told is.2))
+  moments pool told is =
+      moments_then here mid here' pool (stepped [] now command pool) reads (step pool told (rests is.0 is.1 pool told is.2))
+      (reads_whole laws now command here pool (laws.2 is.0 is.1 pool here.seen is.2))
 
   images : (pool : Pool) → here'.honest → Reads pool here.seen → (c : List ℕ) → here'.images c → OldOrReads here pool (stepped [] now command pool) c
   images pool told is = images_after here here' (OldOrReads here pool (stepped [] now command pool)) (moments pool told is) (λ c image. inl image) only now_left
 
-  opened_as : here'.honest → Opens here kept.body kept.dir
-  opened_as told = opens_kept here kept (answer (falls told))
-
-  done : (uber : Uber) (rows : Rows) (pool : Pool) (lines : List (List ℕ)) → GivesPool uber rows (Ok kept)
-      → Grows (most_of command kept.dir pool) kept.body kept'.body → StepAnswer here' kept'.body kept'.dir pool (stepped [] now command pool) (Ok lines)
+  done : (uber : Uber) (rows : Rows) (pool : Pool) (lines : List (List ℕ)) → GivesPool uber rows (Ok kept) → KeepsAll pool
+      → Grows (most_sectors (cost_of command).cells ((cost_of command).block pool) kept.dir) kept.body kept'.body → StepAnswer here' kept' pool (stepped [] now command pool) (Ok lines)
       → Answers command uber rows pool here' (stepped [] now command pool) (Ok lines)
-  done uber rows pool lines same grows is = for_kept (λ u r. Answers command u r pool here' (stepped [] now command pool) (Ok lines)) kept uber rows same (record {
+  done uber rows pool lines same all grows is = for_kept (λ u. Answers command u rows pool here' (stepped [] now command pool) (Ok lines)) kept uber rows same (record {
     done = is.0;
     accepts = is.1;
     reply = is.2;
     body = kept'.body;
-    directory = kept'.dir;
-    rests = is.3;
-    grows = grows;
+    directory = is.3.rows;
+    rests = subst (λ (p : Pool). Rests here' kept'.body is.3.rows p) (kept_done laws now command pool is.0 all is.1) is.3.rests;
+    grows = with_rows (λ r. Grows (most_sectors (cost_of command).cells ((cost_of command).block pool) r) kept.body kept'.body) kept rows same.1 grows;
   })
 
   pub stepping_done : (lines : List (List ℕ)) → mid.faults ≤ here'.faults
       → Plans {T = List (List ℕ)} (λ pool. stepped [] now command pool) (numbers_end command) (indices_end command) kept (Ok lines)
-      → ((pool : Pool) → here'.honest → Rests mid kept.body kept.dir pool → Grows (most_of command kept.dir pool) kept.body kept'.body)
-      → ((pool : Pool) → here'.honest → Rests mid kept.body kept.dir pool → StepAnswer here' kept'.body kept'.dir pool (stepped [] now command pool) (Ok lines))
+      → ((pool : Pool) → here'.honest → IsAtRest mid kept pool → Grows (most_sectors (cost_of command).cells ((cost_of command).block pool) kept.dir) kept.body kept'.body)
+      → ((pool : Pool) → here'.honest → IsAtRest mid kept pool → StepAnswer here' kept' pool (stepped [] now command pool) (Ok lines))
       → Stepping now command here here' (Ok lines)
   stepping_done lines after plan grows did = record {
     moments = moments;
     images = images;
     answers = λ uber rows pool told is.
         let before = rests uber rows pool told is in
-        done uber rows pool lines (there uber rows pool (falls told) is) (grows pool told before) (did pool told before);
-    opened = λ told. (kept.body, kept.dir, ran_done now command here here' kept lines (opened_as told) plan);
+        done uber rows pool lines (there uber rows pool (falls told) is) (laws.2 uber rows pool here.seen is) (grows pool told before) (did pool told before);
+    opened = λ told. let was = answer (falls told) in (kept.body, was.1, ran_done now command here here' kept was.1 lines was.4 (was.0, was.2, was.3) plan);
     refused = tt;
     later = omega (arith, later, after);
   }
 
-  left_as : (fault : PoolFault) (pool : Pool) → kept' ≡ kept → StepAnswer here' kept'.body kept'.dir pool (stepped [] now command pool) (Err fault)
-      → StepFault (Rests here' kept.body kept.dir pool) (stepped [] now command pool) fault
-  left_as fault pool same is = subst (λ (k : Kept). StepFault (Rests here' k.body k.dir pool) (stepped [] now command pool) fault) same is
+  left_as : (fault : PoolFault) (pool : Pool) → kept' ≡ kept → StepAnswer here' kept' pool (stepped [] now command pool) (Err fault)
+      → StepFault (IsAtRest here' kept pool) (stepped [] now command pool) fault
+  left_as fault pool same is = subst (λ (k : Kept). StepFault (IsAtRest here' k pool) (stepped [] now command pool) fault) same is
 
-  pub stepping_refused : (fault : PoolFault) (left : FreeSectors) → kept' ≡ kept → HasDiskCause {T = List (List ℕ)} mid.faults here'.faults (Err fault) → fault ≢ faults.Failed
+  -- where free sectors alone were written the pool rests by the rows that it had
+  still_rests : (uber : Uber) (rows : Rows) (pool : Pool) → here'.honest → ReadsAs uber rows pool here.seen → SparesTaken (free_by kept.body) mid.seen here'.seen → IsAtRest here' kept pool → Rests here' kept.body rows pool
+  still_rests uber rows pool told is spares at_rest =
+      let before = stands uber rows pool (falls told) is in
+      let read = stay kept.body rows pool mid.seen here'.seen spares before.reads in
+      let rows_are = one kept.body kept.body at_rest.rows rows (kept_of pool) pool here'.seen at_rest.rests.reads read in
+      subst (λ (r : Rows). Rests here' kept.body r pool) rows_are
+      (subst (λ (p : Pool). Rests here' kept.body at_rest.rows p) (laws.0 pool (laws.2 uber rows pool here.seen is)) at_rest.rests)
+
+  pub stepping_refused : (fault : PoolFault) → kept' ≡ kept → HasDiskCause {T = List (List ℕ)} mid.faults here'.faults (Err fault) → fault ≢ faults.Failed
       → (fault ≢ faults.DiskFault → SparesTaken (free_by kept.body) mid.seen here'.seen)
-      → ((block : ℕ) × (block ≤ (cost_of command).most) × FindsNoRoom (cost_of command).cells block kept left fault)
+      → ((left : FreeSectors) × (block : ℕ) × (block ≤ (cost_of command).most) × FindsNoRoom (cost_of command).cells block kept left fault)
       → (here'.honest → IsOf (TellsDamage command kept.dir mid (free_by kept.body)) fault)
       → (fault ≢ faults.OutOfMemory → Plans {T = List (List ℕ)} (λ pool. stepped [] now command pool) (numbers_end command) (indices_end command) kept (Err fault))
-      → ((pool : Pool) → here'.honest → Rests mid kept.body kept.dir pool → FindsNoRoom (cost_of command).cells ((cost_of command).block pool) kept left fault)
-      → ((pool : Pool) → here'.honest → Rests mid kept.body kept.dir pool → StepAnswer here' kept'.body kept'.dir pool (stepped [] now command pool) (Err fault))
+      → ((pool : Pool) → here'.honest → IsAtRest mid kept pool → (left : FreeSectors) × FindsNoRoom (cost_of command).cells ((cost_of command).block pool) kept left fault)
+      → ((pool : Pool) → here'.honest → IsAtRest mid kept pool → StepAnswer here' kept' pool (stepped [] now command pool) (Err fault))
       → Stepping now command here here' (Err (pool_refusal fault))
-  stepping_refused fault left same cause alive spares bounded damaged plan room did = record {
+  stepping_refused fault same cause alive spares bounded damaged plan room did = record {
     moments = moments;
     images = images;
     answers = λ uber rows pool told is.
         let before = rests uber rows pool told is in
-        for_kept (λ u r. Answers command u r pool here' (stepped [] now command pool) (Err (pool_refusal fault))) kept uber rows (there uber rows pool (falls told) is)
-        (answers_refused command here' kept left pool (stepped [] now command pool) fault (room pool told before) (left_as fault pool same (did pool told before)));
-    opened = λ told. opened_then now command here here' kept fault alive (λ not. ran_refused now command here mid here' kept left fault (opened_as told) reads
+        let gives = there uber rows pool (falls told) is in
+        for_kept (λ u. Answers command u rows pool here' (stepped [] now command pool) (Err (pool_refusal fault))) kept uber rows gives
+        (answers_refused command here' kept rows pool (stepped [] now command pool) fault gives.1 (room pool told before)
+        (λ not at_rest. still_rests uber rows pool told is (spares not) at_rest) (left_as fault pool same (did pool told before)));
+    opened = λ told. let was = answer (falls told) in opened_then now command here here' kept was.1 fault alive
+        (λ not. ran_refused now command here mid here' kept was.1 fault was.4 (was.0, was.2, was.3) reads
         (subst (λ (bytes : List ℕ). SparesTaken (free_by kept.body) bytes here'.seen) reads.seen (spares not)) bounded (damaged told) plan);
     refused = refused_step here mid here' fault later cause alive;
     later = omega (arith, later, cause.later);

@@ -24,7 +24,7 @@ use Rattle.zst_dir.specs.Rows.{Rows}
 use Rattle.zst_image.specs.Faults.{create_refusal, open_refusal}
 use Rattle.zst_image.specs.Creating.{IsNew}
 use Rattle.zst_image.specs.Opening.{IsOpened, TellsBody, TellsDir}
-use Rattle.zst_image.specs.Reads.{IsNamedBy, Reads, ReadsAs, Rests, free_by, new_pool}
+use Rattle.zst_image.specs.Reads.{IsNamedBy, Reads, ReadsAs, Rests, free_by, kept_rows, new_pool}
 use Rattle.zst_image.specs.declared.create_fault.CreateFault.{CreateFault}
 use Rattle.zst_image.specs.declared.open_fault.OpenFault.{OpenFault}
 use Rattle.zst_image.specs.declared.kept.Kept.{Kept}
@@ -32,13 +32,12 @@ use Rattle.zst_pool.specs.Cost.{Grows, HasNoRoom, cost_of, most_sectors}
 use Rattle.zst_pool.specs.Damage.{TellsDamage}
 use Rattle.zst_pool.specs.Faults.{pool_refusal}
 use Rattle.zst_pool.specs.Plans.{IsLimitOf, indices_end, is_by_rows, numbers_end}
-use Rattle.zst_pool.specs.Stepping.{BeforeOrAfter}
 use Rattle.zst_pool.specs.declared.fault.PoolFault.{PoolFault}
 use Rattle.zst.specs.Replies.{Replied}
 
 -- an image that stood before a command, or one that reads as the pool before it or as the pool after it
 abbrev pub OldOrReads : DiskState → Pool → Result Stepped Refusal → List ℕ → Type 0
-OldOrReads here pool after image = here.images image ⊎ BeforeOrAfter pool after image
+OldOrReads here pool after image = here.images image ⊎ (Reads pool image ⊎ ((done : Stepped) × (after ≡ Ok done) × Reads done.pool image))
 
 -- a refusal of making a pool, and one of opening it or of a command on it
 abbrev pub OfMaking : Refusal → Type 0
@@ -55,9 +54,9 @@ pub record IsPoolRefusal (Is : Refusal → Type 0) (here here' : DiskState) (ref
 
 -- ---- commands
 
--- so many sectors a command takes at most in this pool, whose directory has these rows
+-- so many sectors a command takes at most in this pool, whose directory has these rows that last
 abbrev pub most_of : Command → Rows → Pool → ℕ
-most_of command rows pool = most_sectors (cost_of command).cells ((cost_of command).block pool) rows
+most_of command rows pool = most_sectors (cost_of command).cells ((cost_of command).block pool) (kept_rows rows)
 
 -- The command was done: the lines and the pool are the definition's, and no more sectors are taken than it costs.
 pub record IsDone (command : Command) (uber : Uber) (rows : Rows) (pool : Pool) (here' : DiskState) (after : Result Stepped Refusal) (lines : List (List ℕ)) : Type 0 where
@@ -71,7 +70,7 @@ pub record IsDone (command : Command) (uber : Uber) (rows : Rows) (pool : Pool) 
 
 -- there was no room for the sectors that are needed, by a command that costs so many cells and so many sectors of data
 abbrev pub IsShort : ℕ → ℕ → Uber → Rows → ℕ → ℕ → Type 0
-IsShort cells block uber rows need largest = (left : FreeSectors) × HasNoRoom cells block uber rows left need largest
+IsShort cells block uber rows need largest = (left : FreeSectors) × HasNoRoom cells block uber (kept_rows rows) left need largest
 
 -- E24: the definition accepts, and there was less room than the command costs
 pub record IsFull (command : Command) (uber : Uber) (rows : Rows) (pool : Pool) (after : Result Stepped Refusal) (need largest : ℕ) : Type 0 where
@@ -99,24 +98,24 @@ pub record HasVersion (here : DiskState) (number : ℕ) : Type 0 where
 abbrev pub Opens : DiskState → Uber → Rows → Type 0
 Opens here uber rows = (body : List ℕ) × (latest here.seen ≡ Some body) × IsOpened here body uber rows
 
--- What the directory tells alone: E3, E4, E5, and E23 of datasets, snapshots and guids come exactly where the definition
+-- What the directory tells alone: E3 to E6, and E23 of datasets, snapshots, bookmarks and guids come exactly where the definition
 -- refuses a pool that the body and the rows name, whatever its object sets hold. Any other E23 is past a limit.
 pub record Planned (now : ℕ) (command : Command) (uber : Uber) (rows : Rows) (answer : Result (List (List ℕ)) Refusal) : Type 0 where
-  pub exact : (pool : Pool) (fault : PlanFault) → IsNamedBy uber rows pool → is_by_rows fault ≡ true
+  pub exact : (pool : Pool) (fault : PlanFault) → IsNamedBy uber (kept_rows rows) pool → is_by_rows fault ≡ true
       → (stepped [] now command pool ≡ Err (refusal_of fault)) ↔ (answer ≡ Err (refusal_of fault))
   pub limits : (fault : PlanFault) → answer ≡ Err (refusal_of fault)
       → (is_by_rows fault ≡ true) ⊎ IsLimitOf (numbers_end command) (indices_end command) uber fault
 
 -- A command on a pool that was opened by this body and these rows, whether or not the image reads as a pool: a refusal, but
 -- for E28, wrote into sectors alone that the body leaves free; E24 comes only where there is less room than the command may
--- cost, and E25 only of a block that is damaged in the object set of the command's dataset.
+-- cost, and E25 only of a block that is damaged in the object set that the command names.
 pub record Ran (now : ℕ) (command : Command) (here here' : DiskState) (answer : Result (List (List ℕ)) Refusal) (uber : Uber) (rows : Rows) : Type 0 where
   pub opens : Opens here uber rows
   pub spares : OnErr answer (SparesTaken (free_by uber) here.seen here'.seen)
   pub full : (need largest : ℕ) → answer ≡ Err (refusals.Full need largest)
       → (block : ℕ) × (block ≤ (cost_of command).most) × IsShort (cost_of command).cells block uber rows need largest
   pub damaged : (sector : ℕ) (stated found : List ℕ) → answer ≡ Err (refusals.Damaged sector stated found)
-      → TellsDamage command rows here (free_by uber) sector stated found
+      → TellsDamage command (kept_rows rows) here (free_by uber) sector stated found
   pub planned : answer ≢ Err refusals.OutOfMemory → Planned now command uber rows answer
 
 -- What an answer says of any image. E26 comes where there is no latest body, E27 where it has another version, E25 where it

@@ -1,8 +1,13 @@
 -- What a line does.
-use Rattle.std.specs.Prelude.{ℕ, ◌≡◌, true, Result, Ok, Err}
+use Rattle.std.specs.Prelude.{ℕ, ◌≡◌, Bool, true, false, Result, Ok, Err}
 use Rattle.zst_outside.specs.Images.{DiskState}
+use Rattle.zst_outside.specs.States.{SinkState}
 use Rattle.zst_model.specs.pools.Step.{IsCommand}
+use Rattle.zst_model.specs.declared.pools.command.Command.{Command}
+use Rattle.zst_model.specs.declared.refusals.faults.Lack.TheVariants as lacks
+use Rattle.zst_model.specs.declared.refusals.plan_fault.PlanFault.TheVariants as plans
 use Rattle.zst_model.specs.declared.refusals.refusal.Refusal.{Refusal}
+use Rattle.zst_model.specs.declared.refusals.refusal.Refusal.TheVariants as refusals
 use Rattle.zst_line.specs.Lines.{IsCreate, refusal_of}
 use Rattle.zst_line.specs.declared.line.Line.{Line}
 use Rattle.zst_line.specs.declared.line.Line.TheVariants.{Dump, Create, Step}
@@ -12,19 +17,30 @@ use Rattle.zst.specs.Commands.{Creates, Steps}
 use Rattle.zst.specs.Devices.{Devices}
 use Rattle.zst.specs.Dumps.{Dumps}
 
--- a line whose values are in their ranges, and whose command runs
-abbrev pub IsBuilt : Line → Type 0
-IsBuilt Dump = Unit {0}
-IsBuilt (Create sectors id) = IsCreate sectors id
-IsBuilt (Step command) = IsCommand command × (is_built command ≡ true)
+-- a line whose values are in their ranges
+abbrev pub IsInRange : Line → Type 0
+IsInRange (Create image sectors id) = IsCreate sectors id
+IsInRange (Step image command) = IsCommand command
+IsInRange line = Unit {0}
 
--- What a line does: `dump` reads the input and leaves the image alone, and all others leave the input alone.
+-- E19: what the line asks for isn't built yet
+abbrev pub not_built : Refusal
+not_built = refusals.Plan (plans.Unsupported lacks.NotBuilt)
+
+-- a command steps the pool of the image where it is built, and is else refused with nothing written
+abbrev pub StepsOrNot : Bool → {D : Type 0} → (D → DiskState) → ℕ → Command → D → D → SinkState → SinkState → Result (Unit {0}) Refusal → Type 0
+StepsOrNot true state now command here here' out out' result = Steps now command (state here) (state here') out out' result
+StepsOrNot false state now command here here' out out' result = (result ≡ Err not_built) × (here' ≡ here) × (out' ≡ out)
+
+-- What a line does: `dump` reads the input and leaves the image alone, and all others leave the input alone. Those that read,
+-- list, send, receive, redact, check, make room or run scripts aren't built yet: they are refused, and nothing is done.
 abbrev pub DoesLine : {D : Type 0} → (D → DiskState) → ℕ → Line → Devices D → Devices D → Result (Unit {0}) Refusal → Type 0
 DoesLine state now Dump old new result = Dumps old.input new.input old.out new.out result × (new.here ≡ old.here)
-DoesLine state now (Create sectors id) old new result =
+DoesLine state now (Create image sectors id) old new result =
     Creates sectors id (state old.here) (state new.here) old.out new.out result × (new.input ≡ old.input)
-DoesLine state now (Step command) old new result =
-    Steps now command (state old.here) (state new.here) old.out new.out result × (new.input ≡ old.input)
+DoesLine state now (Step image command) old new result =
+    StepsOrNot (is_built command) state now command old.here new.here old.out new.out result × (new.input ≡ old.input)
+DoesLine state now line old new result = (result ≡ Err not_built) × (new ≡ old)
 
 -- What words do: those that are no line are refused, and nothing is done.
 abbrev pub Does : {D : Type 0} → (D → DiskState) → ℕ → Result Line LineFault → Devices D → Devices D → Result (Unit {0}) Refusal → Type 0

@@ -7,8 +7,9 @@ use std::fs::{self, File};
 use std::io::{self, ErrorKind};
 use std::path::Path;
 use zst_file::{FileDisk, Start};
-use zst_line::{Line, LineFault, parse};
+use zst_line::{Line, LineFault, Text, parse};
 use zst_model::Command;
+use zst_pool::is_not_built;
 
 /// The bytes of a sector.
 const SECTOR: u64 = 512;
@@ -24,22 +25,29 @@ pub(crate) enum Opening {
     Made { bytes: u64 },
 }
 
-/// How a command on a pool opens its image.
-fn opening_for(command: &Command) -> Opening {
-    match command {
-        Command::Read { .. } | Command::List | Command::ListObjects { .. } => Opening::Shared,
-        _ => Opening::Alone,
+/// How a command on a pool opens its image, or None where it isn't built.
+fn opening_for(command: &Command) -> Option<Opening> {
+    if is_not_built(command) {
+        return None;
     }
+    Some(Opening::Alone)
 }
 
-/// How the image that the words name is opened, or None where they name none or are no line.
-pub(crate) fn opening_of(alloc: Global, words: &[String]) -> Result<Option<Opening>, AllocError> {
+/// The image that the words name, and how it is opened; None where they name none, are no line, or ask for what isn't
+/// built.
+pub(crate) fn opening_of(
+    alloc: Global,
+    words: &[String],
+) -> Result<Option<(Text, Opening)>, AllocError> {
     match parse(alloc, words) {
-        Ok(Line::Create { sectors, .. }) => Ok(Some(Opening::Made {
-            bytes: sectors * SECTOR,
-        })),
-        Ok(Line::Step(command)) => Ok(Some(opening_for(&command))),
-        Ok(Line::Dump) => Ok(None),
+        Ok(Line::Create { image, sectors, .. }) => {
+            let bytes = sectors * SECTOR;
+            Ok(Some((image, Opening::Made { bytes })))
+        }
+        Ok(Line::Step { image, command }) => Ok(opening_for(&command).map(|opening| (
+            image, opening,
+        ))),
+        Ok(_) => Ok(None),
         Err(LineFault::Memory) => Err(AllocError),
         Err(_) => Ok(None),
     }

@@ -99,7 +99,7 @@ fn run_over_none(rt: &HostRuntime, words: &[String]) -> io::Result<ExitCode> {
 fn main(rt: HostRuntime) -> io::Result<ExitCode> {
     let alloc = rt.alloc();
     let words: Vec<String> = env::args(&rt)?.skip(1).collect(alloc)?;
-    let (Some(opening), Some(path)) = (image::opening_of(alloc, &words)?, words.get(1)) else {
+    let Some((path, opening)) = image::opening_of(alloc, &words)? else {
         return run_over_none(&rt, &words);
     };
     match image::open(&rt, path.as_str(), opening, Unknown) {

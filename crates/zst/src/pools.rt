@@ -6,10 +6,11 @@ ghost use Rattle.zst.specs.Commands.{Creates, Stepping, Steps};
 
 use crate::reply::{print_line, print_reply};
 use std::alloc::Global;
-use zst_image::Kept;
+use zst_image::{Kept, images_keep_partials, reads_are_kept, reads_as_one};
+use zst_laws::steps_keep_partials;
 use zst_model::{Command, Refusal, Reply};
 use zst_outside::{Disk, Sink};
-use zst_pool::Pool;
+use zst_pool::{Pool, opened_is_at_rest};
 
 /// Makes a pool in an image that has none, and writes the reply.
 pub(crate) fn create_pool<D: Disk, K: Sink>(
@@ -41,6 +42,11 @@ fn step_image<D: Disk>(
     requires built { is_built command ≡ true }
     ensures { Stepping now command (D.state here.old) (D.state here.new) result }
 {
+    steps_keep_partials();
+    images_keep_partials();
+    reads_are_kept();
+    reads_as_one();
+    opened_is_at_rest::<D>();
     let kept = Kept::open(alloc, here)?;
     let mut pool = Pool::new(alloc, here, kept);
     let reply = pool.step(alloc, now, command);

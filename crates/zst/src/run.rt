@@ -1,6 +1,8 @@
 ghost use Rattle.std.specs.Prelude.{◌≡◌, map, string_bytes};
+ghost use Rattle.zst_model.specs.pools.Step.{IsCommand};
 ghost use Rattle.zst.specs.Devices.{devices};
-ghost use Rattle.zst.specs.Lines.{DoesLine, IsBuilt};
+ghost use Rattle.zst_pool.specs.Stepping.{is_built};
+ghost use Rattle.zst.specs.Lines.{DoesLine, IsInRange, StepsOrNot};
 ghost use Rattle.zst.specs.Runs.{Runs};
 
 use crate::dump::dump;
@@ -8,8 +10,9 @@ use crate::note::{note_refusal, status_of};
 use crate::pools::{create_pool, step_pool};
 use std::alloc::Global;
 use zst_line::{Line, parse};
-use zst_model::Refusal;
+use zst_model::{Command, Lack, PlanFault, Refusal};
 use zst_outside::{Disk, Sink, Source};
+use zst_pool::is_not_built;
 
 /// Does what the words after the program's name ask for, and answers the program's status. A refusal goes to `note`.
 ///
@@ -42,7 +45,24 @@ pub fn run<D: Disk, E: Disk, S: Source, K: Sink, N: Sink>(
     }
 }
 
-/// Does what a line asks for.
+/// Runs a command on the pool of an image, where it is built.
+fn run_command<D: Disk, K: Sink>(
+    alloc: Global,
+    here: &mut D,
+    now: u64,
+    command: Command,
+    out: &mut K,
+) -> Result<(), Refusal>
+    requires { IsCommand command }
+    ensures { StepsOrNot (is_built command) D.state now command here.old here.new (K.state out.old) (K.state out.new) result }
+{
+    if is_not_built(&command) {
+        return Err(Refusal::Plan(PlanFault::Unsupported(Lack::NotBuilt)));
+    }
+    step_pool(alloc, here, now, command, out)
+}
+
+/// Does what a line asks for, where it is built.
 fn run_line<D: Disk, S: Source, K: Sink>(
     alloc: Global,
     line: Line,
@@ -51,13 +71,14 @@ fn run_line<D: Disk, S: Source, K: Sink>(
     input: &mut S,
     out: &mut K,
 ) -> Result<(), Refusal>
-    requires { IsBuilt line }
+    requires { IsInRange line }
     ensures { DoesLine D.state now line
         (devices here.old (S.state input.old) (K.state out.old)) (devices here.new (S.state input.new) (K.state out.new)) result }
 {
     match line {
         Line::Dump => dump(alloc, input, out),
-        Line::Create { sectors, id } => create_pool(alloc, here, sectors, id, out),
-        Line::Step(command) => step_pool(alloc, here, now, command, out),
+        Line::Create { sectors, id, .. } => create_pool(alloc, here, sectors, id, out),
+        Line::Step { command, .. } => run_command(alloc, here, now, command, out),
+        _ => Err(Refusal::Plan(PlanFault::Unsupported(Lack::NotBuilt))),
     }
 }

@@ -3,6 +3,7 @@ mod faults;
 mod images;
 mod pools;
 mod runs;
+mod sessions;
 mod stops;
 mod streams;
 

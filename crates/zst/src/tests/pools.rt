@@ -46,7 +46,7 @@ fn each_command_commits_once(rt: HostRuntime) -> Result<(), Fail> {
 }
 
 /// Lines that a small pool refuses, with the status and the text of each.
-const REFUSED: [(&str, u8, &str); 28] = [
+const REFUSED: [(&str, u8, &str); 26] = [
     ("create I 256 1", 3, "E4 exists: pool"),
     ("create I 257 2", 3, "E4 exists: pool"),
     ("fs I tank/a", 3, "E4 exists: tank/a"),
@@ -116,17 +116,6 @@ const REFUSED: [(&str, u8, &str); 28] = [
         9,
         "E23 limit: block 8796093022208",
     ),
-    (
-        "object I tank/a 1 19 512 0 aa none",
-        3,
-        "E19 unsupported: not built",
-    ),
-    (
-        "object I tank/a 1 19 512 0 none 512:",
-        3,
-        "E19 unsupported: not built",
-    ),
-
     // Of two causes the first one is told.
     (
         "object I tank/z 281474976710656 19 512 0 none none",

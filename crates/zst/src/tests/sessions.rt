@@ -1,0 +1,163 @@
+// Sessions on a pool, line by line, with what each line prints.
+
+use super::images::{bytes_of, disk_of, note_of, run_on, zeros};
+use super::runs::check;
+use std::alloc::Global;
+use std::process::Abort;
+use std::test::Fail;
+use zst_outside::MemDisk;
+
+/// A line that is accepted, and what it prints.
+type Accepted = (&'static str, &'static str);
+
+/// A line that is refused, its status, and the text of its refusal.
+type Refused = (&'static str, u8, &'static str);
+
+/// Runs lines on a disk.
+fn accept(
+    rt: &impl Abort,
+    alloc: Global,
+    disk: &mut MemDisk,
+    lines: &[Accepted],
+) -> Result<(), Fail> {
+    for (line, out) in lines {
+        let ran = run_on(alloc, disk, line)?;
+        check(rt, line, &ran, 0, out, "");
+    }
+    Ok(())
+}
+
+/// Runs lines on a disk that each leave every byte of it.
+fn refuse(
+    rt: &impl Abort,
+    alloc: Global,
+    disk: &mut MemDisk,
+    lines: &[Refused],
+) -> Result<(), Fail> {
+    let image = bytes_of(alloc, disk)?;
+    for (line, status, text) in lines {
+        let ran = run_on(alloc, disk, line)?;
+        check(rt, line, &ran, *status, "", &note_of(alloc, text)?);
+        assert!(rt; bytes_of(alloc, disk)? == image, "{line}");
+    }
+    Ok(())
+}
+
+#[test]
+fn a_clone_holds_its_origin(rt: HostRuntime) -> Result<(), Fail> {
+    let alloc = rt.alloc();
+    let mut disk = disk_of(alloc, &zeros(alloc, 1_024)?)?;
+    let made = [
+        ("create I 1024 1", "ok 1\n"),
+        ("fs I tank/a", "ok 2\n"),
+        ("snapshot I tank/a@s", "ok 3\n"),
+        ("clone I tank/a@s tank/c", "ok 4\n"),
+        ("bookmark I tank/a@s tank/a#m", "ok 5\n"),
+    ];
+    accept(&rt, alloc, &mut disk, &made)?;
+    let busy = "E5 busy: clone tank/c";
+    refuse(&rt, alloc, &mut disk, &[("destroy I tank/a@s", 3, busy)])?;
+    let destroyed = [
+        ("destroy I tank/c", "ok 6\n"),
+        ("destroy I tank/a@s", "ok 7\n"),
+    ];
+    accept(&rt, alloc, &mut disk, &destroyed)
+}
+
+#[test]
+fn a_newer_bookmark_holds_a_head(rt: HostRuntime) -> Result<(), Fail> {
+    let alloc = rt.alloc();
+    let mut disk = disk_of(alloc, &zeros(alloc, 2_048)?)?;
+    let made = [
+        ("create I 2048 1", "ok 1\n"),
+        ("fs I tank/a", "ok 2\n"),
+        ("object I tank/a 1 19 512 0 none none", "ok 3\n"),
+        ("snapshot I tank/a@s1", "ok 4\n"),
+        ("write I tank/a 1 0 aa", "ok 5\n"),
+        ("snapshot I tank/a@s2", "ok 6\n"),
+        ("bookmark I tank/a@s2 tank/a#m", "ok 7\n"),
+        ("destroy I tank/a@s2", "ok 8\n"),
+    ];
+    accept(&rt, alloc, &mut disk, &made)?;
+    let busy = "E5 busy: bookmark tank/a#m";
+    refuse(&rt, alloc, &mut disk, &[("rollback I tank/a@s1", 3, busy)])?;
+    let rolled = [
+        ("rollback -r I tank/a@s1", "ok 9\n"),
+        ("snapshot I tank/a@s3", "ok 10\n"),
+    ];
+    accept(&rt, alloc, &mut disk, &rolled)
+}
+
+/// The lines of a pool with datasets of each kind, in an order that is not that of their names.
+const EACH_KIND: [Accepted; 12] = [
+    ("create I 4096 7", "ok 1\n"),
+    ("volume I tank/v", "ok 2\n"),
+    ("fs I tank/a", "ok 3\n"),
+    ("snapshot I tank/a@z", "ok 4\n"),
+    ("snapshot I tank/a@b", "ok 5\n"),
+    ("bookmark I tank/a@z tank/a#n", "ok 6\n"),
+    ("bookmark I tank/a@b tank/a#m", "ok 7\n"),
+    ("clone I tank/a@z tank/ab", "ok 8\n"),
+    ("snapshot I tank/v@s", "ok 9\n"),
+    ("clone I tank/v@s tank/a/w", "ok 10\n"),
+    ("snapshot I tank/ab@s", "ok 11\n"),
+    ("bookmark I tank/ab@s tank/ab#s", "ok 12\n"),
+];
+
+/// Lines that this pool refuses.
+const REFUSED: [Refused; 25] = [
+    ("clone I tank/a@x tank/y", 3, "E3 no such tank/a@x"),
+    ("clone I tank/a@z tank/ab", 3, "E4 exists: tank/ab"),
+    ("bookmark I tank/a@x tank/a#x", 3, "E3 no such tank/a@x"),
+    (
+        "bookmark I tank/a@z tank/ab#n",
+        3,
+        "E6 not an ancestor of tank/ab#n: tank/a@z",
+    ),
+    ("bookmark I tank/a@z tank/a#m", 3, "E4 exists: tank/a#m"),
+    ("rollback I tank/a@x", 3, "E3 no such tank/a@x"),
+    ("rollback I tank/a@z", 3, "E5 busy: bookmark tank/a#m"),
+    ("destroy I tank/x", 3, "E3 no such tank/x"),
+    ("destroy I tank/a@x", 3, "E3 no such tank/a@x"),
+    ("destroy I tank/a#x", 3, "E3 no such tank/a#x"),
+    ("destroy I tank/a", 3, "E5 busy: clone tank/ab"),
+    ("destroy I tank/a@z", 3, "E5 busy: clone tank/ab"),
+    ("destroy I tank/v", 3, "E5 busy: clone tank/a/w"),
+    // What isn't built yet is told once the words are a line.
+    ("read I tank/a 1 0", 3, "E19 unsupported: not built"),
+    ("list I", 3, "E19 unsupported: not built"),
+    ("list I tank/a@z", 3, "E19 unsupported: not built"),
+    ("send I tank/a@z", 3, "E19 unsupported: not built"),
+    (
+        "send -i tank/a#m I tank/a@b",
+        3,
+        "E19 unsupported: not built",
+    ),
+    ("receive -s -F I tank/y", 3, "E19 unsupported: not built"),
+    (
+        "redact I tank/a@z tank/a#r tank/ab@s",
+        3,
+        "E19 unsupported: not built",
+    ),
+    ("token I tank/a", 3, "E19 unsupported: not built"),
+    ("abort I tank/a", 3, "E19 unsupported: not built"),
+    ("check I", 3, "E19 unsupported: not built"),
+    ("reclaim I", 3, "E19 unsupported: not built"),
+    ("gen I 64", 3, "E19 unsupported: not built"),
+];
+
+#[test]
+fn datasets_are_taken_down_in_order(rt: HostRuntime) -> Result<(), Fail> {
+    let alloc = rt.alloc();
+    let mut disk = disk_of(alloc, &zeros(alloc, 4_096)?)?;
+    accept(&rt, alloc, &mut disk, &EACH_KIND)?;
+    refuse(&rt, alloc, &mut disk, &REFUSED)?;
+    let taken_down = [
+        ("destroy I tank/a/w", "ok 13\n"),
+        ("destroy I tank/ab", "ok 14\n"),
+        ("rollback -r I tank/a@z", "ok 15\n"),
+        ("destroy I tank/v", "ok 16\n"),
+        ("destroy I tank/a", "ok 17\n"),
+    ];
+    accept(&rt, alloc, &mut disk, &taken_down)
+}
