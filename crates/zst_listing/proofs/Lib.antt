@@ -1,0 +1,7 @@
+mod BookmarkOrder
+mod DnodeLines
+mod Matched
+mod Merging
+mod ObjectWalk
+mod RangeLaws
+mod Walked

@@ -1,0 +1,6 @@
+use Rattle.std.proofs.Common.{◌≡◌, ◌++◌, map, take}
+use Rattle.zst_listing.specs.Rows.{snapshot_line}
+use Rattle.zst_listing.proofs.rows.push_snapshots.Given as goal
+
+abbrev pub invariant-loop-row : goal.invariant-loop-row
+invariant-loop-row l = l.lines.items ≡ l.fn.lines.items ++ map snapshot_line (take l.row-index l.rows)
