@@ -24,7 +24,7 @@ use Rattle.zst_dir.specs.declared.rows.Snapshot.{Snapshot}
 use Rattle.zst_image.specs.Reads.{AreNamed, Match, NamesBookmark, NamesDataset, NamesPartial, NamesSnapshot}
 use Rattle.zst_pool.specs.Lineage.{AreGoing, FindsGoing, going_of, is_on, is_there, pool_without}
 use Rattle.zst_pool.proofs.Judging.{dataset_is_there, none_there, snapshot_is_there}
-use Rattle.zst_pool.proofs.Matching.{any_is_found, is_some-position, list_any-Match, list_any-filter}
+use Rattle.zst_pool.proofs.Matching.{FoundAlike, any_is_found, found-Match, is_some-position, list_any-Match, list_any-filter}
 
 -- what is refused for what is there is refused for its name
 pub told : {A B : Type 0} (refusal : List ℕ → Refusal) (name_of : A → List ℕ) (o : Option A) (rest : Result B Refusal)
@@ -32,17 +32,16 @@ pub told : {A B : Type 0} (refusal : List ℕ → Refusal) (name_of : A → List
 told refusal name_of None rest = refl
 told refusal name_of (Some x) rest = refl
 
--- tests that answer alike of what matches find alike, and find what has one name
-pub found-Match : {A B C : Type 0} (Is : A → B → Type 0) (p : A → Bool) (q : B → Bool) (f : A → C) (g : B → C) → ((x : A) (y : B) → Is x y → p x ≡ q y) → ((x : A) (y : B) → Is x y → f x ≡ g y)
+-- tests that answer alike of what matches find what has one name
+pub found_named : {A B C : Type 0} (Is : A → B → Type 0) (p : A → Bool) (q : B → Bool) (f : A → C) (g : B → C) → ((x : A) (y : B) → Is x y → p x ≡ q y) → ((x : A) (y : B) → Is x y → f x ≡ g y)
     → (xs : List A) (ys : List B) → Match Is xs ys → option_map f (find p xs) ≡ option_map g (find q ys)
-found-Match Is p q f g same one [] [] m = refl
-found-Match Is p q f g same one [] (y ∷ ys) m = absurd m
-found-Match Is p q f g same one (x ∷ xs) [] m = absurd m
-found-Match Is p q f g same one (x ∷ xs) (y ∷ ys) m = rw (same x y m.0) (go (q y) (found-Match Is p q f g same one xs ys m.1))
+found_named {A = A} {B = B} Is p q f g same one xs ys m = go (find p xs) (find q ys) (found-Match Is p q same xs ys m)
   where
-    go : (t : Bool) → option_map f (find p xs) ≡ option_map g (find q ys) → option_map f (cond t (Some x) (find p xs)) ≡ option_map g (cond t (Some y) (find q ys))
-    go true rest = ap (λ z. Some z) (one x y m.0)
-    go false rest = rest
+    go : (a : Option A) (b : Option B) → FoundAlike Is a b → option_map f a ≡ option_map g b
+    go None None alike = refl
+    go None (Some y) alike = absurd alike
+    go (Some x) None alike = absurd alike
+    go (Some x) (Some y) alike = ap (λ z. Some z) (one x y alike)
 
 pub any-Match : {A B : Type 0} (Is : A → B → Type 0) (p : A → Bool) (q : B → Bool) → ((x : A) (y : B) → Is x y → p x ≡ q y)
     → (xs : List A) (ys : List B) → Match Is xs ys → list_any p xs ≡ list_any q ys
@@ -154,14 +153,14 @@ module _ (rows : Rows) (pool : Pool) (are : AreNamed rows pool) where
   held_by_rows {A = A} going gone rest are_going =
       told busy_partial (λ partial. partial.target) (find (λ partial. is_on going partial.target || is_one_of gone partial.base) pool.partials) _
       ∙ ap (λ o. unless_there busy_partial o (unless_there (λ dataset. busy_clone dataset.name) (find (λ dataset. is_one_of gone dataset.origin) pool.datasets) rest))
-      (sym (found-Match NamesPartial (λ partial. is_on going partial.target || names_going going rows partial.base) (λ partial. is_on going partial.target || is_one_of gone partial.base)
+      (sym (found_named NamesPartial (λ partial. is_on going partial.target || names_going going rows partial.base) (λ partial. is_on going partial.target || is_one_of gone partial.base)
       (λ partial. partial.target) (λ partial. partial.target)
       (λ x y is. ap (λ n. is_on going n || names_going going rows x.base) (sym is.target) ∙ ap (λ b. is_on going y.target || b) (ap (names_going going rows) (sym is.base) ∙ sym (are_going y.base)))
       (λ x y is. sym is.target) rows.partials pool.partials are.partials))
       ∙ ap (unless_there busy_partial (option_map (λ partial. partial.target) (find (λ partial. is_on going partial.target || names_going going rows partial.base) rows.partials)))
       (told busy_clone (λ dataset. dataset.name) (find (λ dataset. is_one_of gone dataset.origin) pool.datasets) rest
       ∙ ap (λ o. unless_there busy_clone o rest)
-      (sym (found-Match NamesDataset (λ dataset. names_going going rows dataset.origin) (λ dataset. is_one_of gone dataset.origin)
+      (sym (found_named NamesDataset (λ dataset. names_going going rows dataset.origin) (λ dataset. is_one_of gone dataset.origin)
       (λ dataset. dataset.name) (λ dataset. dataset.name)
       (λ x y is. ap (names_going going rows) (sym is.origin) ∙ sym (are_going y.origin))
       (λ x y is. sym is.name) rows.datasets pool.datasets are.datasets)))

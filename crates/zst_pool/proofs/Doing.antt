@@ -25,7 +25,7 @@ use Rattle.zst_image.specs.declared.kept.Kept.{Kept}
 use Rattle.zst_pool.proofs.Resting.{kept_is_next, next_lawful, rests_next, rests_on, rests_unless, since, way_runs}
 
 -- where the pool still stands, it does after each fault
-keeps : (before : Type 0) (definition : Result Stepped Refusal) → before → (fault : PoolFault) → StepFault (Unit {0}) definition fault → StepFault before definition fault
+pub keeps : (before : Type 0) (definition : Result Stepped Refusal) → before → (fault : PoolFault) → StepFault (Unit {0}) definition fault → StepFault before definition fault
 keeps before definition still (Plan fault) is = (is.0, still)
 keeps before definition still (CannotApply fault) is = (is.0, still)
 keeps before definition still (Redacted object block) is = (is.0, still)

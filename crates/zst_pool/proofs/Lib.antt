@@ -1,3 +1,4 @@
+pub mod Answering
 pub mod Calling
 pub mod Changing
 pub mod Committed
@@ -17,6 +18,7 @@ pub mod Limits
 pub mod LineageRows
 pub mod Listed
 pub mod Matching
+pub mod MayGo
 pub mod Naming
 pub mod NextPools
 pub mod PartialRows
@@ -30,4 +32,5 @@ pub mod Running
 pub mod Stepped
 pub mod Taking
 pub mod Telling
+pub mod TellingLists
 pub mod Writing

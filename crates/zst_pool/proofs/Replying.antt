@@ -1,8 +1,9 @@
--- An accepted command that is built answers the number of its commit.
+-- An accepted command that commits answers the number of its commit.
 use Rattle.std.specs.Prelude.{Result, Ok, Err, IfOk, bytes_eq, filter, find, not}
 use Rattle.std.proofs.Common.{◌≡◌, ℕ, ◌+◌, ◌≤◌, ◌<◌, ◌^◌, ◌||◌, Bool, true, false, List, [], ◌∷◌, Option, Some, None, is_some, length, map, nat_lt, refl, ap, arith}
 use Rattle.std.proofs.lemmas.Bool.Decides.{nat_tests}
 use Rattle.std.proofs.lemmas.Result.{IfOk-at_ok}
+use Rattle.zst_laws.specs.Counting.{commits}
 use Rattle.zst_model.specs.declared.pools.command.Command.{Command}
 use Rattle.zst_model.specs.declared.pools.command.Command.TheVariants as commands
 use Rattle.zst_model.specs.declared.refusals.faults.Quantity.TheVariants as quantities
@@ -18,7 +19,6 @@ use Rattle.zst_model.specs.pools.Pool.{Pool, Bookmark, Dataset, Partial, Snapsho
 use Rattle.zst_model.specs.pools.Step.{Stepped, stepped, bookmark_of, busy_bookmark, busy_clone, busy_partial, busy_snapshot, clone_of, committed, count_datasets, destroyed_by, exists_already, last_guid, is_newer_bookmark, is_of, is_one_of, last_number, least_name, limited, most_bookmarks, most_datasets, most_snapshots, new_dataset, newer_snapshots, no_such, not_ancestor, or_else, on_head, punched, rolled_back, unless_newer, unless_there, unless_used, written, with_bookmark, with_clone, with_dataset, with_destroyed, with_rollback, with_snapshot, without_bookmark, without_dataset, without_snapshot}
 use Rattle.zst_pool.specs.Checks.{freed, put_in, if_guid_left, if_new_snapshot, next_of, with_head_of, with_new, with_taken}
 use Rattle.zst_pool.specs.Lineage.{if_new_bookmark, with_marked}
-use Rattle.zst_pool.specs.Stepping.{is_built}
 
 -- where it is accepted, its answer is the next number, and that isn't past the last one
 pub record IsReply (number : ℕ) (done : Stepped) : Type 0 where
@@ -140,22 +140,22 @@ of_rollback destroys name pool =
     (λ snapshot. of_unused (held snapshot) (destroyed_by destroys snapshot pool) pool (rest snapshot)
     (of_newer destroys snapshot pool (committed (rolled_back snapshot pool)) (on_committed pool.number (rolled_back snapshot pool) refl)))
 
-of_step : (now : ℕ) (command : Command) (pool : Pool) → is_built command ≡ true → IfOk (stepped [] now command pool) (IsReply pool.number)
+of_step : (now : ℕ) (command : Command) (pool : Pool) → commits command ≡ true → IfOk (stepped [] now command pool) (IsReply pool.number)
 unfolding stepped
-of_step now (commands.Fs dataset) pool built = of_dataset (new_dataset 2 dataset) pool
-of_step now (commands.Volume dataset) pool built = of_dataset (new_dataset 3 dataset) pool
-of_step now (commands.Object dataset k head bonus spill) pool built = of_head dataset pool (put_in pool k head bonus spill)
-of_step now (commands.Write dataset k i bytes) pool built = of_head dataset pool (written pool k i bytes)
-of_step now (commands.Punch dataset k first count) pool built = of_head dataset pool (punched pool k first count)
-of_step now (commands.Free dataset first count) pool built = of_head dataset pool (freed pool first count)
-of_step now (commands.Snapshot name) pool built = of_snapshot now name pool
-of_step now (commands.Clone origin dataset) pool built = of_clone origin dataset pool
-of_step now (commands.Bookmark snapshot bookmark) pool built = of_bookmark snapshot bookmark pool
-of_step now (commands.Rollback destroys snapshot) pool built = of_rollback destroys snapshot pool
-of_step now (commands.Destroy name) pool built = of_destroyed name pool
-of_step now (commands.Read name k i) pool built = absurd (cc)
-of_step now commands.List pool built = absurd (cc)
-of_step now (commands.ListObjects name) pool built = absurd (cc)
+of_step now (commands.Fs dataset) pool commit = of_dataset (new_dataset 2 dataset) pool
+of_step now (commands.Volume dataset) pool commit = of_dataset (new_dataset 3 dataset) pool
+of_step now (commands.Object dataset k head bonus spill) pool commit = of_head dataset pool (put_in pool k head bonus spill)
+of_step now (commands.Write dataset k i bytes) pool commit = of_head dataset pool (written pool k i bytes)
+of_step now (commands.Punch dataset k first count) pool commit = of_head dataset pool (punched pool k first count)
+of_step now (commands.Free dataset first count) pool commit = of_head dataset pool (freed pool first count)
+of_step now (commands.Snapshot name) pool commit = of_snapshot now name pool
+of_step now (commands.Clone origin dataset) pool commit = of_clone origin dataset pool
+of_step now (commands.Bookmark snapshot bookmark) pool commit = of_bookmark snapshot bookmark pool
+of_step now (commands.Rollback destroys snapshot) pool commit = of_rollback destroys snapshot pool
+of_step now (commands.Destroy name) pool commit = of_destroyed name pool
+of_step now (commands.Read name k i) pool commit = absurd (cc)
+of_step now commands.List pool commit = absurd (cc)
+of_step now (commands.ListObjects name) pool commit = absurd (cc)
 
-pub step_reply : (now : ℕ) (command : Command) (pool : Pool) (done : Stepped) → is_built command ≡ true → stepped [] now command pool ≡ Ok done → IsReply pool.number done
-step_reply now command pool done built made = IfOk-at_ok (IsReply pool.number) made (of_step now command pool built)
+pub step_reply : (now : ℕ) (command : Command) (pool : Pool) (done : Stepped) → commits command ≡ true → stepped [] now command pool ≡ Ok done → IsReply pool.number done
+step_reply now command pool done commit made = IfOk-at_ok (IsReply pool.number) made (of_step now command pool commit)

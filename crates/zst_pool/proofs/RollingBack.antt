@@ -18,7 +18,7 @@ use Rattle.zst_dir.specs.declared.rows.Bookmark.{Bookmark}
 use Rattle.zst_dir.specs.declared.rows.Snapshot.{Snapshot}
 use Rattle.zst_image.specs.Reads.{AreNamed, DatasetIs, Match, NamesBookmark, NamesPartial, NamesSnapshot, RunsBy, SnapshotIs, StandAlike}
 use Rattle.zst_pool.specs.Lineage.{AreGoing, if_rolls_back, is_on, newer_in_pool, newer_than, pool_without, rows_rolled_back}
-use Rattle.zst_pool.proofs.Destroying.{finds_none, found-Match, found_passes, one_of_none, passing_go, there_is, told}
+use Rattle.zst_pool.proofs.Destroying.{finds_none, found_named, found_passes, one_of_none, passing_go, there_is, told}
 use Rattle.zst_pool.proofs.Judging.{none_there}
 use Rattle.zst_pool.proofs.Least.{least-none, least_where}
 use Rattle.zst_pool.proofs.LineageRows.{left_runs}
@@ -81,7 +81,7 @@ module _ (taken : plain.Snapshot) where
         subst (λ (g : Going). unless_newer false taken pool rest ≡ unless_there busy_bookmark (bookmark_by_rows g rows) (unless_there busy_snapshot (snapshot_by_rows g rows) rest)) (sym is)
         (told busy_bookmark (λ bookmark. bookmark.name) (find (is_newer_bookmark taken) pool.bookmarks) _
         ∙ ap (λ o. unless_there busy_bookmark o (unless_there busy_snapshot (least_name (map (λ (other : plain.Snapshot). other.name) (newer_snapshots taken pool))) rest))
-        (sym (found-Match NamesBookmark (takes_bookmark (newer_in_pool taken)) (is_newer_bookmark taken) (λ bookmark. bookmark.name) (λ bookmark. bookmark.name)
+        (sym (found_named NamesBookmark (takes_bookmark (newer_in_pool taken)) (is_newer_bookmark taken) (λ bookmark. bookmark.name) (λ bookmark. bookmark.name)
         newer_bookmark_same (λ x y is. sym is.name) rows.bookmarks pool.bookmarks are.bookmarks))
         ∙ ap (λ (l : List (List ℕ)). unless_there busy_bookmark (bookmark_by_rows (newer_in_pool taken) rows) (unless_there busy_snapshot (least_name l) rest))
         (sym (names-Match NamesSnapshot (λ snapshot. snapshot.name) (λ snapshot. snapshot.name) (λ x y is. sym is.name)

@@ -9,6 +9,7 @@ use Rattle.zst_block.specs.declared.fault.BlockFault.{BlockFault}
 use Rattle.zst_model.specs.states.State.{is_block_size, largest_block}
 use Rattle.zst_dir.specs.Rows.{Rows}
 use Rattle.zst_dir.specs.Spelling.{dir_bytes}
+use Rattle.zst_pool.specs.Calls.{IsCallFull}
 use Rattle.zst_pool.specs.Cost.{Grows, HasNoRoom, Spends, most_sectors}
 use Rattle.zst_pool.specs.Heads.{Stops, Works}
 use Rattle.zst_image.specs.Reads.{dir_sectors, free_by}
@@ -26,6 +27,19 @@ block-sectors size is = grind arith
 -- a longer directory takes no fewer sectors
 pub dir-more : (count more : ℕ) → count ≤ more → dir_sectors count ≤ dir_sectors more
 dir-more count more le = omega (arith, le)
+
+-- where a commit finds no room for rows that are no more than 2,048 bytes longer, its call does not
+pub call_full : (space left : FreeSectors) (dir rows : Rows) (need largest : ℕ) → length (dir_bytes dir) ≤ length (dir_bytes rows) + 2048
+    → TakesAtMost (dir_sectors (length (dir_bytes dir))) space left → IsDirFull space left dir need largest → IsCallFull space left rows need largest
+call_full space left dir rows need largest longer takes full =
+    let more = dir-more (length (dir_bytes dir)) (length (dir_bytes rows) + 2048) longer in
+    record {
+      taken = takes_more (dir_sectors (length (dir_bytes dir))) (dir_sectors (length (dir_bytes rows) + 2048)) space left more takes;
+      shorter = full.shorter;
+      needed = full.needed;
+      is_longest = full.is_longest;
+      before = omega (arith, full.before, more);
+    }
 
 module _ (kept : Kept) (cells block : ℕ) {old : DiskState} {old_failed : Bool} {new : DiskState} {less : FreeSectors} {new_failed : Bool} where
   -- what a command spends that stopped at a block's fault, or at none

@@ -32,11 +32,11 @@ use Rattle.zst_objset.specs.Damage.{DamageFact, IfSetDamaged}
 use Rattle.zst_objset.specs.Dnodes.{DnodeAt, DnodeIs}
 use Rattle.zst_objset.specs.declared.fault.ObjFault.{ObjFault}
 use Rattle.zst_objset.specs.declared.fault.ObjFault.TheVariants as set_faults
-use Rattle.zst_pool.specs.Damage.{IsOf}
+use Rattle.zst_pool.specs.Damage.{IsOf, OfSet}
 use Rattle.zst_pool.specs.Faults.{StepFault, of_set}
 use Rattle.zst_pool.specs.Finding.{FindsState, set_named}
 use Rattle.zst_pool.specs.Plans.{IsPast}
-use Rattle.zst_pool.specs.Telling.{HoldsNamed, OfSet, Tells, stop_of}
+use Rattle.zst_pool.specs.Telling.{HoldsNamed, Tells, stop_of}
 use Rattle.zst_pool.proofs.Finding.{some_found}
 use Rattle.zst_pool.proofs.Naming.{rows_named}
 use Rattle.zst_pool.specs.declared.fault.PoolFault.{PoolFault}

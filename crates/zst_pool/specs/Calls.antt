@@ -3,6 +3,7 @@ use Rattle.std.specs.Prelude.{◌≡◌, ◌⊎◌, ◌+◌, ◌<◌, ℕ, lengt
 use Rattle.zst_outside.specs.Images.{DiskState, Leaves}
 use Rattle.zst_space.specs.FreeSectors.{FreeSectors, largest_of}
 use Rattle.zst_block.specs.Blocks.{FillsFree, FitsDisk, Has}
+use Rattle.zst_block.specs.Working.{TakesAtMost}
 use Rattle.zst_uber.specs.declared.uber.Uber.{Uber}
 use Rattle.zst_model.specs.declared.refusals.faults.Quantity.{Quantity}
 use Rattle.zst_model.specs.declared.refusals.plan_fault.PlanFault.TheVariants.{Limit}
@@ -79,8 +80,10 @@ abbrev pub keeping : Kept → Result ℕ PoolFault → Result Kept PoolFault
 keeping kept (Ok number) = Ok kept
 keeping kept (Err fault) = Err fault
 
--- E24 of a call: need is the 16 sectors of a block of a directory, and before it no run was free of as many as a directory with 2,048 bytes more takes
-pub record IsCallFull (space : FreeSectors) (rows : Rows) (need largest : ℕ) : Type 0 where
+-- E24 of a call: the 16 sectors of a block of a directory are longer than the longest run of those that are left then; at most so many were taken as a directory with 2,048 bytes more takes, and before it no run was free of as many
+pub record IsCallFull (space left : FreeSectors) (rows : Rows) (need largest : ℕ) : Type 0 where
+  pub taken : TakesAtMost (dir_sectors (length (dir_bytes rows) + 2048)) space left
   pub shorter : largest < need
   pub needed : need ≡ 16
+  pub is_longest : largest ≡ largest_of left
   pub before : largest_of space < dir_sectors (length (dir_bytes rows) + 2048)

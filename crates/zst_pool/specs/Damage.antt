@@ -1,15 +1,17 @@
 -- Which block a command tells as damaged.
-use Rattle.std.specs.Prelude.{◌≡◌, ◌⊎◌, ℕ, List, Contains, Result, Ok, Err}
+use Rattle.std.specs.Prelude.{◌≡◌, ◌⊎◌, ℕ, List, Contains, Some, Result, Ok, Err}
 use Rattle.zst_outside.specs.Images.{DiskState}
 use Rattle.zst_space.specs.FreeSectors.{FreeSectors}
 use Rattle.zst_block.specs.Blocks.{SparesTaken}
 use Rattle.zst_tree.specs.Damage.{IsSeen, NamesNode, SumsUp}
 use Rattle.zst_tree.specs.declared.tree.ObjSet.{ObjSet}
-use Rattle.zst_objset.specs.Damage.{DamageFact, IfSetDamaged, IsDamagedObject, IsDamagedSet}
+use Rattle.zst_objset.specs.Damage.{DamageFact, IfSetDamaged, IsDamagedBlock, IsDamagedObject, IsDamagedSet}
 use Rattle.zst_model.specs.declared.pools.command.Command.{Command}
 use Rattle.zst_model.specs.declared.pools.command.Command.TheVariants as commands
+use Rattle.zst_model.specs.declared.refusals.named.Name.{Name}
 use Rattle.zst_dir.specs.Rows.{Rows}
 use Rattle.zst_dir.specs.declared.rows.Dataset.{Dataset}
+use Rattle.zst_pool.specs.Finding.{set_named}
 use Rattle.zst_pool.specs.declared.fault.PoolFault.{PoolFault}
 use Rattle.zst_pool.specs.declared.fault.PoolFault.TheVariants.{Damaged}
 use Rattle.zst_pool.specs.declared.head_fault.HeadFault.{HeadFault}
@@ -46,11 +48,23 @@ pub record HasHead (rows : Rows) (name : List ℕ) (set : ObjSet) : Type 0 where
 abbrev pub OfHead : Rows → List ℕ → (ObjSet → DamageFact) → DamageFact
 OfHead rows name Is sector stated found = (set : ObjSet) × HasHead rows name set × Is set sector stated found
 
+-- a damage of the object set of this name
+abbrev pub OfSet : Rows → Name → (ObjSet → DamageFact) → DamageFact
+OfSet rows name Is sector stated found = (set : ObjSet) × (set_named name rows ≡ Some set) × Is set sector stated found
+
+-- what a list of the objects of a set may tell: of its slots alone
+abbrev pub look_damage : DiskState → ObjSet → DamageFact
+look_damage disk set = IsDamagedSet (IsSeen disk.seen) disk.size set
+
+-- what a read of a block may tell: of the set's slots, of the object's tree, or of the block
+abbrev pub read_damage : DiskState → ObjSet → DamageFact
+read_damage disk set sector stated found = (count : ℕ) × IsDamagedBlock (IsSeen disk.seen) disk.size count set sector stated found
+
 -- what a command tells that looks at no object set
 abbrev pub NoDamage : DamageFact
 NoDamage sector stated found = ⊥
 
--- what a command may tell: of the object set of its dataset, as the disk had it when the command began, with these sectors free
+-- what a command may tell: of the object set of its dataset or its snapshot, as the disk had it when the command began, with these sectors free
 abbrev pub TellsDamage : Command → Rows → DiskState → FreeSectors → DamageFact
 TellsDamage (commands.Fs dataset) rows disk space = NoDamage
 TellsDamage (commands.Volume dataset) rows disk space = NoDamage
@@ -63,9 +77,9 @@ TellsDamage (commands.Clone origin dataset) rows disk space = NoDamage
 TellsDamage (commands.Bookmark snapshot bookmark) rows disk space = NoDamage
 TellsDamage (commands.Rollback destroys snapshot) rows disk space = NoDamage
 TellsDamage (commands.Destroy name) rows disk space = NoDamage
-TellsDamage (commands.Read name k i) rows disk space = NoDamage
+TellsDamage (commands.Read name k i) rows disk space = OfSet rows name (read_damage disk)
 TellsDamage commands.List rows disk space = NoDamage
-TellsDamage (commands.ListObjects name) rows disk space = NoDamage
+TellsDamage (commands.ListObjects name) rows disk space = OfSet rows name (look_damage disk)
 
 -- E25 comes only of such a damage
 abbrev pub IsOf : DamageFact → PoolFault → Type 0

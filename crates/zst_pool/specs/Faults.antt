@@ -12,6 +12,8 @@ use Rattle.zst_objset.specs.declared.fault.ObjFault.{ObjFault}
 use Rattle.zst_objset.specs.declared.fault.ObjFault.TheVariants as sets
 use Rattle.zst_leaves.specs.declared.fault.LeavesFault.{LeavesFault}
 use Rattle.zst_leaves.specs.declared.fault.LeavesFault.TheVariants as leaves
+use Rattle.zst_listing.specs.declared.fault.ListFault.{ListFault}
+use Rattle.zst_listing.specs.declared.fault.ListFault.TheVariants as lists
 use Rattle.zst_image.specs.declared.commit_fault.CommitFault.{CommitFault}
 use Rattle.zst_image.specs.declared.commit_fault.CommitFault.TheVariants as commits
 use Rattle.zst_pool.specs.declared.fault.PoolFault.{PoolFault}
@@ -45,6 +47,11 @@ of_set (sets.Block fault) = of_block fault
 abbrev pub of_leaves : LeavesFault → PoolFault
 of_leaves (leaves.Block fault) = of_block fault
 of_leaves leaves.Memory = faults.OutOfMemory
+
+-- a fault of a list of objects as a pool's
+abbrev pub of_list : ListFault → PoolFault
+of_list (lists.Set fault) = of_set fault
+of_list lists.Memory = faults.OutOfMemory
 
 -- a commit's fault as a pool's
 abbrev pub of_commit : CommitFault → PoolFault

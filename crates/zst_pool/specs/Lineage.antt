@@ -42,6 +42,13 @@ is_on (goes.Snapshot name) target = false
 is_on (goes.Bookmark name) target = false
 is_on (goes.Newer name number) target = bytes_eq target name
 
+-- whether a snapshot of this name may go
+abbrev pub may_go : Going → List ℕ → Bool
+may_go (goes.Dataset dataset) name = bytes_eq (dataset_of 64 name) dataset
+may_go (goes.Snapshot snapshot) name = bytes_eq name snapshot
+may_go (goes.Bookmark bookmark) name = false
+may_go (goes.Newer dataset number) name = bytes_eq (dataset_of 64 name) dataset
+
 -- these are the snapshots that go, by their names
 abbrev pub AreGoing : Going → Rows → List plain.Snapshot → Type 0
 AreGoing going rows gone = (name : Option (List ℕ)) → is_one_of gone name ≡ names_going going rows name

@@ -1,8 +1,6 @@
 -- What a pool tells of a bookmark's list.
 use Rattle.std.specs.Prelude.{◌≡◌, ◌≢◌, ℕ, List, [], ◌∷◌, Option, Some, None, Result, Ok, Err, find, bytes_eq, IfSome}
-use Rattle.zst_block.specs.declared.fault.BlockFault.{BlockFault}
 use Rattle.zst_block.specs.declared.fault.BlockFault.TheVariants as blocks
-use Rattle.zst_leaves.specs.declared.fault.LeavesFault.{LeavesFault}
 use Rattle.zst_leaves.specs.declared.fault.LeavesFault.TheVariants as leaves
 use Rattle.zst_list.specs.Standing.{HasList, TellsList}
 use Rattle.zst_model.specs.fields.Lists.{Runs}

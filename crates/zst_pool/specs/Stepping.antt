@@ -1,8 +1,6 @@
 -- What stepping a pool answers.
-use Rattle.std.specs.Prelude.{◌≡◌, ◌⊎◌, ℕ, Bool, true, false, List, Result, Ok, Err}
+use Rattle.std.specs.Prelude.{◌≡◌, ◌⊎◌, ℕ, List, Result, Ok, Err}
 use Rattle.zst_outside.specs.Images.{DiskState}
-use Rattle.zst_model.specs.declared.pools.command.Command.{Command}
-use Rattle.zst_model.specs.declared.pools.command.Command.TheVariants as commands
 use Rattle.zst_model.specs.declared.refusals.refusal.Refusal.{Refusal}
 use Rattle.zst_model.specs.pools.Kept.{kept_of}
 use Rattle.zst_model.specs.pools.Pool.{Pool}
@@ -12,23 +10,6 @@ use Rattle.zst_image.specs.Reads.{Reads}
 use Rattle.zst_pool.specs.Calls.{IsAtRest}
 use Rattle.zst_pool.specs.declared.fault.PoolFault.{PoolFault}
 use Rattle.zst_image.specs.declared.kept.Kept.{Kept}
-
--- whether a command is built
-abbrev pub is_built : Command → Bool
-is_built (commands.Fs dataset) = true
-is_built (commands.Volume dataset) = true
-is_built (commands.Object dataset k head bonus spill) = true
-is_built (commands.Write dataset k i bytes) = true
-is_built (commands.Punch dataset k first count) = true
-is_built (commands.Free dataset first count) = true
-is_built (commands.Snapshot name) = true
-is_built (commands.Clone origin dataset) = true
-is_built (commands.Bookmark snapshot bookmark) = true
-is_built (commands.Rollback destroys snapshot) = true
-is_built (commands.Destroy name) = true
-is_built (commands.Read name k i) = false
-is_built commands.List = false
-is_built (commands.ListObjects name) = false
 
 -- an image reads as what is kept of the pool before a command, or of the pool after it
 abbrev pub BeforeOrAfter : Pool → Result Stepped Refusal → List ℕ → Type 0

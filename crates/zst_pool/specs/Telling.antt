@@ -11,17 +11,14 @@ use Rattle.zst_model.specs.declared.refusals.refusal.Refusal.{Refusal}
 use Rattle.zst_model.specs.states.Dated.{DatedState}
 use Rattle.zst_model.specs.pools.Pool.{Pool}
 use Rattle.zst_model.specs.pools.Step.{Stepped, answered, state_named}
-use Rattle.zst_tree.specs.Damage.{IsSeen}
 use Rattle.zst_tree.specs.Indices.{Blocks}
 use Rattle.zst_tree.specs.declared.tree.ObjSet.{ObjSet}
-use Rattle.zst_objset.specs.Damage.{DamageFact, IsDamagedBlock, IsDamagedSet}
+use Rattle.zst_objset.specs.Damage.{DamageFact}
 use Rattle.zst_objset.specs.Sets.{SetHolds}
-use Rattle.zst_dir.specs.Rows.{Rows}
 use Rattle.zst_image.specs.Reads.{RunsBy}
 use Rattle.zst_image.specs.declared.kept.Kept.{Kept}
 use Rattle.zst_pool.specs.Damage.{IsOf}
 use Rattle.zst_pool.specs.Faults.{StepFault}
-use Rattle.zst_pool.specs.Finding.{set_named}
 use Rattle.zst_pool.specs.declared.fault.PoolFault.{PoolFault}
 use Rattle.zst_pool.specs.declared.fault.PoolFault.TheVariants as faults
 
@@ -54,15 +51,3 @@ pub record HoldsNamed (has : Blocks) (name : Name) (pool : Pool) (set : ObjSet) 
   pub state : DatedState
   pub named : state_named name pool ≡ Some state
   pub holds : SetHolds has set state
-
--- a damage of the object set of this name
-abbrev pub OfSet : Rows → Name → (ObjSet → DamageFact) → DamageFact
-OfSet rows name Is sector stated found = (set : ObjSet) × (set_named name rows ≡ Some set) × Is set sector stated found
-
--- what a look at the slots of a set may tell
-abbrev pub look_damage : DiskState → ObjSet → DamageFact
-look_damage disk set = IsDamagedSet (IsSeen disk.seen) disk.size set
-
--- what a read of a block may tell: of the set's slots, of the object's tree, or of the block
-abbrev pub read_damage : DiskState → ObjSet → DamageFact
-read_damage disk set sector stated found = (count : ℕ) × IsDamagedBlock (IsSeen disk.seen) disk.size count set sector stated found

@@ -6,6 +6,7 @@ use std::alloc::AllocError;
 use zst_block::BlockFault;
 use zst_image::{CommitFault, Kept};
 use zst_leaves::LeavesFault;
+use zst_listing::ListFault;
 use zst_model::{ApplyFault, PlanFault, Refusal};
 use zst_objset::ObjFault;
 
@@ -128,6 +129,20 @@ impl From<LeavesFault> for PoolFault {
         match fault {
             LeavesFault::Block(fault) => PoolFault::from(fault),
             LeavesFault::Memory => PoolFault::OutOfMemory,
+        }
+    }
+}
+
+impl From<ListFault> for PoolFault {
+    ghost use Rattle.std.specs.Prelude.{◌≡◌};
+    ghost use Rattle.zst_pool.specs.Faults.{of_list};
+
+    ghost from_gives = { λ list fault. fault ≡ of_list list };
+
+    fn from(fault: ListFault) -> Self {
+        match fault {
+            ListFault::Set(fault) => PoolFault::from(fault),
+            ListFault::Memory => PoolFault::OutOfMemory,
         }
     }
 }

@@ -7,7 +7,7 @@ ghost use Rattle.zst_dir.specs.Spelling.{dir_bytes};
 ghost use Rattle.zst_image.specs.Committing.{Ready};
 ghost use Rattle.zst_image.specs.Reads.{PartialIs, free_by};
 ghost use Rattle.zst_pool.specs.Calls.{CallDid, CanCommit, IsCallFault, IsCallFull, IsUnderWay, keeping};
-ghost use Rattle.zst_pool.specs.Faults.{HasDiskCause, is_disk_fault};
+ghost use Rattle.zst_pool.specs.Faults.{HasDiskCause, is_disk_fault, is_full};
 ghost use Rattle.zst_pool.specs.FinishedRows.{dataset_row_from, rows_with_finished, rows_with_target, snapshot_row_from};
 ghost use Rattle.zst_pool.specs.Partials.{partial_finished};
 
@@ -96,7 +96,7 @@ fn commit_finished<D: Disk>(
     ensures did { (start : D) (running : Plain) (plain : PlainPartial) → (D.state io.new.disk.now).honest → IsUnderWay (D.state start) (D.state io.old.disk.now) io.old.space kept.now running
         → PartialIs (Has (D.state io.old.disk.now).seen io.old.space) partial.now plain → CallDid (D.state start) (D.state io.new.disk.now) kept.now running (partial_finished plain running) result }
     ensures known { IfErr result IsCallFault }
-    ensures full { (need largest : ℕ) → result ≡ Err (PoolFault.Full need largest) → IsCallFull io.old.space kept.now.dir need largest }
+    ensures full { (need largest : ℕ) → result ≡ Err (PoolFault.Full need largest) → IsCallFull io.old.space io.new.space kept.now.dir need largest }
     ensures ready { IfOk result (λ next. Ready (D.state io.new.disk.now) next.body) }
     ensures stays { io.new.failed ≡ false → OnErr result (Ready (D.state io.new.disk.now) kept.now.body) }
     ensures failed { io.new.failed ≡ (io.old.failed || is_disk_fault result) }
@@ -115,7 +115,7 @@ impl<'d, D: Disk> Pool<'d, D> {
     /// partial state, and gives the new number. A target that is absent is made, with the base as
     /// its origin.
     ///
-    /// Afterwards what the latest body leaves free is free again.
+    /// Afterwards what the latest body leaves free is free again; after E24 once `renew` is called.
     pub fn finish_partial(&mut self, alloc: Global, partial: Partial) -> Result<u64, PoolFault>
         requires row { IsPartialRow partial }
         requires base { IfSome partial.base (HasSnapshot self.old.kept.dir) }
@@ -130,15 +130,17 @@ impl<'d, D: Disk> Pool<'d, D> {
         ensures number { IfOk result (λ number. number ≡ self.new.kept.body.number) }
         // Whatever the image is, there is no other refusal than E23, E24, E28 and E32.
         ensures known { self.old.io.failed ≡ false → IfErr result IsCallFault }
-        ensures full { (need largest : ℕ) → result ≡ Err (PoolFault.Full need largest) → IsCallFull self.old.io.space self.old.kept.dir need largest }
+        ensures full { (need largest : ℕ) → result ≡ Err (PoolFault.Full need largest) → IsCallFull self.old.io.space self.new.io.space self.old.kept.dir need largest }
         ensures stays { OnErr result (self.new.kept ≡ self.old.kept) }
 
         // A pool that has failed answers nothing else, and does nothing.
         ensures failed_pool { self.old.io.failed ≡ true → result ≡ Err PoolFault.Failed }
         ensures idle { self.old.io.failed ≡ true → self.new.io.disk.now ≡ self.old.io.disk.now }
 
-        ensures space { self.old.io.failed ≡ false → self.new.io.space ≡ free_by self.new.kept.body }
-        ensures works { self.new.io.failed ≡ false → CanCommit (D.state self.new.io.disk.now) self.new.io.space self.new.kept.body }
+        // After E24 the sectors are those that were left when it was found.
+        ensures space { (self.old.io.failed || is_full result) ≡ false → self.new.io.space ≡ free_by self.new.kept.body }
+        ensures works { (self.new.io.failed || is_full result) ≡ false → CanCommit (D.state self.new.io.disk.now) self.new.io.space self.new.kept.body }
+        ensures ready { self.new.io.failed ≡ false → Ready (D.state self.new.io.disk.now) self.new.kept.body }
         ensures failed { self.new.io.failed ≡ (self.old.io.failed || is_disk_fault result) }
         ensures cause { HasDiskCause (D.state self.old.io.disk.now).faults (D.state self.new.io.disk.now).faults result }
         ensures honest { (D.state self.new.io.disk.now).honest → (D.state self.old.io.disk.now).honest }
@@ -148,6 +150,6 @@ impl<'d, D: Disk> Pool<'d, D> {
             return Err(PoolFault::Failed);
         }
         let committed = commit_finished(&mut self.io, alloc, &self.kept, &partial);
-        self.settle(alloc, committed)
+        self.settle_command(alloc, committed)
     }
 }

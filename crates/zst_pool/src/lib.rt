@@ -12,6 +12,7 @@ mod head_fault;
 mod heads;
 mod laws;
 mod lineage;
+mod listing;
 mod lists;
 mod partials;
 mod pool;
@@ -24,4 +25,4 @@ mod tests;
 
 pub use fault::PoolFault;
 pub use laws::{blocks_leave_it_at_rest, opened_is_at_rest, rows_name_a_pool};
-pub use pool::{Pool, is_not_built};
+pub use pool::Pool;

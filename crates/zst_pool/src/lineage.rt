@@ -9,7 +9,7 @@ ghost use Rattle.zst_dir.specs.Going.{AreUnused, names_going, takes_snapshot};
 ghost use Rattle.zst_dir.specs.Rows.{HasDataset, HasSnapshot, IsBookmarkRow, IsDatasetRow, IsSnapshotRow};
 ghost use Rattle.zst_image.specs.Reads.{AreNamed};
 ghost use Rattle.zst_pool.specs.Checks.{Judges};
-ghost use Rattle.zst_pool.specs.Lineage.{AreGoing, FindsGoing, FindsSnapshot, FindsSource, JudgesBookmark, JudgesClone, JudgesDestroyed, bookmark_row, clone_row, going_of, if_new_bookmark, if_of_dataset, is_on, is_there};
+ghost use Rattle.zst_pool.specs.Lineage.{AreGoing, FindsGoing, FindsSnapshot, FindsSource, JudgesBookmark, JudgesClone, JudgesDestroyed, bookmark_row, clone_row, going_of, if_new_bookmark, if_of_dataset, is_on, is_there, may_go};
 ghost use Rattle.zst_pool.specs.Plans.{IsLast, is_by_rows};
 
 use crate::checks::{check_new_dataset, check_number, no_such};
@@ -64,11 +64,26 @@ fn is_on(going: &Going, target: &DatasetName) -> bool
     }
 }
 
-// Whether the snapshot of this name goes.
+// Whether a snapshot of this name may go.
+fn may_go(going: &Going, name: &SnapName) -> bool
+    ensures { result ≡ may_go going.now name.now }
+{
+    match going {
+        Going::Dataset(dataset) => name.dataset() == *dataset,
+        Going::Snapshot(snapshot) => *name == *snapshot,
+        Going::Bookmark(_) => false,
+        Going::Newer { dataset, .. } => name.dataset() == *dataset,
+    }
+}
+
+// Whether the snapshot of this name goes. Its row is looked for only where it may.
+#[tactic(auto, using(crate::proofs::MayGo::going_may_go))]
 fn is_going(dir: &Dir, going: &Going, name: &SnapName) -> bool
     ensures { result ≡ list_any (λ snapshot. takes_snapshot going.now snapshot && bytes_eq snapshot.name name.now) dir.now.snapshots }
 {
-    dir.snapshots().iter().any(|snapshot| going.takes_snapshot(snapshot) && snapshot.name == *name)
+    may_go(going, name)
+        && dir.snapshots().iter().any(|snapshot| snapshot.name == *name
+            && going.takes_snapshot(snapshot))
 }
 
 // Whether a name that may be none is that of a snapshot that goes.

@@ -1,6 +1,7 @@
 ghost use Rattle.std.specs.Prelude.{◌≡◌, ◌≤◌, ◌∷◌, ◌||◌, [], ℕ, false, true, not, IfErr, IfOk, OnErr, Err};
-ghost use Rattle.zst_outside.specs.Images.{Leaves};
+ghost use Rattle.zst_outside.specs.Images.{Leaves, OnlyReads};
 ghost use Rattle.zst_block.specs.Blocks.{SparesTaken};
+ghost use Rattle.zst_laws.specs.Counting.{commits};
 ghost use Rattle.zst_model.specs.pools.Lines.{ok_line};
 ghost use Rattle.zst_model.specs.pools.Pool.{Pool as Plain};
 ghost use Rattle.zst_model.specs.pools.Sound.{Sound};
@@ -9,7 +10,7 @@ ghost use Rattle.zst_pool.specs.Faults.{HasDiskCause, is_disk_fault, is_full};
 ghost use Rattle.zst_pool.specs.Plans.{Plans, indices_end, numbers_end};
 ghost use Rattle.zst_image.specs.Reads.{free_by};
 ghost use Rattle.zst_pool.specs.Calls.{CanCommit, IsAtRest, keeping};
-ghost use Rattle.zst_pool.specs.Stepping.{BeforeOrAfter, is_built, StepAnswer};
+ghost use Rattle.zst_pool.specs.Stepping.{BeforeOrAfter, StepAnswer};
 ghost use Rattle.zst_pool.specs.Cost.{Spends, cost_of};
 ghost use Rattle.zst_pool.specs.Damage.{IsOf, TellsDamage};
 ghost use Rattle.zst_pool.specs.Runs.{Runs};
@@ -19,11 +20,12 @@ use crate::branching::{destroy, make_bookmark, make_clone, roll_back};
 use crate::commands::{make_dataset, take_snapshot};
 use crate::fault::PoolFault;
 use crate::heads::{free_objects, punch, put_object, write_block};
+use crate::listing::tell;
 use std::alloc::{AllocError, Global};
 use zst_block::{Io, Node};
 use zst_image::Kept;
 use zst_laws::steps_keep_sound;
-use zst_model::{Bytes, Command, Lack, PlanFault, Reply};
+use zst_model::{Bytes, Command, Reply};
 use zst_outside::Disk;
 use zst_space::Space;
 
@@ -66,7 +68,7 @@ impl<'d, D: Disk> Pool<'d, D> {
     }
 
     /// Runs a command at this time on the pool that runs: it commits once where it changes that, and not
-    /// at all where it is refused. Afterwards what the latest body leaves free is free again, but after
+    /// at all where it is refused or only answers. Afterwards what the latest body leaves free is free again, but after
     /// E24 the sectors stay as they were when it was found, until `renew` or the next step.
     ///
     /// After E28 the pool answers E31.
@@ -78,11 +80,11 @@ impl<'d, D: Disk> Pool<'d, D> {
         ensures moments { (running : Plain) → (D.state self.new.io.disk.now).honest → IsAtRest (D.state self.old.io.disk.now) self.old.kept running
             → Leaves (D.state self.old.io.disk.now) (D.state self.new.io.disk.now) (BeforeOrAfter running (stepped [] now command running)) }
         // After its answer what the definition makes of the pool is at rest; after a refusal the pool as it was is.
-        ensures answer { (running : Plain) → (D.state self.new.io.disk.now).honest → is_built command ≡ true → self.old.io.failed ≡ false
+        ensures answer { (running : Plain) → (D.state self.new.io.disk.now).honest → self.old.io.failed ≡ false
             → IsAtRest (D.state self.old.io.disk.now) self.old.kept running
             → StepAnswer (D.state self.new.io.disk.now) self.new.kept running (stepped [] now command running) result }
         // E3, E4, E5 and E23 of datasets, snapshots and guids come exactly where the directory says so, whatever the object sets hold, unless no memory is left before; E23 of numbers only past them.
-        ensures planned { self.old.io.failed ≡ false → is_built command ≡ true → ¬ (result ≡ Err PoolFault.OutOfMemory)
+        ensures planned { self.old.io.failed ≡ false → ¬ (result ≡ Err PoolFault.OutOfMemory)
             → Plans (λ pool. stepped [] now command pool) (numbers_end command) (indices_end command) self.old.kept result }
         ensures open_still { self.old.io.failed ≡ false → ¬ (result ≡ Err PoolFault.Failed) }
         // Whatever the image is, no more is taken than the command costs at most, and E24 comes only where that isn't there.
@@ -99,11 +101,14 @@ impl<'d, D: Disk> Pool<'d, D> {
         ensures sound { (running : Plain) (done : Stepped) → IsAtRest (D.state self.old.io.disk.now) self.old.kept running → Sound running
             → stepped [] now command running ≡ Ok done → Sound done.pool }
 
-        // A pool that has failed answers nothing else, and a command that isn't built is refused. Both do nothing.
+        // A command that only answers reads the disk, and leaves what is kept.
+        ensures only_reads { commits command ≡ false → OnlyReads (D.state self.old.io.disk.now) (D.state self.new.io.disk.now) }
+        ensures only_answers { commits command ≡ false → self.new.kept ≡ self.old.kept }
+
+        // A pool that has failed answers nothing else, and does nothing.
         ensures failed_pool { self.old.io.failed ≡ true → result ≡ Err PoolFault.Failed }
-        ensures not_built { self.old.io.failed ≡ false → is_built command ≡ false → result ≡ Err (PoolFault.Plan (PlanFault.Unsupported Lack.NotBuilt)) }
-        ensures idle_disk { (self.old.io.failed || not (is_built command)) ≡ true → self.new.io.disk.now ≡ self.old.io.disk.now }
-        ensures idle_pool { (self.old.io.failed || not (is_built command)) ≡ true → self.new.kept ≡ self.old.kept }
+        ensures idle_disk { self.old.io.failed ≡ true → self.new.io.disk.now ≡ self.old.io.disk.now }
+        ensures idle_pool { self.old.io.failed ≡ true → self.new.kept ≡ self.old.kept }
 
         // After E24 the sectors are those that were left when it was found.
         ensures space { (self.old.io.failed || is_full result) ≡ false → self.new.io.space ≡ free_by self.new.kept.body }
@@ -119,8 +124,8 @@ impl<'d, D: Disk> Pool<'d, D> {
             return Err(PoolFault::Failed);
         }
         self.io.space = Space::new(self.kept.body.end, self.kept.body.sectors, Vec::new(alloc));
-        if is_not_built(&command) {
-            return Err(PoolFault::Plan(PlanFault::Unsupported(Lack::NotBuilt)));
+        if only_answers(&command) {
+            return tell(&mut self.io, alloc, &self.kept, command);
         }
         let reply = committed(alloc, self.kept.body.number.saturating_add(1))?;
         let ran = run(&mut self.io, alloc, &self.kept, now, command);
@@ -128,14 +133,15 @@ impl<'d, D: Disk> Pool<'d, D> {
         Ok(reply)
     }
 
-    // Keeps what a command committed. What the latest body leaves free is free again, but where the disk
-    // was full: the numbers of that refusal are those of the sectors that were left then.
-    fn settle_command(
+    /// Keeps what a command or a call committed. What the latest body leaves free is free again, but where the disk
+    /// was full: the numbers of that refusal are those of the sectors that were left then.
+    pub(crate) fn settle_command(
         &mut self,
         alloc: Global,
         ran: Result<Kept, PoolFault>,
     ) -> Result<u64, PoolFault>
         ensures kept { keeping self.new.kept result ≡ ran }
+        ensures number { IfOk result (λ number. number ≡ self.new.kept.body.number) }
         ensures stays { OnErr result (self.new.kept ≡ self.old.kept) }
         ensures space { is_full ran ≡ false → self.new.io.space ≡ free_by self.new.kept.body }
         ensures left { is_full ran ≡ true → self.new.io.space ≡ self.old.io.space }
@@ -157,9 +163,9 @@ fn is_full(ran: &Result<Kept, PoolFault>) -> bool
     matches!(ran, Err(PoolFault::Full { .. }))
 }
 
-/// Whether a command isn't built yet.
-pub fn is_not_built(command: &Command) -> bool
-    ensures { result ≡ not (is_built command.now) }
+/// Whether a command only answers, and commits nothing.
+fn only_answers(command: &Command) -> bool
+    ensures { result ≡ not (commits command.now) }
 {
     matches!(
         command,
@@ -177,7 +183,7 @@ fn committed(alloc: Global, number: u64) -> Result<Reply, AllocError>
     Ok(Reply::new(lines))
 }
 
-/// Runs a command that is built, over the sectors that are free by the latest body.
+/// Runs a command that commits, over the sectors that are free by the latest body.
 #[tactic(auto, unfolding(zst_model::specs::pools::Step::stepped))]
 fn run<D: Disk>(
     io: &mut Io<'_, D>,
@@ -187,7 +193,7 @@ fn run<D: Disk>(
     command: Command,
 ) -> Result<Kept, PoolFault>
     requires command { IsCommand command }
-    requires built { is_built command ≡ true }
+    requires commits { commits command ≡ true }
     requires space { io.old.space ≡ free_by kept.now.body }
     requires ready { Ready (D.state io.old.disk.now) kept.now.body }
     ensures runs { Runs (λ pool. stepped [] now command pool) (cost_of command) (TellsDamage command kept.now.dir (D.state io.old.disk.now) (free_by kept.now.body)) kept.now (D.state io.old.disk.now) io.old.failed (D.state io.new.disk.now) io.new.space io.new.failed result }

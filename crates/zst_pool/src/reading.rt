@@ -1,4 +1,4 @@
-//! The commands that read a pool's objects: they only answer.
+//! The command that reads a block: it only answers.
 ghost use Rattle.std.specs.Prelude.{◌≡◌, ◌⊎◌, ◌+◌, ◌<◌, ◌≤◌, ℕ, List, [], Result, Ok, Err, IfErr, IfOk, OnOk, None, Some, is_some, true};
 ghost use Rattle.zst_space.specs.FreeSectors.{FreeSectors};
 ghost use Rattle.zst_block.specs.Blocks.{FitsDisk, Has};
@@ -14,10 +14,10 @@ ghost use Rattle.zst_objset.specs.Answers.{ReadsCell};
 ghost use Rattle.zst_objset.specs.Changes.{block_lines, block_told, found_at};
 ghost use Rattle.zst_objset.specs.Sets.{SetHolds};
 ghost use Rattle.zst_image.specs.Reads.{AreNamed, RunsBy};
-ghost use Rattle.zst_pool.specs.Damage.{IsOf};
+ghost use Rattle.zst_pool.specs.Damage.{IsOf, OfSet, read_damage};
 ghost use Rattle.zst_pool.specs.Finding.{set_named};
 ghost use Rattle.zst_pool.specs.Plans.{IsPast, Plans};
-ghost use Rattle.zst_pool.specs.Telling.{HoldsNamed, OfSet, Tells, TellsAnswer, read_damage, stop_of};
+ghost use Rattle.zst_pool.specs.Telling.{HoldsNamed, Tells, TellsAnswer, stop_of};
 ghost use Rattle.zst_pool.specs.declared.fault.PoolFault.{PoolFault};
 
 use crate::calls::set_of;
@@ -31,8 +31,8 @@ use zst_objset::{Objects, reads_are_commands};
 use zst_outside::Disk;
 use zst_tree::ObjSet;
 
-// The object set of a dataset's head or of a snapshot; E3 where there is none of this name.
-fn open_set(dir: &Dir, name: Name) -> Result<ObjSet, PlanFault>
+/// The object set of a dataset's head or of a snapshot; E3 where there is none of this name.
+pub(crate) fn open_set(dir: &Dir, name: Name) -> Result<ObjSet, PlanFault>
     ensures set { IfOk result (λ set. set_named name dir.now ≡ Some set) }
     ensures holds { IfOk result (λ set. (image : List ℕ) (space : FreeSectors) (pool : Pool) → RunsBy (Has image space) dir.now pool → HoldsNamed (Has image space) name pool set) }
     ensures missing { IfErr result (λ fault. fault ≡ PlanFault.NoSuch (Missing.Named name)) }

@@ -1,13 +1,15 @@
 // What a receive does to a pool: it commits a partial state, or drops one.
-ghost use Rattle.std.specs.Prelude.{◌≡◌, ◌+◌, ◌<◌, ◌∷◌, ◌++◌, ◌||◌, ℕ, false, true, filter, not, IfErr, IfOk, IfSome, OnErr, OnOk, Err};
+ghost use Rattle.std.specs.Prelude.{◌≡◌, ◌+◌, ◌<◌, ◌∷◌, ◌++◌, ◌||◌, ℕ, false, true, filter, length, not, IfErr, IfOk, IfSome, OnErr, OnOk, Err};
 ghost use Rattle.zst_block.specs.Blocks.{Has};
+ghost use Rattle.zst_block.specs.Working.{TakesAtMost};
 ghost use Rattle.zst_model.specs.pools.Pool.{Pool as Plain, Partial as PlainPartial};
 ghost use Rattle.zst_model.specs.pools.Kept.{kept_of};
 ghost use Rattle.zst_dir.specs.Rows.{HasSnapshot, IsPartialRow, is_unkept_for};
+ghost use Rattle.zst_dir.specs.Spelling.{dir_bytes};
 ghost use Rattle.zst_pool.specs.Calls.{CallDid, CanCommit, IsAtRest, IsCallFault, IsCallFull, IsUnderWay, ListsAnew, keeping};
-ghost use Rattle.zst_pool.specs.Faults.{HasDiskCause, is_disk_fault};
+ghost use Rattle.zst_pool.specs.Faults.{HasDiskCause, is_disk_fault, is_full};
 ghost use Rattle.zst_pool.specs.Partials.{next_commit, partial_put, without_unkept};
-ghost use Rattle.zst_image.specs.Reads.{PartialIs, RunsBy, free_by};
+ghost use Rattle.zst_image.specs.Reads.{PartialIs, RunsBy, dir_sectors, free_by};
 ghost use Rattle.zst_image.specs.Committing.{IsDirFull, Ready};
 
 use crate::fault::{PoolFault, of_committed};
@@ -33,6 +35,7 @@ pub fn commit_next<D: Disk>(
         → ListsAnew running next → RunsBy (Has (D.state io.old.disk.now).seen io.old.space) dir next → CallDid (D.state start) (D.state io.new.disk.now) kept.now running (next_commit next) result }
     ensures known { IfErr result IsCallFault }
     ensures full { (need largest : ℕ) → result ≡ Err (PoolFault.Full need largest) → IsDirFull io.old.space io.new.space dir need largest }
+    ensures takes { TakesAtMost (dir_sectors (length (dir_bytes dir))) io.old.space io.new.space }
     ensures ready { IfOk result (λ next. Ready (D.state io.new.disk.now) next.body) }
     ensures stays { io.new.failed ≡ false → OnErr result (Ready (D.state io.new.disk.now) kept.now.body) }
     ensures failed { io.new.failed ≡ (io.old.failed || is_disk_fault result) }
@@ -59,7 +62,7 @@ fn commit_partial<D: Disk>(
     ensures did { (start : D) (running : Plain) (plain : PlainPartial) → (D.state io.new.disk.now).honest → IsUnderWay (D.state start) (D.state io.old.disk.now) io.old.space kept.now running
         → PartialIs (Has (D.state io.old.disk.now).seen io.old.space) partial plain → CallDid (D.state start) (D.state io.new.disk.now) kept.now running (partial_put roll plain running) result }
     ensures known { IfErr result IsCallFault }
-    ensures full { (need largest : ℕ) → result ≡ Err (PoolFault.Full need largest) → IsCallFull io.old.space kept.now.dir need largest }
+    ensures full { (need largest : ℕ) → result ≡ Err (PoolFault.Full need largest) → IsCallFull io.old.space io.new.space kept.now.dir need largest }
     ensures ready { IfOk result (λ next. Ready (D.state io.new.disk.now) next.body) }
     ensures stays { io.new.failed ≡ false → OnErr result (Ready (D.state io.new.disk.now) kept.now.body) }
     ensures failed { io.new.failed ≡ (io.old.failed || is_disk_fault result) }
@@ -120,7 +123,7 @@ impl<'d, D: Disk> Pool<'d, D> {
     /// Commits with this partial state in place of its target's, and gives the new number. Where it
     /// is asked for, the target's head is rolled back to its latest snapshot in the same commit.
     ///
-    /// Afterwards what the latest body leaves free is free again.
+    /// Afterwards what the latest body leaves free is free again; after E24 once `renew` is called.
     pub fn put_partial(
         &mut self,
         alloc: Global,
@@ -140,15 +143,17 @@ impl<'d, D: Disk> Pool<'d, D> {
         ensures number { IfOk result (λ number. number ≡ self.new.kept.body.number) }
         // Whatever the image is, there is no other refusal than E23, E24, E28 and E32.
         ensures known { self.old.io.failed ≡ false → IfErr result IsCallFault }
-        ensures full { (need largest : ℕ) → result ≡ Err (PoolFault.Full need largest) → IsCallFull self.old.io.space self.old.kept.dir need largest }
+        ensures full { (need largest : ℕ) → result ≡ Err (PoolFault.Full need largest) → IsCallFull self.old.io.space self.new.io.space self.old.kept.dir need largest }
         ensures stays { OnErr result (self.new.kept ≡ self.old.kept) }
 
         // A pool that has failed answers nothing else, and does nothing.
         ensures failed_pool { self.old.io.failed ≡ true → result ≡ Err PoolFault.Failed }
         ensures idle { self.old.io.failed ≡ true → self.new.io.disk.now ≡ self.old.io.disk.now }
 
-        ensures space { self.old.io.failed ≡ false → self.new.io.space ≡ free_by self.new.kept.body }
-        ensures works { self.new.io.failed ≡ false → CanCommit (D.state self.new.io.disk.now) self.new.io.space self.new.kept.body }
+        // After E24 the sectors are those that were left when it was found.
+        ensures space { (self.old.io.failed || is_full result) ≡ false → self.new.io.space ≡ free_by self.new.kept.body }
+        ensures works { (self.new.io.failed || is_full result) ≡ false → CanCommit (D.state self.new.io.disk.now) self.new.io.space self.new.kept.body }
+        ensures ready { self.new.io.failed ≡ false → Ready (D.state self.new.io.disk.now) self.new.kept.body }
         ensures failed { self.new.io.failed ≡ (self.old.io.failed || is_disk_fault result) }
         ensures cause { HasDiskCause (D.state self.old.io.disk.now).faults (D.state self.new.io.disk.now).faults result }
         ensures honest { (D.state self.new.io.disk.now).honest → (D.state self.old.io.disk.now).honest }
@@ -158,7 +163,7 @@ impl<'d, D: Disk> Pool<'d, D> {
             return Err(PoolFault::Failed);
         }
         let committed = commit_partial(&mut self.io, alloc, &self.kept, partial, roll);
-        self.settle(alloc, committed)
+        self.settle_command(alloc, committed)
     }
 
     /// Leaves out the partial state of this target, where there is one that isn't kept. It commits

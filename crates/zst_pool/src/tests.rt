@@ -5,7 +5,11 @@ ghost use Rattle.zst_model.specs.pools.Step.{IsCommand};
 
 mod answers;
 mod lineage;
+mod lists;
 mod looks;
+mod reads;
+mod rollbacks;
+mod sessions;
 mod stops;
 mod turned;
 

@@ -12,7 +12,7 @@ use zst_image::Kept;
 use zst_model::{Command, Reply};
 use zst_outside::{Disk, MemDisk};
 
-fn check_line(rt: &impl Abort, reply: &Reply, line: &str) {
+pub(super) fn check_line(rt: &impl Abort, reply: &Reply, line: &str) {
     let lines = reply.lines();
     assert_eq!(rt; lines.len(), 1);
     assert!(rt; lines[0].as_slice() == line.as_bytes(), "{line}");

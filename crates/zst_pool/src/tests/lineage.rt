@@ -20,7 +20,7 @@ use zst_names::{BookName, SnapName};
 use zst_outside::{Disk, MemDisk};
 use zst_tree::ObjSet;
 
-fn clone_of(origin: &str, name: &str) -> Result<Command, Refused>
+pub(super) fn clone_of(origin: &str, name: &str) -> Result<Command, Refused>
     ensures { IfOk result IsCommand }
 {
     let origin = SnapName::parse(origin).map_err(PlanFault::from)?;
@@ -30,7 +30,7 @@ fn clone_of(origin: &str, name: &str) -> Result<Command, Refused>
     Ok(Command::Clone { origin, dataset })
 }
 
-fn bookmark_of(snapshot: &str, name: &str) -> Result<Command, Refused>
+pub(super) fn bookmark_of(snapshot: &str, name: &str) -> Result<Command, Refused>
     ensures { IfOk result IsCommand }
 {
     let snapshot = SnapName::parse(snapshot).map_err(PlanFault::from)?;
@@ -71,7 +71,7 @@ fn destroy_bookmark(text: &str) -> Result<Command, Refused>
 }
 
 // How many datasets, snapshots and bookmarks the pool of a disk has.
-fn rows_of(alloc: Global, disk: &mut MemDisk) -> Result<(usize, usize, usize), Refused> {
+pub(super) fn rows_of(alloc: Global, disk: &mut MemDisk) -> Result<(usize, usize, usize), Refused> {
     let dir = Kept::open(alloc, disk)?.dir;
     Ok((
         dir.datasets().len(),

@@ -13,6 +13,7 @@ use Rattle.zst_pool.proofs.Calling.{call_fell}
 use Rattle.zst_pool.proofs.FinishedRows.{partial_is_finished}
 use Rattle.zst_pool.proofs.Judging.{err_is}
 use Rattle.zst_pool.proofs.Resting.{way_runs}
+use Rattle.zst_pool.proofs.Room.{call_full}
 use Rattle.zst_pool.proofs.finishing.commit_finished.Goals as goal
 
 pub returns-in_err-dir-clause-did : goal.returns-in_err-dir-clause-did
@@ -33,3 +34,7 @@ returns-clause-did g c = λ start running plain told way is.
     let number : running.number + 1 ≡ c.saturating_add-number.result = omega (arith, was.number, was.lawful.number, c.saturating_add-number.ensures) in
     let runs = subst (λ (r : Rows). RunsBy has r next) (sym c.in_ok-dir.ensures.finished) (partial_is_finished has c.args.kept.now.dir running was.runs_by c.args.partial.now plain is c.saturating_add-number.result number) in
     c.commit_next.ensures.did start running next told way (record { id = refl; number = refl; guids = refl }) runs
+
+pub returns-clause-full : goal.returns-clause-full
+returns-clause-full g c = λ need largest is.
+    call_full c.args.io.now.space c.commit_next.new.io.space _ c.args.kept.now.dir need largest c.in_ok-dir.ensures.grows c.commit_next.ensures.takes (c.commit_next.ensures.full need largest is)

@@ -4,7 +4,8 @@ use Rattle.zst_model.specs.declared.refusals.refusal.Refusal.{Refusal}
 use Rattle.zst_model.specs.pools.Step.{Stepped, stepped}
 use Rattle.std.specs.Prelude.{Result}
 use Rattle.zst_model.specs.declared.pools.command.Command.TheVariants as commands
-use Rattle.zst_pool.specs.Telling.{TellsAnswer, read_damage}
+use Rattle.zst_pool.specs.Damage.{read_damage}
+use Rattle.zst_pool.specs.Telling.{TellsAnswer}
 use Rattle.zst_pool.proofs.Telling.{of_named, read_missing, read_there, tells_missing}
 use Rattle.zst_pool.proofs.reading.read_block.Goals as goal
 

@@ -10,7 +10,7 @@ use Rattle.zst_dnode.specs.declared.dnode.Dnode.{Dnode}
 use Rattle.zst_objset.specs.Changes.{block_told, found_at}
 use Rattle.zst_objset.specs.Sets.{SetHolds}
 use Rattle.zst_objset.proofs.LeafLaws.{look_on}
-use Rattle.zst_pool.specs.Telling.{look_damage, read_damage}
+use Rattle.zst_pool.specs.Damage.{look_damage, read_damage}
 use Rattle.zst_pool.proofs.Telling.{block_refused, disk_refused, index_past, long_enough, set_told, stop_set}
 use Rattle.zst_model.specs.declared.pools.reply.Reply.{Reply}
 use Rattle.zst_model.specs.declared.states.cell.Cell.{Cell}

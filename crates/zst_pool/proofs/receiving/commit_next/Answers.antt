@@ -1,8 +1,10 @@
-use Rattle.std.proofs.Common.{◌≡◌, sym, ◌∙◌, subst}
+use Rattle.std.proofs.Common.{◌≡◌, length, sym, ◌∙◌, subst}
 use Rattle.std.specs.Prelude.{Result}
 use Rattle.zst_block.specs.Blocks.{Has}
 use Rattle.zst_model.specs.pools.Kept.{kept_of}
 use Rattle.zst_dir.specs.Rows.{IsLawful}
+use Rattle.zst_dir.specs.Spelling.{dir_bytes}
+use Rattle.zst_image.specs.Reads.{dir_sectors}
 use Rattle.zst_image.specs.declared.kept.Kept.{Kept}
 use Rattle.zst_pool.specs.Calls.{CallDid}
 use Rattle.zst_pool.specs.Checks.{next_of}
@@ -13,6 +15,7 @@ use Rattle.zst_pool.proofs.Calling.{call_did, call_fell, number_after}
 use Rattle.zst_pool.proofs.Judging.{err_is}
 use Rattle.zst_pool.proofs.Naming.{rows_named}
 use Rattle.zst_pool.proofs.Resting.{few_guids, kept_is_next, next_lawful, rests_next, rests_unless, way_runs}
+use Rattle.zst_pool.proofs.Taking.{taken_none}
 use Rattle.zst_pool.proofs.receiving.commit_next.Goals as goal
 
 pub returns-in_err-check_limits-clause-did : goal.returns-in_err-check_limits-clause-did
@@ -24,6 +27,9 @@ returns-in_err-check_limits-clause-did g c = λ start running next told way anew
     let number : next.number ≡ kept.body.number = anew.number ∙ way.rested.rests.reads.described.number in
     subst (λ (r : Result Kept PoolFault). CallDid (g.D.Disk.state start) old kept running (next_commit next) r) (sym (err_is c.from_residual.result fault c.from_residual.ensures.1))
     (call_fell (g.D.Disk.state start) old space kept running (next_commit next) fault way (c.in_err-check_limits.ensures.judged next (rows_named (Has old.seen space) c.args.dir next runs) number, tt))
+
+pub returns-in_err-check_limits-clause-takes : goal.returns-in_err-check_limits-clause-takes
+returns-in_err-check_limits-clause-takes g c = taken_none (dir_sectors (length (dir_bytes c.args.dir))) c.args.io.now.space
 
 pub returns-clause-did : goal.returns-clause-did
 returns-clause-did g c = λ start running next told way anew runs.

@@ -1,10 +1,13 @@
-use Rattle.std.specs.Prelude.{true, false, Result, Ok, Err, IfErr}
+use Rattle.std.specs.Prelude.{◌||◌, Bool, true, false, not, Result, Ok, Err, IfErr}
 use Rattle.std.proofs.Common.{◌≡◌, ℕ, ◌+◌, List, [], ◌∷◌, refl, sym, ap, ◌∙◌, subst, arith}
 use Rattle.std.proofs.lemmas.Bool.{or_parts}
+use Rattle.zst_laws.specs.Counting.{commits}
 use Rattle.zst_model.specs.pools.Lines.{ok_line}
 use Rattle.zst_model.specs.pools.Step.{stepped}
 use Rattle.zst_image.specs.declared.kept.Kept.{Kept}
-use Rattle.zst_image.specs.Reads.{free_by}
+use Rattle.zst_block.specs.Blocks.{FitsDisk, Has}
+use Rattle.zst_space.specs.FreeSectors.{FreeSectors}
+use Rattle.zst_image.specs.Reads.{RunsBy, free_by}
 use Rattle.zst_image.specs.Committing.{Ready}
 use Rattle.zst_pool.specs.Cost.{cost_of}
 use Rattle.zst_pool.specs.Damage.{IsOf, TellsDamage}
@@ -12,16 +15,18 @@ use Rattle.zst_pool.specs.Faults.{is_full}
 use Rattle.zst_pool.specs.Plans.{Plans, indices_end, numbers_end}
 use Rattle.zst_pool.specs.Runs.{Runs}
 use Rattle.zst_pool.specs.Stepping.{StepAnswer}
+use Rattle.zst_pool.specs.Telling.{Tells}
 use Rattle.zst_pool.specs.declared.fault.PoolFault.{PoolFault}
 use Rattle.zst_pool.specs.declared.fault.PoolFault.TheVariants.{OutOfMemory}
+use Rattle.zst_pool.proofs.Answering.{cause_told, fails_told, on_err, ready_read, rests_read, since_read, spares_read, spends_none, told_rests}
 use Rattle.zst_pool.proofs.Judging.{err_is}
 use Rattle.zst_pool.proofs.Planned.{plans_err, plans_ok}
 use Rattle.zst_pool.proofs.Replying.{step_reply}
 use Rattle.zst_pool.proofs.Stepped.{free_again, spends_apart, spends_err, spends_ok, spares_err}
-use Rattle.zst_pool.proofs.Resting.{commit_next_of}
+use Rattle.zst_pool.proofs.Resting.{commit_next_of, free_by_fits}
 use Rattle.zst_pool.proofs.pool.Pool.step.Given.{Over}
 use Rattle.zst_pool.proofs.pool.Pool.step.Goals as goal
-use Rattle.zst_pool.proofs.pool.Pool.step.Goals.{After-settle_command}
+use Rattle.zst_pool.proofs.pool.Pool.step.Goals.{After-settle_command, After-tell}
 
 -- what was run, over the disk that the pool then has
 ran : (g : Over) (c : After-settle_command g) (answer : Result Kept PoolFault) → answer ≡ c.run-ran.result
@@ -33,6 +38,11 @@ planned : (g : Over) (c : After-settle_command g) (answer : Result Kept PoolFaul
     → Plans (λ pool. stepped [] c.args.now c.args.command pool) (numbers_end c.args.command) (indices_end c.args.command) c.args.self.now.kept answer
 planned g c answer same = rw same c.run-ran.ensures.plans
 
+-- what doesn't only answer commits
+commits_else : (b answers : Bool) → answers ≡ not b → answers ≡ false → b ≡ true
+commits_else true answers same fell = refl
+commits_else false answers same fell = absurd (cc)
+
 pub returns-clause-moments : goal.returns-clause-moments
 returns-clause-moments g c = λ running told rested.
     let runs = ran g (goal.at.returns-clause-moments g c).After-settle_command (Ok c.settle_command.new.self.kept) c.in_ok-settle_command.ensures.kept in
@@ -40,11 +50,11 @@ returns-clause-moments g c = λ running told rested.
     did.moments
 
 pub returns-clause-answer : goal.returns-clause-answer
-returns-clause-answer g c = λ running told built standing rested.
+returns-clause-answer g c = λ running told standing rested.
     let runs = ran g (goal.at.returns-clause-answer g c).After-settle_command (Ok c.settle_command.new.self.kept) c.in_ok-settle_command.ensures.kept in
     let did = runs.ran.did running told rested in
     let answer = did.answer in
-    let is = step_reply c.args.now c.args.command running answer.0 built answer.1 in
+    let is = step_reply c.args.now c.args.command running answer.0 (commits_else (commits c.args.command) c.only_answers.result c.only_answers.ensures c.if-only_answers.false) answer.1 in
     let number : c.saturating_add.result ≡ running.number + 1 = omega (arith, is.below, rested.rests.reads.described.number, c.saturating_add.ensures) in
     (answer.0, answer.1, c.in_ok-reply.ensures ∙ ap (λ (n : ℕ). ok_line n ∷ []) number ∙ sym is.line, answer.2)
 
@@ -65,7 +75,7 @@ returns-clause-exact g c = λ running told standing rested.
     spends_ok cost.cells (cost.block running) c.args.self.now.kept c.run-ran.new.io.space c.settle_command.new.self.kept c.in_ok-reply.reply c.settle_command.new.self.io.space (runs.ran.exact running told rested)
 
 pub returns-clause-planned : goal.returns-clause-planned
-returns-clause-planned g c = λ standing built left.
+returns-clause-planned g c = λ standing left.
     plans_ok (stepped [] c.args.now c.args.command) (numbers_end c.args.command) (indices_end c.args.command) c.args.self.now.kept c.settle_command.new.self.kept c.in_ok-reply.reply
     (planned g (goal.at.returns-clause-planned g c).After-settle_command (Ok c.settle_command.new.self.kept) c.in_ok-settle_command.ensures.kept)
 
@@ -92,7 +102,7 @@ returns-in_err-settle_command-clause-moments g c = λ running told rested.
     did.moments
 
 pub returns-in_err-settle_command-clause-answer : goal.returns-in_err-settle_command-clause-answer
-returns-in_err-settle_command-clause-answer g c = λ running told built standing rested.
+returns-in_err-settle_command-clause-answer g c = λ running told standing rested.
     let runs = ran g (goal.at.returns-in_err-settle_command-clause-answer g c).After-settle_command (Err c.in_err-settle_command.field-0.0) c.in_err-settle_command.ensures.kept in
     let did = runs.ran.did running told rested in
     let fell = c.from_residual-in_err-settle_command in
@@ -137,7 +147,7 @@ returns-in_err-settle_command-clause-damaged g c = λ told.
     subst (λ (r : Result (List (List ℕ)) PoolFault). IfErr r (IsOf Is)) (sym (err_is fell.result fault fell.ensures.1)) (runs.damaged told)
 
 pub returns-in_err-settle_command-clause-planned : goal.returns-in_err-settle_command-clause-planned
-returns-in_err-settle_command-clause-planned g c = λ standing built left.
+returns-in_err-settle_command-clause-planned g c = λ standing left.
     let fault = c.in_err-settle_command.field-0.0 in
     let fell = c.from_residual-in_err-settle_command in
     plans_err (stepped [] c.args.now c.args.command) (numbers_end c.args.command) (indices_end c.args.command) c.args.self.now.kept fault (err_is fell.result fault fell.ensures.1)
@@ -168,7 +178,7 @@ returns-in_err-settle_command-clause-ready g c = λ standing.
 -- where no memory was left for its reply
 
 pub returns-in_err-reply-clause-answer : goal.returns-in_err-reply-clause-answer
-returns-in_err-reply-clause-answer g c = λ running told built standing rested.
+returns-in_err-reply-clause-answer g c = λ running told standing rested.
     subst (StepAnswer (g.D.Disk.state c.args.self.now.io.disk.now) c.args.self.now.kept running (stepped [] c.args.now c.args.command running))
     (sym (err_is c.from_residual.result OutOfMemory c.from_residual.ensures.1)) rested
 
@@ -194,7 +204,7 @@ returns-in_err-reply-clause-damaged g c = λ told.
     subst (λ (r : Result (List (List ℕ)) PoolFault). IfErr r (IsOf Is)) (sym (err_is fell.result OutOfMemory fell.ensures.1)) (λ sector stated found is. absurd (cc))
 
 pub returns-in_err-reply-clause-planned : goal.returns-in_err-reply-clause-planned
-returns-in_err-reply-clause-planned g c = λ standing built left.
+returns-in_err-reply-clause-planned g c = λ standing left.
     absurd (left (err_is c.from_residual.result OutOfMemory c.from_residual.ensures.1))
 
 pub returns-in_err-reply-clause-works : goal.returns-in_err-reply-clause-works
@@ -206,9 +216,90 @@ returns-in_err-reply-clause-works g c = λ standing.
 pub returns-then-self-clause-sound : goal.returns-then-self-clause-sound
 returns-then-self-clause-sound g c = λ running done rested sound made. c.steps_keep_sound.ensures [] c.args.now c.args.command running done c.requires.command rested.lawful sound made
 
-pub returns-then-is_not_built-clause-sound : goal.returns-then-is_not_built-clause-sound
-returns-then-is_not_built-clause-sound g c = λ running done rested sound made. c.steps_keep_sound.ensures [] c.args.now c.args.command running done c.requires.command rested.lawful sound made
+-- where it only answers
 
-pub returns-then-is_not_built-clause-works : goal.returns-then-is_not_built-clause-works
-returns-then-is_not_built-clause-works g c = λ standing.
-    commit_next_of (g.D.Disk.state c.args.self.now.io.disk.now) c.new-2.result c.args.self.now.kept.body (rw (c.new-2.ensures, c.new.ensures.items) refl) (c.requires.ready (or_parts _ _ standing).0)
+free : (g : Over) (c : After-tell g) → c.new-2.result ≡ free_by c.args.self.now.kept.body
+free g c = rw (c.new-2.ensures, c.new.ensures.items) refl
+
+tells : (g : Over) (c : After-tell g)
+    → Tells (λ pool. stepped [] c.args.now c.args.command pool) (TellsDamage c.args.command c.args.self.now.kept.dir (g.D.Disk.state c.args.self.now.io.disk.now) (free_by c.args.self.now.kept.body)) c.args.self.now.kept
+    (g.D.Disk.state c.args.self.now.io.disk.now) c.new-2.result c.args.self.now.io.failed (g.D.Disk.state c.tell.new.io.disk.now) c.tell.new.io.space c.tell.new.io.failed c.tell.result
+tells g c = c.tell.ensures.tells c.args.now
+
+pub tell-requires-clause-fits : goal.tell-requires-clause-fits
+tell-requires-clause-fits g c =
+    let kept = c.args.self.now.kept in
+    let ready = c.requires.ready c.if-self.false in
+    subst (FitsDisk (g.D.Disk.state c.args.self.now.io.disk.now).size) (rw (c.new-2.ensures, c.new.ensures.items) refl) (free_by_fits (g.D.Disk.state c.args.self.now.io.disk.now).size kept.body ready.in_range)
+
+pub returns-then-only_answers-clause-moments : goal.returns-then-only_answers-clause-moments
+returns-then-only_answers-clause-moments g c = λ running told rested.
+    let is = tells g (goal.at.returns-then-only_answers-clause-moments g c).After-tell in
+    since_read (g.D.Disk.state c.args.self.now.io.disk.now) (g.D.Disk.state c.tell.new.io.disk.now) c.args.self.now.kept is.looks.reads running rested (stepped [] c.args.now c.args.command running)
+
+pub returns-then-only_answers-clause-answer : goal.returns-then-only_answers-clause-answer
+returns-then-only_answers-clause-answer g c = λ running told standing rested.
+    let at = (goal.at.returns-then-only_answers-clause-answer g c).After-tell in
+    let is = tells g at in
+    let old = g.D.Disk.state c.args.self.now.io.disk.now in
+    let new = g.D.Disk.state c.tell.new.io.disk.now in
+    let kept = c.args.self.now.kept in
+    told_rests new kept running (stepped [] c.args.now c.args.command running) c.tell.result (rests_read old new kept is.looks.reads running rested)
+    (is.told running told (subst (λ (space : FreeSectors). RunsBy (Has old.seen space) kept.dir running) (sym (free g at)) rested.runs_by))
+
+pub returns-then-only_answers-clause-planned : goal.returns-then-only_answers-clause-planned
+returns-then-only_answers-clause-planned g c = λ standing left. c.tell.ensures.plans c.args.now
+
+pub returns-then-only_answers-clause-open_still : goal.returns-then-only_answers-clause-open_still
+returns-then-only_answers-clause-open_still g c = λ standing. (c.tell.ensures.tells c.args.now).open_still
+
+pub returns-then-only_answers-clause-spends : goal.returns-then-only_answers-clause-spends
+returns-then-only_answers-clause-spends g c = λ standing.
+    let cost = cost_of c.args.command in
+    (0, omega arith, spends_none cost.cells 0 c.args.self.now.kept c.tell.new.io.space c.tell.result (c.tell.ensures.tells c.args.now).looks.never_full)
+
+pub returns-then-only_answers-clause-exact : goal.returns-then-only_answers-clause-exact
+returns-then-only_answers-clause-exact g c = λ running told standing rested.
+    let cost = cost_of c.args.command in
+    spends_none cost.cells (cost.block running) c.args.self.now.kept c.tell.new.io.space c.tell.result (c.tell.ensures.tells c.args.now).looks.never_full
+
+pub returns-then-only_answers-clause-damaged : goal.returns-then-only_answers-clause-damaged
+returns-then-only_answers-clause-damaged g c = λ told. (c.tell.ensures.tells c.args.now).damaged told
+
+pub returns-then-only_answers-clause-spares : goal.returns-then-only_answers-clause-spares
+returns-then-only_answers-clause-spares g c = λ apart.
+    on_err c.tell.result (spares_read (g.D.Disk.state c.args.self.now.io.disk.now) (g.D.Disk.state c.tell.new.io.disk.now) c.args.self.now.kept (c.tell.ensures.tells c.args.now).looks.reads)
+
+pub returns-then-only_answers-clause-kept : goal.returns-then-only_answers-clause-kept
+returns-then-only_answers-clause-kept g c = on_err c.tell.result refl
+
+pub returns-then-only_answers-clause-sound : goal.returns-then-only_answers-clause-sound
+returns-then-only_answers-clause-sound g c = λ running done rested sound made. c.steps_keep_sound.ensures [] c.args.now c.args.command running done c.requires.command rested.lawful sound made
+
+pub returns-then-only_answers-clause-only_reads : goal.returns-then-only_answers-clause-only_reads
+returns-then-only_answers-clause-only_reads g c = λ idle. (c.tell.ensures.tells c.args.now).looks.reads
+
+pub returns-then-only_answers-clause-space : goal.returns-then-only_answers-clause-space
+returns-then-only_answers-clause-space g c = λ told. (c.tell.ensures.tells c.args.now).looks.space ∙ free g (goal.at.returns-then-only_answers-clause-space g c).After-tell
+
+pub returns-then-only_answers-clause-ready : goal.returns-then-only_answers-clause-ready
+returns-then-only_answers-clause-ready g c = λ standing.
+    let looks = (c.tell.ensures.tells c.args.now).looks in
+    ready_read (g.D.Disk.state c.args.self.now.io.disk.now) (g.D.Disk.state c.tell.new.io.disk.now) c.args.self.now.kept looks.reads (c.requires.ready (or_parts _ _ (sym looks.failed ∙ standing)).0)
+
+pub returns-then-only_answers-clause-works : goal.returns-then-only_answers-clause-works
+returns-then-only_answers-clause-works g c = λ told.
+    let at = (goal.at.returns-then-only_answers-clause-works g c).After-tell in
+    let looks = (c.tell.ensures.tells c.args.now).looks in
+    let new = g.D.Disk.state c.tell.new.io.disk.now in
+    commit_next_of new c.tell.new.io.space c.args.self.now.kept.body (looks.space ∙ free g at)
+    (ready_read (g.D.Disk.state c.args.self.now.io.disk.now) new c.args.self.now.kept looks.reads (c.requires.ready (or_parts _ _ (sym looks.failed ∙ (or_parts _ _ told).0)).0))
+
+pub returns-then-only_answers-clause-failed : goal.returns-then-only_answers-clause-failed
+returns-then-only_answers-clause-failed g c = (c.tell.ensures.tells c.args.now).looks.failed ∙ ap (λ (b : Bool). c.args.self.now.io.failed || b) (fails_told c.tell.result)
+
+pub returns-then-only_answers-clause-cause : goal.returns-then-only_answers-clause-cause
+returns-then-only_answers-clause-cause g c = cause_told (g.D.Disk.state c.args.self.now.io.disk.now).faults (g.D.Disk.state c.tell.new.io.disk.now).faults c.tell.result (c.tell.ensures.tells c.args.now).looks.cause
+
+pub returns-then-only_answers-clause-honest : goal.returns-then-only_answers-clause-honest
+returns-then-only_answers-clause-honest g c = λ told. (c.tell.ensures.tells c.args.now).looks.reads.honest told
