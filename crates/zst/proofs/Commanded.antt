@@ -1,8 +1,8 @@
 -- What stands after a command on the pool of an image, from what opening and stepping say.
-use Rattle.std.specs.Prelude.{Option, Some, None, Result, Ok, Err}
+use Rattle.std.specs.Prelude.{false, Option, Some, None, Result, Ok, Err}
 use Rattle.std.proofs.Common.{◌≡◌, ◌≢◌, ◌⊎◌, inl, inr, ⊎_elim, ℕ, ◌≤◌, List, [], refl, sym, ap, ◌∙◌, subst, arith}
 use Rattle.zst_outside.specs.Causes.{Rose-earlier}
-use Rattle.zst_outside.specs.Images.{DiskState, Leaves, Leaves-weaker, Leaves-then, OnlyReads, IsSynced}
+use Rattle.zst_outside.specs.Images.{DiskState, Leaves, Leaves-weaker, Leaves-then, OnlyReads, OnlyReads-then, IsSynced}
 use Rattle.zst_outside.specs.States.{SinkState}
 use Rattle.zst_space.specs.FreeSectors.{FreeSectors}
 use Rattle.zst_block.specs.Blocks.{SparesTaken}
@@ -18,9 +18,10 @@ use Rattle.zst_model.specs.declared.refusals.plan_fault.PlanFault.{PlanFault}
 use Rattle.zst_model.specs.declared.refusals.plan_fault.PlanFault.TheVariants as plans
 use Rattle.zst_model.specs.declared.refusals.refusal.Refusal.{Refusal}
 use Rattle.zst_model.specs.declared.refusals.refusal.Refusal.TheVariants as refusals
+use Rattle.zst_laws.specs.Counting.{commits}
 use Rattle.zst_laws.specs.Stepping.{StepsKeepKept}
 use Rattle.zst_tree.specs.Damage.{IsSeen, NamesNode, SumsUp}
-use Rattle.zst_objset.specs.Damage.{IsDamagedObject, IsDamagedSet}
+use Rattle.zst_objset.specs.Damage.{IsDamagedBlock, IsDamagedObject, IsDamagedSet}
 use Rattle.zst_dir.specs.Rows.{Rows}
 use Rattle.zst_image.specs.Faults.{open_refusal}
 use Rattle.zst_image.specs.Faults as opening
@@ -31,7 +32,7 @@ use Rattle.zst_image.specs.declared.open_fault.OpenFault.{OpenFault}
 use Rattle.zst_image.specs.declared.open_fault.OpenFault.TheVariants as opens
 use Rattle.zst_pool.specs.Calls.{IsAtRest}
 use Rattle.zst_pool.specs.Cost.{FindsNoRoom, Grows, HasNoRoom, cost_of, most_sectors}
-use Rattle.zst_pool.specs.Damage.{IsOf, OfHead, TellsDamage}
+use Rattle.zst_pool.specs.Damage.{IsOf, OfHead, OfSet, TellsDamage}
 use Rattle.zst_pool.specs.Faults.{HasDiskCause, StepFault, pool_refusal}
 use Rattle.zst_pool.specs.Plans.{Plans, indices_end, numbers_end}
 use Rattle.zst_pool.specs.Stepping.{BeforeOrAfter, StepAnswer}
@@ -282,9 +283,11 @@ told_of_start here mid rows space sector stated found (commands.Clone origin dat
 told_of_start here mid rows space sector stated found (commands.Bookmark snapshot bookmark) reads is = is
 told_of_start here mid rows space sector stated found (commands.Rollback destroys snapshot) reads is = is
 told_of_start here mid rows space sector stated found (commands.Destroy name) reads is = is
-told_of_start here mid rows space sector stated found (commands.Read name k i) reads is = is
+told_of_start here mid rows space sector stated found (commands.Read name k i) reads is =
+    told_before here mid (λ seen size. OfSet rows name (λ set at s f. (count : ℕ) × IsDamagedBlock (IsSeen seen) size count set at s f) sector stated found) reads is
 told_of_start here mid rows space sector stated found commands.List reads is = is
-told_of_start here mid rows space sector stated found (commands.ListObjects name) reads is = is
+told_of_start here mid rows space sector stated found (commands.ListObjects name) reads is =
+    told_before here mid (λ seen size. OfSet rows name (IsDamagedSet (IsSeen seen) size) sector stated found) reads is
 
 -- what a plan refuses, as a refusal of the whole
 planned_refused : (now : ℕ) (command : Command) (kept : Kept) (rows : Rows) (fault : PoolFault) → kept.dir ≡ kept_rows rows
@@ -375,6 +378,7 @@ stepping_unopened now command here here' fault there answer reads synced cause =
       (λ alive. rests_read here here' uber rows pool is reads (synced alive)) (there uber rows pool told is);
   opened = λ told. opened_refused now command here here' fault reads (answer told);
   refused = refused_open here here' fault cause;
+  idle = λ not. reads;
   later = cause.later;
 }
 
@@ -392,6 +396,7 @@ module _ (laws : KeepLaws) (one : ReadsOne) (stay : ReadsStay) (now : ℕ) (comm
     (stands : (uber : Uber) (rows : Rows) (pool : Pool) → mid.honest → ReadsAs uber rows pool here.seen → Rests mid kept.body rows pool)
     (opened : (rows : Rows) (pool : Pool) → Rests mid kept.body rows pool → kept.dir ≡ kept_rows rows → IsAtRest mid kept pool) (later : here.faults ≤ mid.faults)
     (step : (pool : Pool) → here'.honest → IsAtRest mid kept pool → Leaves mid here' (BeforeOrAfter pool (stepped [] now command pool)))
+    (looks : commits command ≡ false → OnlyReads mid here')
     (only : (c : List ℕ) → here.left_since here.moment c → here.images c) (now_left : (t : ℕ) (c : List ℕ) → t ≤ here'.moment → here'.images c → here'.left_since t c) where
   rests : (uber : Uber) (rows : Rows) (pool : Pool) → here'.honest → ReadsAs uber rows pool here.seen → IsAtRest mid kept pool
   rests uber rows pool told is = let gives = there uber rows pool (falls told) is in opened rows pool (stands uber rows pool (falls told) is) gives.1
@@ -430,6 +435,7 @@ module _ (laws : KeepLaws) (one : ReadsOne) (stay : ReadsStay) (now : ℕ) (comm
         done uber rows pool lines (there uber rows pool (falls told) is) (laws.2 uber rows pool here.seen is) (grows pool told before) (did pool told before);
     opened = λ told. let was = answer (falls told) in (kept.body, was.1, ran_done now command here here' kept was.1 lines was.4 (was.0, was.2, was.3) plan);
     refused = tt;
+    idle = λ not. OnlyReads-then here mid here' reads (looks not);
     later = omega (arith, later, after);
   }
 
@@ -467,6 +473,7 @@ module _ (laws : KeepLaws) (one : ReadsOne) (stay : ReadsStay) (now : ℕ) (comm
         (λ not. ran_refused now command here mid here' kept was.1 fault was.4 (was.0, was.2, was.3) reads
         (subst (λ (bytes : List ℕ). SparesTaken (free_by kept.body) bytes here'.seen) reads.seen (spares not)) bounded (damaged told) plan);
     refused = refused_step here mid here' fault later cause alive;
+    idle = λ not. OnlyReads-then here mid here' reads (looks not);
     later = omega (arith, later, cause.later);
   }
 

@@ -1,5 +1,5 @@
 -- What a line that works on a pool leaves of its image, and what it answers.
-use Rattle.std.specs.Prelude.{ℕ, ◌≡◌, ◌≢◌, ◌⊎◌, ◌↔◌, ◌*◌, ◌<◌, ◌≤◌, true, IfErr, OnErr, List, [], ◌∷◌, None, Some, Result, Ok, Err}
+use Rattle.std.specs.Prelude.{ℕ, ◌≡◌, ◌≢◌, ◌⊎◌, ◌↔◌, ◌*◌, ◌<◌, ◌≤◌, false, true, IfErr, OnErr, List, [], ◌∷◌, None, Some, Result, Ok, Err}
 use Rattle.zst_outside.specs.Causes.{Rose}
 use Rattle.zst_outside.specs.Images.{DiskState, Leaves, OnlyReads}
 use Rattle.zst_outside.specs.States.{SinkState}
@@ -20,6 +20,7 @@ use Rattle.zst_model.specs.declared.refusals.plan_fault.PlanFault.{PlanFault}
 use Rattle.zst_model.specs.declared.refusals.plan_fault.PlanFault.TheVariants as plans
 use Rattle.zst_model.specs.declared.refusals.refusal.Refusal.{Refusal}
 use Rattle.zst_model.specs.declared.refusals.refusal.Refusal.TheVariants as refusals
+use Rattle.zst_laws.specs.Counting.{commits}
 use Rattle.zst_dir.specs.Rows.{Rows}
 use Rattle.zst_image.specs.Faults.{create_refusal, open_refusal}
 use Rattle.zst_image.specs.Creating.{IsNew}
@@ -132,7 +133,7 @@ Opened now command here here' (Err refusals.OutOfMemory) =
 Opened now command here here' answer = (uber : Uber) × (rows : Rows) × Ran now command here here' answer uber rows
 
 -- One command on the pool of an image: at every moment, and in the end, each image stood before it, or reads as the pool
--- before it or as what the definition makes of it.
+-- before it or as what the definition makes of it. One that only answers reads the image.
 pub record Stepping (now : ℕ) (command : Command) (here here' : DiskState) (answer : Result (List (List ℕ)) Refusal) : Type 0 where
   pub moments : (pool : Pool) → here'.honest → Reads pool here.seen → Leaves here here' (OldOrReads here pool (stepped [] now command pool))
   pub images : (pool : Pool) → here'.honest → Reads pool here.seen → (c : List ℕ) → here'.images c → OldOrReads here pool (stepped [] now command pool) c
@@ -140,6 +141,7 @@ pub record Stepping (now : ℕ) (command : Command) (here here' : DiskState) (an
       → Answers command uber rows pool here' (stepped [] now command pool) answer
   pub opened : here'.honest → Opened now command here here' answer
   pub refused : IfErr answer (IsPoolRefusal OfStepping here here')
+  pub idle : commits command ≡ false → OnlyReads here here'
   pub later : here.faults ≤ here'.faults
 
 -- and its lines are written

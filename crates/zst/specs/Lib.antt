@@ -4,6 +4,7 @@ pub mod Replies
 pub mod Commands
 pub mod Devices
 pub mod Lines
+pub mod Openings
 pub mod Runs
 pub mod Intake
 pub mod Dumping

@@ -1,5 +1,5 @@
 -- What a line does.
-use Rattle.std.specs.Prelude.{ℕ, ◌≡◌, Bool, true, false, Result, Ok, Err}
+use Rattle.std.specs.Prelude.{ℕ, ◌≡◌, Result, Ok, Err}
 use Rattle.zst_outside.specs.Images.{DiskState}
 use Rattle.zst_outside.specs.States.{SinkState}
 use Rattle.zst_model.specs.pools.Step.{IsCommand}
@@ -12,7 +12,6 @@ use Rattle.zst_line.specs.Lines.{IsCreate, refusal_of}
 use Rattle.zst_line.specs.declared.line.Line.{Line}
 use Rattle.zst_line.specs.declared.line.Line.TheVariants.{Dump, Create, Step}
 use Rattle.zst_line.specs.declared.line.LineFault.{LineFault}
-use Rattle.zst_pool.specs.Stepping.{is_built}
 use Rattle.zst.specs.Commands.{Creates, Steps}
 use Rattle.zst.specs.Devices.{Devices}
 use Rattle.zst.specs.Dumps.{Dumps}
@@ -27,19 +26,14 @@ IsInRange line = Unit {0}
 abbrev pub not_built : Refusal
 not_built = refusals.Plan (plans.Unsupported lacks.NotBuilt)
 
--- a command steps the pool of the image where it is built, and is else refused with nothing written
-abbrev pub StepsOrNot : Bool → {D : Type 0} → (D → DiskState) → ℕ → Command → D → D → SinkState → SinkState → Result (Unit {0}) Refusal → Type 0
-StepsOrNot true state now command here here' out out' result = Steps now command (state here) (state here') out out' result
-StepsOrNot false state now command here here' out out' result = (result ≡ Err not_built) × (here' ≡ here) × (out' ≡ out)
-
--- What a line does: `dump` reads the input and leaves the image alone, and all others leave the input alone. Those that read,
--- list, send, receive, redact, check, make room or run scripts aren't built yet: they are refused, and nothing is done.
+-- What a line does: `dump` reads the input and leaves the image alone, and all others leave the input alone. Those that send,
+-- receive, redact, check, make room or run scripts aren't built yet: they are refused, and nothing is done.
 abbrev pub DoesLine : {D : Type 0} → (D → DiskState) → ℕ → Line → Devices D → Devices D → Result (Unit {0}) Refusal → Type 0
 DoesLine state now Dump old new result = Dumps old.input new.input old.out new.out result × (new.here ≡ old.here)
 DoesLine state now (Create image sectors id) old new result =
     Creates sectors id (state old.here) (state new.here) old.out new.out result × (new.input ≡ old.input)
 DoesLine state now (Step image command) old new result =
-    StepsOrNot (is_built command) state now command old.here new.here old.out new.out result × (new.input ≡ old.input)
+    Steps now command (state old.here) (state new.here) old.out new.out result × (new.input ≡ old.input)
 DoesLine state now line old new result = (result ≡ Err not_built) × (new ≡ old)
 
 -- What words do: those that are no line are refused, and nothing is done.

@@ -1,6 +1,8 @@
 // How the program opens the image that a line names.
-ghost use Rattle.std.specs.Prelude.{◌≡◌, IfOk, []};
+ghost use Rattle.std.specs.Prelude.{◌≡◌, IfOk, [], not};
 ghost use Rattle.zst_file.specs.FileDisk.{history_of};
+ghost use Rattle.zst_laws.specs.Counting.{commits};
+ghost use Rattle.zst.specs.Openings.{is_shared};
 
 use std::alloc::{AllocError, Global};
 use std::fs::{self, File};
@@ -9,7 +11,6 @@ use std::path::Path;
 use zst_file::{FileDisk, Start};
 use zst_line::{Line, LineFault, Text, parse};
 use zst_model::Command;
-use zst_pool::is_not_built;
 
 /// The bytes of a sector.
 const SECTOR: u64 = 512;
@@ -25,12 +26,24 @@ pub(crate) enum Opening {
     Made { bytes: u64 },
 }
 
-/// How a command on a pool opens its image, or None where it isn't built.
-fn opening_for(command: &Command) -> Option<Opening> {
-    if is_not_built(command) {
-        return None;
+/// How a command on a pool opens its image: one that commits nothing needs no leave to write.
+fn opening_for(command: &Command) -> Opening
+    ensures { is_shared result ≡ not (commits command.now) }
+{
+    match command {
+        Command::Read { .. } | Command::List | Command::ListObjects { .. } => Opening::Shared,
+        Command::Fs { .. }
+        | Command::Volume { .. }
+        | Command::Object { .. }
+        | Command::Write { .. }
+        | Command::Punch { .. }
+        | Command::Free { .. }
+        | Command::Snapshot { .. }
+        | Command::Clone { .. }
+        | Command::Bookmark { .. }
+        | Command::Rollback { .. }
+        | Command::Destroy { .. } => Opening::Alone,
     }
-    Some(Opening::Alone)
 }
 
 /// The image that the words name, and how it is opened; None where they name none, are no line, or ask for what isn't
@@ -44,9 +57,10 @@ pub(crate) fn opening_of(
             let bytes = sectors * SECTOR;
             Ok(Some((image, Opening::Made { bytes })))
         }
-        Ok(Line::Step { image, command }) => Ok(opening_for(&command).map(|opening| (
-            image, opening,
-        ))),
+        Ok(Line::Step { image, command }) => {
+            let opening = opening_for(&command);
+            Ok(Some((image, opening)))
+        }
         Ok(_) => Ok(None),
         Err(LineFault::Memory) => Err(AllocError),
         Err(_) => Ok(None),

@@ -1,7 +1,6 @@
 // The lines that work on the pool of an image: it is opened, one command runs, and its reply is written.
-ghost use Rattle.std.specs.Prelude.{◌≡◌, ◌≤◌, ◌<◌, ◌^◌, true};
+ghost use Rattle.std.specs.Prelude.{◌≤◌, ◌<◌, ◌^◌};
 ghost use Rattle.zst_model.specs.pools.Step.{IsCommand};
-ghost use Rattle.zst_pool.specs.Stepping.{is_built};
 ghost use Rattle.zst.specs.Commands.{Creates, Stepping, Steps};
 
 use crate::reply::{print_line, print_reply};
@@ -39,7 +38,6 @@ fn step_image<D: Disk>(
     command: Command,
 ) -> Result<Reply, Refusal>
     requires command { IsCommand command }
-    requires built { is_built command ≡ true }
     ensures { Stepping now command (D.state here.old) (D.state here.new) result }
 {
     steps_keep_partials();
@@ -64,7 +62,6 @@ pub(crate) fn step_pool<D: Disk, K: Sink>(
     out: &mut K,
 ) -> Result<(), Refusal>
     requires command { IsCommand command }
-    requires built { is_built command ≡ true }
     ensures { Steps now command (D.state here.old) (D.state here.new) (K.state out.old) (K.state out.new) result }
 {
     let reply = step_image(alloc, here, now, command)?;

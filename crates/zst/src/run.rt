@@ -1,8 +1,6 @@
 ghost use Rattle.std.specs.Prelude.{◌≡◌, map, string_bytes};
-ghost use Rattle.zst_model.specs.pools.Step.{IsCommand};
 ghost use Rattle.zst.specs.Devices.{devices};
-ghost use Rattle.zst_pool.specs.Stepping.{is_built};
-ghost use Rattle.zst.specs.Lines.{DoesLine, IsInRange, StepsOrNot};
+ghost use Rattle.zst.specs.Lines.{DoesLine, IsInRange};
 ghost use Rattle.zst.specs.Runs.{Runs};
 
 use crate::dump::dump;
@@ -10,9 +8,8 @@ use crate::note::{note_refusal, status_of};
 use crate::pools::{create_pool, step_pool};
 use std::alloc::Global;
 use zst_line::{Line, parse};
-use zst_model::{Command, Lack, PlanFault, Refusal};
+use zst_model::{Lack, PlanFault, Refusal};
 use zst_outside::{Disk, Sink, Source};
-use zst_pool::is_not_built;
 
 /// Does what the words after the program's name ask for, and answers the program's status. A refusal goes to `note`.
 ///
@@ -45,23 +42,6 @@ pub fn run<D: Disk, E: Disk, S: Source, K: Sink, N: Sink>(
     }
 }
 
-/// Runs a command on the pool of an image, where it is built.
-fn run_command<D: Disk, K: Sink>(
-    alloc: Global,
-    here: &mut D,
-    now: u64,
-    command: Command,
-    out: &mut K,
-) -> Result<(), Refusal>
-    requires { IsCommand command }
-    ensures { StepsOrNot (is_built command) D.state now command here.old here.new (K.state out.old) (K.state out.new) result }
-{
-    if is_not_built(&command) {
-        return Err(Refusal::Plan(PlanFault::Unsupported(Lack::NotBuilt)));
-    }
-    step_pool(alloc, here, now, command, out)
-}
-
 /// Does what a line asks for, where it is built.
 fn run_line<D: Disk, S: Source, K: Sink>(
     alloc: Global,
@@ -78,7 +58,7 @@ fn run_line<D: Disk, S: Source, K: Sink>(
     match line {
         Line::Dump => dump(alloc, input, out),
         Line::Create { sectors, id, .. } => create_pool(alloc, here, sectors, id, out),
-        Line::Step { command, .. } => run_command(alloc, here, now, command, out),
+        Line::Step { command, .. } => step_pool(alloc, here, now, command, out),
         _ => Err(Refusal::Plan(PlanFault::Unsupported(Lack::NotBuilt))),
     }
 }

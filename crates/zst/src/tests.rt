@@ -1,3 +1,4 @@
+mod answers;
 mod bounds;
 mod faults;
 mod images;

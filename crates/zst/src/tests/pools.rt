@@ -22,6 +22,9 @@ const COMMANDS: [&str; 7] = [
     "snapshot I tank/a@t",
 ];
 
+/// The lines that only answer.
+const ANSWERED: [&str; 3] = ["read I tank/a 1 0", "list I", "list I tank/a"];
+
 #[test]
 fn small_has_its_five_numbers(rt: HostRuntime) -> Result<(), Fail> {
     let alloc = rt.alloc();
@@ -315,7 +318,22 @@ fn faulty_lines_are_refused_with_their_place(rt: HostRuntime) -> Result<(), Fail
     Ok(())
 }
 
-/// Checks that each command on a pool is refused so, and leaves each byte of the image.
+/// Checks that each of these lines is refused so, and leaves each byte of the image.
+fn refuse_lines(
+    rt: &impl Abort,
+    alloc: Global,
+    image: &[u8],
+    lines: &[&str],
+    status: u8,
+    text: &str,
+) -> Result<(), Fail> {
+    for line in lines {
+        refused(rt, alloc, image, line, status, text)?;
+    }
+    Ok(())
+}
+
+/// Checks that each command on a pool is refused so.
 fn refuse_all(
     rt: &impl Abort,
     alloc: Global,
@@ -323,10 +341,8 @@ fn refuse_all(
     status: u8,
     text: &str,
 ) -> Result<(), Fail> {
-    for line in COMMANDS {
-        refused(rt, alloc, image, line, status, text)?;
-    }
-    Ok(())
+    refuse_lines(rt, alloc, image, &COMMANDS, status, text)?;
+    refuse_lines(rt, alloc, image, &ANSWERED, status, text)
 }
 
 #[test]
