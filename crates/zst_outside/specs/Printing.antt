@@ -11,10 +11,15 @@ pub record Wrote (old new : SinkState) (text rest : List ℕ) : Type 0 where
   pub is : text ≡ printed ++ rest
   pub later : old.faults ≤ new.faults
 
--- a front of the text was written, all of it at Ok, and not all only where a fault was counted
+-- all of a text was written, and no fault was counted
+pub record Printed (old new : SinkState) (text : List ℕ) : Type 0 where
+  pub wrote : Wrote old new text []
+  pub stays : new.faults ≡ old.faults
+
+-- a front of the text was written, all of it and without a fault at Ok, and not all only where a fault was counted
 pub record Prints {T E : Type 0} (old new : SinkState) (text : List ℕ) (result : Result T E) : Type 0 where
   pub front : (rest : List ℕ) × Wrote old new text rest
-  pub whole : OnOk result (Wrote old new text [])
+  pub whole : OnOk result (Printed old new text)
   pub fault : OnErr result (Rose old.faults new.faults)
 
 -- what was written by two calls, one after the other
@@ -57,6 +62,17 @@ Wrote-then a b c text next rest first second =
       later = let before = first.later in let after = second.later in omega arith;
     }
 
+-- nothing is written yet
+pub Printed-start : (a : SinkState) → Printed a a []
+Printed-start a = record { wrote = Wrote-start a []; stays = refl }
+
+-- a whole text, and then the whole of the next
+pub Printed-then : (a b c : SinkState) (text next : List ℕ) → Printed a b text → Printed b c next → Printed a c (text ++ next)
+Printed-then a b c text next first second = record {
+  wrote = Wrote-then a b c text next [] first.wrote second.wrote;
+  stays = second.stays ∙ first.stays;
+}
+
 -- so much of a text is so much of a longer one
 pub Wrote-longer : (a b : SinkState) (text rest more : List ℕ) → Wrote a b text rest → Wrote a b (text ++ more) (rest ++ more)
 Wrote-longer a b text rest more so_far = record {
@@ -68,16 +84,16 @@ Wrote-longer a b text rest more so_far = record {
 
 -- what a whole text and then a print of the next do together
 pub Prints-then : {T E : Type 0} → (a b c : SinkState) (done text : List ℕ) (result : Result T E)
-    → Wrote a b done [] → Prints b c text result → Prints a c (done ++ text) result
+    → Printed a b done → Prints b c text result → Prints a c (done ++ text) result
 Prints-then a b c done text (Ok x) first next = record {
-  front = (next.front.0, Wrote-then a b c done text next.front.0 first next.front.1);
-  whole = Wrote-then a b c done text [] first next.whole;
+  front = (next.front.0, Wrote-then a b c done text next.front.0 first.wrote next.front.1);
+  whole = Printed-then a b c done text first next.whole;
   fault = tt;
 }
 Prints-then a b c done text (Err e) first next = record {
-  front = (next.front.0, Wrote-then a b c done text next.front.0 first next.front.1);
+  front = (next.front.0, Wrote-then a b c done text next.front.0 first.wrote next.front.1);
   whole = tt;
-  fault = Rose-earlier a.faults b.faults c.faults first.later next.fault;
+  fault = Rose-earlier a.faults b.faults c.faults first.wrote.later next.fault;
 }
 
 -- a fault in a text is one in a longer text, whatever error then tells of it
@@ -92,18 +108,18 @@ Prints-longer a b text further e (Err e') failed stopped = record {
 
 -- a fault in the middle of a longer text
 pub Prints-stop : {T T' E E' : Type 0} → (a b c : SinkState) (done text further : List ℕ) (e : E) (result : Result T' E') → IsErr result
-    → Wrote a b done [] → Prints {T = T} b c text (Err e) → Prints a c (done ++ (text ++ further)) result
+    → Printed a b done → Prints {T = T} b c text (Err e) → Prints a c (done ++ (text ++ further)) result
 Prints-stop a b c done text further e result failed first stopped =
     Prints-then a b c done (text ++ further) result first (Prints-longer b c text further e result failed stopped)
 
 -- a whole text that is then handed on, or not
 pub Prints-flush : {T E : Type 0} → (a b c : SinkState) (text : List ℕ) (result : Result T E)
-    → Wrote a b text [] → c.written ≡ b.written → HasCause b.faults c.faults result → Prints a c text result
-Prints-flush a b c text (Ok x) wrote kept cause =
-    let all = Wrote-kept a b c text [] wrote kept cause.later in
-    record { front = ([], all); whole = all; fault = tt }
-Prints-flush a b c text (Err e) wrote kept cause = record {
-  front = ([], Wrote-kept a b c text [] wrote kept cause.later);
+    → Printed a b text → c.written ≡ b.written → OnOk result (c.faults ≡ b.faults) → HasCause b.faults c.faults result → Prints a c text result
+Prints-flush a b c text (Ok x) printed kept stays cause =
+    let all = Wrote-kept a b c text [] printed.wrote kept cause.later in
+    record { front = ([], all); whole = record { wrote = all; stays = stays ∙ printed.stays }; fault = tt }
+Prints-flush a b c text (Err e) printed kept stays cause = record {
+  front = ([], Wrote-kept a b c text [] printed.wrote kept cause.later);
   whole = tt;
-  fault = Rose-earlier a.faults b.faults c.faults wrote.later cause.fault;
+  fault = Rose-earlier a.faults b.faults c.faults printed.wrote.later cause.fault;
 }

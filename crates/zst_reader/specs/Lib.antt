@@ -4,3 +4,4 @@ pub mod Mark
 pub mod Verdict
 pub mod StandsFor
 pub mod Stepping
+pub mod Filling

@@ -13,5 +13,8 @@ pub use reader::{Reader, Step};
 /// again, so that few bytes are ever moved.
 pub const CAPACITY: usize = 262_144;
 
+/// The most bytes that a stream may have.
+pub const STREAM_LIMIT: u64 = 1 << 62;
+
 #[cfg(test)]
 mod tests;

@@ -1,4 +1,4 @@
-ghost use Rattle.std.specs.Prelude.{◌≡◌, ◌+◌, ◌*◌, ◌-◌, ◌^◌, ◌≤◌, length};
+ghost use Rattle.std.specs.Prelude.{◌≡◌, ◌+◌, ◌*◌, ◌-◌, ◌^◌, ◌<◌, ◌≤◌, length};
 ghost use Rattle.zst_reader.specs.Window.{items};
 
 use crate::CAPACITY;
@@ -9,6 +9,7 @@ use crate::window::Window;
 use std::alloc::{AllocError, Global};
 use zst_fletcher::Sum;
 use zst_model::StreamFault;
+use zst_outside::{Fault, Source};
 use zst_record::{Head, Record};
 
 /// What `next` found.
@@ -56,6 +57,7 @@ impl Reader {
     ghost use Rattle.zst_reader.specs.Mark.{finish_of};
     ghost use Rattle.zst_reader.specs.Place.{IsPlaceAfter, IsWithin};
     ghost use Rattle.zst_reader.specs.StandsFor.{StandsFor, held, pushed_of, handed_of, room_of, mark_of, place_of};
+    ghost use Rattle.zst_reader.specs.Filling.{Fills, stream_limit};
     ghost use Rattle.zst_reader.specs.Stepping.{StepsOn, Counts, Finds, FindsIn, covered_in};
 
     /// A reader of the empty text.
@@ -92,6 +94,18 @@ impl Reader {
         self.window.append(&piece[..count]);
         self.pushed += count as u64;
         count
+    }
+
+    /// Reads more of an input into the room that it has, and answers how many bytes came: none only at the input's end.
+    pub fn fill<S: Source>(&mut self, input: &mut S) -> Result<usize, Fault>
+        requires room { 0 < room_of self.old }
+        requires within { pushed_of self.old < stream_limit }
+        ensures { Fills (S.state input.old) (S.state input.new) self.old self.new result }
+    {
+        let mut byte = [0; 1];
+        let count = input.read(&mut byte)?;
+        self.push(&byte[..count]);
+        Ok(count)
     }
 
     /// How many more bytes it can take.

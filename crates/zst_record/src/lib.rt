@@ -26,5 +26,14 @@ pub const RESUMING: u32 = 0x10_0000;
 /// The feature flag of a redacted stream.
 pub const REDACTED: u32 = 0x20_0000;
 
+/// The bytes of a record without its payload (all of `dmu_replay_record` of zfs_ioctl.h).
+pub const RECORD_LEN: usize = 312;
+
+/// How many of them stand before the record's own checksum, which is that of all bytes of the stream before it.
+pub const SUMMED_LEN: usize = 280;
+
+/// The bytes of the longest payload: a block's, or a spill block's.
+pub const LONGEST_PAYLOAD: usize = 131_072;
+
 #[cfg(test)]
 mod tests;

@@ -1,5 +1,5 @@
 use Rattle.std.proofs.Common.{◌≡◌, ◌∙◌, List, ℕ, get_or, ap}
-use Rattle.zst_outside.specs.Printing.{Prints-stop, Wrote-then}
+use Rattle.zst_outside.specs.Printing.{Prints-stop, Printed-then}
 use Rattle.zst.proofs.Replying.{reply_at, reply_more}
 use Rattle.zst.proofs.reply.print_reply.Goals as goal
 
@@ -17,4 +17,4 @@ loop-line-preserved g c =
     let d = c.line-item.result in
     let same : c.as_slice.result.now ≡ get_or c.args.reply.now i d = c.as_slice.ensures ∙ c.line-item.is ∙ ap (λ (l : List (List ℕ)). get_or l i d) c.lines-line-items.ensures in
     rw (reply_more c.args.reply.now i d (rw (c.lines-line-items.ensures) at c.loop-line-test.true))
-    (Wrote-then _ _ _ _ _ _ c.loop-line.invariant (rw (same) at c.in_ok-write_line.ensures.whole))
+    (Printed-then _ _ _ _ _ c.loop-line.invariant (rw (same) at c.in_ok-write_line.ensures.whole))

@@ -1,5 +1,5 @@
 use Rattle.std.proofs.Common.{[], take}
-use Rattle.zst_outside.specs.Printing.{Wrote}
+use Rattle.zst_outside.specs.Printing.{Printed}
 use Rattle.zst.specs.Replies.{reply_text}
 use Rattle.zst.proofs.reply.print_reply.Given as goal
 
@@ -7,4 +7,4 @@ use Rattle.zst.proofs.reply.print_reply.Given as goal
 abbrev pub invariant-loop-line : goal.invariant-loop-line
 invariant-loop-line g l =
     let sink = g.K.Sink in
-    Wrote (sink.state l.fn.out) (sink.state l.out) (reply_text (take l.line-index l.reply)) []
+    Printed (sink.state l.fn.out) (sink.state l.out) (reply_text (take l.line-index l.reply))

@@ -1,5 +1,5 @@
 use Rattle.std.proofs.Common.{[], take, flat_map}
-use Rattle.zst_outside.specs.Printing.{Wrote}
+use Rattle.zst_outside.specs.Printing.{Printed}
 use Rattle.zst_dump.specs.Lines.{blank_guid}
 use Rattle.zst_dump.proofs.line.print_each.Given as goal
 
@@ -7,4 +7,4 @@ use Rattle.zst_dump.proofs.line.print_each.Given as goal
 abbrev pub invariant-loop-guid : goal.invariant-loop-guid
 invariant-loop-guid g l =
     let sink = g.K.Sink in
-    Wrote (sink.state l.fn.out) (sink.state l.out) (flat_map blank_guid (take l.guid-index l.guids)) []
+    Printed (sink.state l.fn.out) (sink.state l.out) (flat_map blank_guid (take l.guid-index l.guids))
