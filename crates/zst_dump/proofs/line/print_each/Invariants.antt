@@ -1,4 +1,4 @@
-use Rattle.std.proofs.Common.{[], take, flat_map}
+use Rattle.std.proofs.Common.{take, flat_map}
 use Rattle.zst_outside.specs.Printing.{Printed}
 use Rattle.zst_dump.specs.Lines.{blank_guid}
 use Rattle.zst_dump.proofs.line.print_each.Given as goal

@@ -1,4 +1,4 @@
-use Rattle.std.proofs.Common.{[], take, flat_map}
+use Rattle.std.proofs.Common.{take, flat_map}
 use Rattle.zst_outside.specs.Printing.{Printed}
 use Rattle.zst_dump.specs.Parts.{escaped}
 use Rattle.zst_dump.proofs.part.print_name.Given as goal
