@@ -1,3 +1,4 @@
+mod Windows
 mod Judged
 mod Places
 mod Turns

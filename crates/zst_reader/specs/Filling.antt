@@ -1,8 +1,9 @@
 -- What reading more of an input does to a reader.
-use Rattle.std.specs.Prelude.{ℕ, ◌+◌, ◌^◌, ◌≡◌, List, [], ◌++◌, length, IsTrue, Result, Ok, Err, OnOk}
+use Rattle.std.specs.Prelude.{ℕ, ◌+◌, ◌^◌, ◌≡◌, List, ◌++◌, length, Result, OnOk}
 use Rattle.zst_outside.specs.Causes.{HasCause}
 use Rattle.zst_outside.specs.States.{SourceState, Gave}
 use Rattle.zst_record.specs.Heads.{Covered}
+use Rattle.zst_reader.specs.Window.{ToldOf}
 use Rattle.zst_reader.specs.StandsFor.{StandsFor, pushed_of, handed_of, mark_of}
 use Rattle.zst_reader.specs.declared.reader.Reader.{Reader}
 
@@ -16,11 +17,6 @@ pub record Pushes (old new : Reader) (bytes : List ℕ) : Type 0 where
   pub handed : handed_of new ≡ handed_of old
   pub mark : mark_of new ≡ mark_of old
   pub stands : (text : List ℕ) (handed : List Covered) → StandsFor old text handed → StandsFor new (text ++ bytes) handed
-
--- how many bytes were got, none only at the end of the input; a fault gives none
-abbrev pub ToldOf : {E : Type 0} → SourceState → List ℕ → Result ℕ E → Type 0
-ToldOf input' got (Ok count) = (length got ≡ count) × (count ≡ 0 → IsTrue input'.ended)
-ToldOf input' got (Err fault) = got ≡ []
 
 -- The bytes that the input gave were pushed, as many as are told: none only at its end, or where it failed.
 pub record Fills {E : Type 0} (input input' : SourceState) (old new : Reader) (result : Result ℕ E) : Type 0 where

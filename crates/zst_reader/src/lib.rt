@@ -9,9 +9,9 @@ mod window;
 
 pub use reader::{Reader, Step};
 
-/// How many bytes a reader can hold: the longest record, the next record's 312 bytes, and as much
-/// again, so that few bytes are ever moved.
-pub const CAPACITY: usize = 262_144;
+/// How many bytes a reader can hold: the longest record and the next record's 312 bytes four times over,
+/// so that few bytes are ever moved.
+pub const CAPACITY: usize = 524_288;
 
 /// The most bytes that a stream may have.
 pub const STREAM_LIMIT: u64 = 1 << 62;

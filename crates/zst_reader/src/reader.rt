@@ -1,16 +1,19 @@
 ghost use Rattle.std.specs.Prelude.{◌≡◌, ◌+◌, ◌*◌, ◌-◌, ◌^◌, ◌<◌, ◌≤◌, length};
 ghost use Rattle.zst_reader.specs.Window.{items};
 
-use crate::CAPACITY;
 use crate::judging::{Verdict, judge};
 use crate::mark::Mark;
 use crate::place::Place;
 use crate::window::Window;
+use crate::{CAPACITY, STREAM_LIMIT};
 use std::alloc::{AllocError, Global};
 use zst_fletcher::Sum;
 use zst_model::StreamFault;
 use zst_outside::{Fault, Source};
 use zst_record::{Head, Record};
+
+/// The most bytes that are read at once.
+const PIECE: usize = 131_072;
 
 /// What `next` found.
 #[derive(Clone, Copy)]
@@ -96,16 +99,18 @@ impl Reader {
         count
     }
 
-    /// Reads more of an input into the room that it has, and answers how many bytes came: none only at the input's end.
+    /// Reads more of an input, straight into the room that it has, and answers how many bytes came: none only at the input's end.
     pub fn fill<S: Source>(&mut self, input: &mut S) -> Result<usize, Fault>
         requires room { 0 < room_of self.old }
         requires within { pushed_of self.old < stream_limit }
         ensures { Fills (S.state input.old) (S.state input.new) self.old self.new result }
     {
-        let mut byte = [0; 1];
-        let count = input.read(&mut byte)?;
-        self.push(&byte[..count]);
-        Ok(count)
+        self.settle();
+        let left = STREAM_LIMIT - self.pushed;
+        let most = left.min(self.room().min(PIECE) as u64) as usize;
+        let got = self.window.read_from(input, most)?;
+        self.pushed += got as u64;
+        Ok(got)
     }
 
     /// How many more bytes it can take.

@@ -1,3 +1,6 @@
+mod filling;
+mod streams;
+
 use super::*;
 use std::alloc::Global;
 use std::process::Abort;
