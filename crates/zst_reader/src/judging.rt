@@ -1,7 +1,7 @@
 ghost use Rattle.std.specs.Prelude.{◌≡◌, ◌+◌, ◌%◌, ◌^◌, ◌<◌, ◌≤◌, ◌++◌, List, ℕ, Option, Some, None, Ok, length, take};
 ghost use Rattle.zst_fletcher.specs.WeightSum.{weight_sum};
 ghost use Rattle.zst_record.specs.Heads.{payload_len};
-ghost use Rattle.zst_record.specs.Laws.{longest_payload};
+ghost use Rattle.zst_record.specs.Formats.{longest_payload};
 ghost use Rattle.zst_record.specs.declared.head.Head.TheVariants.{End};
 ghost use Rattle.zst_stream.specs.Reading.{sum_fault, closing, cover, rule_by, judged, ruling};
 ghost use Rattle.zst_reader.specs.Place.{IsPlaceAfter};

@@ -8,7 +8,8 @@ use Rattle.zst_model.specs.states.State.{is_block_size, is_spill_size, largest_b
 use Rattle.zst_record.specs.declared.head.Head.{Head}
 use Rattle.zst_record.specs.declared.head.Head.TheVariants as heads
 use Rattle.zst_model.specs.declared.refusals.stream_fault.StreamFault.{StreamFault}
-use Rattle.zst_record.specs.declared.TheConstants.{MAGIC, LARGE_BLOCKS, REDACTED}
+use Rattle.zst_model.specs.sends.Features.{redacts}
+use Rattle.zst_record.specs.Formats.{stream_magic, reversed_magic, large_blocks}
 use Rattle.zst_record.specs.Decode.{Decoded, check, is_object, is_range, is_payload_len, needs_payload, others_of, decoded, begin_of, begin_with, snapshot_with, named, name_in, typed, object_with, write_with, free_with, spill_with, redact_with}
 use Rattle.zst_record.specs.Laws.{IsBounded}
 
@@ -100,7 +101,7 @@ spill-bounded at object size compression to =
 redact-bounded : (at features object offset size to : ℕ) → Gives IsBounded (redact_with at features object offset size to)
 unfolding redact_with
 redact-bounded at features object offset size to =
-    gives-check IsBounded (not (bit_and features REDACTED == 0)) _ _ (λ r. gives-check IsBounded (is_object object) _ _ (λ a. gives-check IsBounded (is_range offset size) _ _ (λ b.
+    gives-check IsBounded (not (bit_and features redacts == 0)) _ _ (λ r. gives-check IsBounded (is_object object) _ _ (λ a. gives-check IsBounded (is_range offset size) _ _ (λ b.
     gives-ok IsBounded (heads.Redact object offset size to) none-bounded)))
 
 typed-bounded : (kind at features : ℕ) (bytes : List ℕ) → Gives IsBounded (typed kind at features bytes)
@@ -129,9 +130,9 @@ snapshot-bounded len features time kind flags to from name =
 begin-bounded : (record_kind magic form features : ℕ) (next : Decoded) → Gives IsBounded next → Gives IsBounded (begin_with record_kind magic form features next)
 unfolding begin_with
 begin-bounded record_kind magic form features next h =
-    gives-check IsBounded (record_kind == 0) _ _ (λ a. gives-check IsBounded (not (magic == 0xaccbbaf502000000)) _ _ (λ b. gives-check IsBounded (magic == MAGIC) _ _ (λ c.
+    gives-check IsBounded (record_kind == 0) _ _ (λ a. gives-check IsBounded (not (magic == reversed_magic)) _ _ (λ b. gives-check IsBounded (magic == stream_magic) _ _ (λ c.
     gives-check IsBounded (not (form == 2)) _ _ (λ d. gives-check IsBounded (form == 1) _ _ (λ e. gives-check IsBounded (others_of features == 0) _ _ (λ f.
-    gives-check IsBounded (bit_and features LARGE_BLOCKS == 0) _ _ (λ g. h)))))))
+    gives-check IsBounded (bit_and features large_blocks == 0) _ _ (λ g. h)))))))
 
 -- the payload of a record that passes its checks is whole words, and no longer than a block
 pub bounded : (at features : ℕ) (bytes : List ℕ) (head : Head) → decoded at features bytes ≡ Ok head → IsBounded head

@@ -9,7 +9,8 @@ use Rattle.zst_model.specs.declared.refusals.faults.Flaw.TheVariants as flaws
 use Rattle.zst_model.specs.declared.refusals.faults.Lack.{Lack}
 use Rattle.zst_model.specs.declared.refusals.faults.Lack.TheVariants as lacks
 use Rattle.zst_model.specs.states.State.{is_number, is_block_size, is_spill_size, largest_bonus}
-use Rattle.zst_record.specs.declared.TheConstants.{MAGIC, OTHER_FEATURES, LARGE_BLOCKS, RESUMING, REDACTED}
+use Rattle.zst_model.specs.sends.Features.{redacts, resuming}
+use Rattle.zst_record.specs.Formats.{stream_magic, reversed_magic, substream, compound_stream, begin_type, object_type, free_objects_type, write_type, free_type, end_type, write_by_reference_type, spill_type, write_embedded_type, object_range_type, redact_type, dedup_bit, dedup_props_bit, embed_data_bit, lz4_bit, compressed_bit, raw_bit, other_features, large_blocks}
 use Rattle.zst_record.specs.declared.head.Head.{Head}
 use Rattle.zst_record.specs.declared.head.Head.TheVariants as heads
 use Rattle.zst_model.specs.declared.refusals.stream_fault.StreamFault.{StreamFault}
@@ -68,7 +69,7 @@ spill_with at object size compression to =
 
 unfoldable pub redact_with : (at features object offset size to : ℕ) → Decoded
 redact_with at features object offset size to =
-    check (not (bit_and features REDACTED == 0)) (Grammar at flaws.Redact)
+    check (not (bit_and features redacts == 0)) (Grammar at flaws.Redact)
     (check (is_object object) (Grammar (at + 8) flaws.Object)
     (check (is_range offset size) (Grammar (at + 24) flaws.Range)
     (Ok (heads.Redact object offset size to))))
@@ -101,33 +102,33 @@ redact_of at features bytes = redact_with at features (number_at bytes 8 8) (num
 -- a record but BEGIN, by the number of its type
 unfoldable pub typed : (kind at features : ℕ) → List ℕ → Decoded
 typed kind at features bytes =
-    if kind == 0 then Err (Grammar at flaws.SecondBegin)
-    else if kind == 1 then object_of at bytes
-    else if kind == 2 then free_objects_of bytes
-    else if kind == 3 then write_of at bytes
-    else if kind == 4 then free_of at bytes
-    else if kind == 5 then end_of bytes
-    else if kind == 6 then Err (Unsupported at lacks.ByReference)
-    else if kind == 7 then spill_of at bytes
-    else if kind == 8 then Err (Unsupported at lacks.Embedded)
-    else if kind == 9 then Err (Unsupported at lacks.ObjectRange)
-    else if kind == 10 then redact_of at features bytes
+    if kind == begin_type then Err (Grammar at flaws.SecondBegin)
+    else if kind == object_type then object_of at bytes
+    else if kind == free_objects_type then free_objects_of bytes
+    else if kind == write_type then write_of at bytes
+    else if kind == free_type then free_of at bytes
+    else if kind == end_type then end_of bytes
+    else if kind == write_by_reference_type then Err (Unsupported at lacks.ByReference)
+    else if kind == spill_type then spill_of at bytes
+    else if kind == write_embedded_type then Err (Unsupported at lacks.Embedded)
+    else if kind == object_range_type then Err (Unsupported at lacks.ObjectRange)
+    else if kind == redact_type then redact_of at features bytes
     else Err (Grammar at flaws.RecordType)
 
 -- what a feature flag that is never accepted stands for
 abbrev pub lack_of_feature : ℕ → Lack
 lack_of_feature bit =
-    if bit == 0 then lacks.Dedup
-    else if bit == 1 then lacks.DedupProps
-    else if bit == 16 then lacks.EmbedData
-    else if bit == 17 then lacks.Lz4
-    else if bit == 22 then lacks.Compressed
-    else if bit == 24 then lacks.Raw
+    if bit == dedup_bit then lacks.Dedup
+    else if bit == dedup_props_bit then lacks.DedupProps
+    else if bit == embed_data_bit then lacks.EmbedData
+    else if bit == lz4_bit then lacks.Lz4
+    else if bit == compressed_bit then lacks.Compressed
+    else if bit == raw_bit then lacks.Raw
     else lacks.Feature bit
 
 -- the features among these that are never accepted
 abbrev pub others_of : ℕ → ℕ
-others_of features = bit_and features OTHER_FEATURES
+others_of features = bit_and features other_features
 
 -- the length of a payload of BEGIN that this project knows: none, or whole numbers of 64 bits from five to 37
 unfoldable pub is_payload_len : ℕ → Bool
@@ -135,7 +136,7 @@ is_payload_len len = (len == 0) || (nat_le 40 len && nat_le len 296 && (len % 8 
 
 -- a resumed or redacted stream has a payload
 unfoldable pub needs_payload : ℕ → Bool
-needs_payload features = not (bit_and features (RESUMING + REDACTED) == 0)
+needs_payload features = not (bit_and features (resuming + redacts) == 0)
 
 -- the name, up to the first zero byte
 unfoldable pub name_in : List ℕ → Option (List ℕ)
@@ -178,13 +179,13 @@ snapshot_of features bytes =
 -- before that, what kind of a stream it begins
 unfoldable pub begin_with : (record_kind magic header_type features : ℕ) → Decoded → Decoded
 begin_with record_kind magic header_type features next =
-    check (record_kind == 0) (Grammar 0 flaws.RecordType)
-    (check (not (magic == 0xaccbbaf502000000)) (Unsupported 8 lacks.BigEndian)
-    (check (magic == MAGIC) (Grammar 8 flaws.Magic)
-    (check (not (header_type == 2)) (Unsupported 16 lacks.Compound)
-    (check (header_type == 1) (Grammar 16 flaws.HeaderType)
+    check (record_kind == begin_type) (Grammar 0 flaws.RecordType)
+    (check (not (magic == reversed_magic)) (Unsupported 8 lacks.BigEndian)
+    (check (magic == stream_magic) (Grammar 8 flaws.Magic)
+    (check (not (header_type == compound_stream)) (Unsupported 16 lacks.Compound)
+    (check (header_type == substream) (Grammar 16 flaws.HeaderType)
     (check (others_of features == 0) (Unsupported 16 (lack_of_feature (trailing_zeros w32 (others_of features))))
-    (check (bit_and features LARGE_BLOCKS == 0) (Unsupported 16 lacks.LargeBlocks) next))))))
+    (check (bit_and features large_blocks == 0) (Unsupported 16 lacks.LargeBlocks) next))))))
 
 -- the feature flags: bits 2 to 31 of drr_versioninfo
 abbrev pub features_in : List ℕ → ℕ

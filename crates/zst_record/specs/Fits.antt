@@ -3,9 +3,10 @@ use Rattle.std.specs.Prelude.{ℕ, ◌-◌, ◌^◌, ◌<◌, ◌≤◌, ◌≡�
 use Rattle.std.specs.List.{position_or_len}
 use Rattle.zst_model.specs.declared.sends.header.Header.{Header}
 use Rattle.zst_model.specs.states.State.{is_block_size, is_spill_size, largest_bonus}
-use Rattle.zst_record.specs.declared.TheConstants.{LARGE_BLOCKS, REDACTED}
+use Rattle.zst_model.specs.sends.Features.{redacts}
 use Rattle.zst_record.specs.declared.head.Head.{Head}
 use Rattle.zst_record.specs.declared.head.Head.TheVariants as heads
+use Rattle.zst_record.specs.Formats.{large_blocks}
 use Rattle.zst_record.specs.Decode.{is_object, is_range, is_payload_len, needs_payload, others_of}
 
 -- four numbers of 64 bits
@@ -20,7 +21,7 @@ pub record SumsFit (sums : List ℕ) : Type 0 where
 pub record BeginFits (header : Header) (payload_len : ℕ) : Type 0 where
   pub features : header.features < 2 ^ 30
   pub accepted : others_of header.features ≡ 0
-  pub small_blocks : bit_and header.features LARGE_BLOCKS ≡ 0
+  pub small_blocks : bit_and header.features large_blocks ≡ 0
   pub kind : ((header.kind == 2) || (header.kind == 3)) ≡ true
   pub flags : header.flags < 2 ^ 32
   pub time : header.time < 2 ^ 64
@@ -65,7 +66,7 @@ pub record SpillFits (object size to : ℕ) : Type 0 where
   pub to_fits : to < 2 ^ 64
 
 pub record RedactFits (features object offset size to : ℕ) : Type 0 where
-  pub redacted : not (bit_and features REDACTED == 0) ≡ true
+  pub redacted : not (bit_and features redacts == 0) ≡ true
   pub object_fits : is_object object ≡ true
   pub range : is_range offset size ≡ true
   pub to_fits : to < 2 ^ 64

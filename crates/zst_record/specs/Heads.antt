@@ -3,8 +3,9 @@ use Rattle.std.specs.Prelude.{ℕ, ◌+◌, ◌*◌, ◌/◌, List}
 use Rattle.zst_record.specs.declared.head.Head.{Head}
 use Rattle.zst_record.specs.declared.head.Head.TheVariants as heads
 use Rattle.zst_record.specs.declared.head.Record.{Record}
+use Rattle.zst_record.specs.Formats.{record_len}
 
--- the count of bytes after the 312 of the record
+-- the count of bytes that follow the record
 abbrev pub payload_len : Head → ℕ
 payload_len (heads.Begin header len) = len
 payload_len (heads.Object object kind bonus_kind block_size bonus_len max_block to) = (bonus_len + 7) / 8 * 8
@@ -17,7 +18,7 @@ payload_len (heads.Redact object offset size to) = 0
 
 -- the count of the record's bytes, its payload among them
 abbrev pub size_of : Head → ℕ
-size_of head = 312 + payload_len head
+size_of head = record_len + payload_len head
 
 -- a covered record, as plain data: what it says, its place, its number and its payload
 pub record Covered : Type 0 where

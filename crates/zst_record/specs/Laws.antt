@@ -3,6 +3,7 @@ use Rattle.std.specs.Prelude.{ℕ, ◌≡◌, ◌<◌, ◌≤◌, ◌%◌, List,
 use Rattle.zst_model.specs.declared.sends.header.Header.{Header}
 use Rattle.zst_record.specs.declared.head.Head.{Head}
 use Rattle.zst_record.specs.declared.head.Head.TheVariants as heads
+use Rattle.zst_record.specs.Formats.{longest_payload}
 use Rattle.zst_record.specs.Heads.{payload_len}
 use Rattle.zst_record.specs.Table.{head_bytes, sealed_bytes}
 use Rattle.zst_record.specs.Decode.{decoded}
@@ -19,10 +20,6 @@ abbrev pub RecordIsDecoded : Type 0
 RecordIsDecoded =
     (at features : ℕ) (head : Head) (sums : List ℕ) → 0 < at → IsLater head → Fits features head
     → decoded at features (sealed_bytes head sums) ≡ Ok head
-
--- the bytes of the longest payload: a block's, or a spill block's
-abbrev pub longest_payload : ℕ
-longest_payload = 131072
 
 -- a payload of whole words, no longer than the longest
 abbrev pub IsBounded : Head → Type 0

@@ -1,3 +1,4 @@
+pub mod Formats
 pub mod Heads
 pub mod Table
 pub mod Decode

@@ -4,14 +4,16 @@ ghost use Rattle.zst_bytes.specs.Bytes.{number_at, bytes_at};
 ghost use Rattle.zst_model.specs.declared.refusals.stream_fault.StreamFault.TheVariants.{Grammar, Unsupported};
 ghost use Rattle.zst_record.specs.Decode.{decoded, typed, begin_of, snapshot_of, header_with, object_of, write_of, free_of, spill_of, redact_of, is_object, is_range, is_payload_len, needs_payload, name_in, sums_at, lack_of_feature};
 
+use crate::features::{
+    COMPRESSED_BIT, DEDUP_BIT, DEDUP_PROPS_BIT, EMBED_DATA_BIT, LARGE_BLOCKS, LZ4_BIT,
+    OTHER_FEATURES, RAW_BIT,
+};
 use crate::head::Head;
-use crate::{LARGE_BLOCKS, MAGIC, OTHER_FEATURES, REDACTED, RESUMING};
+use crate::{COMPOUND_STREAM, MAGIC, RECORD_LEN, REVERSED_MAGIC, SUBSTREAM, types};
 use zst_bytes::{le8, le32, le64};
+use zst_model::features::{REDACTED, RESUMING};
 use zst_model::limits::{LARGEST_BONUS, NUMBER_BOUND, is_block_size, is_spill_size};
 use zst_model::{Flaw, GuidSet, Header, Lack, NameText, StreamFault};
-
-/// The magic number of BEGIN in a stream whose numbers have their highest byte first.
-const SWAPPED_MAGIC: u64 = 0xaccb_baf5_0200_0000;
 
 /// The four sums that stand from a place on.
 pub fn get_sums(bytes: &[u8], at: usize) -> [u64; 4]
@@ -53,7 +55,7 @@ fn unsupported(at: u64, lack: Lack) -> Result<Head, StreamFault>
 }
 
 #[tactic(auto, unfolding(crate::specs::Decode::object_with))]
-fn decode_object(bytes: &[u8; 312], at: u64) -> Result<Head, StreamFault>
+fn decode_object(bytes: &[u8; RECORD_LEN], at: u64) -> Result<Head, StreamFault>
     requires { at ≤ 2 ^ 62 }
     ensures { result ≡ object_of at bytes.now }
 {
@@ -91,7 +93,7 @@ fn decode_object(bytes: &[u8; 312], at: u64) -> Result<Head, StreamFault>
 }
 
 #[tactic(auto, unfolding(crate::specs::Decode::write_with))]
-fn decode_write(bytes: &[u8; 312], at: u64) -> Result<Head, StreamFault>
+fn decode_write(bytes: &[u8; RECORD_LEN], at: u64) -> Result<Head, StreamFault>
     requires { at ≤ 2 ^ 62 }
     ensures { result ≡ write_of at bytes.now }
 {
@@ -116,7 +118,7 @@ fn decode_write(bytes: &[u8; 312], at: u64) -> Result<Head, StreamFault>
 }
 
 #[tactic(auto, unfolding(crate::specs::Decode::free_with))]
-fn decode_free(bytes: &[u8; 312], at: u64) -> Result<Head, StreamFault>
+fn decode_free(bytes: &[u8; RECORD_LEN], at: u64) -> Result<Head, StreamFault>
     requires { at ≤ 2 ^ 62 }
     ensures { result ≡ free_of at bytes.now }
 {
@@ -138,7 +140,7 @@ fn decode_free(bytes: &[u8; 312], at: u64) -> Result<Head, StreamFault>
 }
 
 #[tactic(auto, unfolding(crate::specs::Decode::spill_with))]
-fn decode_spill(bytes: &[u8; 312], at: u64) -> Result<Head, StreamFault>
+fn decode_spill(bytes: &[u8; RECORD_LEN], at: u64) -> Result<Head, StreamFault>
     requires { at ≤ 2 ^ 62 }
     ensures { result ≡ spill_of at bytes.now }
 {
@@ -160,8 +162,8 @@ fn decode_spill(bytes: &[u8; 312], at: u64) -> Result<Head, StreamFault>
     })
 }
 
-#[tactic(auto, unfolding(crate::specs::Decode::redact_with))]
-fn decode_redact(bytes: &[u8; 312], at: u64, features: u32) -> Result<Head, StreamFault>
+#[tactic(auto, unfolding(crate::specs::Decode::redact_with, zst_model::specs::sends::Features::redacts))]
+fn decode_redact(bytes: &[u8; RECORD_LEN], at: u64, features: u32) -> Result<Head, StreamFault>
     requires { at ≤ 2 ^ 62 }
     ensures { result ≡ redact_of at features bytes.now }
 {
@@ -188,7 +190,7 @@ fn decode_redact(bytes: &[u8; 312], at: u64, features: u32) -> Result<Head, Stre
 #[tactic(auto, unfolding(crate::specs::Decode::typed))]
 fn decode_typed(
     record_type: u32,
-    bytes: &[u8; 312],
+    bytes: &[u8; RECORD_LEN],
     at: u64,
     features: u32,
 ) -> Result<Head, StreamFault>
@@ -196,24 +198,24 @@ fn decode_typed(
     ensures { result ≡ typed record_type at features bytes.now }
 {
     match record_type {
-        0 => grammar(at, Flaw::SecondBegin),
-        1 => decode_object(bytes, at),
-        2 => Ok(Head::FreeObjects {
+        types::BEGIN => grammar(at, Flaw::SecondBegin),
+        types::OBJECT => decode_object(bytes, at),
+        types::FREE_OBJECTS => Ok(Head::FreeObjects {
             first: le64(bytes, 8),
             count: le64(bytes, 16),
             to: le64(bytes, 24),
         }),
-        3 => decode_write(bytes, at),
-        4 => decode_free(bytes, at),
-        5 => Ok(Head::End {
+        types::WRITE => decode_write(bytes, at),
+        types::FREE => decode_free(bytes, at),
+        types::END => Ok(Head::End {
             sums: get_sums(bytes, 8),
             to: le64(bytes, 40),
         }),
-        6 => unsupported(at, Lack::ByReference),
-        7 => decode_spill(bytes, at),
-        8 => unsupported(at, Lack::Embedded),
-        9 => unsupported(at, Lack::ObjectRange),
-        10 => decode_redact(bytes, at, features),
+        types::WRITE_BY_REFERENCE => unsupported(at, Lack::ByReference),
+        types::SPILL => decode_spill(bytes, at),
+        types::WRITE_EMBEDDED => unsupported(at, Lack::Embedded),
+        types::OBJECT_RANGE => unsupported(at, Lack::ObjectRange),
+        types::REDACT => decode_redact(bytes, at, features),
         _ => grammar(at, Flaw::RecordType),
     }
 }
@@ -222,12 +224,12 @@ fn lack_of_bit(bit: u32) -> Lack
     ensures { result ≡ lack_of_feature bit }
 {
     match bit {
-        0 => Lack::Dedup,
-        1 => Lack::DedupProps,
-        16 => Lack::EmbedData,
-        17 => Lack::Lz4,
-        22 => Lack::Compressed,
-        24 => Lack::Raw,
+        DEDUP_BIT => Lack::Dedup,
+        DEDUP_PROPS_BIT => Lack::DedupProps,
+        EMBED_DATA_BIT => Lack::EmbedData,
+        LZ4_BIT => Lack::Lz4,
+        COMPRESSED_BIT => Lack::Compressed,
+        RAW_BIT => Lack::Raw,
         _ => Lack::Feature { bit },
     }
 }
@@ -239,7 +241,7 @@ fn first_zero(field: &[u8]) -> Option<usize>
 }
 
 #[tactic(auto, unfolding(crate::specs::Decode::name_in, zst_bytes::specs::Bytes::bytes_at))]
-fn get_name(bytes: &[u8; 312]) -> Option<NameText>
+fn get_name(bytes: &[u8; RECORD_LEN]) -> Option<NameText>
     ensures { result ≡ name_in (bytes_at bytes.now 56 256) }
 {
     let field = &bytes[56..];
@@ -254,7 +256,7 @@ fn sizes_payload(len: u32) -> bool
     len == 0 || (40 <= len && len <= 296 && len % 8 == 0)
 }
 
-#[tactic(auto, unfolding(crate::specs::Decode::needs_payload))]
+#[tactic(auto, unfolding(crate::specs::Decode::needs_payload, zst_model::specs::sends::Features::resuming, zst_model::specs::sends::Features::redacts))]
 fn wants_payload(features: u32) -> bool
     ensures { result ≡ needs_payload features }
 {
@@ -262,7 +264,7 @@ fn wants_payload(features: u32) -> bool
 }
 
 #[tactic(auto, unfolding(crate::specs::Decode::header_with))]
-fn get_header(bytes: &[u8; 312], features: u32, name: NameText) -> Header
+fn get_header(bytes: &[u8; RECORD_LEN], features: u32, name: NameText) -> Header
     ensures { result ≡
         header_with features (number_at bytes.now 32 4) (number_at bytes.now 36 4)
         (number_at bytes.now 24 8) (number_at bytes.now 40 8) (number_at bytes.now 48 8) name }
@@ -282,7 +284,7 @@ fn get_header(bytes: &[u8; 312], features: u32, name: NameText) -> Header
 }
 
 #[tactic(auto, unfolding(crate::specs::Decode::snapshot_with, crate::specs::Decode::named))]
-fn decode_snapshot(bytes: &[u8; 312], features: u32) -> Result<Head, StreamFault>
+fn decode_snapshot(bytes: &[u8; RECORD_LEN], features: u32) -> Result<Head, StreamFault>
     ensures { result ≡ snapshot_of features bytes.now }
 {
     let payload_len = le32(bytes, 4);
@@ -309,26 +311,26 @@ fn decode_snapshot(bytes: &[u8; 312], features: u32) -> Result<Head, StreamFault
     })
 }
 
-#[tactic(auto, unfolding(crate::specs::Decode::begin_of, crate::specs::Decode::begin_with))]
-fn decode_begin(bytes: &[u8; 312]) -> Result<Head, StreamFault>
+#[tactic(auto, unfolding(crate::specs::Decode::begin_of, crate::specs::Decode::begin_with, zst_model::specs::sends::Features::sa_spill, zst_model::specs::sends::Features::resuming, zst_model::specs::sends::Features::redacts))]
+fn decode_begin(bytes: &[u8; RECORD_LEN]) -> Result<Head, StreamFault>
     ensures { result ≡ begin_of bytes.now }
 {
     let magic = le64(bytes, 8);
     let version = le64(bytes, 16);
     let features = (version / 4 % 0x4000_0000) as u32;
-    if le32(bytes, 0) != 0 {
+    if le32(bytes, 0) != types::BEGIN {
         return grammar(0, Flaw::RecordType);
     }
-    if magic == SWAPPED_MAGIC {
+    if magic == REVERSED_MAGIC {
         return unsupported(8, Lack::BigEndian);
     }
     if magic != MAGIC {
         return grammar(8, Flaw::Magic);
     }
-    if version % 4 == 2 {
+    if version % 4 == COMPOUND_STREAM {
         return unsupported(16, Lack::Compound);
     }
-    if version % 4 != 1 {
+    if version % 4 != SUBSTREAM {
         return grammar(16, Flaw::HeaderType);
     }
     let others = features & OTHER_FEATURES;
@@ -346,7 +348,7 @@ fn decode_begin(bytes: &[u8; 312]) -> Result<Head, StreamFault>
 /// The checks are those that need neither a checksum nor BEGIN's guid, in the order in which
 /// `dmu_recv.c` meets the fields; the first that fails is the answer. A place of 0 is BEGIN's.
 #[tactic(auto, unfolding(crate::specs::Decode::decoded))]
-pub fn decode(bytes: &[u8; 312], at: u64, features: u32) -> Result<Head, StreamFault>
+pub fn decode(bytes: &[u8; RECORD_LEN], at: u64, features: u32) -> Result<Head, StreamFault>
     requires { at ≤ 2 ^ 62 }
     ensures { result ≡ decoded at features bytes.now }
 {

@@ -1,10 +1,11 @@
 ghost use Rattle.std.specs.Prelude.{◌≡◌, ◌+◌, ◌≤◌, ◌<◌, ◌^◌, length};
 ghost use Rattle.zst_bytes.specs.Fields.{lay};
 ghost use Rattle.zst_record.specs.declared.head.Head.TheVariants.{Begin, Object, FreeObjects, Write, Free, End, Spill, Redact};
+ghost use Rattle.zst_record.specs.Formats.{free_type, redact_type};
 ghost use Rattle.zst_record.specs.Table.{head_bytes, padded, sum_fields, fields_of};
 
-use crate::MAGIC;
 use crate::head::Head;
+use crate::{MAGIC, RECORD_LEN, SUBSTREAM, types};
 use zst_bytes::{put_bytes, put8, put32, put64};
 use zst_model::{Header, NameText};
 
@@ -29,13 +30,13 @@ fn name_field(name: &NameText) -> [u8; 256]
 }
 
 fn put_begin(into: &mut [u8], header: &Header, payload_len: u32)
-    requires { length into.old ≡ 312 }
+    requires { length into.old ≡ RECORD_LEN }
     ensures { into.new ≡ lay (fields_of (Begin header.now payload_len)) into.old }
 {
-    put32(into, 0, 0);
+    put32(into, 0, types::BEGIN);
     put32(into, 4, payload_len);
     put64(into, 8, MAGIC);
-    put64(into, 16, 4 * u64::from(header.features) + 1);
+    put64(into, 16, 4 * u64::from(header.features) + SUBSTREAM);
     put64(into, 24, header.time);
     put32(into, 32, header.kind);
     put32(into, 36, header.flags);
@@ -54,11 +55,11 @@ fn put_object(
     max_block: u64,
     to: u64,
 )
-    requires { length into.old ≡ 312 }
+    requires { length into.old ≡ RECORD_LEN }
     ensures { into.new ≡
         lay (fields_of (Object object type_ bonus_type block_size bonus_len max_block to)) into.old }
 {
-    put32(into, 0, 1);
+    put32(into, 0, types::OBJECT);
     put64(into, 8, object);
     put32(into, 16, type_);
     put32(into, 20, bonus_type);
@@ -70,20 +71,20 @@ fn put_object(
 }
 
 fn put_free_objects(into: &mut [u8], first: u64, count: u64, to: u64)
-    requires { length into.old ≡ 312 }
+    requires { length into.old ≡ RECORD_LEN }
     ensures { into.new ≡ lay (fields_of (FreeObjects first count to)) into.old }
 {
-    put32(into, 0, 2);
+    put32(into, 0, types::FREE_OBJECTS);
     put64(into, 8, first);
     put64(into, 16, count);
     put64(into, 24, to);
 }
 
 fn put_write(into: &mut [u8], object: u64, type_: u32, offset: u64, size: u64, to: u64)
-    requires { length into.old ≡ 312 }
+    requires { length into.old ≡ RECORD_LEN }
     ensures { into.new ≡ lay (fields_of (Write object type_ offset size to)) into.old }
 {
-    put32(into, 0, 3);
+    put32(into, 0, types::WRITE);
     put64(into, 8, object);
     put32(into, 16, type_);
     put64(into, 24, offset);
@@ -93,9 +94,9 @@ fn put_write(into: &mut [u8], object: u64, type_: u32, offset: u64, size: u64, t
 
 /// FREE and REDACT have the same fields, and differ in the number of their type.
 fn put_range(into: &mut [u8], record_type: u32, object: u64, offset: u64, size: u64, to: u64)
-    requires { length into.old ≡ 312 }
-    ensures free { record_type ≡ 4 → into.new ≡ lay (fields_of (Free object offset size to)) into.old }
-    ensures redact { record_type ≡ 10 → into.new ≡ lay (fields_of (Redact object offset size to)) into.old }
+    requires { length into.old ≡ RECORD_LEN }
+    ensures free { record_type ≡ free_type → into.new ≡ lay (fields_of (Free object offset size to)) into.old }
+    ensures redact { record_type ≡ redact_type → into.new ≡ lay (fields_of (Redact object offset size to)) into.old }
 {
     put32(into, 0, record_type);
     put64(into, 8, object);
@@ -105,26 +106,26 @@ fn put_range(into: &mut [u8], record_type: u32, object: u64, offset: u64, size: 
 }
 
 fn put_end(into: &mut [u8], sums: &[u64; 4], to: u64)
-    requires { length into.old ≡ 312 }
+    requires { length into.old ≡ RECORD_LEN }
     ensures { into.new ≡ lay (fields_of (End sums.now to)) into.old }
 {
-    put32(into, 0, 5);
+    put32(into, 0, types::END);
     put_sums(into, 8, sums);
     put64(into, 40, to);
 }
 
 fn put_spill(into: &mut [u8], object: u64, size: u64, to: u64)
-    requires { length into.old ≡ 312 }
+    requires { length into.old ≡ RECORD_LEN }
     ensures { into.new ≡ lay (fields_of (Spill object size to)) into.old }
 {
-    put32(into, 0, 7);
+    put32(into, 0, types::SPILL);
     put64(into, 8, object);
     put64(into, 16, size);
     put64(into, 24, to);
 }
 
 fn put_fields(into: &mut [u8], head: &Head)
-    requires { length into.old ≡ 312 }
+    requires { length into.old ≡ RECORD_LEN }
     ensures { into.new ≡ lay (fields_of head.now) into.old }
 {
     match head {
@@ -163,7 +164,7 @@ fn put_fields(into: &mut [u8], head: &Head)
             offset,
             length,
             to,
-        } => put_range(into, 4, *object, *offset, *length, *to),
+        } => put_range(into, types::FREE, *object, *offset, *length, *to),
         Head::End { sums, to } => put_end(into, sums, *to),
         Head::Spill { object, length, to } => put_spill(into, *object, *length, *to),
         Head::Redact {
@@ -171,15 +172,15 @@ fn put_fields(into: &mut [u8], head: &Head)
             offset,
             length,
             to,
-        } => put_range(into, 10, *object, *offset, *length, *to),
+        } => put_range(into, types::REDACT, *object, *offset, *length, *to),
     }
 }
 
 /// Writes a record, all but its checksum: the bytes that no field names are 0.
 #[tactic(auto, unfolding(crate::specs::Table::head_bytes, zst_bytes::specs::Fields::zeros))]
-pub fn encode(head: &Head, into: &mut [u8; 312])
+pub fn encode(head: &Head, into: &mut [u8; RECORD_LEN])
     ensures { into.new ≡ head_bytes head.now }
 {
-    *into = [0; 312];
+    *into = [0; RECORD_LEN];
     put_fields(into, head);
 }

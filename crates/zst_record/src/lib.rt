@@ -3,28 +3,27 @@
 
 mod decoding;
 mod encoding;
+pub mod features;
 mod head;
 mod laws;
+pub mod types;
 
 pub use decoding::{decode, get_sums};
 pub use encoding::{encode, put_sums};
 pub use head::{Head, Record};
-pub use laws::{begin_is_decoded, payload_is_bounded, record_is_decoded};
+pub use laws::{begin_is_decoded, formats_are_defined, payload_is_bounded, record_is_decoded};
 
 /// The magic number of BEGIN (`DMU_BACKUP_MAGIC` of zfs_ioctl.h).
-pub const MAGIC: u64 = 0x2_F5ba_cbac;
+pub const MAGIC: u64 = 0x2_f5ba_cbac;
 
-/// The feature flags that are never accepted: those of other forms of streams, and those without a name.
-pub const OTHER_FEATURES: u32 = 0x3f47_fffb;
+/// The magic number in a stream whose numbers have their highest byte first.
+pub const REVERSED_MAGIC: u64 = 0xaccb_baf5_0200_0000;
 
-/// The feature flag of blocks over 131,072 bytes.
-pub const LARGE_BLOCKS: u32 = 0x8_0000;
+/// The header type of the stream of one snapshot (`DMU_SUBSTREAM`).
+pub const SUBSTREAM: u64 = 1;
 
-/// The feature flag of a resumed stream.
-pub const RESUMING: u32 = 0x10_0000;
-
-/// The feature flag of a redacted stream.
-pub const REDACTED: u32 = 0x20_0000;
+/// The header type of a stream of many (`DMU_COMPOUNDSTREAM`).
+pub const COMPOUND_STREAM: u64 = 2;
 
 /// The bytes of a record without its payload (all of `dmu_replay_record` of zfs_ioctl.h).
 pub const RECORD_LEN: usize = 312;

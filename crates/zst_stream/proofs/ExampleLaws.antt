@@ -1,5 +1,6 @@
 -- The small stream can be stated.
 use Rattle.std.proofs.Common.{◌^◌, ◌-◌, refl, lit<, lit≤}
+use Rattle.zst_model.specs.sends.Features.{sa_spill, resuming, redacts}
 use Rattle.zst_model.specs.states.State.{number_bound, is_block_size, largest_block}
 use Rattle.zst_record.specs.Decode.{is_object, is_range, is_payload_len, needs_payload}
 use Rattle.zst_record.specs.Fits.{BeginFits, ObjectFits, WriteFits, FreeFits}
@@ -8,7 +9,7 @@ use Rattle.zst_stream.specs.Image.{PiecesFit}
 use Rattle.zst_stream.specs.Example.{example_header, example_pieces, ExampleIsStream}
 
 begins : BeginFits example_header 0
-unfolding is_payload_len needs_payload
+unfolding is_payload_len needs_payload sa_spill resuming redacts
 begins = record {
   features = lit< tt;
   accepted = refl;

@@ -4,6 +4,7 @@ use Rattle.zst_fletcher.specs.WeightSum.{weight_sum, parts_of}
 use Rattle.zst_model.specs.declared.sends.header.Header.{Header}
 use Rattle.zst_record.specs.declared.head.Head.{Head}
 use Rattle.zst_record.specs.declared.head.Head.TheVariants as heads
+use Rattle.zst_record.specs.Formats.{summed_len}
 use Rattle.zst_record.specs.Heads.{Covered, payload_len}
 use Rattle.zst_record.specs.Table.{head_bytes, sealed_bytes}
 use Rattle.zst_record.specs.Fits.{Fits, IsLater, BeginFits}
@@ -16,7 +17,7 @@ pub record Piece : Type 0 where
 
 -- a record after a text: its checksum is that of all bytes before it
 unfoldable pub record_after : List ℕ → Head → List ℕ
-record_after before head = sealed_bytes head (parts_of (weight_sum (before ++ take 280 (head_bytes head))))
+record_after before head = sealed_bytes head (parts_of (weight_sum (before ++ take summed_len (head_bytes head))))
 
 abbrev pub piece_after : List ℕ → Piece → List ℕ
 piece_after before p = record_after before p.head ++ p.payload

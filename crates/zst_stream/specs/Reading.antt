@@ -3,6 +3,7 @@ use Rattle.std.specs.Prelude.{ℕ, ◌+◌, ◌==◌, ◌&&◌, ◌≡◌, ◌�
 use Rattle.zst_fletcher.specs.WeightSum.{weight_sum, parts_of}
 use Rattle.zst_bytes.specs.Bytes.{number_at}
 use Rattle.zst_model.specs.declared.refusals.faults.Lack.TheVariants as lacks
+use Rattle.zst_record.specs.Formats.{record_len, summed_len}
 use Rattle.zst_record.specs.Heads.{Covered, payload_len, size_of}
 use Rattle.zst_record.specs.Decode.{Decoded, sums_at, decoded, features_in}
 use Rattle.zst_record.specs.declared.head.Head.{Head}
@@ -92,11 +93,11 @@ closing (heads.Redact object offset size to) = None
 unfoldable pub opened : Head → List ℕ → Decoded
 opened head payload = Ok head
 
--- A record but END is covered once the next record's 312 bytes are there with the right checksum.
+-- A record but END is covered once the next record is there with the right checksum.
 unfoldable pub sealed_next : List ℕ → List ℕ → Head → Ruling
 sealed_next before rest head =
-    if nat_lt (length rest) (size_of head + 312) then wait
-    else unless (sum_fault before rest (size_of head + 280) (size_of head + 280)) (more head)
+    if nat_lt (length rest) (size_of head + record_len) then wait
+    else unless (sum_fault before rest (size_of head + summed_len) (size_of head + summed_len)) (more head)
 
 abbrev pub next_by : List ℕ → List ℕ → Decoded → Ruling
 next_by before rest (Ok head) = sealed_next before rest head
@@ -106,7 +107,7 @@ next_by before rest (Err fault) = refuse (not_built before)
 unfoldable pub cover : List ℕ → List ℕ → Head → Ruling
 cover before rest head =
     if nat_lt (length rest) (size_of head) then wait
-    else next_by before rest (opened head (take (payload_len head) (drop 312 rest)))
+    else next_by before rest (opened head (take (payload_len head) (drop record_len rest)))
 
 -- END states the sums of all that stands before it, and BEGIN's guid.
 unfoldable pub finish : List ℕ → List ℕ → Head → Closing → Ruling
@@ -121,17 +122,17 @@ abbrev pub judged : List ℕ → List ℕ → Decoded → Ruling
 judged before rest (Ok head) = if is_built head then rule_by before rest head (closing head) else refuse (not_built before)
 judged before rest (Err fault) = refuse (not_built before)
 
--- What is found at the front of the rest: a record is judged once its 312 bytes are there.
+-- What is found at the front of the rest: a record is judged once its bytes but the payload's are there.
 unfoldable pub ruling : List ℕ → List ℕ → Ruling
 ruling before rest =
-    if nat_lt (length rest) 312 then wait
-    else judged before rest (decoded (length before) (features_in before) (take 312 rest))
+    if nat_lt (length rest) record_len then wait
+    else judged before rest (decoded (length before) (features_in before) (take record_len rest))
 
 -- ---- readings
 
 abbrev pub covered_at : ℕ → List ℕ → List ℕ → Head → Covered
 covered_at index before rest head =
-    record { head = head; at = length before; index = index; payload = take (payload_len head) (drop 312 rest) }
+    record { head = head; at = length before; index = index; payload = take (payload_len head) (drop record_len rest) }
 
 abbrev pub covered_last : ℕ → List ℕ → Head → Covered
 covered_last index before head = record { head = head; at = length before; index = index; payload = [] }

@@ -8,10 +8,10 @@ use Rattle.zst_model.specs.declared.states.item.Item.{Item}
 use Rattle.zst_model.specs.declared.states.item.Item.TheVariants.{FreeObjects, At}
 use Rattle.zst_model.specs.states.State.{IsState}
 use Rattle.zst_model.specs.states.Dated.{DatedState}
+use Rattle.zst_model.specs.sends.Features.{redacts}
 use Rattle.zst_model.specs.sends.Included.{Choice}
 use Rattle.zst_model.specs.sends.View.{view_of}
 use Rattle.zst_model.specs.sends.Items.{items}
-use Rattle.zst_record.specs.declared.TheConstants.{REDACTED}
 use Rattle.zst_record.specs.declared.head.Head.{Head}
 use Rattle.zst_record.specs.declared.head.Head.TheVariants as heads
 use Rattle.zst_record.specs.Fits.{Fits}
@@ -32,7 +32,7 @@ item_head to (At k change) = change_head to k change
 
 -- a REDACT needs the feature REDACTED
 abbrev pub AllowsChange : ℕ → Change → Type 0
-AllowsChange features (Redact offset count) = not (bit_and features REDACTED == 0) ≡ true
+AllowsChange features (Redact offset count) = not (bit_and features redacts == 0) ≡ true
 AllowsChange features _ = Unit {0}
 
 -- a stream with these features may have the item

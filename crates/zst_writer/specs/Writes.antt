@@ -22,7 +22,7 @@ abbrev pub is_begin : Head → Bool
 is_begin (heads.Begin header len) = true
 is_begin head = false
 
--- the 312 bytes of a record after a text: BEGIN has no checksum
+-- the bytes of a record after a text: BEGIN has no checksum
 unfoldable pub bytes_after : List ℕ → Head → List ℕ
 bytes_after text (heads.Begin header len) = head_bytes (heads.Begin header len)
 bytes_after text head = record_after text (stating text head)
