@@ -5,6 +5,7 @@ mod images;
 mod pools;
 mod runs;
 mod sessions;
+mod spills;
 mod stops;
 mod streams;
 

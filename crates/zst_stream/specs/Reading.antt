@@ -70,7 +70,7 @@ is_built (heads.FreeObjects first count to) = true
 is_built (heads.Write object kind offset size to) = true
 is_built (heads.Free object offset size to) = true
 is_built (heads.End sums to) = true
-is_built (heads.Spill object size to) = false
+is_built (heads.Spill object size to) = true
 is_built (heads.Redact object offset size to) = false
 
 -- what END states

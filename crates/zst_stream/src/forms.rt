@@ -3,13 +3,12 @@ ghost use Rattle.zst_stream.specs.Reading.{is_built};
 
 use zst_record::Head;
 
-/// Whether a record is of a form that is built: every record but SPILL and REDACT, and BEGIN without a payload.
+/// Whether a record is of a form that is built: every record but REDACT, and BEGIN without a payload.
 pub fn is_form_built(head: &Head) -> bool
     ensures { result ≡ is_built head.now }
 {
     match head {
         Head::Begin { payload_len, .. } => *payload_len == 0,
-        Head::Spill { .. } => false,
         Head::Redact { .. } => false,
         _ => true,
     }

@@ -2,7 +2,9 @@
 
 use super::TEN;
 use super::runs::{check, dump_of, lines_of, text_of};
-use super::streams::{BEGIN, FREE, FREE_OBJECTS, Field, GUID, OBJECT, Stream, WRITE, noise_in};
+use super::streams::{
+    BEGIN, FREE, FREE_OBJECTS, Field, GUID, OBJECT, SPILL, Stream, WRITE, noise_in,
+};
 use std::alloc::Global;
 use std::process::Abort;
 use std::test::Fail;
@@ -45,7 +47,7 @@ fn check_rows(
             );
         } else {
             let text = format!(in alloc;
-                "{before}624 {line}\n{place} END sums {a} {b} {c} {d}\ncounts begin 1 {counts} end 1 spill 0 redact 0\nrecords 4 payload {payload} stream {size}\n"
+                "{before}624 {line}\n{place} END sums {a} {b} {c} {d}\ncounts begin 1 {counts} redact 0\nrecords 4 payload {payload} stream {size}\n"
             )?;
             check(rt, &what, &ran, 0, &text, "");
         }
@@ -128,7 +130,7 @@ fn objects_are_judged_at_their_bounds(rt: HostRuntime) -> Result<(), Fail> {
         &rt,
         rt.alloc(),
         &OBJECT,
-        "object 1 freeobjects 1 write 0 free 0",
+        "object 1 freeobjects 1 write 0 free 0 end 1 spill 0",
         &rows,
     )
 }
@@ -175,7 +177,7 @@ fn writes_are_judged_at_their_bounds(rt: HostRuntime) -> Result<(), Fail> {
         &rt,
         rt.alloc(),
         &WRITE,
-        "object 0 freeobjects 1 write 1 free 0",
+        "object 0 freeobjects 1 write 1 free 0 end 1 spill 0",
         &rows,
     )
 }
@@ -214,7 +216,7 @@ fn ranges_are_judged_at_their_bounds(rt: HostRuntime) -> Result<(), Fail> {
         &rt,
         rt.alloc(),
         &FREE,
-        "object 0 freeobjects 1 write 0 free 1",
+        "object 0 freeobjects 1 write 0 free 1 end 1 spill 0",
         &rows,
     )?;
     let rows = [
@@ -234,7 +236,34 @@ fn ranges_are_judged_at_their_bounds(rt: HostRuntime) -> Result<(), Fail> {
         &rt,
         rt.alloc(),
         &FREE_OBJECTS,
-        "object 0 freeobjects 2 write 0 free 0",
+        "object 0 freeobjects 2 write 0 free 0 end 1 spill 0",
+        &rows,
+    )
+}
+
+#[test]
+fn spill_blocks_are_judged_at_their_bounds(rt: HostRuntime) -> Result<(), Fail> {
+    let rows = [
+        ((8, 8, 0), 512, ""),
+        (
+            (8, 8, LIMIT - 1),
+            512,
+            "SPILL object 281474976710655 length 512",
+        ),
+        ((8, 8, LIMIT), 512, ""),
+        ((16, 8, 0), 0, ""),
+        ((16, 8, 511), 512, ""),
+        ((16, 8, 1536), 1536, "SPILL object 1 length 1536"),
+        ((16, 8, 131_072), 131_072, "SPILL object 1 length 131072"),
+        ((16, 8, 131_584), 131_584, ""),
+        ((32, 1, 1), 512, "SPILL object 1 length 512"),
+        ((33, 1, 1), 512, ""),
+    ];
+    check_rows(
+        &rt,
+        rt.alloc(),
+        &SPILL,
+        "object 0 freeobjects 1 write 0 free 0 end 1 spill 1",
         &rows,
     )
 }
@@ -245,7 +274,6 @@ fn other_types_are_not_built(rt: HostRuntime) -> Result<(), Fail> {
     let good = [(8, 8, 1), (16, 8, 512)];
     let rows = [
         ((0, 4, 6), 0, ""),
-        ((0, 4, 7), 512, ""),
         ((0, 4, 8), 0, ""),
         ((0, 4, 9), 0, ""),
         ((0, 4, 10), 0, ""),

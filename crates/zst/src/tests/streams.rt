@@ -25,6 +25,8 @@ pub(super) const FREE_OBJECTS: [Field; 3] = [(0, 4, 2), (8, 8, 0), (16, 8, 1)];
 
 pub(super) const WRITE: [Field; 4] = [(0, 4, 3), (8, 8, 1), (16, 4, 19), (32, 8, 512)];
 
+pub(super) const SPILL: [Field; 3] = [(0, 4, 7), (8, 8, 1), (16, 8, 512)];
+
 /// Its range ends at the last number.
 pub(super) const FREE: [Field; 4] = [
     (0, 4, 4),
@@ -106,7 +108,7 @@ impl Stream {
         Ok(stream)
     }
 
-    fn add(&mut self, bytes: &[u8]) -> Result<(), Fail> {
+    pub(super) fn add(&mut self, bytes: &[u8]) -> Result<(), Fail> {
         self.sums = sums_after(self.sums, bytes);
         self.bytes.extend_from_slice(bytes)?;
         Ok(())
