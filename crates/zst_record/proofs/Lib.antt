@@ -1,4 +1,4 @@
-mod Padded
+pub mod Padded
 pub mod TableLaws
 pub mod SizeLaws
 pub mod BeginLaws

@@ -42,14 +42,14 @@ unfolding named
 gives-named P next make None h = gives-err P _
 gives-named P next make (Some name) h = h (make name)
 
-block-bounded : (size : ℕ) → is_block_size size ≡ true → (size % 4 ≡ 0) × (size ≤ 131072)
+pub block-bounded : (size : ℕ) → is_block_size size ≡ true → (size % 4 ≡ 0) × (size ≤ 131072)
 unfolding is_block_size largest_block
 block-bounded size is =
     let all = and_parts (leb 512 size && leb size 131072) ((size % 512) == 0) is in
     let rest = eqb-true (size % 512) 0 all.1 in
     (omega arith, leb-true _ _ (and_parts (leb 512 size) (leb size 131072) all.0).1)
 
-spill-size-bounded : (size : ℕ) → is_spill_size size ≡ true → (size % 4 ≡ 0) × (size ≤ 131072)
+pub spill-size-bounded : (size : ℕ) → is_spill_size size ≡ true → (size % 4 ≡ 0) × (size ≤ 131072)
 unfolding is_spill_size
 spill-size-bounded size is =
     let all = and_parts (leb 512 size && leb size 131072) ((size % 512) == 0) is in

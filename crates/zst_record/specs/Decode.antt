@@ -1,6 +1,6 @@
 -- What the 312 bytes of a record say, or the first check that they fail.
 -- The places, widths and checks are those of zfs_ioctl.h's `dmu_replay_record` and of receive.
-use Rattle.std.specs.Prelude.{ℕ, ◌+◌, ◌-◌, ◌/◌, ◌%◌, ◌^◌, ◌==◌, ◌&&◌, ◌||◌, Bool, true, false, not, if◌then◌else◌, List, [], ◌∷◌, take, nat_le, nat_lt, Option, Some, None, Result, Ok, Err, position, bit_and}
+use Rattle.std.specs.Prelude.{ℕ, ◌+◌, ◌/◌, ◌%◌, ◌^◌, ◌==◌, ◌&&◌, ◌||◌, Bool, true, false, not, if◌then◌else◌, List, [], ◌∷◌, take, nat_le, nat_lt, Option, Some, None, Result, Ok, Err, position, bit_and}
 use Rattle.std.specs.Option.{option_map}
 use Rattle.std.specs.Int.{w32, trailing_zeros}
 use Rattle.zst_bytes.specs.Bytes.{bytes_at, number_at}
@@ -10,7 +10,7 @@ use Rattle.zst_model.specs.declared.refusals.faults.Lack.{Lack}
 use Rattle.zst_model.specs.declared.refusals.faults.Lack.TheVariants as lacks
 use Rattle.zst_model.specs.states.State.{is_number, is_block_size, is_spill_size, largest_bonus}
 use Rattle.zst_model.specs.sends.Features.{redacts, resuming}
-use Rattle.zst_record.specs.Formats.{stream_magic, reversed_magic, substream, compound_stream, begin_type, object_type, free_objects_type, write_type, free_type, end_type, write_by_reference_type, spill_type, write_embedded_type, object_range_type, redact_type, dedup_bit, dedup_props_bit, embed_data_bit, lz4_bit, compressed_bit, raw_bit, other_features, large_blocks}
+use Rattle.zst_record.specs.Formats.{to_end, stream_magic, reversed_magic, substream, compound_stream, begin_type, object_type, free_objects_type, write_type, free_type, end_type, write_by_reference_type, spill_type, write_embedded_type, object_range_type, redact_type, dedup_bit, dedup_props_bit, embed_data_bit, lz4_bit, compressed_bit, raw_bit, other_features, large_blocks}
 use Rattle.zst_record.specs.declared.head.Head.{Head}
 use Rattle.zst_record.specs.declared.head.Head.TheVariants as heads
 use Rattle.zst_model.specs.declared.refusals.stream_fault.StreamFault.{StreamFault}
@@ -57,7 +57,7 @@ write_with at object kind offset size compression to =
 unfoldable pub free_with : (at object offset size to : ℕ) → Decoded
 free_with at object offset size to =
     check (is_object object) (Grammar (at + 8) flaws.Object)
-    (check (is_range offset size || (size == 2 ^ 64 - 1)) (Grammar (at + 24) flaws.Range)
+    (check (is_range offset size || (size == to_end)) (Grammar (at + 24) flaws.Range)
     (Ok (heads.Free object offset size to)))
 
 unfoldable pub spill_with : (at object size compression to : ℕ) → Decoded

@@ -1,12 +1,12 @@
 -- The values that a record can state, and that pass its checks.
-use Rattle.std.specs.Prelude.{ℕ, ◌-◌, ◌^◌, ◌<◌, ◌≤◌, ◌≡◌, ◌==◌, ◌||◌, true, false, List, [], ◌∷◌, None, length, slice_index, bit_and, not}
+use Rattle.std.specs.Prelude.{ℕ, ◌^◌, ◌<◌, ◌≤◌, ◌≡◌, ◌==◌, ◌||◌, true, false, List, [], ◌∷◌, None, length, slice_index, bit_and, not}
 use Rattle.std.specs.List.{position_or_len}
 use Rattle.zst_model.specs.declared.sends.header.Header.{Header}
 use Rattle.zst_model.specs.states.State.{is_block_size, is_spill_size, largest_bonus}
 use Rattle.zst_model.specs.sends.Features.{redacts}
 use Rattle.zst_record.specs.declared.head.Head.{Head}
 use Rattle.zst_record.specs.declared.head.Head.TheVariants as heads
-use Rattle.zst_record.specs.Formats.{large_blocks}
+use Rattle.zst_record.specs.Formats.{large_blocks, to_end}
 use Rattle.zst_record.specs.Decode.{is_object, is_range, is_payload_len, needs_payload, others_of}
 
 -- four numbers of 64 bits
@@ -57,7 +57,7 @@ pub record FreeFits (object offset size to : ℕ) : Type 0 where
   pub object_fits : is_object object ≡ true
   pub offset_fits : offset < 2 ^ 64
   pub size_fits : size < 2 ^ 64
-  pub range : (is_range offset size || (size == 2 ^ 64 - 1)) ≡ true
+  pub range : (is_range offset size || (size == to_end)) ≡ true
   pub to_fits : to < 2 ^ 64
 
 pub record SpillFits (object size to : ℕ) : Type 0 where

@@ -69,6 +69,10 @@ object_range_type = 9
 abbrev pub redact_type : ℕ
 redact_type = 10
 
+-- the length of a FREE that goes to its object's end (DMU_OBJECT_END)
+abbrev pub to_end : ℕ
+to_end = 2 ^ 64 - 1
+
 -- ---- features
 
 -- the bits of the features that have a name (DMU_BACKUP_FEATURE_DEDUP, _DEDUPPROPS, _EMBED_DATA, _LZ4, _LARGE_BLOCKS, _COMPRESSED, _LARGE_DNODE and

@@ -14,15 +14,15 @@ use Rattle.zst_model.specs.declared.states.item.Item.TheVariants.{FreeObjects, A
 use Rattle.zst_model.specs.states.State.{Block, Hole, Redacted, Data, Object, BlockFits, IsHead, IsBonus, IsSpill, IsAttr, IsObject, IsObjectOrNone, IsState, is_hole, past_last, end_of, end_at, is_number, number_bound, index_bound, is_block_size, largest_block}
 use Rattle.zst_model.specs.states.Dated.{DatedState}
 use Rattle.zst_model.specs.sends.Included.{Choice, includes_pair, includes_number}
-use Rattle.zst_model.specs.sends.View.{ObjectView, Shown, Left, Gone, There, object_view, shown_object, view_of}
+use Rattle.zst_model.specs.sends.View.{View, ObjectView, Shown, Left, Gone, There, object_view, shown_object, view_of}
 use Rattle.zst_model.specs.sends.Items.{rising, block_change, change_at, block_changes, spill_change, opening, number_items, items_at, single_items, join_changes, join, before_item, before, joined, items}
 use Rattle.zst_record.specs.Decode.{is_object, is_range}
 use Rattle.zst_record.specs.Fits.{Fits}
 use Rattle.zst_stream.specs.Records.{item_head, Allows, ItemsFit}
 
 -- a change whose values a record can state, and whose range stays so where it is joined with others
-abbrev IsCarriedChange : Change → Type 0
-IsCarriedChange (Put head bonus keep_spill max_block) = IsHead head × IsBonus bonus × (max_block < 2 ^ 64)
+abbrev pub IsCarriedChange : Change → Type 0
+IsCarriedChange (Put head bonus keep_spill max_block) = IsHead head × IsBonus bonus × (max_block < 2 ^ 64) × (keep_spill ≡ false)
 IsCarriedChange (Spill bytes) = IsSpill bytes
 IsCarriedChange (FreeFrom offset) = offset < 2 ^ 64
 IsCarriedChange (Free offset count) = offset + count ≤ 2 ^ 60
@@ -30,7 +30,7 @@ IsCarriedChange (Redact offset count) = offset + count ≤ 2 ^ 60
 IsCarriedChange (Write offset type bytes) = (offset < 2 ^ 64) × (type < 2 ^ 32) × (is_block_size (length bytes) ≡ true)
 
 -- an item of which that is so
-abbrev IsCarried : Item → Type 0
+abbrev pub IsCarried : Item → Type 0
 IsCarried (FreeObjects first count) = first + count ≤ 2 ^ 48
 IsCarried (At k change) = (is_number k ≡ true) × IsCarriedChange change
 
@@ -38,7 +38,7 @@ IsCarried (At k change) = (is_number k ≡ true) × IsCarriedChange change
 carried_fits : (features to : ℕ) (item : Item) → to < 2 ^ 64 → IsCarried item → Allows features item → Fits features (item_head to item)
 unfolding is_object is_range number_bound
 carried_fits features to (FreeObjects first count) small is allows = (omega arith, omega arith, small)
-carried_fits features to (At k (Put head bonus keep_spill max_block)) small (number, (of_head, few, below)) allows = record {
+carried_fits features to (At k (Put head bonus keep_spill max_block)) small (number, (of_head, few, below, none)) allows = record {
   object_fits = number;
   kind_fits = of_head.type_fits;
   kind_there = ne_eqb head.type_ 0 (λ e. omega (arith, e, of_head.some_type));
@@ -97,20 +97,24 @@ join_carried (At k c) (At j d) z e f g = go (k == j) (join_changes c d) refl e
 join_carried (FreeObjects first m) (At j d) z e f g = absurd (cc)
 join_carried (At k c) (FreeObjects next n) z e f g = absurd (cc)
 
-before_carried : (x : Item) (rest : List Item) → IsCarried x → All IsCarried rest → All IsCarried (before x rest)
-before_carried x [] is all = All-cons IsCarried x [] is (All-nil IsCarried)
-before_carried x (y ∷ ys) is all = go (join x y) refl
-  where
-    go : (both : Option Item) → join x y ≡ both → All IsCarried (before_item x both y ys)
-    go None e = All-cons IsCarried x (y ∷ ys) is all
-    go (Some both) e = All-cons IsCarried both ys (join_carried x y both e is (All-head IsCarried y ys all)) (All-tail IsCarried y ys all)
+-- what holds of two items holds of what they are together
+abbrev pub Joins : (Item → Type 0) → Type 0
+Joins P = (x y z : Item) → join x y ≡ Some z → P x → P y → P z
 
-joined_carried : (list : List Item) → All IsCarried list → All IsCarried (joined list)
-joined_carried [] all = All-nil IsCarried
-joined_carried (x ∷ xs) all = before_carried x (joined xs) (All-head IsCarried x xs all) (joined_carried xs (All-tail IsCarried x xs all))
+before_all : (P : Item → Type 0) → Joins P → (x : Item) (rest : List Item) → P x → All P rest → All P (before x rest)
+before_all P joins x [] is all = All-cons P x [] is (All-nil P)
+before_all P joins x (y ∷ ys) is all = go (join x y) refl
+  where
+    go : (both : Option Item) → join x y ≡ both → All P (before_item x both y ys)
+    go None e = All-cons P x (y ∷ ys) is all
+    go (Some both) e = All-cons P both ys (joins x y both e is (All-head P y ys all)) (All-tail P y ys all)
+
+joined_all : (P : Item → Type 0) → Joins P → (list : List Item) → All P list → All P (joined list)
+joined_all P joins [] all = All-nil P
+joined_all P joins (x ∷ xs) all = before_all P joins x (joined xs) (All-head P x xs all) (joined_all P joins xs (All-tail P x xs all))
 
 -- what holds of each part holds of all
-flat_map_all : {X A : Type 0} (P : A → Type 0) (f : X → List A) (xs : List X) → ((x : X) → All P (f x)) → All P (flat_map f xs)
+pub flat_map_all : {X A : Type 0} (P : A → Type 0) (f : X → List A) (xs : List X) → ((x : X) → All P (f x)) → All P (flat_map f xs)
 flat_map_all P f [] each = All-nil P
 flat_map_all P f (x ∷ xs) each = All-same P _ _ (flat_map-cons f x xs) (All-append P (f x) (flat_map f xs) (each x) (flat_map_all P f xs each))
 
@@ -174,7 +178,7 @@ unfolding index_bound
 opening_carried object is =
     let end : object.end ≤ 2 ^ 43 = is.end in
     let place = place_bounded object.end object.attr.block_size is.end is.attr.head.size in
-    All-cons IsCarriedChange _ _ (is.attr.head, is.attr.bonus, omega (arith, pred_below object.end, end))
+    All-cons IsCarriedChange _ _ (is.attr.head, is.attr.bonus, omega (arith, pred_below object.end, end), refl)
     (All-append IsCarriedChange (spill_change object.attr.spill) _ (spill_carried object.attr.spill is.attr.spill)
     (All-cons IsCarriedChange _ [] (omega (arith, place)) (All-nil IsCarriedChange)))
 
@@ -229,16 +233,22 @@ shown_in_ranges header snap choice s k = go (includes_number snap choice k) refl
     go true e None there = (and_parts (is_number k) _ e).0
     go true e (Some object) there = ((and_parts (is_number k) _ e).0, object_in_ranges snap choice k object there (subst IsObjectOrNone there (s.objects k)))
 
-single_carried : (header : Header) (snap : DatedState) (choice : Choice) (point : Point) → IsState snap.state → All IsCarried (single_items (view_of header snap choice) point)
+-- what holds of the items of each number holds of all items
+pub items_all : (P : Item → Type 0) → Joins P → (view : View) (point : Point) → ((k offset : ℕ) → All P (number_items k offset (view.shown k)))
+    → All P (items view point)
 unfolding single_items
-single_carried header snap choice point s =
-    flat_map_all IsCarried (items_at (view_of header snap choice) point) (rising 1 (pred number_bound)) (λ k. go k (nat_lt k point.object))
+items_all P joins view point each =
+    joined_all P joins (single_items view point) (flat_map_all P (items_at view point) (rising 1 (pred number_bound)) (λ k. go k (nat_lt k point.object)))
   where
-    go : (k : ℕ) (t : Bool) → All IsCarried (if t then [] else number_items k (if k == point.object then point.offset else 0) ((view_of header snap choice).shown k))
-    go k true = All-nil IsCarried
-    go k false = number_carried k _ ((view_of header snap choice).shown k) (shown_in_ranges header snap choice s k)
+    go : (k : ℕ) (t : Bool) → All P (if t then [] else number_items k (if k == point.object then point.offset else 0) (view.shown k))
+    go k true = All-nil P
+    go k false = each k (if k == point.object then point.offset else 0)
+
+pub items_carried : (header : Header) (snap : DatedState) (choice : Choice) (point : Point) → IsState snap.state → All IsCarried (items (view_of header snap choice) point)
+items_carried header snap choice point s =
+    items_all IsCarried join_carried (view_of header snap choice) point (λ k offset. number_carried k offset ((view_of header snap choice).shown k) (shown_in_ranges header snap choice s k))
 
 pub items_fit : ItemsFit
 items_fit header snap choice point s small =
     All-weaker IsCarried (λ item. Allows header.features item → Fits header.features (item_head header.to item)) (λ item is. carried_fits header.features header.to item small is)
-    (items (view_of header snap choice) point) (joined_carried (single_items (view_of header snap choice) point) (single_carried header snap choice point s))
+    (items (view_of header snap choice) point) (items_carried header snap choice point s)

@@ -1,12 +1,19 @@
 -- The small stream can be stated.
 use Rattle.std.proofs.Common.{◌^◌, ◌-◌, refl, lit<, lit≤}
+use Rattle.std.specs.List.{All}
+use Rattle.std.proofs.lemmas.List.Elements.{All-from_recursion}
+use Rattle.zst_model.specs.sends.Headers.{spill_block}
+use Rattle.zst_model.specs.sends.Items.{origin}
 use Rattle.zst_model.specs.sends.Features.{sa_spill, resuming, redacts}
 use Rattle.zst_model.specs.states.State.{number_bound, is_block_size, largest_block}
 use Rattle.zst_record.specs.Decode.{is_object, is_range, is_payload_len, needs_payload}
 use Rattle.zst_record.specs.Fits.{BeginFits, ObjectFits, WriteFits, FreeFits}
+use Rattle.zst_record.specs.Table.{padded}
 use Rattle.zst_stream.specs.Reading.{opened}
 use Rattle.zst_stream.specs.Image.{PiecesFit}
-use Rattle.zst_stream.specs.Example.{example_header, example_pieces, ExampleIsStream}
+use Rattle.zst_stream.specs.Example.{example_header, example_items, example_pieces, no_snapshot, full_choice, ExampleIsStream, ExampleCanBeSent}
+use Rattle.zst_stream.specs.Items.{Says}
+use Rattle.zst_stream.proofs.Plain.{plain_allowed}
 
 begins : BeginFits example_header 0
 unfolding is_payload_len needs_payload sa_spill resuming redacts
@@ -51,7 +58,7 @@ unfolding is_object number_bound is_range
 free-fits = record { object_fits = refl; offset_fits = lit< tt; size_fits = lit< tt; range = refl; to_fits = lit< tt }
 
 pieces-fit : PiecesFit 4 example_pieces
-unfolding opened
+unfolding opened padded
 pieces-fit = (
   record { later = tt; not_end = refl; built = refl; fits = (lit< tt, lit< tt, lit< tt); len = refl; sound = refl },
   (
@@ -63,5 +70,19 @@ pieces-fit = (
   ),
 )
 
+says : All (Says example_header.flags) example_items
+unfolding spill_block
+says =
+    All-from_recursion (Says example_header.flags) example_items (tt, (refl, (tt, (tt, tt))))
+
 pub example-fits : ExampleIsStream
-example-fits = record { begins = begins; pieces_fit = pieces-fit }
+example-fits = (record { begins = begins; pieces_fit = pieces-fit }, says)
+
+pub example-can : ExampleCanBeSent
+unfolding spill_block
+example-can = record {
+  lawful = record { zero = refl; bounded = λ k h. refl; objects = λ k. tt };
+  begins = begins;
+  flags = refl;
+  allowed = plain_allowed example_header.features example_header no_snapshot full_choice origin (λ k i object e r. absurd (cc)) (λ k i. refl);
+}

@@ -3,3 +3,5 @@ pub mod ExampleLaws
 pub mod FindingLaws
 pub mod Growth
 pub mod Whole
+mod Said
+mod Plain

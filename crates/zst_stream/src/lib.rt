@@ -1,13 +1,16 @@
 //! What the bytes of a stream say: its reading, its image, and the laws that tie them.
 #![tactic(auto)]
 
-ghost use Rattle.zst_stream.specs.Example.{ExampleIsStream};
+ghost use Rattle.zst_stream.specs.Example.{ExampleCanBeSent, ExampleIsStream};
 ghost use Rattle.zst_stream.specs.Records.{ItemsFit};
+ghost use Rattle.zst_stream.specs.Items.{ItemsAreRead, PayloadsFit, PlainIsAllowed, ViewIsStream, ViewIsRead, FirstItems};
 ghost use Rattle.zst_stream.specs.Laws.{FrontsAgree, FaultsAreFound, ImageIsRead, FrontIsRead, CoversArePieces, FirstPieces, PieceGoesOn};
 
 mod forms;
+mod item_ref;
 
 pub use forms::is_form_built;
+pub use item_ref::{ItemRef, head_of, pad_bonus};
 
 /// However a text goes on, the reading of a front of it is a front of its reading.
 pub fn fronts_agree()
@@ -49,7 +52,42 @@ pub fn example_is_a_stream()
     ensures { ExampleIsStream }
 {}
 
+/// So do views that can be sent: that of a snapshot without objects is one.
+pub fn example_can_be_sent()
+    ensures { ExampleCanBeSent }
+{}
+
 /// Each item of a lawful snapshot's view fits a record, whatever is chosen, as far as the features allow it.
 pub fn items_fit()
     ensures { ItemsFit }
+{}
+
+/// What is written of items is read as these items.
+pub fn items_are_read()
+    ensures { ItemsAreRead }
+{}
+
+/// The items of a view of a lawful snapshot are a stream's, as far as its header allows them.
+pub fn view_is_a_stream()
+    ensures { ViewIsStream }
+{}
+
+/// Its text is read to its end, and says exactly the view's items.
+pub fn view_is_read()
+    ensures { ViewIsRead }
+{}
+
+/// A front of its text says a front of the view's items.
+pub fn first_items_are_read()
+    ensures { FirstItems }
+{}
+
+/// The payload of an item whose record fits is whole words, and as long as the record says.
+pub fn payloads_fit()
+    ensures { PayloadsFit }
+{}
+
+/// What no redaction touches needs no feature.
+pub fn plain_is_allowed()
+    ensures { PlainIsAllowed }
 {}

@@ -1,28 +1,42 @@
+ghost use Rattle.std.specs.Prelude.{◌≡◌};
+ghost use Rattle.zst_record.specs.Heads.{payload_len};
+
+mod items;
+
 use crate::Writer;
 use zst_model::{GuidSet, Header, NameText};
 use zst_record::{Head, get_sums};
 
-#[test]
-fn writes_the_smallest_stream(rt: HostRuntime) {
+const GUID: u64 = 0x1_0000_0001;
+
+/// BEGIN of a full stream of this snapshot.
+fn begin(name: NameText) -> Head
+    ensures { payload_len result ≡ 0 }
+{
     let header = Header {
         kind: 2,
         flags: 12,
         features: 4,
         time: 1_700_000_000,
-        to: 0x1_0000_0001,
+        to: GUID,
         from: 0,
-        name: NameText::new(b"t/a@s"),
+        name,
         resume: None,
         redact: GuidSet::empty(),
         from_redact: GuidSet::empty(),
     };
-    let begin = Head::Begin {
+    Head::Begin {
         header,
         payload_len: 0,
-    };
+    }
+}
+
+#[test]
+fn writes_the_smallest_stream(rt: HostRuntime) {
+    let begin = begin(NameText::new(b"t/a@s"));
     let end = Head::End {
         sums: [0; 4],
-        to: 0x1_0000_0001,
+        to: GUID,
     };
     let mut writer = Writer::new();
     let mut first = [0xff; 312];

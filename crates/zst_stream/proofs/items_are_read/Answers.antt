@@ -1,0 +1,5 @@
+use Rattle.zst_stream.proofs.Said.{items_read}
+use Rattle.zst_stream.proofs.items_are_read.Goals as goal
+
+pub returns : goal.returns
+returns c = items_read

@@ -1,0 +1,5 @@
+use Rattle.zst_stream.proofs.Said.{view_read}
+use Rattle.zst_stream.proofs.view_is_read.Goals as goal
+
+pub returns : goal.returns
+returns c = view_read
