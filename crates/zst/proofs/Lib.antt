@@ -1,6 +1,6 @@
 pub mod DumpLemmas
 pub mod DumpFits
-pub mod IntakeLemmas
+pub mod OneAnswer
 pub mod Commanded
 pub mod InRange
 pub mod Made

@@ -1,4 +1,3 @@
-pub mod Limits
 pub mod Dumps
 pub mod Replies
 pub mod Commands
@@ -6,5 +5,4 @@ pub mod Devices
 pub mod Lines
 pub mod Openings
 pub mod Runs
-pub mod Intake
 pub mod Dumping

@@ -1,9 +1,9 @@
 -- What a run does: the status, and what is noted.
-use Rattle.std.specs.Prelude.{ℕ, ◌≡◌, ◌⊎◌, ◌==◌, if◌then◌else◌, List, [], ◌++◌, Result, Ok, Err, codes, decimal}
+use Rattle.std.specs.Prelude.{ℕ, ◌≡◌, ◌⊎◌, ◌==◌, if◌then◌else◌, List, ◌++◌, Result, Ok, Err, codes, decimal}
 use Rattle.zst_outside.specs.Causes.{Rose}
 use Rattle.zst_outside.specs.Images.{DiskState}
 use Rattle.zst_outside.specs.States.{SinkState, HandedOn}
-use Rattle.zst_outside.specs.Printing.{Wrote}
+use Rattle.zst_outside.specs.Printing.{Wrote, Printed}
 use Rattle.zst_model.specs.refusals.Refusal.{number_of, text_of}
 use Rattle.zst_model.specs.declared.refusals.plan_fault.PlanFault.{PlanFault}
 use Rattle.zst_model.specs.declared.refusals.plan_fault.PlanFault.TheVariants as plans
@@ -44,10 +44,10 @@ status_of refusals.OutOfMemory = 10
 unfoldable pub note_of : Refusal → List ℕ
 note_of refusal = codes "zst: E" ++ (decimal (number_of refusal) ++ (codes " " ++ (text_of refusal ++ codes "\n")))
 
--- a front of a text was noted, and all of it, handed on, unless a fault was counted
+-- a front of a text was noted, and all of it, handed on and without a fault, unless a fault was counted
 pub record Noted (note note' : SinkState) (text : List ℕ) : Type 0 where
   pub front : (rest : List ℕ) × Wrote note note' text rest
-  pub whole : (Wrote note note' text [] × HandedOn note') ⊎ Rose note.faults note'.faults
+  pub whole : (Printed note note' text × HandedOn note') ⊎ Rose note.faults note'.faults
 
 -- The answer is told by the status, 0 where nothing was refused, and a refusal is noted.
 abbrev pub Told : SinkState → SinkState → ℕ → Result (Unit {0}) Refusal → Type 0

@@ -6,7 +6,6 @@ ghost use Rattle.zst_file.specs.FileDisk.{history_of};
 
 mod dump;
 mod image;
-mod intake;
 mod note;
 mod on_file;
 mod pools;

@@ -1,6 +1,7 @@
 mod answers;
 mod bounds;
 mod faults;
+mod flushes;
 mod images;
 mod pools;
 mod runs;

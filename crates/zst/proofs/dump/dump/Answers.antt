@@ -5,9 +5,6 @@ use Rattle.zst.proofs.dump.dump.Goals as goal
 pub returns-in_default : goal.returns-in_default
 returns-in_default g c = no_memory _ _
 
-pub returns-in_default-new : goal.returns-in_default-new
-returns-in_default-new g c = no_memory _ _
-
 pub turns-preserved : goal.turns-preserved
 turns-preserved g c =
     let t = c.in-None.ensures _ _ c.turns.invariant.dumping in

@@ -8,6 +8,6 @@ invariant-turns g l =
     let source = g.S.Source in
     let sink = g.K.Sink in
     record {
-      dumping : Dumping (source.state l.fn.input) (source.state l.input) (sink.state l.fn.out) (sink.state l.out) l.reader l.intake l.counts;
+      dumping : Dumping (source.state l.fn.input) (source.state l.input) (sink.state l.fn.out) (sink.state l.out) l.reader l.counts;
       turns : l.turned ≤ progress_of l.reader;
     }

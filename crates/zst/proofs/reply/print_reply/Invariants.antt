@@ -1,4 +1,4 @@
-use Rattle.std.proofs.Common.{[], take}
+use Rattle.std.proofs.Common.{take}
 use Rattle.zst_outside.specs.Printing.{Printed}
 use Rattle.zst.specs.Replies.{reply_text}
 use Rattle.zst.proofs.reply.print_reply.Given as goal
