@@ -1,15 +1,16 @@
 /*
- * Writes a send stream to standard output, to time programs on: N objects of type 19 with blocks of 131,072 bytes,
- * a bonus of 8 bytes each, blocks 0 to 254 but every eighth, which are holes.
- * Build: cc -O2 -o make_stream make_stream.c        Use: make_stream N
+ * Writes a send stream to standard output, to time programs on: N objects of type 19 with blocks of 131,072 bytes or
+ * of so many as are given, a power of two from 512 on, a bonus of 8 bytes each, blocks 0 to 254 but every eighth, which are holes.
+ * Build: cc -O2 -o make_stream make_stream.c        Use: make_stream N [BLOCK]
  * The stream of 7 objects has 206,083,176 bytes.
  */
+#include <stdbool.h>
 #include <stdint.h>
 #include <stdio.h>
 #include <stdlib.h>
 #include <string.h>
 
-enum { RECORD = 312, SUMMED = 280, BLOCK = 131072, BLOCKS = 255, HOLE_EACH = 8 };
+enum { RECORD = 312, SUMMED = 280, LARGEST_BLOCK = 131072, SMALLEST_BLOCK = 512, BLOCKS = 255, HOLE_EACH = 8 };
 enum { BEGIN, OBJECT, FREEOBJECTS, WRITE, FREE, END };
 static const uint64_t GUID = 0x100000001;
 
@@ -17,6 +18,8 @@ typedef struct { uint64_t a, b, c, d; } sums;
 
 /* Of all bytes that were written. */
 static sums total;
+
+static uint64_t block_size = LARGEST_BLOCK;
 
 static void put32(uint8_t *at, uint32_t n) { memcpy(at, &n, 4); }
 static void put64(uint8_t *at, uint64_t n) { memcpy(at, &n, 8); }
@@ -66,7 +69,7 @@ static void emit_object(uint64_t object)
 	uint8_t record[RECORD] = {0}, bonus[8];
 	put64(record + 8, object);
 	put32(record + 16, 19);
-	put32(record + 24, BLOCK);
+	put32(record + 24, (uint32_t)block_size);
 	put32(record + 28, sizeof bonus);
 	record[34] = 1;
 	put64(record + 40, GUID);
@@ -89,17 +92,17 @@ static void emit_range(uint32_t type, uint64_t first, uint64_t second, uint64_t 
 
 static void emit_block(uint64_t object, uint64_t index)
 {
-	static uint8_t block[BLOCK];
+	static uint8_t block[LARGEST_BLOCK];
 	uint8_t record[RECORD] = {0};
 	put64(record + 8, object);
 	put32(record + 16, 19);
-	put64(record + 24, index * BLOCK);
-	put64(record + 32, BLOCK);
+	put64(record + 24, index * block_size);
+	put64(record + 32, block_size);
 	put64(record + 40, GUID);
 	emit_record(record, WRITE);
-	for (uint64_t word = 0; word < BLOCK / 4; word++)
+	for (uint64_t word = 0; word < block_size / 4; word++)
 		put32(block + 4 * word, (uint32_t)((object * 65536 + index * 256 + word) * 2654435761u));
-	emit(block, BLOCK);
+	emit(block, block_size);
 }
 
 static void emit_end(void)
@@ -112,18 +115,21 @@ static void emit_end(void)
 
 int main(int argc, char **argv)
 {
-	uint64_t objects = argc == 2 ? strtoull(argv[1], NULL, 10) : 0;
-	if (objects == 0) {
-		fprintf(stderr, "use: make_stream N\n");
+	uint64_t objects = argc == 2 || argc == 3 ? strtoull(argv[1], NULL, 10) : 0;
+	if (argc == 3)
+		block_size = strtoull(argv[2], NULL, 10);
+	bool is_block = SMALLEST_BLOCK <= block_size && block_size <= LARGEST_BLOCK && (block_size & (block_size - 1)) == 0;
+	if (objects == 0 || !is_block) {
+		fprintf(stderr, "use: make_stream N [BLOCK]\n");
 		return 2;
 	}
 	emit_begin();
 	for (uint64_t object = 1; object <= objects; object++) {
 		emit_object(object);
-		emit_range(FREE, object, (uint64_t)BLOCKS * BLOCK, UINT64_MAX);
+		emit_range(FREE, object, BLOCKS * block_size, UINT64_MAX);
 		for (uint64_t index = 0; index < BLOCKS; index++)
 			if (index % HOLE_EACH == HOLE_EACH - 1)
-				emit_range(FREE, object, index * BLOCK, BLOCK);
+				emit_range(FREE, object, index * block_size, block_size);
 			else
 				emit_block(object, index);
 	}
