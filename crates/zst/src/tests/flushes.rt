@@ -114,23 +114,27 @@ fn lines_are_handed_on_before_more_is_asked_for(rt: HostRuntime) -> Result<(), F
     Ok(())
 }
 
+/// The lines that are written before a flush.
+fn lines_before(flush: u64) -> &'static str {
+    if flush < 14 {
+        return covered(312 * flush as usize);
+    }
+    TEN
+}
+
 /// A flush comes before each read, and one at the end.
 #[test]
 fn each_flush_that_fails_ends_the_dump(rt: HostRuntime) -> Result<(), Fail> {
     let alloc = rt.alloc();
-    let mut before = "";
     for flush in 0..15u64 {
         let (status, out) = dump_ten(&rt, alloc, NONE, flush)?;
         assert_eq!(rt; status, 6);
         assert_eq!(rt; out.faults, 1);
-        let taken = if flush < 14 {
-            covered(312 * flush as usize)
-        } else {
-            TEN
-        };
-        let lost = taken.get(before.len()..).ok_or("a longer text")?;
-        check_out(&rt, &out, before, lost);
-        before = taken;
+        let handed_on = lines_before(flush.saturating_sub(1));
+        let lost = lines_before(flush)
+            .get(handed_on.len()..)
+            .ok_or("a longer text")?;
+        check_out(&rt, &out, handed_on, lost);
     }
     let (status, out) = dump_ten(&rt, alloc, NONE, 15)?;
     assert_eq!(rt; status, 0);
