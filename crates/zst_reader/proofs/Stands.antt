@@ -13,6 +13,7 @@ use Rattle.zst_reader.specs.Stepping.{covered_in, Counts}
 use Rattle.zst_reader.specs.declared.mark.Mark.{Mark}
 use Rattle.zst_reader.specs.declared.mark.Mark.TheVariants.{Open, Failed, Ended}
 use Rattle.zst_reader.specs.declared.reader.Reader.{Reader}
+use Rattle.zst_reader.proofs.Places.{place-grown}
 use Rattle.zst_reader.proofs.Turns.{reading-refuse, reading-wait, reading-last, reading-more, prepend-prepend}
 
 -- ---- the facts that follow from how the reading goes on
@@ -78,11 +79,11 @@ reads-next mark count before front rest rest' text handed c step reads = λ furt
 
 -- ---- opening, pushing, settling
 
-pub opened : (r : Reader) → held r ≡ [] → IsPlaceAfter [] r.place → r.place.at ≡ 0 → r.handed ≡ 0 → r.mark ≡ Open → StandsFor r [] []
+pub opened : (r : Reader) → held r ≡ [] → IsPlaceAfter [] [] r.place → r.place.at ≡ 0 → r.handed ≡ 0 → r.mark ≡ Open → StandsFor r [] []
 opened r empty place at handed mark = stands_by r [] [] handed (record {
   before = [];
   text_is = sym empty;
-  place = place;
+  place = rw empty place;
   at = at;
   read = reads-same r.mark Open r.handed 0 [] (held r) [] [] [] mark handed empty reads-first;
 })
@@ -100,7 +101,7 @@ pushed old new piece text handed same grown stands =
     stands_by new (text ++ piece) handed (same.handed ∙ stands.number) (record {
       before = s.before;
       text_is = rw grown (ap (λ (t : List ℕ). t ++ piece) s.text_is ∙ append_assoc s.before (held old) piece);
-      place = rw same.place s.place;
+      place = rw (same.place, grown) (place-grown s.before (held old) piece old.place s.place);
       at = rw same.place s.at;
       read = reads-same new.mark old.mark new.handed old.handed s.before (held new) (held old ++ piece) (text ++ piece) handed same.mark same.handed grown
           (reads-grown old.mark old.handed s.before (held old) text piece handed s.read);
@@ -112,10 +113,23 @@ settled old new text handed same kept stands =
     stands_by new text handed (same.handed ∙ stands.number) (record {
       before = s.before;
       text_is = rw kept s.text_is;
-      place = rw same.place s.place;
+      place = rw (same.place, kept) s.place;
       at = rw same.place s.at;
       read = reads-same new.mark old.mark new.handed old.handed s.before (held new) (held old) text handed same.mark same.handed kept s.read;
     })
+
+-- a reader that holds all of its window
+pub record AtFront (r : Reader) (text : List ℕ) (handed : List Covered) : Type 0 where
+  pub kept : held r ≡ items r.window
+  pub stands : StandsFor r text handed
+  pub place : IsPlaceAfter stands.inner.before (items r.window) r.place
+
+pub at_front : (old mid : Reader) (text : List ℕ) (handed : List Covered) → mid.taken ≡ 0 → SamePlace old mid → items mid.window ≡ held old → StandsFor old text handed → AtFront mid text handed
+at_front old mid text handed none same window stands =
+    let kept : held mid ≡ items mid.window = rw none refl in
+    let now = settled old mid text handed same (kept ∙ window) stands in
+    let P : List ℕ → Type 0 = λ l. IsPlaceAfter now.inner.before l mid.place in
+    record { kept = kept; stands = now; place = subst P kept now.inner.place }
 
 -- ---- the end of a reading
 
@@ -149,7 +163,7 @@ refused old new text handed fault stands live is place count kept mark =
     has_failed new text handed fault mark (stands_by new text handed (count ∙ stands.number) (record {
       before = s.before;
       text_is = rw kept s.text_is;
-      place = rw place s.place;
+      place = rw (place, kept) s.place;
       at = rw place s.at;
       read = reads-same new.mark (Failed fault) new.handed old.handed s.before (held new) (held old) text handed mark count kept
           (reads-failed old.handed s.before (held old) text handed fault is
@@ -164,7 +178,7 @@ record GoesBehind (old new : Reader) (before : List ℕ) (size : ℕ) : Type 0 w
   pub rest : held new ≡ drop size (held old)
   pub at : new.place.at ≡ old.place.at + size
   pub handed : new.handed ≡ old.handed + 1
-  pub place : IsPlaceAfter (before ++ take size (held old)) new.place
+  pub place : IsPlaceAfter (before ++ take size (held old)) (drop size (held old)) new.place
 
 moved : (old new : Reader) (mark : Mark) (text : List ℕ) (handed : List Covered) (c : Covered) (stands : StandsFor old text handed) → old.mark ≡ Open → new.mark ≡ mark
     → GoesBehind old new stands.inner.before (size_of c.head)
@@ -186,7 +200,7 @@ moved old new mark text handed c stands live is m step =
       before = s.before ++ front;
       text_is = s.text_is ∙ ap (λ (t : List ℕ). s.before ++ t) (sym (take-append-drop size (held old)))
           ∙ rw m.rest (sym (append_assoc s.before front rest));
-      place = m.place;
+      place = rw m.rest m.place;
       at = omega arith;
       read = reads-same new.mark mark new.handed (old.handed + 1) (s.before ++ front) (held new) rest text (handed ++ c ∷ []) is count m.rest
           (reads-next mark old.handed s.before front (held old) rest text handed c step
@@ -217,7 +231,7 @@ pub record Advances (old new : Reader) (before : List ℕ) (size : ℕ) (mark : 
   pub window : new.window ≡ old.window
   pub counts : Counts old new 1 mark
   pub at : new.place.at ≡ old.place.at + size
-  pub place : IsPlaceAfter (before ++ take size (items old.window)) new.place
+  pub place : IsPlaceAfter (before ++ take size (items old.window)) (drop size (items old.window)) new.place
 
 goes_behind : (old new : Reader) (before : List ℕ) (size : ℕ) (mark : Mark) → Advances old new before size mark → GoesBehind old new before size
 goes_behind old new before size mark a = record {
@@ -225,7 +239,7 @@ goes_behind old new before size mark a = record {
   rest = ap (λ n. drop n (items new.window)) a.taken ∙ ap (λ w. drop size (items w)) a.window ∙ ap (drop size) (sym a.settled);
   at = a.at;
   handed = a.counts.handed;
-  place = let P : List ℕ → Type 0 = λ l. IsPlaceAfter (before ++ take size l) new.place in subst P (sym a.settled) a.place;
+  place = let P : List ℕ → Type 0 = λ l. IsPlaceAfter (before ++ take size l) (drop size l) new.place in subst P (sym a.settled) a.place;
 }
 
 -- a record whose payload stands behind its 312 bytes

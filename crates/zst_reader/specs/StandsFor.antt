@@ -51,7 +51,7 @@ ReadsOn mark count before rest text handed =
 pub record GoesOn (r : Reader) (text : List ℕ) (handed : List Covered) : Type 0 where
   pub before : List ℕ
   pub text_is : text ≡ before ++ held r
-  pub place : IsPlaceAfter before (place_of r)
+  pub place : IsPlaceAfter before (held r) (place_of r)
   pub at : (place_of r).at ≡ sum_by (λ c. size_of c.head) handed
   pub read : ReadsOn (mark_of r) (handed_of r) before (held r) text handed
 

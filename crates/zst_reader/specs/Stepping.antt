@@ -30,6 +30,15 @@ pub record Counts (old new : Reader) (count : ℕ) (stand : Mark) : Type 0 where
   pub handed : handed_of new ≡ handed_of old + count
   pub mark : mark_of new ≡ stand
 
+-- all but its head is the same
+pub record IsSameBut (old new : Reader) : Type 0 where
+  pub window : new.window ≡ old.window
+  pub taken : new.taken ≡ old.taken
+  pub place : new.place ≡ old.place
+  pub handed : new.handed ≡ old.handed
+  pub pushed : new.pushed ≡ old.pushed
+  pub mark : new.mark ≡ old.mark
+
 -- what a step did to the reader, whatever the text
 abbrev pub Moves : Reader → Reader → Result Step StreamFault → Type 0
 Moves old new (Ok (steps.Record r)) = Counts old new 1 (mark_after r.head.now)

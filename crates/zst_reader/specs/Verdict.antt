@@ -1,31 +1,53 @@
 -- What the code's verdict says.
-use Rattle.std.specs.Prelude.{ℕ, ◌<◌, ◌≡◌, List, ◌++◌, take}
-use Rattle.zst_fletcher.specs.WeightSum.{weight_sum}
+use Rattle.std.specs.Prelude.{ℕ, ◌+◌, ◌<◌, ◌≤◌, ◌≡◌, Bool, true, false, List, ◌++◌, length, take, drop, Result, Ok, Err}
+use Rattle.zst_record.specs.Decode.{decoded}
 use Rattle.zst_record.specs.Heads.{payload_len, size_of}
-use Rattle.zst_stream.specs.Reading.{Ruling, wait, refuse, last, more}
-use Rattle.zst_reader.specs.Place.{IsWithin}
+use Rattle.zst_record.specs.declared.head.Head.{Head}
+use Rattle.zst_model.specs.declared.refusals.stream_fault.StreamFault.{StreamFault}
+use Rattle.zst_stream.specs.Reading.{Ruling, wait, refuse, last, more, ruling, is_built}
+use Rattle.zst_reader.specs.Place.{IsPlaceAfter, IsWithin}
 use Rattle.zst_reader.specs.Mark.{mark_after}
+use Rattle.zst_reader.specs.declared.mark.Mark.{Mark}
 use Rattle.zst_reader.specs.declared.mark.Mark.TheVariants.{Open, Ended}
+use Rattle.zst_reader.specs.declared.place.Place.{Place}
 use Rattle.zst_reader.specs.declared.judging.Verdict.{Verdict}
 use Rattle.zst_reader.specs.declared.judging.Verdict.TheVariants as verdicts
 
--- the ruling that it is
-abbrev pub ruled : Verdict → Ruling
-ruled verdicts.Wait = wait
-ruled (verdicts.Refuse fault) = refuse fault
-ruled (verdicts.Last head sum) = last head
-ruled (verdicts.More head sum) = more head
+-- the head is that of the record at the front of these bytes, which passes the checks of its 312 bytes
+pub record IsHeadOf (place : Place) (held : List ℕ) (head : Head) : Type 0 where
+  pub there : 312 ≤ length held
+  pub decoded : decoded place.at place.features (take 312 held) ≡ Ok head
+  pub built : is_built head ≡ true
 
--- where a record is handed out, the sum is that of the text with this record
-abbrev pub SumsUp : List ℕ → List ℕ → Verdict → Type 0
-SumsUp before held verdicts.Wait = Unit {0}
-SumsUp before held (verdicts.Refuse fault) = Unit {0}
-SumsUp before held (verdicts.Last head sum) = sum ≡ weight_sum (before ++ take (size_of head) held)
-SumsUp before held (verdicts.More head sum) = sum ≡ weight_sum (before ++ take (size_of head) held)
+-- The head was read, or its 312 bytes aren't all there, or the record is refused.
+abbrev pub ReadsHead : Place → List ℕ → Head → Result Bool StreamFault → Type 0
+ReadsHead place held head (Ok true) = IsHeadOf place held head
+ReadsHead place held head (Ok false) = length held < 312
+ReadsHead place held head (Err fault) = (before : List ℕ) → IsPlaceAfter before held place → ruling before held ≡ refuse fault
+
+-- the ruling on a record of this head that the verdict is
+abbrev pub ruled : Head → Verdict → Ruling
+ruled head verdicts.Wait = wait
+ruled head (verdicts.Refuse fault) = refuse fault
+ruled head (verdicts.Last next) = last head
+ruled head (verdicts.More next) = more head
+
+-- where a record is handed out, the place is the one behind it
+abbrev pub LeadsOn : List ℕ → List ℕ → Head → Verdict → Type 0
+LeadsOn before held head verdicts.Wait = Unit {0}
+LeadsOn before held head (verdicts.Refuse fault) = Unit {0}
+LeadsOn before held head (verdicts.Last next) = IsPlaceAfter (before ++ take (size_of head) held) (drop (size_of head) held) next
+LeadsOn before held head (verdicts.More next) = IsPlaceAfter (before ++ take (size_of head) held) (drop (size_of head) held) next
+
+-- the record is there, and its mark and the place behind it fit
+pub record Covers (place : Place) (count : ℕ) (head : Head) (next : Place) (stand : Mark) : Type 0 where
+  pub within : IsWithin count (size_of head)
+  pub at : next.at ≡ place.at + size_of head
+  pub mark : mark_after head ≡ stand
 
 -- Where more is wanted, the longest record and the next 312 bytes aren't there.
-abbrev pub FitsIn : ℕ → Verdict → Type 0
-FitsIn count verdicts.Wait = count < 131696
-FitsIn count (verdicts.Refuse fault) = Unit {0}
-FitsIn count (verdicts.Last head sum) = IsWithin count (size_of head) × (payload_len head ≡ 0) × (mark_after head ≡ Ended)
-FitsIn count (verdicts.More head sum) = IsWithin count (size_of head) × (mark_after head ≡ Open)
+abbrev pub FitsIn : Place → ℕ → Head → Verdict → Type 0
+FitsIn place count head verdicts.Wait = count < 131696
+FitsIn place count head (verdicts.Refuse fault) = Unit {0}
+FitsIn place count head (verdicts.Last next) = Covers place count head next Ended × (payload_len head ≡ 0)
+FitsIn place count head (verdicts.More next) = Covers place count head next Open

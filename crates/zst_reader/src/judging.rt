@@ -1,27 +1,27 @@
-ghost use Rattle.std.specs.Prelude.{◌≡◌, ◌+◌, ◌%◌, ◌^◌, ◌<◌, ◌≤◌, ◌++◌, List, ℕ, Option, Some, None, Ok, length, take};
+ghost use Rattle.std.specs.Prelude.{◌≡◌, ◌+◌, ◌%◌, ◌^◌, ◌<◌, ◌≤◌, ◌++◌, List, ℕ, Option, Some, None, length, take, drop};
 ghost use Rattle.zst_fletcher.specs.WeightSum.{weight_sum};
-ghost use Rattle.zst_record.specs.Heads.{payload_len};
 ghost use Rattle.zst_record.specs.Formats.{longest_payload};
+ghost use Rattle.zst_record.specs.Heads.{payload_len, size_of};
 ghost use Rattle.zst_record.specs.declared.head.Head.TheVariants.{End};
-ghost use Rattle.zst_stream.specs.Reading.{sum_fault, closing, cover, rule_by, judged, ruling};
+ghost use Rattle.zst_stream.specs.Reading.{sum_fault, closing, cover, rule_by, ruling};
 ghost use Rattle.zst_reader.specs.Place.{IsPlaceAfter};
-ghost use Rattle.zst_reader.specs.Verdict.{ruled, SumsUp, FitsIn};
+ghost use Rattle.zst_reader.specs.Verdict.{IsHeadOf, ReadsHead, ruled, LeadsOn, FitsIn};
 
-use crate::place::Place;
+use crate::place::{Ahead, Place};
 use zst_fletcher::Sum;
 use zst_model::{Lack, StreamFault};
-use zst_record::{Head, decode, get_sums, payload_is_bounded};
+use zst_record::{Head, RECORD_LEN, SUMMED_LEN, decode, get_sums, payload_is_bounded};
 use zst_stream::is_form_built;
 
 /// What is found at the front of the held bytes.
-#[derive(Drop)]
+#[derive(Clone, Copy)]
 pub(crate) enum Verdict {
     Wait,
     Refuse(StreamFault),
-    /// END is covered. The sum is that of the text with it.
-    Last { head: Head, sum: Sum },
-    /// Another record is covered. The sum is that of the text with it.
-    More { head: Head, sum: Sum },
+    /// END is covered, and this is the place behind it.
+    Last(Place),
+    /// Another record is covered, and this is the place behind it.
+    More(Place),
 }
 
 // What is wrong with the sums that stand at a place, where these were found.
@@ -54,28 +54,65 @@ fn not_built(at: u64) -> StreamFault
     }
 }
 
+// The 312 bytes of a record.
+fn front_of(held: &[u8]) -> &[u8; 312]
+    requires { 312 ≤ length held.now }
+    ensures { result.now ≡ take 312 held.now }
+{
+    let Ok(front) = <&[u8; 312]>::try_from(&held[..RECORD_LEN]) else {
+        unreachable!()
+    };
+    front
+}
+
+/// Reads the head of the record at the front of the held bytes, once its 312 bytes are there: whether they are.
+#[tactic(auto, unfolding(zst_stream::specs::Reading::ruling))]
+pub(crate) fn read_head(held: &[u8], place: &Place, head: &mut Head) -> Result<bool, StreamFault>
+    requires fits { place.now.at + length held.now ≤ 2 ^ 62 }
+    ensures { ReadsHead place.now held.now head.new result }
+{
+    if held.len() < RECORD_LEN {
+        return Ok(false);
+    }
+    match decode(front_of(held), place.at, place.features) {
+        Err(_) => Err(not_built(place.at)),
+        Ok(found) => {
+            if !is_form_built(&found) {
+                return Err(not_built(place.at));
+            }
+            *head = found;
+            Ok(true)
+        }
+    }
+}
+
 // Judges a record but END: it is covered once the next record is there with the right checksum.
 #[tactic(auto, unfolding(zst_stream::specs::Reading::cover, zst_stream::specs::Reading::sealed_next, zst_stream::specs::Reading::opened))]
-fn judge_cover(held: &[u8], place: &Place, head: Head) -> Verdict
-    requires words { payload_len head % 4 ≡ 0 }
-    requires short { payload_len head ≤ longest_payload }
-    requires later { closing head ≡ None }
+fn judge_cover(held: &[u8], place: &Place, head: &Head) -> Verdict
+    requires words { payload_len head.now % 4 ≡ 0 }
+    requires short { payload_len head.now ≤ longest_payload }
+    requires later { closing head.now ≡ None }
     requires fits { place.now.at + length held.now ≤ 2 ^ 62 }
-    ensures rules { (before : List ℕ) → IsPlaceAfter before place.now → ruled result ≡ cover before held.now head }
-    ensures sums { (before : List ℕ) → IsPlaceAfter before place.now → SumsUp before held.now result }
-    ensures fits { FitsIn (length held.now) result }
+    ensures rules { (before : List ℕ) → IsPlaceAfter before held.now place.now → ruled head.now result ≡ cover before held.now head.now }
+    ensures leads { (before : List ℕ) → IsPlaceAfter before held.now place.now → LeadsOn before held.now head.now result }
+    ensures fits { FitsIn place.now (length held.now) head.now result }
 {
-    let size = 312 + head.payload_len() as usize;
-    if held.len() < size + 312 {
+    let size = RECORD_LEN + head.payload_len() as usize;
+    if held.len() < size + RECORD_LEN {
         return Verdict::Wait;
     }
-    let mut sum = place.sum;
-    sum.add(&held[..size]);
+    let sum = place.sum_with(held, size);
     let mut found = sum;
-    found.add(&held[size..size + 280]);
-    match compare(held, place.at, found, size + 280) {
+    found.add(&held[size..size + SUMMED_LEN]);
+    match compare(held, place.at, found, size + SUMMED_LEN) {
         Some(fault) => Verdict::Refuse(fault),
-        None => Verdict::More { head, sum },
+        None => {
+            let ahead = Ahead {
+                sum: found,
+                count: SUMMED_LEN,
+            };
+            Verdict::More(place.after(held, size, sum, ahead))
+        }
     }
 }
 
@@ -84,10 +121,10 @@ fn judge_cover(held: &[u8], place: &Place, head: Head) -> Verdict
 fn judge_end(held: &[u8], place: &Place, sums: [u64; 4], to: u64) -> Verdict
     requires there { 312 ≤ length held.now }
     requires fits { place.now.at + length held.now ≤ 2 ^ 62 }
-    ensures rules { (before : List ℕ) → IsPlaceAfter before place.now
-        → ruled result ≡ rule_by before held.now (End sums to) (closing (End sums to)) }
-    ensures sums { (before : List ℕ) → IsPlaceAfter before place.now → SumsUp before held.now result }
-    ensures fits { FitsIn (length held.now) result }
+    ensures rules { (before : List ℕ) → IsPlaceAfter before held.now place.now
+        → ruled (End sums to) result ≡ rule_by before held.now (End sums to) (closing (End sums to)) }
+    ensures leads { (before : List ℕ) → IsPlaceAfter before held.now place.now → LeadsOn before held.now (End sums to) result }
+    ensures fits { FitsIn place.now (length held.now) (End sums to) result }
 {
     if let Some(fault) = compare(held, place.at, place.sum, 8) {
         return Verdict::Refuse(fault);
@@ -95,59 +132,23 @@ fn judge_end(held: &[u8], place: &Place, sums: [u64; 4], to: u64) -> Verdict
     if to != place.to {
         return Verdict::Refuse(not_built(place.at));
     }
-    let mut sum = place.sum;
-    sum.add(&held[..312]);
-    Verdict::Last {
-        head: Head::End { sums, to },
-        sum,
-    }
+    let sum = place.sum_with(held, RECORD_LEN);
+    let ahead = Ahead { sum, count: 0 };
+    Verdict::Last(place.after(held, RECORD_LEN, sum, ahead))
 }
 
-// Judges a record that passes its own checks.
-fn judge_head(held: &[u8], place: &Place, head: Head) -> Verdict
-    requires there { 312 ≤ length held.now }
-    requires words { payload_len head % 4 ≡ 0 }
-    requires short { payload_len head ≤ longest_payload }
+/// Judges the record of this head at the front of the held bytes.
+pub(crate) fn judge(held: &[u8], place: &Place, head: &Head) -> Verdict
+    requires is { IsHeadOf place.now held.now head.now }
     requires fits { place.now.at + length held.now ≤ 2 ^ 62 }
-    ensures rules { (before : List ℕ) → IsPlaceAfter before place.now → ruled result ≡ judged before held.now (Ok head) }
-    ensures sums { (before : List ℕ) → IsPlaceAfter before place.now → SumsUp before held.now result }
-    ensures fits { FitsIn (length held.now) result }
+    ensures rules { (before : List ℕ) → IsPlaceAfter before held.now place.now → ruled head.now result ≡ ruling before held.now }
+    ensures leads { (before : List ℕ) → IsPlaceAfter before held.now place.now → LeadsOn before held.now head.now result }
+    ensures fits { FitsIn place.now (length held.now) head.now result }
 {
-    if !is_form_built(&head) {
-        return Verdict::Refuse(not_built(place.at));
-    }
-    match head {
-        Head::End { sums, to } => judge_end(held, place, sums, to),
-        head => judge_cover(held, place, head),
-    }
-}
-
-// The 312 bytes of a record.
-fn front_of(held: &[u8]) -> &[u8; 312]
-    requires { 312 ≤ length held.now }
-    ensures { result.now ≡ take 312 held.now }
-{
-    let Ok(front) = <&[u8; 312]>::try_from(&held[..312]) else {
-        unreachable!()
-    };
-    front
-}
-
-/// Judges what stands at the front of the held bytes: a record once its 312 bytes are there.
-#[tactic(auto, unfolding(zst_stream::specs::Reading::ruling))]
-pub(crate) fn judge(held: &[u8], place: &Place) -> Verdict
-    requires fits { place.now.at + length held.now ≤ 2 ^ 62 }
-    ensures rules { (before : List ℕ) → IsPlaceAfter before place.now → ruled result ≡ ruling before held.now }
-    ensures sums { (before : List ℕ) → IsPlaceAfter before place.now → SumsUp before held.now result }
-    ensures fits { FitsIn (length held.now) result }
-{
-    if held.len() < 312 {
-        return Verdict::Wait;
-    }
     // The record that passes is whole words and fits the buffer.
     payload_is_bounded();
-    match decode(front_of(held), place.at, place.features) {
-        Err(_) => Verdict::Refuse(not_built(place.at)),
-        Ok(head) => judge_head(held, place, head),
+    match head {
+        Head::End { sums, to } => judge_end(held, place, *sums, *to),
+        _ => judge_cover(held, place, head),
     }
 }

@@ -1,49 +1,78 @@
-ghost use Rattle.std.specs.Prelude.{◌≡◌, ◌+◌, ◌^◌, ◌<◌, ◌≤◌};
+ghost use Rattle.std.specs.Prelude.{◌≡◌, ◌+◌, ◌%◌, ◌^◌, ◌<◌, ◌≤◌};
 
 use zst_bytes::le64;
 use zst_fletcher::Sum;
+
+/// A sum that has gone some bytes into a record.
+#[derive(Clone, Copy)]
+pub(crate) struct Ahead {
+    pub(crate) sum: Sum,
+    pub(crate) count: usize,
+    ghost short: { count ≤ 280 },
+    ghost words: { count % 4 ≡ 0 },
+}
 
 /// What is kept of the bytes before a record: their count, their checksum, and what BEGIN says in them.
 #[derive(Clone, Copy)]
 pub(crate) struct Place {
     pub(crate) at: u64,
     pub(crate) sum: Sum,
+    /// The record's first bytes were summed when the record before it was covered, and are summed but once.
+    pub(crate) ahead: Ahead,
     pub(crate) features: u32,
     pub(crate) to: u64,
     ghost begun: { 0 < at → 312 ≤ at },
 }
 
 impl Place {
-    ghost use Rattle.std.specs.Prelude.{ℕ, List, [], ◌++◌, length, take};
+    ghost use Rattle.std.specs.Prelude.{ℕ, List, [], ◌++◌, length, take, drop};
     ghost use Rattle.zst_fletcher.specs.WeightSum.{weight_sum};
-    ghost use Rattle.zst_reader.specs.Place.{IsPlaceAfter, IsWithin};
+    ghost use Rattle.zst_reader.specs.Place.{IsPlaceAfter, IsAhead, IsWithin};
 
     /// The place before BEGIN.
     pub(crate) fn first() -> Place
-        ensures { IsPlaceAfter [] result }
+        ensures at { result.at ≡ 0 }
+        ensures first { IsPlaceAfter [] [] result }
     {
         Place {
             at: 0,
             sum: Sum::zero(),
+            ahead: Ahead {
+                sum: Sum::zero(),
+                count: 0,
+            },
             features: 0,
             to: 0,
         }
     }
 
-    /// The place behind the record of this size at the front of the held bytes. The sum is that of the text with it.
-    pub(crate) fn after(&self, held: &[u8], size: usize, sum: Sum) -> Place
+    /// The sum of the text with the record of this size at the front of the held bytes.
+    pub(crate) fn sum_with(&self, held: &[u8], size: usize) -> Sum
+        requires header { 312 ≤ size }
+        requires within { IsWithin (length held.now) size }
+        ensures { (before : List ℕ) → IsPlaceAfter before held.now self.now → result ≡ weight_sum (before ++ take size held.now) }
+    {
+        let mut sum = self.ahead.sum;
+        sum.add(&held[self.ahead.count..size]);
+        sum
+    }
+
+    /// The place behind the record of this size at the front of the held bytes, where the sum is that of the text with it.
+    pub(crate) fn after(&self, held: &[u8], size: usize, sum: Sum, ahead: Ahead) -> Place
         requires header { 312 ≤ size }
         requires within { IsWithin (length held.now) size }
         requires bounded { self.now.at + length held.now ≤ 2 ^ 62 }
         ensures at { result.at ≡ self.now.at + size }
-        ensures after { (before : List ℕ) → IsPlaceAfter before self.now → sum ≡ weight_sum (before ++ take size held.now)
-            → IsPlaceAfter (before ++ take size held.now) result }
+        ensures after { (before : List ℕ) → IsPlaceAfter before held.now self.now → sum ≡ weight_sum (before ++ take size held.now)
+            → IsAhead (before ++ take size held.now) (drop size held.now) ahead
+            → IsPlaceAfter (before ++ take size held.now) (drop size held.now) result }
     {
         let at = self.at + size as u64;
         if self.at != 0 {
             return Place {
                 at,
                 sum,
+                ahead,
                 features: self.features,
                 to: self.to,
             };
@@ -51,6 +80,7 @@ impl Place {
         Place {
             at,
             sum,
+            ahead,
             features: (le64(held, 16) / 4 % 0x4000_0000) as u32,
             to: le64(held, 40),
         }

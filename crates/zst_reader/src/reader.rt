@@ -1,16 +1,16 @@
-ghost use Rattle.std.specs.Prelude.{◌≡◌, ◌+◌, ◌*◌, ◌-◌, ◌^◌, ◌<◌, ◌≤◌, length};
+ghost use Rattle.std.specs.Prelude.{◌≡◌, ◌+◌, ◌*◌, ◌-◌, ◌^◌, ◌<◌, ◌≤◌, length, drop, IsTrue};
 ghost use Rattle.zst_reader.specs.Window.{items};
+ghost use Rattle.zst_reader.specs.Verdict.{IsHeadOf};
 
-use crate::judging::{Verdict, judge};
+use crate::judging::{Verdict, judge, read_head};
 use crate::mark::Mark;
 use crate::place::Place;
 use crate::window::Window;
 use crate::{CAPACITY, STREAM_LIMIT};
 use std::alloc::{AllocError, Global};
-use zst_fletcher::Sum;
 use zst_model::StreamFault;
 use zst_outside::{Fault, Source};
-use zst_record::{Head, Record};
+use zst_record::{Head, RECORD_LEN, Record};
 
 /// The most bytes that are read at once.
 const PIECE: usize = 131_072;
@@ -38,9 +38,11 @@ pub(crate) enum Found {
 #[derive(Drop)]
 pub struct Reader {
     window: Window,
-    /// The record that was handed out last. Before the first one nobody looks at it.
+    /// The record that was handed out last, or the next one once its head is known.
     head: Head,
-    /// How many bytes at the window's front are of it.
+    /// Whether the next record's head was read. Each is read but once, however often more is wanted.
+    known: bool,
+    /// How many bytes at the window's front are of the record that was handed out last.
     taken: usize,
     place: Place,
     handed: u64,
@@ -50,18 +52,20 @@ pub struct Reader {
     ghost counted: { place.at + (length (items window) - taken) ≡ pushed },
     ghost bounded: { pushed ≤ 2 ^ 62 },
     ghost numbered: { 312 * handed ≤ place.at },
+    ghost read: { IsTrue known → IsHeadOf place (drop taken (items window)) head },
 }
 
 impl Reader {
     ghost use Rattle.std.specs.Prelude.{List, ℕ, [], ◌++◌, ◌∷◌, ◌%◌, IfOk, take, min};
     ghost use Rattle.std.specs.Borrow.{sem};
     ghost use Rattle.zst_record.specs.Heads.{Covered, covered_of, size_of};
-    ghost use Rattle.zst_fletcher.specs.WeightSum.{weight_sum};
+    ghost use Rattle.zst_stream.specs.Reading.{ruling};
     ghost use Rattle.zst_reader.specs.Mark.{finish_of};
     ghost use Rattle.zst_reader.specs.Place.{IsPlaceAfter, IsWithin};
     ghost use Rattle.zst_reader.specs.StandsFor.{StandsFor, held, pushed_of, handed_of, room_of, mark_of, place_of};
     ghost use Rattle.zst_reader.specs.Filling.{Fills, stream_limit};
-    ghost use Rattle.zst_reader.specs.Stepping.{StepsOn, Counts, Finds, FindsIn, covered_in};
+    ghost use Rattle.zst_reader.specs.Verdict.{ruled, LeadsOn, FitsIn};
+    ghost use Rattle.zst_reader.specs.Stepping.{StepsOn, Counts, Finds, FindsIn, covered_in, IsSameBut};
 
     /// A reader of the empty text.
     pub fn open(alloc: Global) -> Result<Reader, AllocError>
@@ -74,6 +78,7 @@ impl Reader {
                 sums: [0; 4],
                 to: 0,
             },
+            known: false,
             taken: 0,
             place: Place::first(),
             handed: 0,
@@ -152,22 +157,40 @@ impl Reader {
         self.window.consume(count);
     }
 
-    // Takes the record at the window's front as handed out. The sum is that of the text with it.
-    fn advance(&mut self, head: Head, sum: Sum, mark: Mark)
+    // Judges what stands at the window's front.
+    #[tactic(auto, unfolding(zst_stream::specs::Reading::ruling))]
+    fn judge(&mut self) -> Verdict
         requires settled { self.old.taken ≡ 0 }
-        requires within { IsWithin (length (items self.old.window)) (size_of head) }
-        ensures head { self.new.head ≡ head }
-        ensures taken { self.new.taken ≡ size_of head }
+        ensures same { IsSameBut self.old self.new }
+        ensures rules { (before : List ℕ) → IsPlaceAfter before (items self.new.window) self.new.place → ruled self.new.head result ≡ ruling before (items self.new.window) }
+        ensures leads { (before : List ℕ) → IsPlaceAfter before (items self.new.window) self.new.place → LeadsOn before (items self.new.window) self.new.head result }
+        ensures fits { FitsIn self.new.place (length (items self.new.window)) self.new.head result }
+    {
+        let held = self.window.as_slice();
+        if !self.known {
+            match read_head(held, &self.place, &mut self.head) {
+                Ok(true) => self.known = true,
+                Ok(false) => return Verdict::Wait,
+                Err(fault) => return Verdict::Refuse(fault),
+            }
+        }
+        judge(held, &self.place, &self.head)
+    }
+
+    // Takes the record at the window's front as handed out, before which this place stands.
+    fn advance(&mut self, place: Place, mark: Mark)
+        requires settled { self.old.taken ≡ 0 }
+        requires within { IsWithin (length (items self.old.window)) (size_of self.old.head) }
+        requires at { place.at ≡ self.old.place.at + size_of self.old.head }
+        ensures head { self.new.head ≡ self.old.head }
+        ensures taken { self.new.taken ≡ size_of self.old.head }
         ensures window { self.new.window ≡ self.old.window }
         ensures counts { Counts self.old self.new 1 mark }
-        ensures at { self.new.place.at ≡ self.old.place.at + size_of head }
-        ensures after { (before : List ℕ) → IsPlaceAfter before self.old.place → sum ≡ weight_sum (before ++ take (size_of head) (items self.old.window))
-            → IsPlaceAfter (before ++ take (size_of head) (items self.old.window)) self.new.place }
+        ensures place { self.new.place ≡ place }
     {
-        let size = 312 + head.payload_len() as usize;
-        self.place = self.place.after(self.window.as_slice(), size, sum);
-        self.head = head;
-        self.taken = size;
+        self.taken = RECORD_LEN + self.head.payload_len() as usize;
+        self.known = false;
+        self.place = place;
         self.handed += 1;
         self.mark = mark;
     }
@@ -184,18 +207,18 @@ impl Reader {
         }
         self.settle();
         let (at, index) = (self.place.at, self.handed);
-        match judge(self.window.as_slice(), &self.place) {
+        match self.judge() {
             Verdict::Wait => Ok(Found::NeedMore),
             Verdict::Refuse(fault) => {
                 self.mark = Mark::Failed(fault);
                 Err(fault)
             }
-            Verdict::Last { head, sum } => {
-                self.advance(head, sum, Mark::Ended);
+            Verdict::Last(place) => {
+                self.advance(place, Mark::Ended);
                 Ok(Found::Record { at, index })
             }
-            Verdict::More { head, sum } => {
-                self.advance(head, sum, Mark::Open);
+            Verdict::More(place) => {
+                self.advance(place, Mark::Open);
                 Ok(Found::Record { at, index })
             }
         }
@@ -210,7 +233,7 @@ impl Reader {
             head: &self.head,
             at,
             index,
-            payload: &self.window.as_slice()[312..self.taken],
+            payload: &self.window.as_slice()[RECORD_LEN..self.taken],
         }
     }
 

@@ -138,7 +138,7 @@ fn long_stream(rt: &impl Abort, alloc: Global) -> Result<Stream, Fail> {
     let mut stream = Stream::begin(rt, alloc)?;
     for number in 0..9u8 {
         let block = block_of(alloc, number, 131_072)?;
-        stream.write(rt, u64::from(number), &block)?;
+        stream.write(rt, 131_072 * u64::from(number), &block)?;
     }
     stream.end(rt)?;
     Ok(stream)

@@ -1,7 +1,25 @@
-use Rattle.std.proofs.Common.{◌≡◌, length, refl, ap, arith}
+use Rattle.std.proofs.Common.{◌≡◌, ◌+◌, ◌^◌, ◌≤◌, length, refl, ap, ◌∙◌, arith, rules, length-append}
 use Rattle.std.proofs.lemmas.Result.{err_from_is_err_and}
+use Rattle.zst_reader.specs.Window.{items}
+use Rattle.zst_reader.proofs.Judged.{still-known}
 use Rattle.zst_reader.proofs.Stands.{pushed}
 use Rattle.zst_reader.proofs.reader.Reader.fill.Goals as goal
+
+pub invariant_of-self-2 : goal.invariant_of-self-2
+invariant_of-self-2 g c =
+    let mid = c.settle.new.self in
+    let none = c.settle.ensures.taken in
+    let t = c.in_ok-got.ensures.takes in
+    let long : length (items c.read_from.new.self) ≡ length (items mid.window) + length t.got = ap length t.grown ∙ length-append (items mid.window) t.got in
+    let count : length t.got ≡ c.in_ok-got.got = t.told.0 in
+    let within : mid.pushed + c.in_ok-got.got ≤ 2 ^ 62 = search rules in
+    record {
+      inside = omega arith;
+      counted = let counted = mid.counted in omega arith;
+      bounded = within;
+      numbered = mid.numbered;
+      read = λ known. still-known mid.place mid.head (items mid.window) (items c.read_from.new.self) t.got mid.taken c.settle.ensures.taken t.grown (mid.read known);
+    }
 
 pub returns-in_err-got : goal.returns-in_err-got
 returns-in_err-got g c =

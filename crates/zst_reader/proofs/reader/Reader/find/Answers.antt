@@ -1,10 +1,7 @@
-use Rattle.std.proofs.Common.{◌≡◌, ◌++◌, take, refl, sym, ap, ◌∙◌}
-use Rattle.zst_fletcher.specs.WeightSum.{weight_sum}
-use Rattle.zst_record.specs.Heads.{size_of}
+use Rattle.std.proofs.Common.{◌≡◌, refl, sym, ap, ◌∙◌}
 use Rattle.zst_stream.specs.Reading.{ruling, wait, refuse, more, last}
 use Rattle.zst_reader.specs.Window.{items}
-use Rattle.zst_reader.specs.StandsFor.{held}
-use Rattle.zst_reader.proofs.Stands.{settled, has_failed, has_ended, waits, refused, finds_more, finds_last}
+use Rattle.zst_reader.proofs.Stands.{at_front, has_failed, has_ended, waits, refused, finds_more, finds_last}
 use Rattle.zst_reader.proofs.reader.Reader.find.Goals as goal
 
 pub returns-in-Failed-clause-finds : goal.returns-in-Failed-clause-finds
@@ -16,67 +13,79 @@ returns-in-Ended-clause-finds c = λ text handed stands. has_ended c.args.self.n
 pub returns-in-Wait-clause-finds : goal.returns-in-Wait-clause-finds
 returns-in-Wait-clause-finds c = λ text handed stands.
     let old = c.args.self.now in
-    let mid = c.settle.new.self in
+    let mid = c.judge.new.self in
     let e = c.settle.ensures in
-    let kept : held mid ≡ items mid.window = rw e.taken refl in
-    let t = settled old mid text handed (record { place = e.place; handed = e.handed; mark = e.mark }) (kept ∙ e.items) stands in
-    let is : ruling t.inner.before (items mid.window) ≡ wait = sym (rw c.as_slice.ensures.items at (c.in-Wait.ensures.rules t.inner.before t.inner.place)) in
-    waits _ text handed (settled mid _ text handed (record { place = refl; handed = refl; mark = refl }) refl t) (e.mark ∙ c.in-Open.is) (ap (ruling t.inner.before) kept ∙ is)
+    let s = c.judge.ensures.same in
+    let f = at_front old mid text handed (s.taken ∙ e.taken) (record { place = s.place ∙ e.place; handed = s.handed ∙ e.handed; mark = s.mark ∙ e.mark })
+    (ap items s.window ∙ e.items) stands in
+    let t = f.stands in
+    let before = t.inner.before in
+    let live = s.mark ∙ e.mark ∙ c.in-Open.is in
+    let is : ruling before (items mid.window) ≡ wait = sym (c.in-Wait.ensures.rules before f.place) in
+    waits mid text handed t live (ap (ruling before) f.kept ∙ is)
 
 pub returns-in-Refuse-clause-finds : goal.returns-in-Refuse-clause-finds
 returns-in-Refuse-clause-finds c = λ text handed stands.
     let old = c.args.self.now in
-    let mid = c.settle.new.self in
+    let mid = c.judge.new.self in
     let e = c.settle.ensures in
-    let kept : held mid ≡ items mid.window = rw e.taken refl in
-    let t = settled old mid text handed (record { place = e.place; handed = e.handed; mark = e.mark }) (kept ∙ e.items) stands in
-    let is : ruling t.inner.before (items mid.window) ≡ refuse c.in-Refuse.fault = sym (rw c.as_slice.ensures.items at (c.in-Refuse.ensures.rules t.inner.before t.inner.place)) in
-    refused mid _ text handed c.in-Refuse.fault t (e.mark ∙ c.in-Open.is) (ap (ruling t.inner.before) kept ∙ is) refl refl refl refl
+    let s = c.judge.ensures.same in
+    let f = at_front old mid text handed (s.taken ∙ e.taken) (record { place = s.place ∙ e.place; handed = s.handed ∙ e.handed; mark = s.mark ∙ e.mark })
+    (ap items s.window ∙ e.items) stands in
+    let t = f.stands in
+    let before = t.inner.before in
+    let live = s.mark ∙ e.mark ∙ c.in-Open.is in
+    let is : ruling before (items mid.window) ≡ refuse c.in-Refuse.fault = sym (c.in-Refuse.ensures.rules before f.place) in
+    refused mid _ text handed c.in-Refuse.fault t live (ap (ruling before) f.kept ∙ is) refl refl refl refl
 
 pub returns-in-More-clause-finds : goal.returns-in-More-clause-finds
 returns-in-More-clause-finds c = λ text handed stands.
     let old = c.args.self.now in
-    let mid = c.settle.new.self in
-    let new = c.advance-in-More.new.self in
-    let head = c.in-More.head in
+    let mid = c.judge.new.self in
     let e = c.settle.ensures in
-    let a = c.advance-in-More.ensures in
-    let kept : held mid ≡ items mid.window = rw e.taken refl in
-    let t = settled old mid text handed (record { place = e.place; handed = e.handed; mark = e.mark }) (kept ∙ e.items) stands in
+    let s = c.judge.ensures.same in
+    let f = at_front old mid text handed (s.taken ∙ e.taken) (record { place = s.place ∙ e.place; handed = s.handed ∙ e.handed; mark = s.mark ∙ e.mark })
+    (ap items s.window ∙ e.items) stands in
+    let t = f.stands in
     let before = t.inner.before in
-    let is : ruling before (items mid.window) ≡ more head = sym (rw c.as_slice.ensures.items at (c.in-More.ensures.rules before t.inner.place)) in
-    let sums : c.in-More.sum ≡ weight_sum (before ++ take (size_of head) (items mid.window)) = rw c.as_slice.ensures.items at (c.in-More.ensures.sums before t.inner.place) in
-    finds_more mid new text handed head t (e.mark ∙ c.in-Open.is) is a.head
+    let live = s.mark ∙ e.mark ∙ c.in-Open.is in
+    let new = c.advance-in-More.new.self in
+    let a = c.advance-in-More.ensures in
+    let covers = c.in-More.ensures.fits in
+    let is : ruling before (items mid.window) ≡ more mid.head = sym (c.in-More.ensures.rules before f.place) in
+    rw (s.place, s.handed) at (finds_more mid new text handed mid.head t live is a.head
     (record {
-      settled = kept;
-      within = rw c.as_slice.ensures.items at c.in-More.ensures.fits.0;
+      settled = f.kept;
+      within = covers.within;
       taken = a.taken;
       window = a.window;
       counts = record { pushed = a.counts.pushed; handed = a.counts.handed; mark = a.counts.mark };
-      at = a.at;
-      place = a.after before t.inner.place sums;
-    })
+      at = ap (λ p. p.at) a.place ∙ covers.at;
+      place = rw a.place (c.in-More.ensures.leads before f.place);
+    }))
 
 pub returns-in-Last-clause-finds : goal.returns-in-Last-clause-finds
 returns-in-Last-clause-finds c = λ text handed stands.
     let old = c.args.self.now in
-    let mid = c.settle.new.self in
-    let new = c.advance.new.self in
-    let head = c.in-Last.head in
+    let mid = c.judge.new.self in
     let e = c.settle.ensures in
-    let a = c.advance.ensures in
-    let kept : held mid ≡ items mid.window = rw e.taken refl in
-    let t = settled old mid text handed (record { place = e.place; handed = e.handed; mark = e.mark }) (kept ∙ e.items) stands in
+    let s = c.judge.ensures.same in
+    let f = at_front old mid text handed (s.taken ∙ e.taken) (record { place = s.place ∙ e.place; handed = s.handed ∙ e.handed; mark = s.mark ∙ e.mark })
+    (ap items s.window ∙ e.items) stands in
+    let t = f.stands in
     let before = t.inner.before in
-    let is : ruling before (items mid.window) ≡ last head = sym (rw c.as_slice.ensures.items at (c.in-Last.ensures.rules before t.inner.place)) in
-    let sums : c.in-Last.sum ≡ weight_sum (before ++ take (size_of head) (items mid.window)) = rw c.as_slice.ensures.items at (c.in-Last.ensures.sums before t.inner.place) in
-    finds_last mid new text handed head t (e.mark ∙ c.in-Open.is) is a.head c.in-Last.ensures.fits.1
+    let live = s.mark ∙ e.mark ∙ c.in-Open.is in
+    let new = c.advance.new.self in
+    let a = c.advance.ensures in
+    let covers = c.in-Last.ensures.fits.0 in
+    let is : ruling before (items mid.window) ≡ last mid.head = sym (c.in-Last.ensures.rules before f.place) in
+    rw (s.place, s.handed) at (finds_last mid new text handed mid.head t live is a.head c.in-Last.ensures.fits.1
     (record {
-      settled = kept;
-      within = rw c.as_slice.ensures.items at c.in-Last.ensures.fits.0;
+      settled = f.kept;
+      within = covers.within;
       taken = a.taken;
       window = a.window;
       counts = record { pushed = a.counts.pushed; handed = a.counts.handed; mark = a.counts.mark };
-      at = a.at;
-      place = a.after before t.inner.place sums;
-    })
+      at = ap (λ p. p.at) a.place ∙ covers.at;
+      place = rw a.place (c.in-Last.ensures.leads before f.place);
+    }))

@@ -3,4 +3,4 @@ use Rattle.zst_reader.proofs.Stands.{opened}
 use Rattle.zst_reader.proofs.reader.Reader.open.Goals as goal
 
 pub returns-clause-stands : goal.returns-clause-stands
-returns-clause-stands c = opened _ c.in_ok-new.ensures c.first.ensures c.first.ensures.at refl refl
+returns-clause-stands c = opened _ c.in_ok-new.ensures c.first.ensures.first c.first.ensures.at refl refl

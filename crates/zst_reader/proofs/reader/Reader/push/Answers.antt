@@ -1,6 +1,24 @@
-use Rattle.std.proofs.Common.{take, refl}
+use Rattle.std.proofs.Common.{◌≡◌, ◌+◌, ◌^◌, ◌≤◌, length, take, refl, ap, ◌∙◌, arith, rules, length-append}
+use Rattle.zst_reader.specs.Window.{items}
+use Rattle.zst_reader.proofs.Judged.{still-known}
 use Rattle.zst_reader.proofs.Stands.{pushed}
 use Rattle.zst_reader.proofs.reader.Reader.push.Goals as goal
+
+pub invariant_of-self : goal.invariant_of-self
+invariant_of-self c =
+    let mid = c.settle.new.self in
+    let none = c.settle.ensures.taken in
+    let piece = take c.min-count.result c.args.piece.now in
+    let long : length (items c.append.new.self) ≡ length (items mid.window) + length piece = ap length c.append.ensures ∙ length-append (items mid.window) piece in
+    let count : length piece ≡ c.min-count.result = search rules in
+    let within : mid.pushed + c.min-count.result ≤ 2 ^ 62 = search rules in
+    record {
+      inside = omega arith;
+      counted = let counted = mid.counted in omega arith;
+      bounded = within;
+      numbered = mid.numbered;
+      read = λ known. still-known mid.place mid.head (items mid.window) (items c.append.new.self) _ mid.taken c.settle.ensures.taken c.append.ensures (mid.read known);
+    }
 
 pub returns-clause-stands : goal.returns-clause-stands
 returns-clause-stands c = λ text handed stands.
