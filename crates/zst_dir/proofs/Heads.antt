@@ -1,6 +1,5 @@
 -- A lawful directory with other objects of a dataset.
 use Rattle.std.proofs.Common.{◌≡◌, ℕ, ◌+◌, ◌<◌, ◌≤◌, Bool, true, false, List, ◌++◌, length, get_or, set, take, drop, map, IfSome, Option, if◌then◌else◌, refl, sym, ap, ◌∙◌, subst, arith}
-use Rattle.std.specs.List.{All}
 use Rattle.std.specs.Str.{bytes_eq}
 use Rattle.std.proofs.lemmas.List.Elements.{All-weaker, All-map}
 use Rattle.std.proofs.lemmas.List.{take_all, drop_all, append-nil, get_or_default}

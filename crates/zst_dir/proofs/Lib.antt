@@ -2,6 +2,7 @@ mod Guids
 mod Heads
 mod Inserting
 pub mod Left
+pub mod Matching
 mod Lengths
 mod Loops
 mod Namesets

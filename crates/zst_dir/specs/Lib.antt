@@ -1,4 +1,5 @@
 pub mod Going
+pub mod Named
 pub mod Reading
 pub mod Rows
 pub mod Spelling

@@ -1,5 +1,5 @@
 -- What a reader of the bytes in front gives.
-use Rattle.std.specs.Prelude.{◌≡◌, ◌<◌, ◌^◌, ℕ, List, [], ◌∷◌, ◌++◌, length, Bool, true, Option, Some, None, Result, IfOk, flat_map, All, Contains}
+use Rattle.std.specs.Prelude.{◌≡◌, ◌<◌, ◌^◌, ℕ, List, [], ◌∷◌, ◌++◌, length, Bool, true, Option, Some, Result, IfOk, flat_map, All, Contains}
 use Rattle.std.specs.Str.{IsAscii}
 use Rattle.zst_bytes.specs.Words.{word, text_bytes, words_bytes}
 use Rattle.zst_names.specs.Names.{dataset_of}

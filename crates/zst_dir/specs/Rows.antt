@@ -1,5 +1,5 @@
 -- What a directory lists, and which directories are lawful.
-use Rattle.std.specs.Prelude.{◌≡◌, ◌≢◌, ◌<◌, ◌≤◌, ◌^◌, ℕ, Bool, true, false, List, [], ◌∷◌, ◌++◌, length, map, if◌then◌else◌, None, IfSome, All, AllPairs, Contains, nat_lt, bytes_eq, not, ◌&&◌, ◌||◌}
+use Rattle.std.specs.Prelude.{◌≡◌, ◌≢◌, ◌<◌, ◌≤◌, ◌^◌, ℕ, Bool, true, false, List, [], ◌∷◌, ◌++◌, map, if◌then◌else◌, IfSome, All, AllPairs, Contains, nat_lt, bytes_eq, not, ◌&&◌, ◌||◌}
 use Rattle.zst_names.specs.Names.{IsDataset, IsSnapshot, IsBookmark, IsComponent, dataset_of}
 use Rattle.zst_block.specs.Ptr.{PtrFits}
 use Rattle.zst_model.specs.fields.Guids.{IsGuidSet}

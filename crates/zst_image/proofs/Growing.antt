@@ -12,7 +12,8 @@ use Rattle.zst_dir.specs.declared.rows.Dataset.{Dataset}
 use Rattle.zst_dir.specs.declared.rows.Snapshot.{Snapshot}
 use Rattle.zst_dir.specs.declared.rows.Bookmark.{Bookmark}
 use Rattle.zst_dir.specs.declared.rows.Partial.{Partial}
-use Rattle.zst_image.specs.Reads.{Match, DatasetIs, SnapshotIs, BookmarkIs, PartialIs, RunsBy, HasDir, Describes, kept_rows}
+use Rattle.zst_dir.specs.Named.{Match}
+use Rattle.zst_image.specs.Reads.{DatasetIs, SnapshotIs, BookmarkIs, PartialIs, RunsBy, HasDir, Describes, kept_rows}
 use Rattle.zst_image.proofs.Directories.{DirStands-grows}
 
 -- what some blocks describe, those and more describe too

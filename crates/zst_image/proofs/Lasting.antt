@@ -8,7 +8,8 @@ use Rattle.zst_model.specs.pools.Pool.{Pool}
 use Rattle.zst_model.specs.pools.Pool as plain
 use Rattle.zst_dir.specs.Rows.{Rows}
 use Rattle.zst_dir.specs.declared.rows.Partial.{Partial}
-use Rattle.zst_image.specs.Reads.{Match, PartialIs, ReadsAs, free_by}
+use Rattle.zst_dir.specs.Named.{Match}
+use Rattle.zst_image.specs.Reads.{PartialIs, ReadsAs, free_by}
 
 -- what matches elements of one fact is of another
 Match-all : {A B : Type 0} (Is : A → B → Type 0) (P : A → Type 0) (Q : B → Type 0) → ((x : A) (y : B) → P x → Is x y → Q y) → (xs : List A) (ys : List B) → All P xs → Match Is xs ys → All Q ys

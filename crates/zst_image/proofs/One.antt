@@ -20,7 +20,8 @@ use Rattle.zst_dir.specs.declared.rows.Dataset.{Dataset}
 use Rattle.zst_dir.specs.declared.rows.Snapshot.{Snapshot}
 use Rattle.zst_dir.specs.declared.rows.Bookmark.{Bookmark}
 use Rattle.zst_dir.specs.declared.rows.Partial.{Partial}
-use Rattle.zst_image.specs.Reads.{Match, DatasetIs, SnapshotIs, BookmarkIs, PartialIs, HasDir, ReadsAs, free_by}
+use Rattle.zst_dir.specs.Named.{Match}
+use Rattle.zst_image.specs.Reads.{DatasetIs, SnapshotIs, BookmarkIs, PartialIs, HasDir, ReadsAs, free_by}
 
 -- two bodies that an image has as its latest are one
 pub one_body : (uber other : Uber) (rows others : Rows) (pool another : Pool) (image : List ℕ) → ReadsAs uber rows pool image → ReadsAs other others another image → uber ≡ other

@@ -1,5 +1,5 @@
 -- What an image reads as: the pool that its latest body, its directory and its object sets describe.
-use Rattle.std.specs.Prelude.{◌≡◌, ◌⊎◌, ◌+◌, ◌*◌, ◌/◌, ℕ, List, [], ◌∷◌, length, filter}
+use Rattle.std.specs.Prelude.{◌≡◌, ◌+◌, ◌*◌, ◌/◌, ℕ, List, [], length, filter}
 use Rattle.zst_outside.specs.Images.{DiskState}
 use Rattle.zst_space.specs.FreeSectors.{FreeSectors}
 use Rattle.zst_block.specs.Blocks.{Has}
@@ -12,6 +12,7 @@ use Rattle.zst_model.specs.pools.Pool as plain
 use Rattle.zst_tree.specs.Indices.{Blocks}
 use Rattle.zst_leaves.specs.Leaves.{HasLeaves, leaves_for}
 use Rattle.zst_list.specs.Standing.{HasList}
+use Rattle.zst_dir.specs.Named.{Match, NamesDataset, NamesSnapshot, NamesBookmark, NamesPartial, AreNamed}
 use Rattle.zst_dir.specs.Rows.{Rows}
 use Rattle.zst_dir.specs.Spelling.{IsDir, dir_bytes}
 use Rattle.zst_dir.specs.declared.rows.Dataset.{Dataset}
@@ -20,78 +21,25 @@ use Rattle.zst_dir.specs.declared.rows.Bookmark.{Bookmark}
 use Rattle.zst_dir.specs.declared.rows.Partial.{Partial}
 use Rattle.zst_objset.specs.Sets.{SetHolds}
 
--- each element of a list matches the one at its place in the other, and there are as many
-abbrev pub Match : {A B : Type 0} → (A → B → Type 0) → List A → List B → Type 0
-Match Is [] [] = Unit {0}
-Match Is [] (y ∷ ys) = ⊥
-Match Is (x ∷ xs) [] = ⊥
-Match Is (x ∷ xs) (y ∷ ys) = Is x y × Match Is xs ys
-
--- two elements stand at the same place of two lists
-abbrev pub StandAlike : {A B : Type 0} → List A → List B → A → B → Type 0
-StandAlike [] ys a b = ⊥
-StandAlike (x ∷ xs) [] a b = ⊥
-StandAlike (x ∷ xs) (y ∷ ys) a b = ((x ≡ a) × (y ≡ b)) ⊎ StandAlike xs ys a b
-
--- a dataset's row names this dataset, whatever its object set holds
-pub record NamesDataset (row : Dataset) (dataset : plain.Dataset) : Type 0 where
-  pub name : dataset.name ≡ row.name
-  pub kind : dataset.kind ≡ row.kind
-  pub origin : dataset.origin ≡ row.origin
-  pub redact : dataset.redact ≡ row.redact
-
 -- a dataset's row stands for this dataset: it names it, and its set holds the head
 pub record DatasetIs (has : Blocks) (row : Dataset) (dataset : plain.Dataset) : Type 0 where
   pub named : NamesDataset row dataset
   pub head : SetHolds has row.head dataset.head
-
--- a snapshot's row names this snapshot, whatever its object set holds
-pub record NamesSnapshot (row : Snapshot) (snapshot : plain.Snapshot) : Type 0 where
-  pub name : snapshot.name ≡ row.name
-  pub guid : snapshot.guid ≡ row.guid
-  pub time : snapshot.time ≡ row.time
-  pub number : snapshot.number ≡ row.number
-  pub redact : snapshot.redact ≡ row.redact
 
 -- a snapshot's row stands for this snapshot: it names it, and its set holds the objects
 pub record SnapshotIs (has : Blocks) (row : Snapshot) (snapshot : plain.Snapshot) : Type 0 where
   pub named : NamesSnapshot row snapshot
   pub objects : SetHolds has row.objects snapshot.objects
 
--- a bookmark's row names this bookmark, whatever its list has; one that nothing redacted has no runs
-pub record NamesBookmark (row : Bookmark) (bookmark : plain.Bookmark) : Type 0 where
-  pub name : bookmark.name ≡ row.name
-  pub guid : bookmark.guid ≡ row.guid
-  pub time : bookmark.time ≡ row.time
-  pub number : bookmark.number ≡ row.number
-  pub redact : bookmark.redact ≡ row.redact
-  pub no_list : row.redact ≡ [] → row.runs ≡ 0
-
 -- a bookmark's row stands for this bookmark: it names it, and its leaves have its list
 pub record BookmarkIs (has : Blocks) (row : Bookmark) (bookmark : plain.Bookmark) : Type 0 where
   pub named : NamesBookmark row bookmark
   pub list : HasList has row.levels row.root row.runs bookmark.runs
 
--- a partial state's row names this partial state, whatever its object set holds
-pub record NamesPartial (row : Partial) (partial : plain.Partial) : Type 0 where
-  pub target : partial.target ≡ row.target
-  pub component : partial.component ≡ row.snapshot
-  pub keep : partial.keep ≡ row.keep
-  pub header : partial.header ≡ row.header
-  pub base : partial.base ≡ row.base
-  pub point : partial.point ≡ row.point
-
 -- a partial state's row stands for this partial state: it names it, and its set holds the objects
 pub record PartialIs (has : Blocks) (row : Partial) (partial : plain.Partial) : Type 0 where
   pub named : NamesPartial row partial
   pub objects : SetHolds has row.objects partial.objects
-
--- the rows name what a pool that runs lists, whatever the object sets and the lists hold
-pub record AreNamed (rows : Rows) (running : Pool) : Type 0 where
-  pub datasets : Match NamesDataset rows.datasets running.datasets
-  pub snapshots : Match NamesSnapshot rows.snapshots running.snapshots
-  pub bookmarks : Match NamesBookmark rows.bookmarks running.bookmarks
-  pub partials : Match NamesPartial rows.partials running.partials
 
 -- the body has the pool's id, number and guid counter, and the rows name what the pool lists
 pub record IsNamedBy (uber : Uber) (rows : Rows) (pool : Pool) : Type 0 where

@@ -18,7 +18,8 @@ use Rattle.zst_dir.specs.declared.rows.Dataset.{Dataset}
 use Rattle.zst_dir.specs.declared.rows.Snapshot.{Snapshot}
 use Rattle.zst_dir.specs.declared.rows.Bookmark.{Bookmark}
 use Rattle.zst_dir.specs.declared.rows.Partial.{Partial}
-use Rattle.zst_image.specs.Reads.{BookmarkIs, DatasetIs, Match, PartialIs, RunsBy, SnapshotIs}
+use Rattle.zst_dir.specs.Named.{Match}
+use Rattle.zst_image.specs.Reads.{BookmarkIs, DatasetIs, PartialIs, RunsBy, SnapshotIs}
 use Rattle.zst_listing.specs.Rows.{bookmark_line, dataset_line, lines_of, partial_line, snapshot_line}
 use Rattle.zst_listing.proofs.Merging.{merged-places, with_names}
 use Rattle.zst_listing.proofs.Walked.{all_lines, is_missing}

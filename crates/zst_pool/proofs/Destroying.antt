@@ -21,10 +21,10 @@ use Rattle.zst_dir.specs.declared.rows.Bookmark.{Bookmark}
 use Rattle.zst_dir.specs.declared.rows.Dataset.{Dataset}
 use Rattle.zst_dir.specs.declared.rows.Partial.{Partial}
 use Rattle.zst_dir.specs.declared.rows.Snapshot.{Snapshot}
-use Rattle.zst_image.specs.Reads.{AreNamed, Match, NamesBookmark, NamesDataset, NamesPartial, NamesSnapshot}
+use Rattle.zst_dir.specs.Named.{AreNamed, Match, NamesBookmark, NamesDataset, NamesPartial, NamesSnapshot}
 use Rattle.zst_pool.specs.Lineage.{AreGoing, FindsGoing, going_of, is_on, is_there, pool_without}
 use Rattle.zst_pool.proofs.Judging.{dataset_is_there, none_there, snapshot_is_there}
-use Rattle.zst_pool.proofs.Matching.{FoundAlike, any_is_found, found-Match, is_some-position, list_any-Match, list_any-filter}
+use Rattle.zst_dir.proofs.Matching.{FoundAlike, any_is_found, found-Match, is_some-position, list_any-Match, list_any-filter}
 
 -- what is refused for what is there is refused for its name
 pub told : {A B : Type 0} (refusal : List ℕ → Refusal) (name_of : A → List ℕ) (o : Option A) (rest : Result B Refusal)

@@ -12,12 +12,13 @@ use Rattle.zst_tree.specs.declared.tree.ObjSet.{ObjSet}
 use Rattle.zst_objset.specs.Sets.{SetHolds}
 use Rattle.zst_dir.specs.Rows.{Rows}
 use Rattle.zst_pool.specs.Finding.{FindsState, set_named}
-use Rattle.zst_image.specs.Reads.{AreNamed, Match, NamesDataset, NamesSnapshot, RunsBy, DatasetIs, SnapshotIs}
+use Rattle.zst_dir.specs.Named.{AreNamed, Match, NamesDataset, NamesSnapshot}
+use Rattle.zst_image.specs.Reads.{RunsBy, DatasetIs, SnapshotIs}
 use Rattle.zst_dnode.specs.declared.dnode.Dnode.{Dnode}
 use Rattle.zst_model.specs.declared.refusals.named.Name.{Name}
 use Rattle.zst_model.specs.states.State.{Object}
 use Rattle.zst_objset.specs.Dnodes.{DnodeAt}
-use Rattle.zst_pool.proofs.Matching.{FoundAlike, found-Match}
+use Rattle.zst_dir.proofs.Matching.{FoundAlike, found-Match}
 
 -- of lists that match, the first rows that pass
 finds : {A B : Type 0} (has : Blocks) (Is : A → B → Type 0) (p : A → Bool) (q : B → Bool) (set : A → ObjSet) (state : B → DatedState) → ((x : A) (y : B) → Is x y → p x ≡ q y)

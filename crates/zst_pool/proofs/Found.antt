@@ -16,11 +16,11 @@ use Rattle.zst_names.specs.Names.{dataset_of}
 use Rattle.zst_dir.specs.Rows.{Rows}
 use Rattle.zst_dir.specs.declared.rows.Bookmark.{Bookmark}
 use Rattle.zst_dir.specs.declared.rows.Snapshot.{Snapshot}
-use Rattle.zst_image.specs.Reads.{AreNamed, NamesBookmark, NamesSnapshot, StandAlike}
+use Rattle.zst_dir.specs.Named.{AreNamed, NamesBookmark, NamesSnapshot, StandAlike}
 use Rattle.zst_pool.specs.Lineage.{if_new_bookmark}
 use Rattle.zst_pool.proofs.Destroying.{bookmark_is_there, found_passes}
 use Rattle.zst_pool.proofs.Judging.{over, within}
-use Rattle.zst_pool.proofs.Matching.{find-Match, is_some-position, length-Match, none_named}
+use Rattle.zst_dir.proofs.Matching.{find-Match, is_some-position, length-Match, none_named}
 
 module _ (rows : Rows) (pool : Pool) (are : AreNamed rows pool) where
   -- the row of a snapshot stands at the place of the pool's, which has its name

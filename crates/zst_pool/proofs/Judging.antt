@@ -15,10 +15,10 @@ use Rattle.zst_model.specs.pools.Pool as plain
 use Rattle.zst_model.specs.pools.Step.{Stepped, limited, committed, count_datasets, exists_already, no_such, busy_partial, on_dataset, last_number, last_guid, most_datasets, most_snapshots, with_dataset}
 use Rattle.zst_pool.specs.Checks.{next_of, with_new, if_new_snapshot, if_guid_left}
 use Rattle.zst_dir.specs.Rows.{Rows, HasDataset, HasSnapshot}
-use Rattle.zst_image.specs.Reads.{AreNamed, NamesDataset, NamesSnapshot, NamesPartial, StandAlike}
+use Rattle.zst_dir.specs.Named.{AreNamed, NamesDataset, NamesSnapshot, NamesPartial, StandAlike}
 use Rattle.zst_dir.specs.declared.rows.Dataset.{Dataset}
 use Rattle.zst_dir.specs.declared.rows.Snapshot.{Snapshot}
-use Rattle.zst_pool.proofs.Matching.{length-Match, is_some-position, list_any-Match, count_by-Match, none_named, find-Match}
+use Rattle.zst_dir.proofs.Matching.{length-Match, is_some-position, list_any-Match, count_by-Match, none_named, find-Match}
 
 -- what a `?` answers
 pub err_is : {T F : Type 0} (result : Result T F) (fault : F) → IsErrAnd result (λ e. e ≡ fault) → result ≡ Err fault

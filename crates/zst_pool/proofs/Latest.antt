@@ -4,7 +4,7 @@ use Rattle.std.specs.List.{All}
 use Rattle.std.proofs.lemmas.List.{take_all, take_more}
 use Rattle.std.proofs.lemmas.List.Elements.{All-head, All-tail}
 use Rattle.zst_pool.specs.Partials.{last_from, last_where}
-use Rattle.zst_image.specs.Reads.{Match}
+use Rattle.zst_dir.specs.Named.{Match}
 
 -- one more element is the last where it passes
 last_from-more : {A : Type 0} (test : A → Bool) (found : Option A) (xs : List A) (x : A) → last_from test found (xs ++ x ∷ []) ≡ (if test x then Some x else last_from test found xs)

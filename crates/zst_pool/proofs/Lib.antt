@@ -17,7 +17,6 @@ pub mod LawfulPools
 pub mod Limits
 pub mod LineageRows
 pub mod Listed
-pub mod Matching
 pub mod MayGo
 pub mod Naming
 pub mod NextPools

@@ -11,9 +11,10 @@ use Rattle.zst_dir.specs.declared.going.Going.{Going}
 use Rattle.zst_dir.specs.declared.going.Going.TheVariants as goes
 use Rattle.zst_dir.specs.declared.rows.Dataset.{Dataset}
 use Rattle.zst_dir.specs.declared.rows.Snapshot.{Snapshot}
-use Rattle.zst_image.specs.Reads.{BookmarkIs, DatasetIs, Match, RunsBy, SnapshotIs, StandAlike}
+use Rattle.zst_dir.specs.Named.{Match, StandAlike}
+use Rattle.zst_image.specs.Reads.{BookmarkIs, DatasetIs, RunsBy, SnapshotIs}
 use Rattle.zst_pool.specs.Lineage.{bookmark_row, clone_row, pool_without, with_marked}
-use Rattle.zst_pool.proofs.Matching.{Match-alike, filter-Match, inserted-Match}
+use Rattle.zst_dir.proofs.Matching.{Match-alike, filter-Match, inserted-Match}
 
 -- where all stay the list stays
 all_stay : {A : Type 0} (stays : A → Bool) (xs : List A) → ((x : A) → stays x ≡ true) → filter stays xs ≡ xs

@@ -22,7 +22,7 @@ use Rattle.zst_pool.specs.Faults.{of_leaves}
 use Rattle.zst_pool.specs.Lists.{GivesList, GivesListed, TellsRow, list_by, row_named}
 use Rattle.zst_pool.specs.declared.fault.PoolFault.{PoolFault}
 use Rattle.zst_pool.specs.declared.fault.PoolFault.TheVariants as faults
-use Rattle.zst_pool.proofs.Matching.{FoundAlike, found-Match}
+use Rattle.zst_dir.proofs.Matching.{FoundAlike, found-Match}
 
 pub option_map-same : {A : Type 0} (o : Option A) → option_map (λ x. x) o ≡ o
 option_map-same None = refl

@@ -7,7 +7,8 @@ use Rattle.zst_tree.specs.Indices.{Blocks}
 use Rattle.zst_dir.specs.Rows.{Rows}
 use Rattle.zst_dir.specs.declared.rows.Bookmark.{Bookmark}
 use Rattle.zst_pool.specs.Plans.{bare_bookmark, bare_dataset, bare_partial, bare_pool, bare_snapshot}
-use Rattle.zst_image.specs.Reads.{AreNamed, BookmarkIs, DatasetIs, IsNamedBy, Match, NamesBookmark, NamesDataset, NamesPartial, NamesSnapshot, PartialIs, RunsBy, SnapshotIs}
+use Rattle.zst_dir.specs.Named.{AreNamed, Match, NamesBookmark, NamesDataset, NamesPartial, NamesSnapshot}
+use Rattle.zst_image.specs.Reads.{BookmarkIs, DatasetIs, IsNamedBy, PartialIs, RunsBy, SnapshotIs}
 
 each_named : {A B : Type 0} (Is Named : A → B → Type 0) → ((a : A) (b : B) → Is a b → Named a b) → (xs : List A) (ys : List B) → Match Is xs ys → Match Named xs ys
 each_named Is Named of [] [] is = is

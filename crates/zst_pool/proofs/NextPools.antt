@@ -28,7 +28,7 @@ use Rattle.zst_objset.proofs.SetLaws.{empty}
 use Rattle.zst_dir.specs.declared.rows.Dataset.{Dataset}
 use Rattle.zst_dir.specs.declared.rows.Partial.{Partial}
 use Rattle.zst_dir.specs.declared.rows.Snapshot.{Snapshot}
-use Rattle.zst_pool.proofs.Matching.{inserted-Match, map-Match}
+use Rattle.zst_dir.proofs.Matching.{inserted-Match, map-Match}
 
 -- the row of a new dataset
 abbrev pub new_row : ℕ → List ℕ → Dataset

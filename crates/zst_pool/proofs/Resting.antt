@@ -27,7 +27,7 @@ use Rattle.zst_pool.specs.Calls.{CanCommit, IsAtRest, IsUnderWay}
 use Rattle.zst_pool.specs.Checks.{next_of}
 use Rattle.zst_pool.specs.Making.{RunsAs}
 use Rattle.zst_pool.proofs.LawfulPools.{rows_make_pools}
-use Rattle.zst_pool.proofs.Matching.{filter-Match}
+use Rattle.zst_dir.proofs.Matching.{filter-Match}
 use Rattle.zst_pool.proofs.Naming.{rows_named}
 
 -- the sectors that are free by a body in its ranges fit its disk

@@ -16,13 +16,14 @@ use Rattle.zst_dir.specs.Rows.{Rows, with_objects_at}
 use Rattle.zst_dir.specs.declared.going.Going.{Going}
 use Rattle.zst_dir.specs.declared.rows.Bookmark.{Bookmark}
 use Rattle.zst_dir.specs.declared.rows.Snapshot.{Snapshot}
-use Rattle.zst_image.specs.Reads.{AreNamed, DatasetIs, Match, NamesBookmark, NamesPartial, NamesSnapshot, RunsBy, SnapshotIs, StandAlike}
+use Rattle.zst_dir.specs.Named.{AreNamed, Match, NamesBookmark, NamesPartial, NamesSnapshot, StandAlike}
+use Rattle.zst_image.specs.Reads.{DatasetIs, RunsBy, SnapshotIs}
 use Rattle.zst_pool.specs.Lineage.{AreGoing, if_rolls_back, is_on, newer_in_pool, newer_than, pool_without, rows_rolled_back}
 use Rattle.zst_pool.proofs.Destroying.{finds_none, found_named, found_passes, one_of_none, passing_go, there_is, told}
 use Rattle.zst_pool.proofs.Judging.{none_there}
 use Rattle.zst_pool.proofs.Least.{least-none, least_where}
 use Rattle.zst_pool.proofs.LineageRows.{left_runs}
-use Rattle.zst_pool.proofs.Matching.{Match-alike, filter-Match, list_any-Match, list_any-filter, map-Match}
+use Rattle.zst_dir.proofs.Matching.{Match-alike, filter-Match, list_any-Match, list_any-filter, map-Match}
 use Rattle.zst_pool.proofs.PartialRows.{objects_at_is}
 
 -- lists that match have the same names

@@ -31,7 +31,8 @@ use Rattle.zst_pool.specs.declared.head_fault.HeadFault.TheVariants.{Set}
 use Rattle.zst_pool.proofs.Judged.{memory_stops, plan_stops}
 use Rattle.zst_pool.specs.Faults.{StepFault, is_disk_fault, of_committed}
 use Rattle.zst_pool.specs.Heads.{ChangedHead, ChangesHead, Stops, Works, stop_of}
-use Rattle.zst_image.specs.Reads.{AreNamed, DatasetIs, RunsBy, dir_sectors, free_by}
+use Rattle.zst_dir.specs.Named.{AreNamed}
+use Rattle.zst_image.specs.Reads.{DatasetIs, RunsBy, dir_sectors, free_by}
 use Rattle.zst_image.specs.Committing.{IsDirFull}
 use Rattle.zst_pool.specs.Runs.{Did, Ran, Runs, as_kept}
 use Rattle.zst_image.specs.Committing.{Ready}
@@ -46,7 +47,7 @@ use Rattle.zst_image.specs.declared.kept.Kept.{Kept}
 use Rattle.zst_pool.proofs.Doing.{fell}
 use Rattle.zst_pool.proofs.Resting.{begun, free_by_fits, way_runs}
 use Rattle.zst_pool.proofs.Committed.{committed_cause, committed_err, committed_fails, committed_ok, committed_open}
-use Rattle.zst_pool.proofs.Matching.{Match-alike}
+use Rattle.zst_dir.proofs.Matching.{Match-alike}
 use Rattle.zst_pool.proofs.Naming.{rows_named}
 use Rattle.zst_pool.proofs.Parts.{disk_fault_same, failed_then}
 use Rattle.zst_pool.proofs.Room.{spends_fell, spends_full, spends_grows}

@@ -7,7 +7,7 @@ use Rattle.zst_block.specs.Blocks.{Has}
 use Rattle.zst_block.proofs.Working.{Looks-none}
 use Rattle.zst_dnode.specs.declared.dnode.Dnode.{Dnode}
 use Rattle.zst_dir.specs.Rows.{Rows}
-use Rattle.zst_image.specs.Reads.{AreNamed}
+use Rattle.zst_dir.specs.Named.{AreNamed}
 use Rattle.zst_image.specs.declared.kept.Kept.{Kept}
 use Rattle.zst_block.specs.declared.fault.BlockFault.TheVariants as blocks
 use Rattle.zst_model.specs.declared.refusals.faults.Quantity.{Quantity}

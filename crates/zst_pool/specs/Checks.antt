@@ -19,7 +19,7 @@ use Rattle.zst_model.specs.pools.Step.{Stepped, exists_already, limited, last_gu
 use Rattle.zst_tree.specs.declared.tree.ObjSet.{ObjSet}
 use Rattle.zst_dir.specs.Rows.{Rows}
 use Rattle.zst_dir.specs.declared.rows.Dataset.{Dataset}
-use Rattle.zst_image.specs.Reads.{StandAlike}
+use Rattle.zst_dir.specs.Named.{StandAlike}
 
 -- a check that passes leaves what comes next of the definition, and one that refuses gives the definition's refusal
 abbrev pub Judges : {T : Type 0} → Result Stepped Refusal → Result Stepped Refusal → Result T PlanFault → Type 0

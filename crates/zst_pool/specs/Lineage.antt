@@ -20,7 +20,7 @@ use Rattle.zst_dir.specs.declared.going.Going.TheVariants as goes
 use Rattle.zst_dir.specs.declared.rows.Bookmark.{Bookmark}
 use Rattle.zst_dir.specs.declared.rows.Dataset.{Dataset}
 use Rattle.zst_dir.specs.declared.rows.Snapshot.{Snapshot}
-use Rattle.zst_image.specs.Reads.{StandAlike}
+use Rattle.zst_dir.specs.Named.{StandAlike}
 use Rattle.zst_pool.specs.Checks.{next_of, with_new}
 
 -- whether there is a row of this name

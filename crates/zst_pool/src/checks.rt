@@ -8,7 +8,7 @@ ghost use Rattle.zst_model.specs.pools.Step.{Stepped, committed, with_dataset, c
 ghost use Rattle.zst_pool.specs.Checks.{Judges, FindsDataset, if_guid_left, if_new_snapshot, JudgesSnapshot, next_of, with_new};
 ghost use Rattle.zst_dir.specs.Rows.{HasDataset, HasSnapshot, IsLawful};
 ghost use Rattle.zst_pool.specs.Plans.{IsLast, is_by_rows};
-ghost use Rattle.zst_image.specs.Reads.{AreNamed};
+ghost use Rattle.zst_dir.specs.Named.{AreNamed};
 
 use zst_dir::{Dataset, Dir};
 use zst_image::Kept;

@@ -7,7 +7,7 @@ ghost use Rattle.zst_model.specs.declared.refusals.refusal.Refusal.{Refusal};
 ghost use Rattle.zst_model.specs.pools.Step.{Stepped, unless_used};
 ghost use Rattle.zst_dir.specs.Going.{AreUnused, names_going, takes_snapshot};
 ghost use Rattle.zst_dir.specs.Rows.{HasDataset, HasSnapshot, IsBookmarkRow, IsDatasetRow, IsSnapshotRow};
-ghost use Rattle.zst_image.specs.Reads.{AreNamed};
+ghost use Rattle.zst_dir.specs.Named.{AreNamed};
 ghost use Rattle.zst_pool.specs.Checks.{Judges};
 ghost use Rattle.zst_pool.specs.Lineage.{AreGoing, FindsGoing, FindsSnapshot, FindsSource, JudgesBookmark, JudgesClone, JudgesDestroyed, bookmark_row, clone_row, going_of, if_new_bookmark, if_of_dataset, is_on, is_there, may_go};
 ghost use Rattle.zst_pool.specs.Plans.{IsLast, is_by_rows};

@@ -7,7 +7,7 @@ ghost use Rattle.zst_model.specs.pools.Step.{Stepped, least_name, lesser_name, u
 ghost use Rattle.zst_dir.specs.Going.{AreUnused, takes_bookmark, takes_snapshot};
 ghost use Rattle.zst_dir.specs.Rows.{IsSnapshotRow};
 ghost use Rattle.zst_dir.specs.Spelling.{dir_bytes};
-ghost use Rattle.zst_image.specs.Reads.{AreNamed};
+ghost use Rattle.zst_dir.specs.Named.{AreNamed};
 ghost use Rattle.zst_pool.specs.Checks.{Judges};
 ghost use Rattle.zst_pool.specs.Lineage.{JudgesRollback, if_rolls_back, newer_in_pool, newer_than, rows_rolled_back};
 ghost use Rattle.zst_pool.specs.Plans.{IsLast, is_by_rows};

@@ -15,7 +15,7 @@ use Rattle.zst_pool.specs.declared.fault.PoolFault.TheVariants.{OutOfMemory, Pla
 use Rattle.zst_pool.specs.Cost.{cells_only}
 use Rattle.zst_pool.specs.Damage.{NoDamage}
 use Rattle.zst_pool.proofs.Judging.{err_is}
-use Rattle.zst_pool.proofs.Matching.{Match-alike}
+use Rattle.zst_dir.proofs.Matching.{Match-alike}
 use Rattle.zst_pool.proofs.NextPools.{snapshot_runs}
 use Rattle.zst_pool.proofs.Planned.{made_apart, plans_apart, plans_refused, told_or_last}
 use Rattle.zst_pool.proofs.Resting.{rest_named, runs_named}

@@ -4,7 +4,7 @@ use Rattle.std.proofs.lemmas.List.Quantifiers.{position-Some}
 use Rattle.zst_model.proofs.OrderLaws.{same_bytes}
 use Rattle.zst_model.specs.refusals.Refusal.{refusal_of}
 use Rattle.zst_model.specs.pools.Pool.{snapshot_named}
-use Rattle.zst_image.specs.Reads.{StandAlike}
+use Rattle.zst_dir.specs.Named.{StandAlike}
 use Rattle.zst_dir.specs.declared.rows.Snapshot.{Snapshot}
 use Rattle.zst_pool.proofs.Found.{snapshot_at}
 use Rattle.zst_pool.proofs.Judging.{none_there, snapshot_is_there}

@@ -1,9 +1,9 @@
 use Rattle.std.proofs.Common.{◌∙◌, sym, subst}
 use Rattle.zst_model.specs.pools.Step.{committed, rolled_back}
-use Rattle.zst_image.specs.Reads.{NamesSnapshot}
+use Rattle.zst_dir.specs.Named.{NamesSnapshot}
 use Rattle.zst_pool.specs.Lineage.{JudgesRollback}
 use Rattle.zst_pool.proofs.Judging.{err_is}
-use Rattle.zst_pool.proofs.Matching.{Match-alike}
+use Rattle.zst_dir.proofs.Matching.{Match-alike}
 use Rattle.zst_pool.proofs.RollingBack.{newer_is, rolls_to}
 use Rattle.zst_pool.proofs.rolling.plan_rollback.Goals as goal
 

@@ -12,7 +12,7 @@ use Rattle.std.proofs.lemmas.List.Folds.{list_any_at}
 use Rattle.std.proofs.lemmas.List.Sums.{length-filter}
 use Rattle.std.proofs.lemmas.List.Quantifiers.{position-Some}
 use Rattle.zst_model.specs.pools.Pool.{inserted}
-use Rattle.zst_image.specs.Reads.{Match, StandAlike}
+use Rattle.zst_dir.specs.Named.{Match, StandAlike}
 
 -- lists that match have equal lengths
 pub length-Match : {A B : Type 0} (Is : A → B → Type 0) (xs : List A) (ys : List B) → Match Is xs ys → length xs ≡ length ys
