@@ -6,6 +6,7 @@ pub mod Places
 pub mod PartWay
 pub mod Points
 pub mod Received
+pub mod SendPlan
 pub mod StandsFor
 pub mod Target
 pub mod View

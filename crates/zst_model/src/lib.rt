@@ -22,6 +22,7 @@ pub use refusals::plan_fault::PlanFault;
 pub use refusals::refusal::Refusal;
 pub use refusals::stream_fault::StreamFault;
 pub use refusals::text::{Text, guid_text};
+pub use sends::ask::{FromName, SendAsk};
 pub use sends::header::{Header, Point};
 pub use sends::points::point_after;
 pub use states::attr::{Attr, ObjectHead};
