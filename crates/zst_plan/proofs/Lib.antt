@@ -1,0 +1,6 @@
+mod Lookups
+mod Walk
+mod Origins
+mod Chain
+mod Begun
+mod Planned

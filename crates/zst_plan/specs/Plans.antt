@@ -1,0 +1,42 @@
+-- Which send a plan is of.
+use Rattle.std.specs.Prelude.{◌≡◌, ◌<◌, ℕ, length, Option, Some, None, IfSome, option_map}
+use Rattle.zst_dir.specs.Rows.{Rows}
+use Rattle.zst_model.specs.pools.Before.{Source, OfSnapshot, OfBookmark, number_of_source}
+use Rattle.zst_model.specs.pools.Pool.{Pool, Snapshot, Bookmark}
+use Rattle.zst_model.specs.sends.Headers.{Sent, from_guid, flags_of}
+use Rattle.zst_model.specs.sends.SendPlan.{kind_of}
+use Rattle.zst_plan.specs.Places.{FindAlike, StandsAt}
+use Rattle.zst_plan.specs.declared.plan.SendPlan.{SendPlan}
+
+-- the source, where it is a snapshot, and where it is a bookmark
+abbrev pub snapshot_source : Option Source → Option Snapshot
+snapshot_source None = None
+snapshot_source (Some (OfSnapshot snapshot)) = Some snapshot
+snapshot_source (Some (OfBookmark bookmark)) = None
+
+abbrev pub bookmark_source : Option Source → Option Bookmark
+bookmark_source None = None
+bookmark_source (Some (OfSnapshot snapshot)) = None
+bookmark_source (Some (OfBookmark bookmark)) = Some bookmark
+
+-- the plan is from this source: its place is that of the snapshot or of the bookmark, and its number and guid are the source's
+pub record IsFrom (rows : Rows) (pool : Pool) (plan : SendPlan) (source : Option Source) : Type 0 where
+  pub snapshot : FindAlike (StandsAt rows.snapshots pool.snapshots) plan.from_snap (snapshot_source source)
+  pub bookmark : FindAlike (StandsAt rows.bookmarks pool.bookmarks) plan.book_f (bookmark_source source)
+  pub number : plan.from_number ≡ option_map number_of_source source
+  pub guid : plan.from_guid ≡ from_guid source
+
+-- the plan is of what is sent: its places are those of the snapshot, of the source and of the redaction bookmark, and its flags are those of BEGIN
+pub record IsPlanOf (rows : Rows) (pool : Pool) (plan : SendPlan) (sent : Sent) : Type 0 where
+  pub snapshot : StandsAt rows.snapshots pool.snapshots plan.snap sent.snapshot
+  pub source : IsFrom rows pool plan sent.source
+  pub redaction : FindAlike (StandsAt rows.bookmarks pool.bookmarks) plan.book_t sent.redaction
+  pub flags : plan.flags ≡ flags_of sent
+  pub kind : sent.kind ≡ kind_of pool sent.snapshot
+
+-- the plan's places are places of the directory
+pub record IsInside (rows : Rows) (plan : SendPlan) : Type 0 where
+  pub snapshot : plan.snap < length rows.snapshots
+  pub from_snapshot : IfSome plan.from_snap (λ place. place < length rows.snapshots)
+  pub from_bookmark : IfSome plan.book_f (λ place. place < length rows.bookmarks)
+  pub redaction : IfSome plan.book_t (λ place. place < length rows.bookmarks)

@@ -1,0 +1,106 @@
+ghost use Rattle.std.specs.Prelude.{◌≡◌, ◌+◌, ◌<◌, Option, length, IfSome, is_some};
+ghost use Rattle.zst_dir.specs.Named.{AreNamed, NamesSnapshot};
+ghost use Rattle.zst_model.specs.pools.Before as plain;
+ghost use Rattle.zst_model.specs.pools.Pool.{Pool, Bookmark as PlainBookmark, Snapshot as PlainSnapshot};
+ghost use Rattle.zst_model.specs.sends.Headers.{Sent, clone_part, features_of, free_records, header_of, redaction_guids, spill_block};
+ghost use Rattle.zst_model.specs.sends.SendPlan.{kind_of};
+ghost use Rattle.zst_plan.specs.Places.{FindAlike, StandsAt};
+ghost use Rattle.zst_plan.specs.Plans.{IsInside, IsPlanOf};
+ghost use Rattle.zst_plan.specs.Sources.{NamesSource};
+
+use crate::finding::{bookmark_at, dataset_of};
+use crate::flags::{CLONE, FREE_RECORDS, SA_SPILL, SPILL_BLOCK};
+use crate::source::Source;
+use zst_dir::{Dir, Snapshot};
+use zst_model::features::REDACTED;
+use zst_model::{GuidSet, Header, NameText};
+
+/// What a send is to give, by places in the directory.
+#[derive(Clone, Copy, Debug, PartialEq, Eq)]
+pub struct SendPlan {
+    /// The place of the snapshot that is sent.
+    pub snap: usize,
+    /// The number of what it is sent from; a full send has none.
+    pub from_number: Option<u64>,
+    /// The guid of what it is sent from; a full send states 0.
+    pub from_guid: u64,
+    /// The place of what it is sent from, where that is a snapshot.
+    pub from_snap: Option<usize>,
+    /// The place of what it is sent from, where that is a bookmark.
+    pub book_f: Option<usize>,
+    /// The place of the bookmark of `--redact`.
+    pub book_t: Option<usize>,
+    /// The flags of BEGIN.
+    pub flags: u32,
+}
+
+/// The flags of BEGIN: CLONE only where the source is of another dataset.
+pub fn flags_of(snapshot: &Snapshot, source: &Option<Source<'_>>) -> u32
+    ensures { (to : PlainSnapshot) (from : Option plain.Source) → NamesSnapshot snapshot.now to → FindAlike NamesSource source.now from
+        → result ≡ clone_part to from + (free_records + spill_block) }
+{
+    match source {
+        Some(source) => if source.is_elsewhere(snapshot) {
+            CLONE | FREE_RECORDS | SPILL_BLOCK
+        } else {
+            FREE_RECORDS | SPILL_BLOCK
+        },
+        None => FREE_RECORDS | SPILL_BLOCK,
+    }
+}
+
+// The kind of the snapshot's dataset, which is there in each lawful pool.
+fn kind_of(dir: &Dir, snapshot: &Snapshot) -> u32
+    ensures { (pool : Pool) (to : PlainSnapshot) → AreNamed dir.now pool → NamesSnapshot snapshot.now to → result ≡ kind_of pool to }
+{
+    match dataset_of(dir, snapshot) {
+        Some(dataset) => dataset.kind,
+        None => 0,
+    }
+}
+
+// The redaction guids of the bookmark at this place.
+fn guids_at(dir: &Dir, place: Option<usize>) -> GuidSet
+    requires { IfSome place (λ p. p < length dir.now.bookmarks) }
+    ensures { (pool : Pool) (bookmark : Option PlainBookmark) → AreNamed dir.now pool → FindAlike (StandsAt dir.now.bookmarks pool.bookmarks) place bookmark
+        → result ≡ redaction_guids bookmark }
+{
+    match bookmark_at(dir, place) {
+        Some(bookmark) => bookmark.redact.duplicate(),
+        None => GuidSet::empty(),
+    }
+}
+
+// The features of BEGIN: REDACTED where there is a bookmark of `--redact`.
+#[tactic(auto, unfolding(zst_model::specs::sends::Headers::features_of, zst_model::specs::sends::Features::redacts, zst_model::specs::sends::Features::sa_spill))]
+fn features_of(redacted: bool) -> u32
+    ensures { (sent : Sent) → redacted ≡ is_some sent.redaction → result ≡ features_of sent }
+{
+    if redacted {
+        REDACTED | SA_SPILL
+    } else {
+        SA_SPILL
+    }
+}
+
+impl SendPlan {
+    /// What BEGIN says of the send.
+    pub fn header(&self, dir: &Dir) -> Header
+        requires { IsInside dir.now self.now }
+        ensures { (pool : Pool) (sent : Sent) → AreNamed dir.now pool → IsPlanOf dir.now pool self.now sent → result ≡ header_of sent }
+    {
+        let snapshot = &dir.snapshots()[self.snap];
+        Header {
+            kind: kind_of(dir, snapshot),
+            flags: self.flags,
+            features: features_of(self.book_t.is_some()),
+            time: snapshot.time,
+            to: snapshot.guid,
+            from: self.from_guid,
+            name: NameText::new(snapshot.name.text().as_bytes()),
+            resume: None,
+            redact: guids_at(dir, self.book_t),
+            from_redact: guids_at(dir, self.book_f),
+        }
+    }
+}
