@@ -2,6 +2,7 @@
 use Rattle.std.specs.Prelude.{ℕ, ◌+◌, ◌<◌, ◌≡◌, List, [], ◌∷◌, ◌++◌, take, drop, Result, Ok, Err}
 use Rattle.std.specs.Borrow.{MutBor, Fml}
 use Rattle.std.specs.Io.BufRead.{Rests}
+use Rattle.zst_record.specs.Formats.{record_len}
 use Rattle.zst_record.specs.Heads.{Covered, payload_len, size_of, covered_of}
 use Rattle.zst_model.specs.declared.refusals.stream_fault.StreamFault.{StreamFault}
 use Rattle.zst_stream.specs.Reading.{waiting, faulty, complete}
@@ -56,7 +57,7 @@ StepsOn r result =
 -- ---- the same, while the record still lies in the reader
 
 abbrev pub covered_in : Reader → ℕ → ℕ → Covered
-covered_in new at index = record { head = new.head; at = at; index = index; payload = take (payload_len new.head) (drop 312 (items new.window)) }
+covered_in new at index = record { head = new.head; at = at; index = index; payload = take (payload_len new.head) (drop record_len (items new.window)) }
 
 abbrev pub FindsIn : Reader → List ℕ → List Covered → Result Found StreamFault → Type 0
 FindsIn new text handed (Ok (founds.Record at index)) = StandsFor new text (handed ++ covered_in new at index ∷ [])

@@ -1,6 +1,7 @@
 -- What the code's verdict says.
-use Rattle.std.specs.Prelude.{ℕ, ◌+◌, ◌<◌, ◌≤◌, ◌≡◌, Bool, true, false, List, ◌++◌, length, take, drop, Result, Ok, Err}
+use Rattle.std.specs.Prelude.{ℕ, ◌+◌, ◌*◌, ◌<◌, ◌≤◌, ◌≡◌, Bool, true, false, List, ◌++◌, length, take, drop, Result, Ok, Err}
 use Rattle.zst_record.specs.Decode.{decoded}
+use Rattle.zst_record.specs.Formats.{record_len, longest_payload}
 use Rattle.zst_record.specs.Heads.{payload_len, size_of}
 use Rattle.zst_record.specs.declared.head.Head.{Head}
 use Rattle.zst_model.specs.declared.refusals.stream_fault.StreamFault.{StreamFault}
@@ -15,14 +16,14 @@ use Rattle.zst_reader.specs.declared.judging.Verdict.TheVariants as verdicts
 
 -- the head is that of the record at the front of these bytes, which passes the checks of its 312 bytes
 pub record IsHeadOf (place : Place) (held : List ℕ) (head : Head) : Type 0 where
-  pub there : 312 ≤ length held
-  pub decoded : decoded place.at place.features (take 312 held) ≡ Ok head
+  pub there : record_len ≤ length held
+  pub decoded : decoded place.at place.features (take record_len held) ≡ Ok head
   pub built : is_built head ≡ true
 
 -- The head was read, or its 312 bytes aren't all there, or the record is refused.
 abbrev pub ReadsHead : Place → List ℕ → Head → Result Bool StreamFault → Type 0
 ReadsHead place held head (Ok true) = IsHeadOf place held head
-ReadsHead place held head (Ok false) = length held < 312
+ReadsHead place held head (Ok false) = length held < record_len
 ReadsHead place held head (Err fault) = (before : List ℕ) → IsPlaceAfter before held place → ruling before held ≡ refuse fault
 
 -- the ruling on a record of this head that the verdict is
@@ -47,7 +48,7 @@ pub record Covers (place : Place) (count : ℕ) (head : Head) (next : Place) (st
 
 -- Where more is wanted, the longest record and the next 312 bytes aren't there.
 abbrev pub FitsIn : Place → ℕ → Head → Verdict → Type 0
-FitsIn place count head verdicts.Wait = count < 131696
+FitsIn place count head verdicts.Wait = count < longest_payload + 2 * record_len
 FitsIn place count head (verdicts.Refuse fault) = Unit {0}
 FitsIn place count head (verdicts.Last next) = Covers place count head next Ended × (payload_len head ≡ 0)
 FitsIn place count head (verdicts.More next) = Covers place count head next Open

@@ -1,6 +1,6 @@
 ghost use Rattle.std.specs.Prelude.{◌≡◌, ◌+◌, ◌%◌, ◌^◌, ◌<◌, ◌≤◌, ◌++◌, List, ℕ, Option, Some, None, length, take, drop};
 ghost use Rattle.zst_fletcher.specs.WeightSum.{weight_sum};
-ghost use Rattle.zst_record.specs.Formats.{longest_payload};
+ghost use Rattle.zst_record.specs.Formats.{longest_payload, record_len};
 ghost use Rattle.zst_record.specs.Heads.{payload_len, size_of};
 ghost use Rattle.zst_record.specs.declared.head.Head.TheVariants.{End};
 ghost use Rattle.zst_stream.specs.Reading.{sum_fault, closing, cover, rule_by, ruling};
@@ -55,11 +55,11 @@ fn not_built(at: u64) -> StreamFault
 }
 
 // The 312 bytes of a record.
-fn front_of(held: &[u8]) -> &[u8; 312]
-    requires { 312 ≤ length held.now }
-    ensures { result.now ≡ take 312 held.now }
+fn front_of(held: &[u8]) -> &[u8; RECORD_LEN]
+    requires { record_len ≤ length held.now }
+    ensures { result.now ≡ take record_len held.now }
 {
-    let Ok(front) = <&[u8; 312]>::try_from(&held[..RECORD_LEN]) else {
+    let Ok(front) = <&[u8; RECORD_LEN]>::try_from(&held[..RECORD_LEN]) else {
         unreachable!()
     };
     front
@@ -119,7 +119,7 @@ fn judge_cover(held: &[u8], place: &Place, head: &Head) -> Verdict
 // Judges END by what it states.
 #[tactic(auto, unfolding(zst_stream::specs::Reading::finish))]
 fn judge_end(held: &[u8], place: &Place, sums: [u64; 4], to: u64) -> Verdict
-    requires there { 312 ≤ length held.now }
+    requires there { record_len ≤ length held.now }
     requires fits { place.now.at + length held.now ≤ 2 ^ 62 }
     ensures rules { (before : List ℕ) → IsPlaceAfter before held.now place.now
         → ruled (End sums to) result ≡ rule_by before held.now (End sums to) (closing (End sums to)) }

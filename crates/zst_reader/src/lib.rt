@@ -9,8 +9,8 @@ mod window;
 
 pub use reader::{Reader, Step};
 
-/// How many bytes a reader can hold: the longest record and the next record's 312 bytes four times over,
-/// so that few bytes are ever moved.
+/// How many bytes a reader can hold: four times as many as it reads at once, so that what is left of a record
+/// is moved once in three reads at most.
 pub const CAPACITY: usize = 524_288;
 
 /// The most bytes that a stream may have.

@@ -1,4 +1,5 @@
 ghost use Rattle.std.specs.Prelude.{◌≡◌, ◌+◌, ◌%◌, ◌^◌, ◌<◌, ◌≤◌};
+ghost use Rattle.zst_record.specs.Formats.{record_len, summed_len};
 
 use zst_bytes::le64;
 use zst_fletcher::Sum;
@@ -8,7 +9,7 @@ use zst_fletcher::Sum;
 pub(crate) struct Ahead {
     pub(crate) sum: Sum,
     pub(crate) count: usize,
-    ghost short: { count ≤ 280 },
+    ghost short: { count ≤ summed_len },
     ghost words: { count % 4 ≡ 0 },
 }
 
@@ -21,7 +22,7 @@ pub(crate) struct Place {
     pub(crate) ahead: Ahead,
     pub(crate) features: u32,
     pub(crate) to: u64,
-    ghost begun: { 0 < at → 312 ≤ at },
+    ghost begun: { 0 < at → record_len ≤ at },
 }
 
 impl Place {
@@ -48,7 +49,7 @@ impl Place {
 
     /// The sum of the text with the record of this size at the front of the held bytes.
     pub(crate) fn sum_with(&self, held: &[u8], size: usize) -> Sum
-        requires header { 312 ≤ size }
+        requires header { record_len ≤ size }
         requires within { IsWithin (length held.now) size }
         ensures { (before : List ℕ) → IsPlaceAfter before held.now self.now → result ≡ weight_sum (before ++ take size held.now) }
     {
@@ -59,7 +60,7 @@ impl Place {
 
     /// The place behind the record of this size at the front of the held bytes, where the sum is that of the text with it.
     pub(crate) fn after(&self, held: &[u8], size: usize, sum: Sum, ahead: Ahead) -> Place
-        requires header { 312 ≤ size }
+        requires header { record_len ≤ size }
         requires within { IsWithin (length held.now) size }
         requires bounded { self.now.at + length held.now ≤ 2 ^ 62 }
         ensures at { result.at ≡ self.now.at + size }

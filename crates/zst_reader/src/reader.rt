@@ -1,5 +1,6 @@
 ghost use Rattle.std.specs.Prelude.{◌≡◌, ◌+◌, ◌*◌, ◌-◌, ◌^◌, ◌<◌, ◌≤◌, length, drop, IsTrue};
 ghost use Rattle.zst_reader.specs.Window.{items};
+ghost use Rattle.zst_record.specs.Formats.{record_len};
 ghost use Rattle.zst_reader.specs.Verdict.{IsHeadOf};
 
 use crate::judging::{Verdict, judge, read_head};
@@ -51,7 +52,7 @@ pub struct Reader {
     ghost inside: { taken ≤ length (items window) },
     ghost counted: { place.at + (length (items window) - taken) ≡ pushed },
     ghost bounded: { pushed ≤ 2 ^ 62 },
-    ghost numbered: { 312 * handed ≤ place.at },
+    ghost numbered: { record_len * handed ≤ place.at },
     ghost read: { IsTrue known → IsHeadOf place (drop taken (items window)) head },
 }
 
