@@ -1,7 +1,7 @@
 // How the program opens the image that a line names.
 ghost use Rattle.std.specs.Prelude.{◌≡◌, IfOk, [], not};
 ghost use Rattle.zst_file.specs.FileDisk.{history_of};
-ghost use Rattle.zst_laws.specs.Counting.{commits};
+ghost use Rattle.zst_model.specs.pools.Step.{commits};
 ghost use Rattle.zst.specs.Openings.{is_shared};
 
 use std::alloc::{AllocError, Global};
@@ -30,19 +30,10 @@ pub(crate) enum Opening {
 fn opening_for(command: &Command) -> Opening
     ensures { is_shared result ≡ not (commits command.now) }
 {
-    match command {
-        Command::Read { .. } | Command::List | Command::ListObjects { .. } => Opening::Shared,
-        Command::Fs { .. }
-        | Command::Volume { .. }
-        | Command::Object { .. }
-        | Command::Write { .. }
-        | Command::Punch { .. }
-        | Command::Free { .. }
-        | Command::Snapshot { .. }
-        | Command::Clone { .. }
-        | Command::Bookmark { .. }
-        | Command::Rollback { .. }
-        | Command::Destroy { .. } => Opening::Alone,
+    if command.commits() {
+        Opening::Alone
+    } else {
+        Opening::Shared
     }
 }
 

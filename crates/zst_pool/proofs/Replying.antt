@@ -3,7 +3,6 @@ use Rattle.std.specs.Prelude.{Result, Ok, Err, IfOk, bytes_eq, filter, find, not
 use Rattle.std.proofs.Common.{◌≡◌, ℕ, ◌+◌, ◌≤◌, ◌<◌, ◌^◌, ◌||◌, Bool, true, false, List, [], ◌∷◌, Option, Some, None, is_some, length, map, nat_lt, refl, ap, arith}
 use Rattle.std.proofs.lemmas.Bool.Decides.{nat_tests}
 use Rattle.std.proofs.lemmas.Result.{IfOk-at_ok}
-use Rattle.zst_laws.specs.Counting.{commits}
 use Rattle.zst_model.specs.declared.pools.command.Command.{Command}
 use Rattle.zst_model.specs.declared.pools.command.Command.TheVariants as commands
 use Rattle.zst_model.specs.declared.refusals.faults.Quantity.TheVariants as quantities
@@ -16,7 +15,7 @@ use Rattle.zst_names.specs.Names.{dataset_of}
 use Rattle.zst_model.specs.declared.refusals.named.Name.{Name}
 use Rattle.zst_model.specs.declared.refusals.named.Name.TheVariants as names
 use Rattle.zst_model.specs.pools.Pool.{Pool, Bookmark, Dataset, Partial, Snapshot, bookmark_named, dataset_named, partial_of, snapshot_named}
-use Rattle.zst_model.specs.pools.Step.{Stepped, stepped, bookmark_of, busy_bookmark, busy_clone, busy_partial, busy_snapshot, clone_of, committed, count_datasets, destroyed_by, exists_already, last_guid, is_newer_bookmark, is_of, is_one_of, last_number, least_name, limited, most_bookmarks, most_datasets, most_snapshots, new_dataset, newer_snapshots, no_such, not_ancestor, or_else, on_head, punched, rolled_back, unless_newer, unless_there, unless_used, written, with_bookmark, with_clone, with_dataset, with_destroyed, with_rollback, with_snapshot, without_bookmark, without_dataset, without_snapshot}
+use Rattle.zst_model.specs.pools.Step.{Stepped, bookmark_of, busy_bookmark, busy_clone, busy_partial, busy_snapshot, clone_of, commits, committed, count_datasets, destroyed_by, exists_already, is_newer_bookmark, is_of, is_one_of, last_guid, last_number, least_name, limited, most_bookmarks, most_datasets, most_snapshots, new_dataset, newer_snapshots, no_such, not_ancestor, on_head, or_else, punched, rolled_back, stepped, unless_newer, unless_there, unless_used, with_bookmark, with_clone, with_dataset, with_destroyed, with_rollback, with_snapshot, without_bookmark, without_dataset, without_snapshot, written}
 use Rattle.zst_pool.specs.Checks.{freed, put_in, if_guid_left, if_new_snapshot, next_of, with_head_of, with_new, with_taken}
 use Rattle.zst_pool.specs.Lineage.{if_new_bookmark, with_marked}
 

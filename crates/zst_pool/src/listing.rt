@@ -2,8 +2,7 @@
 ghost use Rattle.std.specs.Prelude.{◌≡◌, ℕ, [], false};
 ghost use Rattle.zst_block.specs.Blocks.{FitsDisk};
 ghost use Rattle.zst_image.specs.Reads.{free_by};
-ghost use Rattle.zst_laws.specs.Counting.{commits};
-ghost use Rattle.zst_model.specs.pools.Step.{IsCommand, stepped};
+ghost use Rattle.zst_model.specs.pools.Step.{IsCommand, commits, stepped};
 ghost use Rattle.zst_pool.specs.Damage.{OfSet, TellsDamage, look_damage};
 ghost use Rattle.zst_pool.specs.Plans.{Plans, indices_end, numbers_end};
 ghost use Rattle.zst_pool.specs.Telling.{Tells};

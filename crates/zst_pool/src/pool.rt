@@ -1,11 +1,10 @@
-ghost use Rattle.std.specs.Prelude.{◌≡◌, ◌≤◌, ◌∷◌, ◌||◌, [], ℕ, false, true, not, IfErr, IfOk, OnErr, Err};
+ghost use Rattle.std.specs.Prelude.{◌≡◌, ◌≤◌, ◌∷◌, ◌||◌, [], ℕ, false, true, IfErr, IfOk, OnErr, Err};
 ghost use Rattle.zst_outside.specs.Images.{Leaves, OnlyReads};
 ghost use Rattle.zst_block.specs.Blocks.{SparesTaken};
-ghost use Rattle.zst_laws.specs.Counting.{commits};
 ghost use Rattle.zst_model.specs.pools.Lines.{ok_line};
 ghost use Rattle.zst_model.specs.pools.Pool.{Pool as Plain};
 ghost use Rattle.zst_model.specs.pools.Sound.{Sound};
-ghost use Rattle.zst_model.specs.pools.Step.{Stepped, stepped, IsCommand};
+ghost use Rattle.zst_model.specs.pools.Step.{Stepped, commits, stepped, IsCommand};
 ghost use Rattle.zst_pool.specs.Faults.{HasDiskCause, is_disk_fault, is_full};
 ghost use Rattle.zst_pool.specs.Plans.{Plans, indices_end, numbers_end};
 ghost use Rattle.zst_image.specs.Reads.{free_by};
@@ -124,7 +123,7 @@ impl<'d, D: Disk> Pool<'d, D> {
             return Err(PoolFault::Failed);
         }
         self.io.space = Space::new(self.kept.body.end, self.kept.body.sectors, Vec::new(alloc));
-        if only_answers(&command) {
+        if !command.commits() {
             return tell(&mut self.io, alloc, &self.kept, command);
         }
         let reply = committed(alloc, self.kept.body.number.saturating_add(1))?;
@@ -161,16 +160,6 @@ fn is_full(ran: &Result<Kept, PoolFault>) -> bool
     ensures { result ≡ is_full ran.now }
 {
     matches!(ran, Err(PoolFault::Full { .. }))
-}
-
-/// Whether a command only answers, and commits nothing.
-fn only_answers(command: &Command) -> bool
-    ensures { result ≡ not (commits command.now) }
-{
-    matches!(
-        command,
-        Command::Read { .. } | Command::List | Command::ListObjects { .. }
-    )
 }
 
 /// The answer of a command that committed: the pool's number.

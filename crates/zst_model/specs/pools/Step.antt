@@ -368,3 +368,20 @@ stepped held now (commands.Read name k i) pool =
     block_read pool k i (object.blocks i)))
 stepped held now commands.List pool = answered pool (pool_lines pool)
 stepped held now (commands.ListObjects name) pool = or_else (no_such name) (state_named name pool) (λ snap. answered pool (object_lines snap))
+
+-- a command that commits: each but those that only tell what is there
+abbrev pub commits : Command → Bool
+commits (commands.Fs dataset) = true
+commits (commands.Volume dataset) = true
+commits (commands.Object dataset k head bonus spill) = true
+commits (commands.Write dataset k i bytes) = true
+commits (commands.Punch dataset k first count) = true
+commits (commands.Free dataset first count) = true
+commits (commands.Snapshot name) = true
+commits (commands.Clone origin dataset) = true
+commits (commands.Bookmark snapshot bookmark) = true
+commits (commands.Rollback destroys snapshot) = true
+commits (commands.Destroy name) = true
+commits (commands.Read name k i) = false
+commits commands.List = false
+commits (commands.ListObjects name) = false

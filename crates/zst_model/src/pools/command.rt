@@ -80,3 +80,18 @@ pub enum Command {
         name: Name,
     },
 }
+
+impl Command {
+    ghost use Rattle.std.specs.Prelude.{◌≡◌};
+    ghost use Rattle.zst_model.specs.pools.Step.{commits};
+
+    /// Whether it commits where it isn't refused: each does but those that only tell what is there.
+    pub fn commits(&self) -> bool
+        ensures { result ≡ commits self.now }
+    {
+        !matches!(
+            self,
+            Command::Read { .. } | Command::List | Command::ListObjects { .. }
+        )
+    }
+}

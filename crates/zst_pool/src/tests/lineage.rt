@@ -4,8 +4,8 @@ ghost use Rattle.zst_dir.specs.Rows.{IsSnapshotRow};
 ghost use Rattle.zst_model.specs.pools.Step.{IsCommand};
 
 use super::answers::check_refused;
-use super::looks::{bytes_of, disk_of};
-use super::stops::check_command;
+use super::looks::{bytes_of, disk_of, pool_of};
+use super::stops::{check_command, check_failed};
 use super::{NOW, Refused, dataset, file_system, snapshot, step_on, with_small};
 use crate::Pool;
 use crate::checks::{check_new_snapshot, open_dataset};
@@ -188,6 +188,29 @@ fn a_stop_of_a_clone_or_of_a_destroy_leaves_the_pool_before_or_after(
     let bytes = check_command(&rt, alloc, bytes, destroy_dataset("tank/b")?, 1)?;
     let bytes = check_command(&rt, alloc, bytes, destroy_dataset("tank/a")?, 2)?;
     assert_eq!(rt; rows_of(alloc, &mut disk_of(alloc, bytes))?, (0, 0, 0));
+    Ok(())
+}
+
+// Makes a clone on a disk of these bytes, of which the call of this number fails.
+fn fail_clone(alloc: Global, bytes: Vec<u8>, call: u64) -> Result<(MemDisk, bool), Refused> {
+    let mut disk = MemDisk::new(bytes, vec![in alloc; call; 1]?, None);
+    let answer = step_on(alloc, &mut disk, clone_of("tank/a@s", "tank/b")?);
+    let is_fault = matches!(answer, Err(Refused(Refusal::DiskFault)));
+    Ok((disk, is_fault))
+}
+
+#[test]
+fn each_call_of_a_clone_may_fail(rt: HostRuntime) -> Result<(), Refused> {
+    let alloc = rt.alloc();
+    let bytes = bytes_of(alloc, &mut with_small(alloc, 4)?)?;
+    let mut disk = disk_of(alloc, bytes.clone()?);
+    step_on(alloc, &mut disk, clone_of("tank/a@s", "tank/b")?)?;
+    let calls = disk.calls();
+    let after = pool_of(alloc, bytes_of(alloc, &mut disk)?)?;
+    for call in 0..calls {
+        let (mut disk, is_fault) = fail_clone(alloc, bytes.clone()?, call)?;
+        check_failed(&rt, alloc, &bytes, (&mut disk, is_fault), call, &after)?;
+    }
     Ok(())
 }
 

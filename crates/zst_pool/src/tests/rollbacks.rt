@@ -5,7 +5,7 @@ ghost use Rattle.zst_model.specs.pools.Step.{IsCommand};
 use super::answers::check_refused;
 use super::lineage::{bookmark_of, clone_of, rows_of};
 use super::looks::{Look, bytes_of, disk_of, pool_of};
-use super::stops::check_command;
+use super::stops::{check_command, check_failed};
 use super::{Refused, snapshot, step_on, with_small};
 use std::alloc::Global;
 use std::process::Abort;
@@ -102,22 +102,6 @@ fn look_of(alloc: Global, disk: &mut MemDisk) -> Result<Option<Look>, Refused> {
     pool_of(alloc, bytes)
 }
 
-// Checks that a rollback of which a call fails is done whole, or not at all.
-fn check_fault(
-    rt: &impl Abort,
-    alloc: Global,
-    bytes: &[u8],
-    call: u64,
-    after: &Option<Look>,
-) -> Result<(), Refused> {
-    let before = pool_of(alloc, bytes.to_vec(alloc)?)?;
-    let (mut disk, is_fault) = fail_at(alloc, bytes.to_vec(alloc)?, call)?;
-    assert!(rt; is_fault, "call {call}");
-    let found = look_of(alloc, &mut disk)?;
-    assert!(rt; found == before || found == *after, "call {call}");
-    Ok(())
-}
-
 #[test]
 fn each_call_of_a_rollback_may_fail(rt: HostRuntime) -> Result<(), Refused> {
     let alloc = rt.alloc();
@@ -127,7 +111,8 @@ fn each_call_of_a_rollback_may_fail(rt: HostRuntime) -> Result<(), Refused> {
     let calls = disk.calls();
     let after = look_of(alloc, &mut disk)?;
     for call in 0..calls {
-        check_fault(&rt, alloc, bytes.as_slice(), call, &after)?;
+        let (mut disk, is_fault) = fail_at(alloc, bytes.clone()?, call)?;
+        check_failed(&rt, alloc, &bytes, (&mut disk, is_fault), call, &after)?;
     }
     Ok(())
 }

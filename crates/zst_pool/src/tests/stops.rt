@@ -202,6 +202,24 @@ pub(super) fn check_command(
     Ok(run.bytes)
 }
 
+// Checks that a pool on a disk of which the call of this number failed is the one before a command or the one after it.
+pub(super) fn check_failed(
+    rt: &impl Abort,
+    alloc: Global,
+    bytes: &[u8],
+    failed: (&mut MemDisk, bool),
+    call: u64,
+    after: &Option<Look>,
+) -> Result<(), Refused> {
+    let (disk, is_fault) = failed;
+    assert!(rt; is_fault, "call {call}");
+    let before = pool_of(alloc, bytes.to_vec(alloc)?)?;
+    let bytes = bytes_of(alloc, disk)?;
+    let found = pool_of(alloc, bytes)?;
+    assert!(rt; found == before || found == *after, "call {call}");
+    Ok(())
+}
+
 #[test]
 fn every_stop_leaves_the_pool_before_or_after(rt: HostRuntime) -> Result<(), Refused> {
     let alloc = rt.alloc();

@@ -1,7 +1,6 @@
-use Rattle.std.specs.Prelude.{◌||◌, Bool, true, false, not, Result, Ok, Err, IfErr}
+use Rattle.std.specs.Prelude.{◌||◌, Bool, true, false, Result, Ok, Err, IfErr}
 use Rattle.std.proofs.Common.{◌≡◌, ℕ, ◌+◌, List, [], ◌∷◌, refl, sym, ap, ◌∙◌, subst, arith}
 use Rattle.std.proofs.lemmas.Bool.{or_parts}
-use Rattle.zst_laws.specs.Counting.{commits}
 use Rattle.zst_model.specs.pools.Lines.{ok_line}
 use Rattle.zst_model.specs.pools.Step.{stepped}
 use Rattle.zst_image.specs.declared.kept.Kept.{Kept}
@@ -38,11 +37,6 @@ planned : (g : Over) (c : After-settle_command g) (answer : Result Kept PoolFaul
     → Plans (λ pool. stepped [] c.args.now c.args.command pool) (numbers_end c.args.command) (indices_end c.args.command) c.args.self.now.kept answer
 planned g c answer same = rw same c.run-ran.ensures.plans
 
--- what doesn't only answer commits
-commits_else : (b answers : Bool) → answers ≡ not b → answers ≡ false → b ≡ true
-commits_else true answers same fell = refl
-commits_else false answers same fell = absurd (cc)
-
 pub returns-clause-moments : goal.returns-clause-moments
 returns-clause-moments g c = λ running told rested.
     let runs = ran g (goal.at.returns-clause-moments g c).After-settle_command (Ok c.settle_command.new.self.kept) c.in_ok-settle_command.ensures.kept in
@@ -54,7 +48,7 @@ returns-clause-answer g c = λ running told standing rested.
     let runs = ran g (goal.at.returns-clause-answer g c).After-settle_command (Ok c.settle_command.new.self.kept) c.in_ok-settle_command.ensures.kept in
     let did = runs.ran.did running told rested in
     let answer = did.answer in
-    let is = step_reply c.args.now c.args.command running answer.0 (commits_else (commits c.args.command) c.only_answers.result c.only_answers.ensures c.if-only_answers.false) answer.1 in
+    let is = step_reply c.args.now c.args.command running answer.0 (sym c.commits.ensures ∙ c.if-not-commits.false) answer.1 in
     let number : c.saturating_add.result ≡ running.number + 1 = omega (arith, is.below, rested.rests.reads.described.number, c.saturating_add.ensures) in
     (answer.0, answer.1, c.in_ok-reply.ensures ∙ ap (λ (n : ℕ). ok_line n ∷ []) number ∙ sym is.line, answer.2)
 
@@ -232,14 +226,14 @@ tell-requires-clause-fits g c =
     let ready = c.requires.ready c.if-self.false in
     subst (FitsDisk (g.D.Disk.state c.args.self.now.io.disk.now).size) (rw (c.new-2.ensures, c.new.ensures.items) refl) (free_by_fits (g.D.Disk.state c.args.self.now.io.disk.now).size kept.body ready.in_range)
 
-pub returns-then-only_answers-clause-moments : goal.returns-then-only_answers-clause-moments
-returns-then-only_answers-clause-moments g c = λ running told rested.
-    let is = tells g (goal.at.returns-then-only_answers-clause-moments g c).After-tell in
+pub returns-then-not-commits-clause-moments : goal.returns-then-not-commits-clause-moments
+returns-then-not-commits-clause-moments g c = λ running told rested.
+    let is = tells g (goal.at.returns-then-not-commits-clause-moments g c).After-tell in
     since_read (g.D.Disk.state c.args.self.now.io.disk.now) (g.D.Disk.state c.tell.new.io.disk.now) c.args.self.now.kept is.looks.reads running rested (stepped [] c.args.now c.args.command running)
 
-pub returns-then-only_answers-clause-answer : goal.returns-then-only_answers-clause-answer
-returns-then-only_answers-clause-answer g c = λ running told standing rested.
-    let at = (goal.at.returns-then-only_answers-clause-answer g c).After-tell in
+pub returns-then-not-commits-clause-answer : goal.returns-then-not-commits-clause-answer
+returns-then-not-commits-clause-answer g c = λ running told standing rested.
+    let at = (goal.at.returns-then-not-commits-clause-answer g c).After-tell in
     let is = tells g at in
     let old = g.D.Disk.state c.args.self.now.io.disk.now in
     let new = g.D.Disk.state c.tell.new.io.disk.now in
@@ -247,59 +241,59 @@ returns-then-only_answers-clause-answer g c = λ running told standing rested.
     told_rests new kept running (stepped [] c.args.now c.args.command running) c.tell.result (rests_read old new kept is.looks.reads running rested)
     (is.told running told (subst (λ (space : FreeSectors). RunsBy (Has old.seen space) kept.dir running) (sym (free g at)) rested.runs_by))
 
-pub returns-then-only_answers-clause-planned : goal.returns-then-only_answers-clause-planned
-returns-then-only_answers-clause-planned g c = λ standing left. c.tell.ensures.plans c.args.now
+pub returns-then-not-commits-clause-planned : goal.returns-then-not-commits-clause-planned
+returns-then-not-commits-clause-planned g c = λ standing left. c.tell.ensures.plans c.args.now
 
-pub returns-then-only_answers-clause-open_still : goal.returns-then-only_answers-clause-open_still
-returns-then-only_answers-clause-open_still g c = λ standing. (c.tell.ensures.tells c.args.now).open_still
+pub returns-then-not-commits-clause-open_still : goal.returns-then-not-commits-clause-open_still
+returns-then-not-commits-clause-open_still g c = λ standing. (c.tell.ensures.tells c.args.now).open_still
 
-pub returns-then-only_answers-clause-spends : goal.returns-then-only_answers-clause-spends
-returns-then-only_answers-clause-spends g c = λ standing.
+pub returns-then-not-commits-clause-spends : goal.returns-then-not-commits-clause-spends
+returns-then-not-commits-clause-spends g c = λ standing.
     let cost = cost_of c.args.command in
     (0, omega arith, spends_none cost.cells 0 c.args.self.now.kept c.tell.new.io.space c.tell.result (c.tell.ensures.tells c.args.now).looks.never_full)
 
-pub returns-then-only_answers-clause-exact : goal.returns-then-only_answers-clause-exact
-returns-then-only_answers-clause-exact g c = λ running told standing rested.
+pub returns-then-not-commits-clause-exact : goal.returns-then-not-commits-clause-exact
+returns-then-not-commits-clause-exact g c = λ running told standing rested.
     let cost = cost_of c.args.command in
     spends_none cost.cells (cost.block running) c.args.self.now.kept c.tell.new.io.space c.tell.result (c.tell.ensures.tells c.args.now).looks.never_full
 
-pub returns-then-only_answers-clause-damaged : goal.returns-then-only_answers-clause-damaged
-returns-then-only_answers-clause-damaged g c = λ told. (c.tell.ensures.tells c.args.now).damaged told
+pub returns-then-not-commits-clause-damaged : goal.returns-then-not-commits-clause-damaged
+returns-then-not-commits-clause-damaged g c = λ told. (c.tell.ensures.tells c.args.now).damaged told
 
-pub returns-then-only_answers-clause-spares : goal.returns-then-only_answers-clause-spares
-returns-then-only_answers-clause-spares g c = λ apart.
+pub returns-then-not-commits-clause-spares : goal.returns-then-not-commits-clause-spares
+returns-then-not-commits-clause-spares g c = λ apart.
     on_err c.tell.result (spares_read (g.D.Disk.state c.args.self.now.io.disk.now) (g.D.Disk.state c.tell.new.io.disk.now) c.args.self.now.kept (c.tell.ensures.tells c.args.now).looks.reads)
 
-pub returns-then-only_answers-clause-kept : goal.returns-then-only_answers-clause-kept
-returns-then-only_answers-clause-kept g c = on_err c.tell.result refl
+pub returns-then-not-commits-clause-kept : goal.returns-then-not-commits-clause-kept
+returns-then-not-commits-clause-kept g c = on_err c.tell.result refl
 
-pub returns-then-only_answers-clause-sound : goal.returns-then-only_answers-clause-sound
-returns-then-only_answers-clause-sound g c = λ running done rested sound made. c.steps_keep_sound.ensures [] c.args.now c.args.command running done c.requires.command rested.lawful sound made
+pub returns-then-not-commits-clause-sound : goal.returns-then-not-commits-clause-sound
+returns-then-not-commits-clause-sound g c = λ running done rested sound made. c.steps_keep_sound.ensures [] c.args.now c.args.command running done c.requires.command rested.lawful sound made
 
-pub returns-then-only_answers-clause-only_reads : goal.returns-then-only_answers-clause-only_reads
-returns-then-only_answers-clause-only_reads g c = λ idle. (c.tell.ensures.tells c.args.now).looks.reads
+pub returns-then-not-commits-clause-only_reads : goal.returns-then-not-commits-clause-only_reads
+returns-then-not-commits-clause-only_reads g c = λ idle. (c.tell.ensures.tells c.args.now).looks.reads
 
-pub returns-then-only_answers-clause-space : goal.returns-then-only_answers-clause-space
-returns-then-only_answers-clause-space g c = λ told. (c.tell.ensures.tells c.args.now).looks.space ∙ free g (goal.at.returns-then-only_answers-clause-space g c).After-tell
+pub returns-then-not-commits-clause-space : goal.returns-then-not-commits-clause-space
+returns-then-not-commits-clause-space g c = λ told. (c.tell.ensures.tells c.args.now).looks.space ∙ free g (goal.at.returns-then-not-commits-clause-space g c).After-tell
 
-pub returns-then-only_answers-clause-ready : goal.returns-then-only_answers-clause-ready
-returns-then-only_answers-clause-ready g c = λ standing.
+pub returns-then-not-commits-clause-ready : goal.returns-then-not-commits-clause-ready
+returns-then-not-commits-clause-ready g c = λ standing.
     let looks = (c.tell.ensures.tells c.args.now).looks in
     ready_read (g.D.Disk.state c.args.self.now.io.disk.now) (g.D.Disk.state c.tell.new.io.disk.now) c.args.self.now.kept looks.reads (c.requires.ready (or_parts _ _ (sym looks.failed ∙ standing)).0)
 
-pub returns-then-only_answers-clause-works : goal.returns-then-only_answers-clause-works
-returns-then-only_answers-clause-works g c = λ told.
-    let at = (goal.at.returns-then-only_answers-clause-works g c).After-tell in
+pub returns-then-not-commits-clause-works : goal.returns-then-not-commits-clause-works
+returns-then-not-commits-clause-works g c = λ told.
+    let at = (goal.at.returns-then-not-commits-clause-works g c).After-tell in
     let looks = (c.tell.ensures.tells c.args.now).looks in
     let new = g.D.Disk.state c.tell.new.io.disk.now in
     commit_next_of new c.tell.new.io.space c.args.self.now.kept.body (looks.space ∙ free g at)
     (ready_read (g.D.Disk.state c.args.self.now.io.disk.now) new c.args.self.now.kept looks.reads (c.requires.ready (or_parts _ _ (sym looks.failed ∙ (or_parts _ _ told).0)).0))
 
-pub returns-then-only_answers-clause-failed : goal.returns-then-only_answers-clause-failed
-returns-then-only_answers-clause-failed g c = (c.tell.ensures.tells c.args.now).looks.failed ∙ ap (λ (b : Bool). c.args.self.now.io.failed || b) (fails_told c.tell.result)
+pub returns-then-not-commits-clause-failed : goal.returns-then-not-commits-clause-failed
+returns-then-not-commits-clause-failed g c = (c.tell.ensures.tells c.args.now).looks.failed ∙ ap (λ (b : Bool). c.args.self.now.io.failed || b) (fails_told c.tell.result)
 
-pub returns-then-only_answers-clause-cause : goal.returns-then-only_answers-clause-cause
-returns-then-only_answers-clause-cause g c = cause_told (g.D.Disk.state c.args.self.now.io.disk.now).faults (g.D.Disk.state c.tell.new.io.disk.now).faults c.tell.result (c.tell.ensures.tells c.args.now).looks.cause
+pub returns-then-not-commits-clause-cause : goal.returns-then-not-commits-clause-cause
+returns-then-not-commits-clause-cause g c = cause_told (g.D.Disk.state c.args.self.now.io.disk.now).faults (g.D.Disk.state c.tell.new.io.disk.now).faults c.tell.result (c.tell.ensures.tells c.args.now).looks.cause
 
-pub returns-then-only_answers-clause-honest : goal.returns-then-only_answers-clause-honest
-returns-then-only_answers-clause-honest g c = λ told. (c.tell.ensures.tells c.args.now).looks.reads.honest told
+pub returns-then-not-commits-clause-honest : goal.returns-then-not-commits-clause-honest
+returns-then-not-commits-clause-honest g c = λ told. (c.tell.ensures.tells c.args.now).looks.reads.honest told
