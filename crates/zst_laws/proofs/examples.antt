@@ -10,3 +10,4 @@ pub mod SoundClones
 pub mod Commanded
 pub mod Headed
 pub mod LineageExamples
+pub mod PlanExamples

@@ -6,6 +6,7 @@ pub mod Departed
 pub mod Filters
 pub mod Found
 pub mod Unique
+pub mod Planned
 pub mod Lineages
 pub mod Counted
 pub mod Descent

@@ -14,6 +14,8 @@ pub mod Lineage
 pub mod LineageExample
 pub mod LineageRefusals
 pub mod Meanings
+pub mod PlanExample
+pub mod Planning
 pub mod Ranges
 pub mod Receiving
 pub mod RedactExample

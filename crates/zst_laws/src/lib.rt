@@ -21,6 +21,8 @@ mod lineage;
 mod lineage_examples;
 mod lineage_refusals;
 mod meanings;
+mod plan_examples;
+mod planning;
 mod receiving;
 mod redact_example;
 mod remembering;
@@ -59,6 +61,8 @@ pub use meanings::{
     snapshots_keep_guids, sources_are_included, spills_are_kept, spills_fail,
     user_data_has_two_types, volumes_are_made, writes_fail,
 };
+pub use plan_examples::{clones_are_planned, increments_are_planned, redacted_are_planned};
+pub use planning::{ancestor_is_wanted, before_is_tested, plans_are_of_pool};
 pub use receiving::{
     cut_is_part_way, far_records_are_refused, moved_has_taken, part_way_is_completed,
     received_is_state, record_faults_come_first,
