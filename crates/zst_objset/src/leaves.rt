@@ -17,9 +17,9 @@ use zst_dnode::Slot;
 use zst_outside::Disk;
 use zst_tree::ObjSet;
 
-// Loads the sixteen slots that a pointer stands for into the node. A hole stands for absent ones of
-// its date; no object has the number 0, whose slot stays as it began.
-pub(crate) fn load_slots<D: Disk>(io: &mut Io<'_, D>, ptr: Ptr, leaf: u64) -> Result<(), BlockFault>
+/// Loads the sixteen slots that a pointer stands for into the node. A hole stands for absent ones of
+/// its date; no object has the number 0, whose slot stays as it began.
+pub fn load_slots<D: Disk>(io: &mut Io<'_, D>, ptr: Ptr, leaf: u64) -> Result<(), BlockFault>
     requires leaf { leaf < 2 ^ 44 }
     requires fits { FitsDisk (D.state io.old.disk.now).size io.old.space }
     ensures slots { (snap : DatedState) → (D.state io.new.disk.now).honest → LeafIs (Has (D.state io.old.disk.now).seen io.old.space) snap leaf ptr

@@ -24,4 +24,7 @@ mod writing;
 pub use commands::{changes_are_commands, reads_are_commands};
 pub use fault::ObjFault;
 pub use laws::sets_hold_states;
+pub use leaves::load_slots;
 pub use objects::Objects;
+pub use slots::date_in;
+pub use trees::tree_of;

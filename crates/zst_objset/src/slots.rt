@@ -18,8 +18,8 @@ pub(crate) struct Summary {
     pub there: bool,
 }
 
-// The latest date that a slot tells.
-fn date_in(slot: &Slot) -> u64
+/// The latest date that a slot tells.
+pub fn date_in(slot: &Slot) -> u64
     ensures { result ≡ date_in slot.now }
 {
     match slot {

@@ -15,7 +15,7 @@ use zst_outside::Disk;
 use zst_tree::{Steps, Tree};
 
 /// The tree of an object's blocks.
-pub(crate) fn tree_of(dnode: &Dnode) -> Tree
+pub fn tree_of(dnode: &Dnode) -> Tree
     ensures { result ≡ tree_of dnode.now }
 {
     Tree {

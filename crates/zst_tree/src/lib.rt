@@ -19,6 +19,6 @@ mod writes;
 pub use nodes::child_at;
 pub use put::put_child;
 pub use spans::{INDEX_BOUND, span_of};
-pub use steps::Steps;
+pub use steps::{Steps, tick};
 pub use tree::{ObjSet, Tree};
 pub use words::{push_ptr, push_set, read_ptr, read_set};

@@ -3,8 +3,7 @@ ghost use Rattle.std.specs.Prelude.{◌≡◌, ◌+◌, ◌<◌, ℕ};
 use std::marker::Model;
 use std::sync::ledger::{Blank, Book, Ledger, Share};
 
-/// How many nodes were read, counted for proofs alone. It takes no bytes, and only a read of a
-/// node adds to it.
+/// How many blocks of pointers or of dnodes were read, counted for proofs alone. It takes no bytes.
 #[derive(Drop)]
 pub struct Steps<L: Ledger> {
     book: Book<L>,
@@ -34,8 +33,8 @@ impl<L: Ledger> Steps<L> {
     }
 }
 
-// One node more was read.
-pub(crate) fn tick<L: Ledger>(steps: &mut Steps<L>)
+/// One block more was read.
+pub fn tick<L: Ledger>(steps: &mut Steps<L>)
     ensures { steps.new ≡ steps.old + 1 }
 {
     steps.book.add(&mut steps.share, 1);
