@@ -1,0 +1,9 @@
+mod Including
+mod SlotDates
+mod Numbers
+mod Glancing
+mod Looking
+mod Judging
+mod Damage
+mod Indices
+mod Nexts

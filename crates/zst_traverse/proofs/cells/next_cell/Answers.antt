@@ -1,0 +1,91 @@
+use Rattle.std.proofs.Common.{◌≡◌, ℕ, ◌+◌, ◌/◌, ◌^◌, ◌<◌, ◌≤◌, max, false, Bool, List, sym, subst, arith}
+use Rattle.std.specs.Prelude.{Option}
+use Rattle.std.proofs.lemmas.Result.{err_from_is_err_and}
+use Rattle.zst_space.specs.FreeSectors.{FreeSectors}
+use Rattle.zst_block.specs.Blocks.{Has}
+use Rattle.zst_block.specs.declared.ptr.Ptr.{Ptr}
+use Rattle.zst_block.proofs.Working.{Looks-then}
+use Rattle.zst_tree.proofs.Results.{delivers_if}
+use Rattle.zst_tree.specs.Finding.{Shows}
+use Rattle.zst_tree.specs.Indices.{Delivers}
+use Rattle.zst_objset.proofs.LeafLaws.{look_on}
+use Rattle.zst_objset.specs.Sets.{SetHolds}
+use Rattle.zst_traverse.specs.Cells.{choice_after, IsNextCell}
+use Rattle.zst_traverse.specs.Leaves.{FindsNumber, StandsFor}
+use Rattle.zst_traverse.specs.Tight.{IsTightLeaf, SetIsTight}
+use Rattle.zst_traverse.proofs.Nexts.{past_next, slot_next}
+use Rattle.zst_traverse.proofs.Numbers.{stands_for}
+use Rattle.zst_traverse.proofs.cells.next_cell.Goals as goal
+
+pub returns-then-point-ge-NUMBER_BOUND-clause-found : goal.returns-then-point-ge-NUMBER_BOUND-clause-found
+returns-then-point-ge-NUMBER_BOUND-clause-found g c = λ snap honest holds.
+    past_next (Has (g.D.Disk.state c.args.io.now.disk.now).seen c.args.io.now.space) snap c.args.from c.args.point c.args.slot holds.lawful (omega arith)
+
+pub returns-in_err-leaf-clause-found : goal.returns-in_err-leaf-clause-found
+returns-in_err-leaf-clause-found g c = λ snap honest holds.
+    let p = err_from_is_err_and c.from_residual.result c.from_residual.ensures.1 in
+    rw (p.1, p.2) (c.in_err-leaf.ensures.shows holds.map honest holds.tree)
+
+pub returns-then-is_passed-clause-found : goal.returns-then-is_passed-clause-found
+returns-then-is_passed-clause-found g c = λ snap honest holds.
+    let leaf = c.in_ok-leaf.leaf in
+    let looks = c.in_ok-leaf.ensures.looks in
+    let was = c.behind_slot.ensures.looks.reads.honest honest in
+    let shows = subst (λ (n : ℕ). Shows holds.map n (leaf.ptr, leaf.count)) (sym c.in_ok-leaf.ensures.index) (c.in_ok-leaf.ensures.shows holds.map was holds.tree) in
+    let stands_on = look_on (λ (seen : List ℕ) (space : FreeSectors). StandsFor (Has seen space) snap leaf) _ _ _ _ _ _ _ looks (stands_for _ c.args.set.now snap holds leaf shows) in
+    let holds_on = look_on (λ (seen : List ℕ) (space : FreeSectors). SetHolds (Has seen space) c.args.set.now snap) _ _ _ _ _ _ _ looks holds in
+    let next = look_on (λ (seen : List ℕ) (space : FreeSectors). Delivers (IsNextCell (Has seen space) snap (choice_after c.args.from) c.args.point false) c.behind_slot.result) _ _ _ _ _ _ _ c.behind_slot.ensures.looks (c.behind_slot.ensures.found snap honest holds_on stands_on) in
+    subst (λ (slot : Bool). Delivers (IsNextCell (Has (g.D.Disk.state c.behind_slot.new.io.disk.now).seen c.behind_slot.new.io.space) snap (choice_after c.args.from) c.args.point slot) c.behind_slot.result) (sym (c.is_passed.ensures.passed c.if-is_passed.true).0) next
+
+pub returns-else-is_passed-clause-found : goal.returns-else-is_passed-clause-found
+returns-else-is_passed-clause-found g c = λ snap honest holds.
+    let leaf = c.in_ok-leaf.leaf in
+    let looks = c.in_ok-leaf.ensures.looks in
+    let was = c.next_number.ensures.looks.reads.honest honest in
+    let shows = subst (λ (n : ℕ). Shows holds.map n (leaf.ptr, leaf.count)) (sym c.in_ok-leaf.ensures.index) (c.in_ok-leaf.ensures.shows holds.map was holds.tree) in
+    let stands_on = look_on (λ (seen : List ℕ) (space : FreeSectors). StandsFor (Has seen space) snap leaf) _ _ _ _ _ _ _ looks (stands_for _ c.args.set.now snap holds leaf shows) in
+    let holds_on = look_on (λ (seen : List ℕ) (space : FreeSectors). SetHolds (Has seen space) c.args.set.now snap) _ _ _ _ _ _ _ looks holds in
+    let next = look_on (λ (seen : List ℕ) (space : FreeSectors). Delivers (FindsNumber (Has seen space) snap (choice_after c.args.from) c.max-number.result) c.next_number.result) _ _ _ _ _ _ _ c.next_number.ensures.looks (c.next_number.ensures.found snap honest holds_on stands_on) in
+    delivers_if _ _ c.next_number.result (slot_next _ snap c.args.from c.args.point c.args.slot c.max-number.result holds.lawful c.max-number.ensures (c.is_passed.ensures.judged c.if-is_passed.false)) next
+
+pub returns-then-is_passed-clause-few : goal.returns-then-is_passed-clause-few
+returns-then-is_passed-clause-few g c = λ snap honest tight.
+    let holds = tight.holds in
+    let leaf = c.in_ok-leaf.leaf in
+    let looks = c.in_ok-leaf.ensures.looks in
+    let was = c.behind_slot.ensures.looks.reads.honest honest in
+    let shown = c.in_ok-leaf.ensures.shows holds.map was holds.tree in
+    let index_is : leaf.index ≡ c.args.point.object / 16 = c.in_ok-leaf.ensures.index in
+    let stands_on = look_on (λ (seen : List ℕ) (space : FreeSectors). StandsFor (Has seen space) snap leaf) _ _ _ _ _ _ _ looks
+    (stands_for _ c.args.set.now snap holds leaf (subst (λ (n : ℕ). Shows holds.map n (leaf.ptr, leaf.count)) (sym index_is) shown)) in
+    let tight_on = look_on (λ (seen : List ℕ) (space : FreeSectors). SetIsTight (Has seen space) c.args.set.now snap) _ _ _ _ _ _ _ looks tight in
+    let some : 0 < leaf.count = shown.some in
+    let less : c.args.point.object / 16 < 2 ^ 44 = omega arith in
+    let has = Has (g.D.Disk.state c.args.io.now.disk.now).seen c.args.io.now.space in
+    let at = shown.same (c.args.point.object / 16) (omega arith) (omega arith) less in
+    let leaf_tight = subst (λ (n : ℕ). IsTightLeaf has snap n leaf.ptr) (sym index_is) (subst (λ (p : Ptr). IsTightLeaf has snap (c.args.point.object / 16) p) at (tight.tight (c.args.point.object / 16) less)) in
+    let leaf_on = look_on (λ (seen : List ℕ) (space : FreeSectors). IsTightLeaf (Has seen space) snap leaf.index leaf.ptr) _ _ _ _ _ _ _ looks leaf_tight in
+    let first = c.in_ok-leaf.ensures.steps.1 in
+    let more = c.behind_slot.ensures.few snap honest tight_on stands_on leaf_on in
+    omega (arith, first, more)
+
+pub returns-else-is_passed-clause-few : goal.returns-else-is_passed-clause-few
+returns-else-is_passed-clause-few g c = λ snap honest tight.
+    let holds = tight.holds in
+    let leaf = c.in_ok-leaf.leaf in
+    let looks = c.in_ok-leaf.ensures.looks in
+    let was = c.next_number.ensures.looks.reads.honest honest in
+    let shown = c.in_ok-leaf.ensures.shows holds.map was holds.tree in
+    let index_is : leaf.index ≡ c.args.point.object / 16 = c.in_ok-leaf.ensures.index in
+    let stands_on = look_on (λ (seen : List ℕ) (space : FreeSectors). StandsFor (Has seen space) snap leaf) _ _ _ _ _ _ _ looks
+    (stands_for _ c.args.set.now snap holds leaf (subst (λ (n : ℕ). Shows holds.map n (leaf.ptr, leaf.count)) (sym index_is) shown)) in
+    let tight_on = look_on (λ (seen : List ℕ) (space : FreeSectors). SetIsTight (Has seen space) c.args.set.now snap) _ _ _ _ _ _ _ looks tight in
+    let some : 0 < leaf.count = shown.some in
+    let less : c.args.point.object / 16 < 2 ^ 44 = omega arith in
+    let has = Has (g.D.Disk.state c.args.io.now.disk.now).seen c.args.io.now.space in
+    let at = shown.same (c.args.point.object / 16) (omega arith) (omega arith) less in
+    let leaf_tight = subst (λ (n : ℕ). IsTightLeaf has snap n leaf.ptr) (sym index_is) (subst (λ (p : Ptr). IsTightLeaf has snap (c.args.point.object / 16) p) at (tight.tight (c.args.point.object / 16) less)) in
+    let leaf_on = look_on (λ (seen : List ℕ) (space : FreeSectors). IsTightLeaf (Has seen space) snap leaf.index leaf.ptr) _ _ _ _ _ _ _ looks leaf_tight in
+    let first = c.in_ok-leaf.ensures.steps.1 in
+    let more = c.next_number.ensures.few snap honest tight_on stands_on leaf_on in
+    omega (arith, first, more)

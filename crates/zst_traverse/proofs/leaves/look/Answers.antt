@@ -1,0 +1,114 @@
+use Rattle.std.proofs.Common.{◌≡◌, ℕ, ◌+◌, ◌-◌, ◌*◌, ◌<◌, List, sym, subst, arith}
+use Rattle.zst_space.specs.FreeSectors.{FreeSectors}
+use Rattle.zst_block.specs.Blocks.{Has}
+use Rattle.zst_block.proofs.Working.{Looks-then}
+use Rattle.zst_dnode.specs.declared.slot.Slot.TheVariants as slots
+use Rattle.zst_tree.proofs.Damage.{seen_before}
+use Rattle.zst_tree.proofs.Results.{delivers_if}
+use Rattle.zst_tree.specs.Damage.{IsSeen}
+use Rattle.zst_tree.specs.Indices.{Delivers}
+use Rattle.zst_objset.proofs.LeafLaws.{look_back, look_on}
+use Rattle.zst_objset.proofs.SearchLaws.{lacks_none}
+use Rattle.zst_objset.specs.Damage.{HasSlot, IfDamaged, StandsIn}
+use Rattle.zst_objset.specs.Dnodes.{IsThere}
+use Rattle.zst_traverse.specs.Cells.{choice_after}
+use Rattle.zst_traverse.specs.Leaves.{EndsLeaf, IsNext, ShowsAhead, StandsFor}
+use Rattle.zst_traverse.specs.Slots.{HasGlance, ShowsLate}
+use Rattle.zst_traverse.specs.Telling.{IsDamagedCell}
+use Rattle.zst_traverse.specs.declared.slots.Glance.{Glance}
+use Rattle.zst_traverse.proofs.Damage.{dnode_stands}
+use Rattle.zst_traverse.proofs.Looking.{gone_shown, if_ok, late_shown, leaf_is, next_ends, next_some, nothing_shown, object_shown, spelled}
+use Rattle.zst_traverse.specs.Tight.{IsTightLeaf}
+use Rattle.zst_model.specs.states.Dated.{DatedState}
+use Rattle.std.specs.Prelude.{IfOk}
+use Rattle.zst_traverse.proofs.leaves.look.Given as given
+use Rattle.zst_traverse.proofs.leaves.look.Goals as goal
+
+pub returns-in-None-clause-shows : goal.returns-in-None-clause-shows
+returns-in-None-clause-shows g c = λ snap honest stands.
+    let loaded = c.in_ok-load_leaf.ensures.loaded honest in
+    let spells = spelled _ _ snap c.args.leaf.now c.load_leaf.new.io.node stands c.requires.count.0 c.requires.index c.if-leaf-eq0.false loaded in
+    absurd (lacks_none _ _ spells c.in-None.ensures.none)
+
+pub returns-in-Some-Nothing-clause-shows : goal.returns-in-Some-Nothing-clause-shows
+returns-in-Some-Nothing-clause-shows g c = λ snap honest stands.
+    let leaf = c.args.leaf.now in
+    let place = c.args.from - 16 * leaf.index in
+    let node = c.load_leaf.new.io.node in
+    let isnt = c.if-leaf-eq0.false in
+    let loaded = c.in_ok-load_leaf.ensures.loaded honest in
+    let is = leaf_is _ _ snap leaf node stands c.requires.count.0 c.requires.index isnt loaded in
+    let spells = spelled _ _ snap leaf node stands c.requires.count.0 c.requires.index isnt loaded in
+    nothing_shown _ _ snap leaf node stands c.requires.count.0 c.requires.index isnt loaded c.args.source c.args.from place (omega arith) c.requires.from.0
+    (subst (λ (seen : Glance). ShowsLate is.slots c.args.source leaf.index place seen) c.in-Some-Nothing.field-0-is (c.in-Some-Nothing.ensures.shows is.slots spells))
+
+pub returns-in-Some-Nothing-clause-late : goal.returns-in-Some-Nothing-clause-late
+returns-in-Some-Nothing-clause-late g c = λ snap honest stands tight late start.
+    let leaf = c.args.leaf.now in
+    let place = c.args.from - 16 * leaf.index in
+    let node = c.load_leaf.new.io.node in
+    let isnt = c.if-leaf-eq0.false in
+    let loaded = c.in_ok-load_leaf.ensures.loaded honest in
+    let is = leaf_is _ _ snap leaf node stands c.requires.count.0 c.requires.index isnt loaded in
+    let spells = spelled _ _ snap leaf node stands c.requires.count.0 c.requires.index isnt loaded in
+    late_shown _ _ snap leaf node stands c.requires.count.0 c.requires.index isnt loaded c.args.source c.args.from place (omega arith) c.requires.from.0 late start
+    (subst (λ (seen : Glance). ShowsLate is.slots c.args.source leaf.index place seen) c.in-Some-Nothing.field-0-is (c.in-Some-Nothing.ensures.shows is.slots spells))
+
+pub returns-in-Some-Absent-clause-shows : goal.returns-in-Some-Absent-clause-shows
+returns-in-Some-Absent-clause-shows g c = λ snap honest stands.
+    let leaf = c.args.leaf.now in
+    let place = c.args.from - 16 * leaf.index in
+    let node = c.load_leaf.new.io.node in
+    let isnt = c.if-leaf-eq0.false in
+    let loaded = c.in_ok-load_leaf.ensures.loaded honest in
+    let is = leaf_is _ _ snap leaf node stands c.requires.count.0 c.requires.index isnt loaded in
+    let spells = spelled _ _ snap leaf node stands c.requires.count.0 c.requires.index isnt loaded in
+    gone_shown _ _ snap leaf node stands c.requires.count.0 c.requires.index isnt loaded c.args.source c.args.from place (omega arith) c.requires.from.0 c.in-Some-Absent.first c.in-Some-Absent.count
+    (subst (λ (seen : Glance). ShowsLate is.slots c.args.source leaf.index place seen) c.in-Some-Absent.field-0-is (c.in-Some-Absent.ensures.shows is.slots spells))
+
+pub returns-in-Some-There-clause-shows : goal.returns-in-Some-There-clause-shows
+returns-in-Some-There-clause-shows g c = λ snap honest stands.
+    let leaf = c.args.leaf.now in
+    let place = c.args.from - 16 * leaf.index in
+    let at = c.in-Some-There.place in
+    let dnode = c.in-Some-There.dnode in
+    let shown = object_shown _ _ snap leaf c.load_leaf.new.io.node stands c.requires.count.0 c.requires.index c.if-leaf-eq0.false (c.in_ok-load_leaf.ensures.loaded (c.judged.ensures.looks.reads.honest honest)) c.args.source c.args.from place (omega arith) c.requires.from.0 at dnode
+    (λ held spells. subst (λ (seen : Glance). ShowsLate held c.args.source leaf.index place seen) c.in-Some-There.field-0-is (c.in-Some-There.ensures.shows held spells)) in
+    let on = look_on (λ (seen : List ℕ) (space : FreeSectors). IsThere (Has seen space) snap (16 * leaf.index + at) dnode) _ _ _ _ _ _ _ c.in_ok-load_leaf.ensures.looks shown.there in
+    let back = look_back (λ (seen : List ℕ) (space : FreeSectors). Delivers (ShowsAhead (Has seen space) snap (choice_after c.args.source) (16 * leaf.index + at)) c.judged.result) _ _ _ _ _ _ _ c.in_ok-load_leaf.ensures.looks (c.judged.ensures.shows snap honest on) in
+    delivers_if _ _ c.judged.result shown.behind back
+
+pub returns-in-Some-There-clause-damaged : goal.returns-in-Some-There-clause-damaged
+returns-in-Some-There-clause-damaged g c = λ set honest hangs.
+    let loaded = c.in_ok-load_leaf.ensures.loaded (c.judged.ensures.looks.reads.honest honest) in
+    let dnode = c.in-Some-There.dnode in
+    let has : (c.in-Some-There.place < 16) × HasSlot c.load_leaf.new.io.node c.in-Some-There.place (slots.There dnode) = subst (λ (seen : Glance). HasGlance c.load_leaf.new.io.node seen) c.in-Some-There.field-0-is c.in-Some-There.ensures.stands in
+    let stands = dnode_stands (IsSeen (g.D.Disk.state c.args.io.now.disk.now).seen) set c.args.leaf.now.ptr c.load_leaf.new.io.node c.in-Some-There.place dnode hangs loaded c.if-leaf-eq0.false
+    has.0 has.1 in
+    let on = look_on (λ (seen : List ℕ) (space : FreeSectors). StandsIn (IsSeen seen) set dnode) _ _ _ _ _ _ _ c.in_ok-load_leaf.ensures.looks stands in
+    seen_before _ _ _ _ _ _ _ c.in_ok-load_leaf.ensures.looks (λ (seen : List ℕ) (size : ℕ). IfDamaged c.judged.result (IsDamagedCell (IsSeen seen) size set)) (c.judged.ensures.damaged set honest on)
+
+-- in a tight leaf an object that is shown is next
+is_next : (g : given.Over) (c : goal.After-judged g) (snap : DatedState) → (g.D.Disk.state c.judged.new.io.disk.now).honest → StandsFor (Has (g.D.Disk.state c.args.io.now.disk.now).seen c.args.io.now.space) snap c.args.leaf.now
+    → IsTightLeaf (Has (g.D.Disk.state c.args.io.now.disk.now).seen c.args.io.now.space) snap c.args.leaf.now.index c.args.leaf.now.ptr → IfOk c.judged.result IsNext
+is_next g c snap honest stands tight =
+    let leaf = c.args.leaf.now in
+    let place = c.args.from - 16 * leaf.index in
+    let at = c.in-Some-There.place in
+    let dnode = c.in-Some-There.dnode in
+    let shown = object_shown _ _ snap leaf c.load_leaf.new.io.node stands c.requires.count.0 c.requires.index c.if-leaf-eq0.false (c.in_ok-load_leaf.ensures.loaded (c.judged.ensures.looks.reads.honest honest)) c.args.source c.args.from place (omega arith) c.requires.from.0 at dnode
+    (λ held spells. subst (λ (seen : Glance). ShowsLate held c.args.source leaf.index place seen) c.in-Some-There.field-0-is (c.in-Some-There.ensures.shows held spells)) in
+    let on = look_on (λ (seen : List ℕ) (space : FreeSectors). IsThere (Has seen space) snap (16 * leaf.index + at) dnode) _ _ _ _ _ _ _ c.in_ok-load_leaf.ensures.looks shown.there in
+    c.judged.ensures.next snap honest on (shown.tight tight) shown.late
+
+pub returns-in-Some-There-clause-ends : goal.returns-in-Some-There-clause-ends
+returns-in-Some-There-clause-ends g c = λ snap honest stands tight. if_ok IsNext EndsLeaf next_ends c.judged.result (is_next g c snap honest stands tight)
+
+pub returns-in-Some-There-clause-few : goal.returns-in-Some-There-clause-few
+returns-in-Some-There-clause-few g c = λ snap honest stands tight. if_ok IsNext _ (next_some _) c.judged.result (is_next g c snap honest stands tight)
+
+pub returns-in-Some-There-clause-late : goal.returns-in-Some-There-clause-late
+returns-in-Some-There-clause-late g c = λ snap honest stands tight late start. is_next g c snap honest stands tight
+
+pub returns-in-Some-There-clause-looks : goal.returns-in-Some-There-clause-looks
+returns-in-Some-There-clause-looks g c = Looks-then c.in_ok-load_leaf.ensures.looks c.judged.ensures.looks

@@ -1,0 +1,7 @@
+pub mod Cells
+pub mod Dates
+pub mod Leaves
+pub mod Runs
+pub mod Slots
+pub mod Telling
+pub mod Tight

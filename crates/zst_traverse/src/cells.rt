@@ -1,0 +1,184 @@
+//! The first included number or index at or after a point.
+ghost use Rattle.std.specs.Prelude.{◌≡◌, ◌⊎◌, ◌+◌, ◌*◌, ◌/◌, ◌^◌, ◌<◌, ◌≤◌, false, true, ℕ, IfNone, IfOk, IfSome, Some};
+ghost use Rattle.zst_block.specs.Blocks.{FitsDisk, Has};
+ghost use Rattle.zst_block.specs.Working.{Looks, stop_of};
+ghost use Rattle.zst_dnode.specs.Dnode.{DnodeFits};
+ghost use Rattle.zst_model.specs.states.Dated.{DatedState};
+ghost use Rattle.zst_tree.specs.Damage.{HangsIn, IsSeen, MayHave};
+ghost use Rattle.zst_tree.specs.Indices.{Delivers};
+ghost use Rattle.zst_tree.specs.declared.tree.ObjSet.{ObjSet};
+ghost use Rattle.zst_objset.specs.Damage.{IfDamaged, StandsIn};
+ghost use Rattle.zst_objset.specs.Dnodes.{DnodeIs};
+ghost use Rattle.zst_objset.specs.Sets.{LeafIs, SetHolds};
+ghost use Rattle.zst_traverse.specs.Cells.{choice_after, FoundFits, IsNextCell};
+ghost use Rattle.zst_traverse.specs.Leaves.{StandsFor};
+ghost use Rattle.zst_traverse.specs.Runs.{FindsPairs, RunFits};
+ghost use Rattle.zst_traverse.specs.Telling.{IsDamagedCell};
+ghost use Rattle.zst_traverse.specs.Tight.{IsTightLeaf, SetIsTight};
+
+use crate::ahead::next_number;
+use crate::found::Found;
+use crate::leaves::{Leaf, leaf_at, load_leaf};
+use crate::pairs::{Run, next_pairs};
+use std::sync::ledger::Ledger;
+use zst_block::{BlockFault, Io};
+use zst_dnode::{Dnode, Slot};
+use zst_model::Point;
+use zst_model::limits::NUMBER_BOUND;
+use zst_outside::Disk;
+use zst_tree::{ObjSet, Steps};
+
+// The dnode of a number, in its leaf.
+fn dnode_in<D: Disk, L: Ledger>(
+    io: &mut Io<'_, D>,
+    leaf: &Leaf,
+    number: u64,
+    steps: &mut Steps<L>,
+) -> Result<Option<Dnode>, BlockFault>
+    requires number { (0 < number) × (number < 2 ^ 48) × (leaf.now.index ≡ number / 16) }
+    requires fits { FitsDisk (D.state io.old.disk.now).size io.old.space }
+    ensures found { (snap : DatedState) → (D.state io.new.disk.now).honest → LeafIs (Has (D.state io.old.disk.now).seen io.old.space) snap leaf.now.index leaf.now.ptr
+        → Delivers (DnodeIs (Has (D.state io.old.disk.now).seen io.old.space) snap number) result }
+    ensures ranges { IfOk result (λ found. IfSome found DnodeFits) }
+    ensures stands { (set : ObjSet) → (D.state io.new.disk.now).honest → HangsIn (MayHave (IsSeen (D.state io.old.disk.now).seen)) set.tree leaf.now.ptr → IfOk result (λ found. IfSome found (StandsIn (IsSeen (D.state io.old.disk.now).seen) set)) }
+    ensures damaged { (set : ObjSet) → (D.state io.new.disk.now).honest → HangsIn (MayHave (IsSeen (D.state io.old.disk.now).seen)) set.tree leaf.now.ptr → IfDamaged result (IsDamagedCell (IsSeen (D.state io.old.disk.now).seen) (D.state io.old.disk.now).size set) }
+    ensures looks { Looks (D.state io.old.disk.now) io.old.space io.old.failed (D.state io.new.disk.now) io.new.space io.new.failed (stop_of result) }
+    ensures steps { (steps.old ≤ steps.new) × (steps.new ≤ steps.old + 1) }
+    ensures calls { (D.state io.new.disk.now).calls + steps.old ≤ (D.state io.old.disk.now).calls + steps.new }
+    ensures kept_fit { FitsDisk (D.state io.new.disk.now).size io.new.space }
+    ensures same { io.new.disk.ghost_name ≡ io.old.disk.ghost_name }
+{
+    if leaf.ptr.kind == 0 {
+        return Ok(None);
+    }
+    load_leaf(io, leaf, steps)?;
+    let place = (number % 16) as usize;
+    match Slot::get(io.node.as_slice(), 512 * place) {
+        Some(Slot::There(dnode)) => Ok(Some(dnode)),
+        Some(Slot::Absent { .. }) => Ok(None),
+        None => Err(BlockFault::of_layout(&leaf.ptr)),
+    }
+}
+
+// The first included indices of the point's object, in its leaf.
+fn own_pairs<D: Disk, L: Ledger>(
+    io: &mut Io<'_, D>,
+    leaf: &Leaf,
+    source: Option<u64>,
+    point: Point,
+    steps: &mut Steps<L>,
+) -> Result<Option<Run>, BlockFault>
+    requires object { (0 < point.object) × (point.object < 2 ^ 48) × (leaf.now.index ≡ point.object / 16) }
+    requires fits { FitsDisk (D.state io.old.disk.now).size io.old.space }
+    ensures found { (snap : DatedState) → (D.state io.new.disk.now).honest → LeafIs (Has (D.state io.old.disk.now).seen io.old.space) snap leaf.now.index leaf.now.ptr
+        → Delivers (FindsPairs (Has (D.state io.old.disk.now).seen io.old.space) snap (choice_after source) point) result }
+    ensures ranges { IfOk result (λ found. IfSome found (RunFits 0 (2 ^ 43))) }
+    ensures damaged { (set : ObjSet) → (D.state io.new.disk.now).honest → HangsIn (MayHave (IsSeen (D.state io.old.disk.now).seen)) set.tree leaf.now.ptr → IfDamaged result (IsDamagedCell (IsSeen (D.state io.old.disk.now).seen) (D.state io.old.disk.now).size set) }
+    ensures looks { Looks (D.state io.old.disk.now) io.old.space io.old.failed (D.state io.new.disk.now) io.new.space io.new.failed (stop_of result) }
+    ensures steps { (steps.old ≤ steps.new) × (steps.new ≤ steps.old + 21) }
+    ensures none { IfOk result (λ found. IfNone found (steps.new ≤ steps.old + 14)) }
+    ensures calls { (D.state io.new.disk.now).calls + steps.old ≤ (D.state io.old.disk.now).calls + steps.new }
+    ensures kept_fit { FitsDisk (D.state io.new.disk.now).size io.new.space }
+    ensures same { io.new.disk.ghost_name ≡ io.old.disk.ghost_name }
+{
+    match dnode_in(io, leaf, point.object, steps)? {
+        None => Ok(None),
+        Some(dnode) => next_pairs(io, &dnode, source, point, steps),
+    }
+}
+
+// What a run of indices is told as.
+fn told(object: u64, run: Run) -> Found
+    ensures { result ≡ Found.Pairs object run.first run.count run.what run.ptr }
+{
+    Found::Pairs {
+        object,
+        first: run.first,
+        count: run.count,
+        what: run.what,
+        ptr: run.ptr,
+    }
+}
+
+// The first included index of the point's object, or else the first included number behind it.
+fn behind_slot<D: Disk, L: Ledger>(
+    io: &mut Io<'_, D>,
+    set: &ObjSet,
+    leaf: &Leaf,
+    source: Option<u64>,
+    point: Point,
+    steps: &mut Steps<L>,
+) -> Result<Option<Found>, BlockFault>
+    requires levels { set.now.tree.levels ≤ 7 }
+    requires object { (0 < point.object) × (point.object < 2 ^ 48) × (leaf.now.index ≡ point.object / 16) }
+    requires count { (0 < leaf.now.count) × (leaf.now.index + leaf.now.count ≤ 2 ^ 49) }
+    requires fits { FitsDisk (D.state io.old.disk.now).size io.old.space }
+    ensures found { (snap : DatedState) → (D.state io.new.disk.now).honest → SetHolds (Has (D.state io.old.disk.now).seen io.old.space) set.now snap
+        → StandsFor (Has (D.state io.old.disk.now).seen io.old.space) snap leaf.now → Delivers (IsNextCell (Has (D.state io.old.disk.now).seen io.old.space) snap (choice_after source) point false) result }
+    ensures ranges { IfOk result (λ found. IfSome found (FoundFits point)) }
+    ensures damaged { (D.state io.new.disk.now).honest → HangsIn (MayHave (IsSeen (D.state io.old.disk.now).seen)) set.now.tree leaf.now.ptr → IfDamaged result (IsDamagedCell (IsSeen (D.state io.old.disk.now).seen) (D.state io.old.disk.now).size set.now) }
+    ensures looks { Looks (D.state io.old.disk.now) io.old.space io.old.failed (D.state io.new.disk.now) io.new.space io.new.failed (stop_of result) }
+    ensures steps { steps.old ≤ steps.new }
+    ensures few { (snap : DatedState) → (D.state io.new.disk.now).honest → SetIsTight (Has (D.state io.old.disk.now).seen io.old.space) set.now snap
+        → StandsFor (Has (D.state io.old.disk.now).seen io.old.space) snap leaf.now → IsTightLeaf (Has (D.state io.old.disk.now).seen io.old.space) snap leaf.now.index leaf.now.ptr → steps.new ≤ steps.old + 49 }
+    ensures calls { (D.state io.new.disk.now).calls + steps.old ≤ (D.state io.old.disk.now).calls + steps.new }
+    ensures kept_fit { FitsDisk (D.state io.new.disk.now).size io.new.space }
+    ensures same { io.new.disk.ghost_name ≡ io.old.disk.ghost_name }
+{
+    match own_pairs(io, leaf, source, point, steps)? {
+        Some(run) => Ok(Some(told(point.object, run))),
+        None => next_number(io, set, source, leaf, point.object + 1, steps),
+    }
+}
+
+// Whether a point's own number is passed over, whose indices come next. No object has the number 0.
+fn is_passed(point: Point, slot: bool) -> bool
+    ensures passed { result ≡ true → (slot ≡ false) × (0 < point.object) }
+    ensures judged { result ≡ false → (slot ≡ true) ⊎ (point.object ≡ 0) }
+{
+    !slot && point.object > 0
+}
+
+/// The first included number or pair at or after a point, of a set whose numbers and pairs are
+/// included where they are dated after a source. The point's own number comes first where `slot` is
+/// true and is passed over where it is false; its indices count from the point's offset.
+pub fn next_cell<D: Disk, L: Ledger>(
+    io: &mut Io<'_, D>,
+    set: &ObjSet,
+    from: Option<u64>,
+    point: Point,
+    slot: bool,
+    steps: &mut Steps<L>,
+) -> Result<Option<Found>, BlockFault>
+    requires fits { FitsDisk (D.state io.old.disk.now).size io.old.space }
+
+    // Of a set that holds a state, what is found is next there, and no damage is told.
+    ensures found { (snap : DatedState) → (D.state io.new.disk.now).honest → SetHolds (Has (D.state io.old.disk.now).seen io.old.space) set.now snap
+        → Delivers (IsNextCell (Has (D.state io.new.disk.now).seen io.new.space) snap (choice_after from) point slot) result }
+
+    // Whatever the image, what is found is in its range, and damage is told of a block of the walk.
+    ensures ranges { IfOk result (λ found. IfSome found (FoundFits point)) }
+    ensures damaged { (D.state io.new.disk.now).honest → IfDamaged result (IsDamagedCell (IsSeen (D.state io.old.disk.now).seen) (D.state io.old.disk.now).size set.now) }
+
+    // It only reads, a block each step, and of a set whose slots are tight at most 64.
+    ensures looks { Looks (D.state io.old.disk.now) io.old.space io.old.failed (D.state io.new.disk.now) io.new.space io.new.failed (stop_of result) }
+    ensures steps { steps.old ≤ steps.new }
+    ensures few { (snap : DatedState) → (D.state io.new.disk.now).honest → SetIsTight (Has (D.state io.old.disk.now).seen io.old.space) set.now snap → steps.new ≤ steps.old + 64 }
+    ensures calls { (D.state io.new.disk.now).calls + steps.old ≤ (D.state io.old.disk.now).calls + steps.new }
+    ensures kept_fit { FitsDisk (D.state io.new.disk.now).size io.new.space }
+    ensures same { io.new.disk.ghost_name ≡ io.old.disk.ghost_name }
+{
+    if set.tree.levels > 7 {
+        return Err(BlockFault::of_layout(&set.tree.root));
+    }
+    if point.object >= NUMBER_BOUND {
+        return Ok(None);
+    }
+    let leaf = leaf_at(io, &set.tree, point.object / 16, steps)?;
+    if is_passed(point, slot) {
+        behind_slot(io, set, &leaf, from, point, steps)
+    } else {
+        let number = point.object.max(1);
+        next_number(io, set, from, &leaf, number, steps)
+    }
+}

@@ -1,0 +1,160 @@
+//! The leaves of a set, as a walk looks at them.
+ghost use Rattle.std.specs.Prelude.{◌≡◌, ◌+◌, ◌*◌, ◌^◌, ◌<◌, ◌≤◌, true, ℕ, List, IfOk, OnOk};
+ghost use Rattle.zst_space.specs.FreeSectors.{FreeSectors};
+ghost use Rattle.zst_block.specs.Blocks.{FitsDisk, Has};
+ghost use Rattle.zst_block.specs.Working.{Looks, stop_of};
+ghost use Rattle.zst_model.specs.sends.Included.{is_after};
+ghost use Rattle.zst_model.specs.states.Dated.{DatedState};
+ghost use Rattle.zst_tree.specs.Damage.{HangsIn, IsSeen, MayHave, NamesDamage, NamesNode};
+ghost use Rattle.zst_tree.specs.Finding.{Shows};
+ghost use Rattle.zst_tree.specs.Indices.{Delivers, Map, TreeIs};
+ghost use Rattle.zst_tree.specs.declared.tree.ObjSet.{ObjSet};
+ghost use Rattle.zst_objset.specs.Damage.{IfDamaged, IsDamagedLeaf, IsLoaded};
+ghost use Rattle.zst_objset.specs.Sets.{HasSlots, LeafIs};
+ghost use Rattle.zst_traverse.specs.Cells.{choice_after};
+ghost use Rattle.zst_traverse.specs.Leaves.{AheadFits, EndsLeaf, GoesOn, IfNothing, IsNext, ShowsAhead, StandsFor};
+ghost use Rattle.zst_traverse.specs.Telling.{IsDamagedCell};
+ghost use Rattle.zst_traverse.specs.Tight.{IsTightLeaf};
+
+use crate::dates::is_after;
+use crate::found::Found;
+use crate::objects::judged;
+use crate::slots::{Glance, glance_at};
+use std::sync::ledger::Ledger;
+use zst_block::{BlockFault, Io, Ptr};
+use zst_model::limits::NUMBER_BOUND;
+use zst_objset::load_slots;
+use zst_outside::Disk;
+use zst_tree::{Steps, Tree, tick};
+
+/// A leaf of a set: its index, its pointer, and for how many indices from it on the pointer stands.
+#[derive(Clone, Copy, Debug)]
+pub(crate) struct Leaf {
+    pub index: u64,
+    pub ptr: Ptr,
+    pub count: u64,
+}
+
+/// What a look from a number on shows.
+#[derive(Clone, Copy, Debug)]
+pub(crate) enum Ahead {
+    /// The first included number.
+    Next(Found),
+    /// That there is none below a number.
+    Nothing { below: u64 },
+}
+
+/// The leaf of an index.
+pub(crate) fn leaf_at<D: Disk, L: Ledger>(
+    io: &mut Io<'_, D>,
+    tree: &Tree,
+    index: u64,
+    steps: &mut Steps<L>,
+) -> Result<Leaf, BlockFault>
+    requires levels { tree.now.levels ≤ 7 }
+    requires index { index < 2 ^ 44 }
+    requires fits { FitsDisk (D.state io.old.disk.now).size io.old.space }
+    ensures shows { (map : Map) → (D.state io.new.disk.now).honest → TreeIs (Has (D.state io.old.disk.now).seen io.old.space) tree.now map → Delivers (λ leaf. Shows map index (leaf.ptr, leaf.count)) result }
+    ensures index { IfOk result (λ leaf. leaf.index ≡ index) }
+    ensures range { IfOk result (λ leaf. (0 < leaf.count) × (index + leaf.count ≤ 2 ^ 49)) }
+    ensures hangs { (D.state io.new.disk.now).honest → IfOk result (λ leaf. HangsIn (MayHave (IsSeen (D.state io.old.disk.now).seen)) tree.now leaf.ptr) }
+    ensures damaged { (D.state io.new.disk.now).honest → NamesDamage (IsSeen (D.state io.old.disk.now).seen) (D.state io.old.disk.now).size NamesNode tree.now.levels tree.now.root result }
+    ensures looks { Looks (D.state io.old.disk.now) io.old.space io.old.failed (D.state io.new.disk.now) io.new.space io.new.failed (stop_of result) }
+    ensures steps { (steps.old ≤ steps.new) × (steps.new ≤ steps.old + 7) }
+    ensures calls { (D.state io.new.disk.now).calls + steps.old ≤ (D.state io.old.disk.now).calls + steps.new }
+    ensures kept_fit { FitsDisk (D.state io.new.disk.now).size io.new.space }
+    ensures same { io.new.disk.ghost_name ≡ io.old.disk.ghost_name }
+{
+    let (ptr, count) = tree.get(io, index, steps)?;
+    Ok(Leaf { index, ptr, count })
+}
+
+/// Loads the slots of a leaf into the node, as one step.
+pub(crate) fn load_leaf<D: Disk, L: Ledger>(
+    io: &mut Io<'_, D>,
+    leaf: &Leaf,
+    steps: &mut Steps<L>,
+) -> Result<(), BlockFault>
+    requires index { leaf.now.index < 2 ^ 44 }
+    requires fits { FitsDisk (D.state io.old.disk.now).size io.old.space }
+    ensures slots { (snap : DatedState) → (D.state io.new.disk.now).honest → LeafIs (Has (D.state io.old.disk.now).seen io.old.space) snap leaf.now.index leaf.now.ptr
+        → Delivers (λ done. HasSlots (Has (D.state io.old.disk.now).seen io.old.space) snap leaf.now.index io.new.node) result }
+    ensures loaded { (D.state io.new.disk.now).honest → OnOk result (IsLoaded (IsSeen (D.state io.old.disk.now).seen) leaf.now.ptr io.new.node) }
+    ensures damaged { (D.state io.new.disk.now).honest → IfDamaged result (IsDamagedLeaf (IsSeen (D.state io.old.disk.now).seen) (D.state io.old.disk.now).size leaf.now.ptr) }
+    ensures looks { Looks (D.state io.old.disk.now) io.old.space io.old.failed (D.state io.new.disk.now) io.new.space io.new.failed (stop_of result) }
+    ensures steps { steps.new ≡ steps.old + 1 }
+    ensures calls { (D.state io.new.disk.now).calls + steps.old ≤ (D.state io.old.disk.now).calls + steps.new }
+    ensures kept_fit { FitsDisk (D.state io.new.disk.now).size io.new.space }
+    ensures same { io.new.disk.ghost_name ≡ io.old.disk.ghost_name }
+{
+    tick(steps);
+    load_slots(io, leaf.ptr, leaf.index)
+}
+
+// What a hole in place of leaves shows from a number on: their numbers are absent since its date.
+fn in_hole(leaf: &Leaf, source: Option<u64>, from: u64) -> Ahead
+    requires index { leaf.now.index < 2 ^ 44 }
+    requires count { leaf.now.index + leaf.now.count ≤ 2 ^ 49 }
+    requires from { (0 < from) × (16 * leaf.now.index ≤ from) × (from ≤ 16 * (leaf.now.index + leaf.now.count)) × (from ≤ 2 ^ 48) }
+    ensures shows { (snap : DatedState) (image : List ℕ) (space : FreeSectors) → leaf.now.ptr.kind ≡ 0 → StandsFor (Has image space) snap leaf.now → ShowsAhead (Has image space) snap (choice_after source) from result }
+    ensures ranges { AheadFits from result }
+    ensures goes_on { from < 2 ^ 48 → from < 16 * (leaf.now.index + leaf.now.count) → GoesOn from result }
+    ensures ends { EndsLeaf result }
+    ensures late { is_after source leaf.now.ptr.number ≡ true → from < 2 ^ 48 → from < 16 * (leaf.now.index + leaf.now.count) → IsNext result }
+{
+    let below = NUMBER_BOUND.min(16 * (leaf.index + leaf.count));
+    if from < below && is_after(source, leaf.ptr.number) {
+        let count = below - from;
+        Ahead::Next(Found::Gone { first: from, count })
+    } else {
+        Ahead::Nothing { below }
+    }
+}
+
+/// Looks at a leaf from a number on, or at the run of leaves that a hole stands for.
+pub(crate) fn look<D: Disk, L: Ledger>(
+    io: &mut Io<'_, D>,
+    leaf: &Leaf,
+    source: Option<u64>,
+    from: u64,
+    steps: &mut Steps<L>,
+) -> Result<Ahead, BlockFault>
+    requires index { leaf.now.index < 2 ^ 44 }
+    requires count { (0 < leaf.now.count) × (leaf.now.index + leaf.now.count ≤ 2 ^ 49) }
+    requires from { (0 < from) × (16 * leaf.now.index ≤ from) × (from ≤ 16 * leaf.now.index + 16) }
+    requires fits { FitsDisk (D.state io.old.disk.now).size io.old.space }
+    ensures shows { (snap : DatedState) → (D.state io.new.disk.now).honest → StandsFor (Has (D.state io.old.disk.now).seen io.old.space) snap leaf.now
+        → Delivers (ShowsAhead (Has (D.state io.old.disk.now).seen io.old.space) snap (choice_after source) from) result }
+    ensures ranges { IfOk result (AheadFits from) }
+    ensures goes_on { from < 16 * leaf.now.index + 16 → IfOk result (GoesOn from) }
+    ensures damaged { (set : ObjSet) → (D.state io.new.disk.now).honest → HangsIn (MayHave (IsSeen (D.state io.old.disk.now).seen)) set.tree leaf.now.ptr → IfDamaged result (IsDamagedCell (IsSeen (D.state io.old.disk.now).seen) (D.state io.old.disk.now).size set) }
+
+    // In a tight leaf an object that may be included is.
+    ensures ends { (snap : DatedState) → (D.state io.new.disk.now).honest → StandsFor (Has (D.state io.old.disk.now).seen io.old.space) snap leaf.now
+        → IsTightLeaf (Has (D.state io.old.disk.now).seen io.old.space) snap leaf.now.index leaf.now.ptr → IfOk result EndsLeaf }
+    ensures few { (snap : DatedState) → (D.state io.new.disk.now).honest → StandsFor (Has (D.state io.old.disk.now).seen io.old.space) snap leaf.now
+        → IsTightLeaf (Has (D.state io.old.disk.now).seen io.old.space) snap leaf.now.index leaf.now.ptr → IfOk result (IfNothing (steps.new ≤ steps.old + 1)) }
+    ensures late { (snap : DatedState) → (D.state io.new.disk.now).honest → StandsFor (Has (D.state io.old.disk.now).seen io.old.space) snap leaf.now
+        → IsTightLeaf (Has (D.state io.old.disk.now).seen io.old.space) snap leaf.now.index leaf.now.ptr → is_after source leaf.now.ptr.number ≡ true → from ≡ 16 * leaf.now.index → IfOk result IsNext }
+    ensures looks { Looks (D.state io.old.disk.now) io.old.space io.old.failed (D.state io.new.disk.now) io.new.space io.new.failed (stop_of result) }
+    ensures steps { (steps.old ≤ steps.new) × (steps.new ≤ steps.old + 14) }
+    ensures calls { (D.state io.new.disk.now).calls + steps.old ≤ (D.state io.old.disk.now).calls + steps.new }
+    ensures kept_fit { FitsDisk (D.state io.new.disk.now).size io.new.space }
+    ensures same { io.new.disk.ghost_name ≡ io.old.disk.ghost_name }
+{
+    if leaf.ptr.kind == 0 {
+        return Ok(in_hole(leaf, source, from));
+    }
+    load_leaf(io, leaf, steps)?;
+    let place = (from - 16 * leaf.index) as usize;
+    match glance_at(&io.node, source, leaf.index, place) {
+        None => Err(BlockFault::of_layout(&leaf.ptr)),
+        Some(Glance::Nothing) => Ok(Ahead::Nothing {
+            below: 16 * leaf.index + 16,
+        }),
+        Some(Glance::Absent { first, count }) => Ok(Ahead::Next(Found::Gone { first, count })),
+        Some(Glance::There { place, dnode }) => {
+            judged(io, 16 * leaf.index + place as u64, dnode, source, steps)
+        }
+    }
+}
