@@ -1,5 +1,5 @@
 -- What BEGIN states.
-use Rattle.std.proofs.Common.{◌≡◌, ℕ, ◌+◌, Bool, true, false, List, Option, Some, None, is_some, refl, sym, ap, ◌∙◌}
+use Rattle.std.proofs.Common.{◌≡◌, ◌+◌, true, false, Option, Some, None, is_some, refl}
 use Rattle.zst_model.specs.pools.Before.{Source, OfSnapshot, OfBookmark}
 use Rattle.zst_model.specs.pools.Pool.{Snapshot}
 use Rattle.zst_model.specs.sends.Headers.{Sent, clone_flag, clone_part, flags_of, free_records, is_elsewhere, redaction_guids, source_guids, spill_block}

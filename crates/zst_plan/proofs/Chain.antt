@@ -1,17 +1,21 @@
 -- The checks of a send, one after another.
-use Rattle.std.proofs.Common.{◌≡◌, ℕ, ◌+◌, Bool, true, false, List, Option, Some, None, Result, Ok, Err, get_or, refl, sym, ap, ◌∙◌, subst}
+use Rattle.std.proofs.Common.{◌≡◌, ℕ, Option, Result, Ok, Err, get_or, refl, sym, ap, ◌∙◌, subst}
 use Rattle.std.specs.Prelude.{IsErrAnd}
 use Rattle.zst_model.specs.declared.refusals.plan_fault.PlanFault.{PlanFault}
 use Rattle.zst_model.specs.declared.sends.ask.SendAsk.{SendAsk}
 use Rattle.zst_model.specs.pools.Before.{Source}
 use Rattle.zst_model.specs.pools.Pool.{Pool, Bookmark, Snapshot}
 use Rattle.zst_model.specs.sends.Headers.{Sent}
-use Rattle.zst_model.specs.sends.SendPlan.{find_redaction, find_snapshot, find_source, if_before, if_no_relay, if_redaction, kind_of, send_plan, sent_of}
+use Rattle.zst_model.specs.sends.SendPlan.{find_redaction, find_snapshot, find_source, if_no_relay, if_redaction, kind_of, send_plan, sent_of}
 use Rattle.zst_model.specs.states.Apply.{◌>>=◌}
+use Rattle.zst_dir.specs.Named.{AreNamed, NamesSnapshot}
 use Rattle.zst_dir.specs.Rows.{Rows}
+use Rattle.zst_dir.specs.declared.rows.Snapshot as snapshots
 use Rattle.zst_plan.specs.Places.{AnswerAlike, FindAlike, StandsAt}
-use Rattle.zst_plan.specs.Sources.{IsSource}
+use Rattle.zst_plan.specs.Sources.{IsSource, NamesSource}
 use Rattle.zst_plan.specs.declared.source.Source as found
+use Rattle.zst_plan.proofs.Lookups.{row_names}
+use Rattle.zst_plan.proofs.Planned.{names_alike}
 
 -- a refusal that was handed on
 pub err_is : {T E : Type 0} (result : Result T E) (fault : E) → IsErrAnd result (λ e. e ≡ fault) → result ≡ Err fault
@@ -71,31 +75,36 @@ after_redaction pool snapshot source redaction = if_no_relay snapshot source (Ok
 abbrev pub after_before : Pool → Snapshot → Option Source → Option Bookmark → Result Sent PlanFault
 after_before pool snapshot source redaction = if_redaction snapshot redaction (after_redaction pool snapshot source redaction)
 
--- all that was asked for was found
-pub record AllFound (rows : Rows) (pool : Pool) (ask : SendAsk) (snap : ℕ) (row : Option found.Source) (book_t : Option ℕ) : Type 0 where
+-- all that was asked for was found, and the snapshot's row and the source's name it
+pub record AllFound (rows : Rows) (pool : Pool) (ask : SendAsk) (snap : ℕ) (row : snapshots.Snapshot) (from : Option found.Source) (book_t : Option ℕ) : Type 0 where
   pub snapshot : Snapshot
   pub source : Option Source
   pub redaction : Option Bookmark
   pub at : StandsAt rows.snapshots pool.snapshots snap snapshot
-  pub from : FindAlike (IsSource rows pool) row source
+  pub names : NamesSnapshot row snapshot
+  pub is_from : FindAlike (IsSource rows pool) from source
+  pub names_from : FindAlike NamesSource from source
   pub list : FindAlike (StandsAt rows.bookmarks pool.bookmarks) book_t redaction
   pub left : send_plan ask pool ≡ sent_of pool snapshot source redaction
 
-pub find_all : (rows : Rows) (pool : Pool) (ask : SendAsk) (snap : ℕ) (row : Option found.Source) (book_t : Option ℕ)
+pub find_all : (rows : Rows) (pool : Pool) → AreNamed rows pool → (ask : SendAsk) (snap : ℕ) (row : snapshots.Snapshot) (from : Option found.Source) (book_t : Option ℕ)
+    → row ≡ get_or rows.snapshots snap row
     → AnswerAlike (StandsAt rows.snapshots pool.snapshots) (Ok snap) (find_snapshot ask.snap pool)
-    → AnswerAlike (FindAlike (IsSource rows pool)) (Ok row) (find_source ask.from pool)
+    → AnswerAlike (FindAlike (IsSource rows pool)) (Ok from) (find_source ask.from pool)
     → AnswerAlike (FindAlike (StandsAt rows.bookmarks pool.bookmarks)) (Ok book_t) (find_redaction ask.redact pool)
-    → AllFound rows pool ask snap row book_t
-find_all rows pool ask snap row book_t has_snapshot has_source has_redaction =
+    → AllFound rows pool ask snap row from book_t
+find_all rows pool are ask snap row from book_t is has_snapshot has_source has_redaction =
     let s = ok_alike (StandsAt rows.snapshots pool.snapshots) snap (find_snapshot ask.snap pool) has_snapshot in
-    let f = ok_alike (FindAlike (IsSource rows pool)) row (find_source ask.from pool) has_source in
+    let f = ok_alike (FindAlike (IsSource rows pool)) from (find_source ask.from pool) has_source in
     let l = ok_alike (FindAlike (StandsAt rows.bookmarks pool.bookmarks)) book_t (find_redaction ask.redact pool) has_redaction in
     record {
       snapshot = s.0;
       source = f.0;
       redaction = l.0;
       at = s.2;
-      from = f.2;
+      names = row_names rows pool are snap row s.0 s.2 is;
+      is_from = f.2;
+      names_from = names_alike rows pool from f.0 f.2;
       list = l.2;
       left = all_found ask pool s.0 s.1 f.0 f.1 l.0 l.1;
     }

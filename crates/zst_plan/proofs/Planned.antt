@@ -1,5 +1,5 @@
 -- The plan of what was found.
-use Rattle.std.proofs.Common.{◌≡◌, ℕ, Option, Some, None, sym, subst, refl}
+use Rattle.std.proofs.Common.{◌≡◌, ℕ, Option, Some, None, sym, subst}
 use Rattle.zst_dir.specs.Rows.{Rows}
 use Rattle.zst_model.specs.pools.Before as plain
 use Rattle.zst_model.specs.pools.Pool.{Pool}

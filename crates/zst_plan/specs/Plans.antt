@@ -1,5 +1,5 @@
 -- Which send a plan is of.
-use Rattle.std.specs.Prelude.{◌≡◌, ◌<◌, ℕ, length, Option, Some, None, IfSome, option_map}
+use Rattle.std.specs.Prelude.{◌≡◌, ◌<◌, length, Option, Some, None, IfSome, option_map}
 use Rattle.zst_dir.specs.Rows.{Rows}
 use Rattle.zst_model.specs.pools.Before.{Source, OfSnapshot, OfBookmark, number_of_source}
 use Rattle.zst_model.specs.pools.Pool.{Pool, Snapshot, Bookmark}

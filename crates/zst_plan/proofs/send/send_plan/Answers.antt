@@ -1,14 +1,10 @@
-use Rattle.std.proofs.Common.{◌∙◌, List, Result, Ok, sym, ap, subst, get_or, refl}
+use Rattle.std.proofs.Common.{◌∙◌, List, Ok, sym, ap, subst, get_or, refl}
 use Rattle.zst_dir.specs.declared.rows.Snapshot.{Snapshot}
-use Rattle.zst_model.specs.declared.refusals.plan_fault.PlanFault.{PlanFault}
 use Rattle.zst_model.specs.sends.SendPlan.{find_redaction, find_snapshot, find_source, send_plan}
-use Rattle.zst_model.specs.sends.Headers.{Sent}
 use Rattle.zst_plan.specs.Places.{AnswerAlike, FindAlike, StandsAt}
 use Rattle.zst_plan.specs.Plans.{IsPlanOf}
 use Rattle.zst_plan.specs.Sources.{IsSource}
 use Rattle.zst_plan.proofs.Chain.{after_before, after_redaction, both_refuse, err_alike, err_is, find_all, no_redaction, no_snapshot, no_source, ok_alike, the_sent}
-use Rattle.zst_plan.proofs.Lookups.{row_names}
-use Rattle.zst_plan.proofs.Planned.{names_alike}
 use Rattle.zst_plan.proofs.send.send_plan.Goals as goal
 
 pub returns-in_err-snap-clause-exact : goal.returns-in_err-snap-clause-exact
@@ -45,66 +41,46 @@ pub returns-in_err-check_before-clause-exact : goal.returns-in_err-check_before-
 returns-in_err-check_before-clause-exact c = λ pool are.
     let rows = c.args.dir.now in
     let ask = c.args.ask.now in
-    let found = find_all rows pool ask c.in_ok-snap.snap c.in_ok-source.source c.in_ok-book_t.book_t
+    let at = c.index-snapshots-snap.is ∙ ap (λ (xs : List Snapshot). get_or xs c.in_ok-snap.snap c.index-snapshots-snap.result) c.snapshots.ensures in
+    let found = find_all rows pool are ask c.in_ok-snap.snap c.index-snapshots-snap.result c.in_ok-source.source c.in_ok-book_t.book_t at
     (c.in_ok-snap.ensures.found pool are) (c.in_ok-source.ensures.found pool are) (c.in_ok-book_t.ensures.found pool are) in
-    let names = row_names rows pool are c.in_ok-snap.snap c.index-snapshots-snap.result found.snapshot found.at
-    (c.index-snapshots-snap.is ∙ ap (λ (xs : List Snapshot). get_or xs c.in_ok-snap.snap c.index-snapshots-snap.result) c.snapshots.ensures) in
-    let from = names_alike rows pool c.in_ok-source.source found.source found.from in
-    let rest = after_before pool found.snapshot found.source found.redaction in
-    let last = after_redaction pool found.snapshot found.source found.redaction in
-    let sent : Result Sent PlanFault = Ok (the_sent pool found.snapshot found.source found.redaction) in
     let fault = c.in_err-check_before.field-0.0 in
     both_refuse (IsPlanOf rows pool) c.from_residual-in_err-check_before.result (send_plan ask pool) fault (err_is c.from_residual-in_err-check_before.result fault c.from_residual-in_err-check_before.ensures.1)
-    (found.left ∙ c.in_err-check_before.ensures pool found.snapshot found.source rest are names from)
+    (found.left ∙ c.in_err-check_before.ensures pool found.snapshot found.source (after_before pool found.snapshot found.source found.redaction) are found.names found.names_from)
 
 pub returns-in_err-check_redaction-clause-exact : goal.returns-in_err-check_redaction-clause-exact
 returns-in_err-check_redaction-clause-exact c = λ pool are.
     let rows = c.args.dir.now in
     let ask = c.args.ask.now in
-    let found = find_all rows pool ask c.in_ok-snap.snap c.in_ok-source.source c.in_ok-book_t.book_t
+    let at = c.index-snapshots-snap.is ∙ ap (λ (xs : List Snapshot). get_or xs c.in_ok-snap.snap c.index-snapshots-snap.result) c.snapshots.ensures in
+    let found = find_all rows pool are ask c.in_ok-snap.snap c.index-snapshots-snap.result c.in_ok-source.source c.in_ok-book_t.book_t at
     (c.in_ok-snap.ensures.found pool are) (c.in_ok-source.ensures.found pool are) (c.in_ok-book_t.ensures.found pool are) in
-    let names = row_names rows pool are c.in_ok-snap.snap c.index-snapshots-snap.result found.snapshot found.at
-    (c.index-snapshots-snap.is ∙ ap (λ (xs : List Snapshot). get_or xs c.in_ok-snap.snap c.index-snapshots-snap.result) c.snapshots.ensures) in
-    let from = names_alike rows pool c.in_ok-source.source found.source found.from in
-    let rest = after_before pool found.snapshot found.source found.redaction in
-    let last = after_redaction pool found.snapshot found.source found.redaction in
-    let sent : Result Sent PlanFault = Ok (the_sent pool found.snapshot found.source found.redaction) in
     let fault = c.in_err-check_redaction.field-0.0 in
     both_refuse (IsPlanOf rows pool) c.from_residual-in_err-check_redaction.result (send_plan ask pool) fault (err_is c.from_residual-in_err-check_redaction.result fault c.from_residual-in_err-check_redaction.ensures.1)
-    (found.left ∙ c.in_ok-check_before.ensures pool found.snapshot found.source rest are names from
-    ∙ c.in_err-check_redaction.ensures found.snapshot found.redaction last names (c.bookmark_at.ensures pool found.redaction are found.list))
+    (found.left ∙ c.in_ok-check_before.ensures pool found.snapshot found.source (after_before pool found.snapshot found.source found.redaction) are found.names found.names_from
+    ∙ c.in_err-check_redaction.ensures found.snapshot found.redaction (after_redaction pool found.snapshot found.source found.redaction) found.names (c.bookmark_at.ensures pool found.redaction are found.list))
 
 pub returns-in_err-check_no_relay-clause-exact : goal.returns-in_err-check_no_relay-clause-exact
 returns-in_err-check_no_relay-clause-exact c = λ pool are.
     let rows = c.args.dir.now in
     let ask = c.args.ask.now in
-    let found = find_all rows pool ask c.in_ok-snap.snap c.in_ok-source.source c.in_ok-book_t.book_t
+    let at = c.index-snapshots-snap.is ∙ ap (λ (xs : List Snapshot). get_or xs c.in_ok-snap.snap c.index-snapshots-snap.result) c.snapshots.ensures in
+    let found = find_all rows pool are ask c.in_ok-snap.snap c.index-snapshots-snap.result c.in_ok-source.source c.in_ok-book_t.book_t at
     (c.in_ok-snap.ensures.found pool are) (c.in_ok-source.ensures.found pool are) (c.in_ok-book_t.ensures.found pool are) in
-    let names = row_names rows pool are c.in_ok-snap.snap c.index-snapshots-snap.result found.snapshot found.at
-    (c.index-snapshots-snap.is ∙ ap (λ (xs : List Snapshot). get_or xs c.in_ok-snap.snap c.index-snapshots-snap.result) c.snapshots.ensures) in
-    let from = names_alike rows pool c.in_ok-source.source found.source found.from in
-    let rest = after_before pool found.snapshot found.source found.redaction in
-    let last = after_redaction pool found.snapshot found.source found.redaction in
-    let sent : Result Sent PlanFault = Ok (the_sent pool found.snapshot found.source found.redaction) in
     let fault = c.in_err-check_no_relay.field-0.0 in
     both_refuse (IsPlanOf rows pool) c.from_residual-in_err-check_no_relay.result (send_plan ask pool) fault (err_is c.from_residual-in_err-check_no_relay.result fault c.from_residual-in_err-check_no_relay.ensures.1)
-    (found.left ∙ c.in_ok-check_before.ensures pool found.snapshot found.source rest are names from
-    ∙ c.in_ok-check_redaction.ensures found.snapshot found.redaction last names (c.bookmark_at.ensures pool found.redaction are found.list)
-    ∙ c.in_err-check_no_relay.ensures found.snapshot found.source sent names from)
+    (found.left ∙ c.in_ok-check_before.ensures pool found.snapshot found.source (after_before pool found.snapshot found.source found.redaction) are found.names found.names_from
+    ∙ c.in_ok-check_redaction.ensures found.snapshot found.redaction (after_redaction pool found.snapshot found.source found.redaction) found.names (c.bookmark_at.ensures pool found.redaction are found.list)
+    ∙ c.in_err-check_no_relay.ensures found.snapshot found.source (Ok (the_sent pool found.snapshot found.source found.redaction)) found.names found.names_from)
 
 pub returns-clause-exact : goal.returns-clause-exact
 returns-clause-exact c = λ pool are.
     let rows = c.args.dir.now in
     let ask = c.args.ask.now in
-    let found = find_all rows pool ask c.in_ok-snap.snap c.in_ok-source.source c.in_ok-book_t.book_t
+    let at = c.index-snapshots-snap.is ∙ ap (λ (xs : List Snapshot). get_or xs c.in_ok-snap.snap c.index-snapshots-snap.result) c.snapshots.ensures in
+    let found = find_all rows pool are ask c.in_ok-snap.snap c.index-snapshots-snap.result c.in_ok-source.source c.in_ok-book_t.book_t at
     (c.in_ok-snap.ensures.found pool are) (c.in_ok-source.ensures.found pool are) (c.in_ok-book_t.ensures.found pool are) in
-    let names = row_names rows pool are c.in_ok-snap.snap c.index-snapshots-snap.result found.snapshot found.at
-    (c.index-snapshots-snap.is ∙ ap (λ (xs : List Snapshot). get_or xs c.in_ok-snap.snap c.index-snapshots-snap.result) c.snapshots.ensures) in
-    let from = names_alike rows pool c.in_ok-source.source found.source found.from in
-    let rest = after_before pool found.snapshot found.source found.redaction in
-    let last = after_redaction pool found.snapshot found.source found.redaction in
-    let sent : Result Sent PlanFault = Ok (the_sent pool found.snapshot found.source found.redaction) in
-    subst (AnswerAlike (IsPlanOf rows pool) (Ok c.plan_of.result)) (sym (found.left ∙ c.in_ok-check_before.ensures pool found.snapshot found.source rest are names from
-    ∙ c.in_ok-check_redaction.ensures found.snapshot found.redaction last names (c.bookmark_at.ensures pool found.redaction are found.list)
-    ∙ c.in_ok-check_no_relay.ensures found.snapshot found.source sent names from))
-    (c.plan_of.ensures.plan rows pool (the_sent pool found.snapshot found.source found.redaction) found.at names found.from found.list refl)
+    subst (AnswerAlike (IsPlanOf rows pool) (Ok c.plan_of.result)) (sym (found.left ∙ c.in_ok-check_before.ensures pool found.snapshot found.source (after_before pool found.snapshot found.source found.redaction) are found.names found.names_from
+    ∙ c.in_ok-check_redaction.ensures found.snapshot found.redaction (after_redaction pool found.snapshot found.source found.redaction) found.names (c.bookmark_at.ensures pool found.redaction are found.list)
+    ∙ c.in_ok-check_no_relay.ensures found.snapshot found.source (Ok (the_sent pool found.snapshot found.source found.redaction)) found.names found.names_from))
+    (c.plan_of.ensures.plan rows pool (the_sent pool found.snapshot found.source found.redaction) found.at found.names found.is_from found.list refl)
