@@ -1,39 +1,58 @@
 //! Known sums, and the sums of both forms beside those by the weights.
+ghost use Rattle.std.specs.Prelude.{◌≡◌, ◌%◌, length};
+
 use super::*;
+use std::process::Abort;
 
 /// More than 300,000 bytes, with room for each start below 64.
 const SIZE: usize = 300_096;
 
+/// Checks the sums of both forms.
+fn check(rt: &impl Abort, bytes: &[u8], want: [u64; 4])
+    requires { length bytes.now % 4 ≡ 0 }
+{
+    assert_eq!(rt; sum_of(bytes).parts(), want, "in lanes, of {} bytes", bytes.len());
+    assert_eq!(rt;
+        sum_word_by_word(bytes).parts(),
+        want,
+        "word by word, of {} bytes",
+        bytes.len()
+    );
+}
+
 #[test]
 fn two_words_have_the_sums_three_to_six(rt: HostRuntime) {
-    let sum = sum_of(&[1, 0, 0, 0, 2, 0, 0, 0]);
-    assert!(rt; sum.parts() == [3, 4, 5, 6]);
+    check(&rt, &[1, 0, 0, 0, 2, 0, 0, 0], [3, 4, 5, 6]);
 }
 
 #[test]
 fn no_bytes_have_zeros(rt: HostRuntime) {
-    assert!(rt; sum_of(&[]).parts() == [0, 0, 0, 0]);
+    check(&rt, &[], [0, 0, 0, 0]);
 }
 
 #[test]
 fn sums_wrap_at_64_bits(rt: HostRuntime) {
-    let block = [0xff; 131072];
     let want = [
         140737488322560,
         2305913377420984320,
         8454798748347432960,
         14363506799347228672,
     ];
-    assert!(rt; sum_of(&block).parts() == want);
+    check(&rt, &[0xff; 131072], want);
 }
 
-/// Bytes without a pattern, by a linear congruence.
+/// The number behind one without a pattern, by a linear congruence.
+fn number_after(number: u32) -> u32 {
+    number.wrapping_mul(1_664_525).wrapping_add(1_013_904_223)
+}
+
+/// Bytes without a pattern.
 fn sample() -> [u8; SIZE] {
     let mut text = [0; SIZE];
-    let mut state = 1u32;
+    let mut number = 1;
     for byte in &mut text {
-        state = state.wrapping_mul(1_664_525).wrapping_add(1_013_904_223);
-        *byte = (state >> 24) as u8;
+        number = number_after(number);
+        *byte = (number >> 24) as u8;
     }
     text
 }
@@ -68,28 +87,19 @@ fn both_forms_agree_at_each_length(rt: HostRuntime) {
     let text = sample();
     for words in 0..66 {
         let bytes = &text[..4 * words];
-        let want = parts_by_weights(bytes);
-        assert_eq!(rt; sum_of(bytes).parts(), want, "in lanes, of {words} words");
-        assert_eq!(rt;
-            sum_word_by_word(bytes).parts(),
-            want,
-            "word by word, of {words} words"
-        );
+        check(&rt, bytes, parts_by_weights(bytes));
     }
 }
 
 #[test]
-fn both_forms_agree_wherever_a_long_text_starts(rt: HostRuntime) {
+fn both_forms_agree_at_random_lengths_from_each_start(rt: HostRuntime) {
     let text = sample();
-    for start in [0, 1, 4, 15, 16, 31, 33, 63] {
-        let bytes = &text[start..start + 300_028];
-        let want = parts_by_weights(bytes);
-        assert_eq!(rt; sum_of(bytes).parts(), want, "in lanes, from {start} on");
-        assert_eq!(rt;
-            sum_word_by_word(bytes).parts(),
-            want,
-            "word by word, from {start} on"
-        );
+    let mut number = 7;
+    for start in 0..64 {
+        number = number_after(number);
+        let words = (number >> 8) as usize % 75_001;
+        let bytes = &text[start..start + 4 * words];
+        check(&rt, bytes, parts_by_weights(bytes));
     }
 }
 
