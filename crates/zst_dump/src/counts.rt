@@ -1,4 +1,4 @@
-use zst_record::Head;
+use zst_record::{Head, RECORD_LEN};
 
 /// How many records of each type there are, the bytes of their payloads, and the bytes of the stream.
 #[derive(Clone, Copy, Debug, PartialEq, Eq)]
@@ -54,7 +54,7 @@ impl Counts {
             Head::Redact { .. } => self.redact += 1,
         }
         self.payload += head.payload_len();
-        self.stream += 312 + head.payload_len();
+        self.stream += RECORD_LEN as u64 + head.payload_len();
     }
 
     /// The count of all records.
