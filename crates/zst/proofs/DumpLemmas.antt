@@ -78,12 +78,12 @@ pub ended : (text : List ℕ) (start input : SourceState) (begun mid out : SinkS
 ended text start input begun mid out answer result consumed kept bounded printed hands ends within =
     ⊎_elim
     (λ done.
-        let all = printed_kept begun mid out (dump_text (reading text)) printed hands.written done.1 in
-        rw done.0 (record { text = text; consumed = consumed; front = ([], all.wrote); ends = ends (all, done.2); within = within; later = none_counted start input kept }))
+    let all = printed_kept begun mid out (dump_text (reading text)) printed hands.written done.1 in
+    rw done.0 (record { text = text; consumed = consumed; front = ([], all.wrote); ends = ends (all, done.2); within = within; later = none_counted start input kept }))
     (λ lost.
-        let all = Wrote-kept begun mid out (dump_text (reading text)) [] printed.wrote hands.written hands.later in
-        let rose = Rose-earlier begun.faults mid.faults out.faults printed.wrote.later lost.1 in
-        rw lost.0 (record { text = text; consumed = consumed; front = ([], all); ends = (kept, rose); within = bounded; later = none_counted start input kept }))
+    let all = Wrote-kept begun mid out (dump_text (reading text)) [] printed.wrote hands.written hands.later in
+    let rose = Rose-earlier begun.faults mid.faults out.faults printed.wrote.later lost.1 in
+    rw lost.0 (record { text = text; consumed = consumed; front = ([], all); ends = (kept, rose); within = bounded; later = none_counted start input kept }))
     hands.outcome
 
 -- the lines so far are handed on, and the dump is under way as before
@@ -149,7 +149,7 @@ pub completed : (start input : SourceState) (begun mid last out : SinkState) (ol
     → HandsOn last out (Ok tt) result → Dumps start input begun out result
 completed start input begun mid last out old new n result d h p hands =
     let all : Printed begun last (dump_text (reading d.text)) =
-        rw h.whole (rw (← d.counted) (Printed-then begun mid last (lines_of d.handed) (summary_text n) d.printed p.whole)) in
+    rw h.whole (rw (← d.counted) (Printed-then begun mid last (lines_of d.handed) (summary_text n) d.printed p.whole)) in
     ended d.text start input begun last out (Ok tt) result d.consumed d.kept d.stands.bounded all hands
     (λ wrote. (outcome_is d.text d.handed complete h.whole, d.kept, wrote)) d.stands.bounded
 
@@ -257,11 +257,16 @@ too_long start mid input begun out r text handed refusal w so_far e =
       text = text ++ e.byte ∷ [];
       consumed = gave_then start mid input text (e.byte ∷ []) w.consumed e.one;
       front = front_written begun out (text ++ e.byte ∷ []) handed f.0 [] f.1 so_far;
-      ends = (refl, refl, kept, record {
-        longer = omega (arith, full, length-append text (e.byte ∷ []));
-        waits = rw first w.outcome;
-        all = rw first w.all;
-      });
+      ends = (
+        refl,
+        refl,
+        kept,
+        record {
+          longer = omega (arith, full, length-append text (e.byte ∷ []));
+          waits = rw first w.outcome;
+          all = rw first w.all;
+        },
+      );
       within = tt;
       later = none_counted start input kept;
     })

@@ -11,7 +11,12 @@ const SIZE: usize = 300_096;
 fn check(rt: &impl Abort, bytes: &[u8], want: [u64; 4])
     requires { length bytes.now % 4 ≡ 0 }
 {
-    assert_eq!(rt; sum_of(bytes).parts(), want, "in lanes, of {} bytes", bytes.len());
+    assert_eq!(rt;
+        sum_of(bytes).parts(),
+        want,
+        "in lanes, of {} bytes",
+        bytes.len()
+    );
     assert_eq!(rt;
         sum_word_by_word(bytes).parts(),
         want,
