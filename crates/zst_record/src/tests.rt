@@ -9,6 +9,9 @@ const REVERSED_MAGIC: u64 = 0xaccb_baf5_0200_0000;
 
 const LIMIT: u64 = 1 << 48;
 
+/// The feature of streams that may have a SPILL.
+const SA_SPILL: u64 = 4;
+
 /// Writes a number of so many bytes into a record, as the tables of zfs_ioctl.h place it.
 fn set(rt: &impl Abort, record: &mut [u8; 312], place: usize, width: usize, value: u64) {
     assert!(rt; place <= 304 && width <= 8);
@@ -132,14 +135,21 @@ fn lack_by_table(bit: u32) -> Option<Lack> {
     }
 }
 
+/// Judges a BEGIN with a payload and these features, of which the table's is the one that counts.
+fn judge_features(rt: &impl Abort, bit: u32, features: u64) {
+    let mut record = begin_record(rt);
+    set(rt, &mut record, 16, 8, features.wrapping_mul(4) | 1);
+    set(rt, &mut record, 4, 4, 40);
+    let want = lack_by_table(bit).map(|lack| StreamFault::Unsupported { at: 16, lack });
+    assert!(rt; fault_of(&record, 0, 0) == want, "bit {bit} of {features}");
+}
+
 #[test]
-fn judges_each_feature_alone(rt: HostRuntime) {
+fn judges_each_feature_alone_and_with_one_that_is_built(rt: HostRuntime) {
     for bit in 0..30 {
-        let mut record = begin_record(&rt);
-        set(&rt, &mut record, 16, 8, 1 + (4 << bit));
-        set(&rt, &mut record, 4, 4, 40);
-        let want = lack_by_table(bit).map(|lack| StreamFault::Unsupported { at: 16, lack });
-        assert!(rt; fault_of(&record, 0, 0) == want, "bit {bit}");
+        let feature = 1 << bit;
+        judge_features(&rt, bit, feature);
+        judge_features(&rt, bit, feature | SA_SPILL);
     }
 }
 
