@@ -1,0 +1,9 @@
+mod Filling
+mod Giving
+mod Joining
+mod Passing
+mod Planning
+mod Putting
+mod Sizes
+mod Staying
+mod Steps

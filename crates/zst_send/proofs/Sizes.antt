@@ -1,0 +1,52 @@
+-- Sizes of blocks.
+use Rattle.std.proofs.Common.{◌≡◌, ℕ, ◌*◌, ◌^◌, ◌<◌, ◌≤◌, ◌%◌, ◌==◌, ◌&&◌, true, nat_le, arith, mul-le-mul_right, subst}
+use Rattle.std.proofs.lemmas.Bool.{and_parts, leb-true}
+use Rattle.zst_dnode.specs.Dnode.{DnodeFits}
+use Rattle.zst_dnode.specs.declared.dnode.Dnode.{Dnode}
+use Rattle.zst_model.specs.states.State.{BlockFits, Data, IsObject, IsObjectOrNone, IsSpill, IsState, Object, index_bound, is_block_size, largest_block}
+use Rattle.std.specs.Prelude.{List, length, Option, Some, None, IfSome}
+use Rattle.zst_model.proofs.Sizes.{block_size_over_none, spill_is_block}
+use Rattle.zst_model.specs.states.Dated.{DatedState}
+use Rattle.zst_send.specs.Places.{PlaceFits}
+use Rattle.zst_send.specs.declared.place.Place.{Place}
+
+-- a block size is at most that of the largest block
+pub size_most : (size : ℕ) → is_block_size size ≡ true → size ≤ 131072
+unfolding is_block_size largest_block
+size_most size e =
+    let range = (and_parts (nat_le 512 size && nat_le size 131072) (size % 512 == 0) e).0 in
+    leb-true size 131072 (and_parts (nat_le 512 size) (nat_le size 131072) range).1
+
+-- the size of an object's blocks is one that a place may have
+pub size_fits : (place : Place) (dnode : Dnode) → DnodeFits dnode → place.block_size ≡ dnode.block_size → PlaceFits place
+size_fits place dnode fits same = record {
+  some = let over : 0 < dnode.block_size = block_size_over_none dnode.block_size fits.head.size in omega (arith, over, same);
+  most = let most : dnode.block_size ≤ 131072 = size_most dnode.block_size fits.head.size in omega (arith, most, same);
+}
+
+-- the place of an object's end is below 2^60
+pub tail_most : (dnode : Dnode) → DnodeFits dnode → dnode.end * dnode.block_size ≤ 2 ^ 60
+unfolding index_bound
+tail_most dnode fits =
+    let end : dnode.end ≤ 2 ^ 43 = fits.end in
+    let most : dnode.block_size ≤ 131072 = size_most dnode.block_size fits.head.size in
+    let times : dnode.end * dnode.block_size ≤ 2 ^ 43 * dnode.block_size = mul-le-mul_right dnode.block_size end in
+    omega (arith, times, most)
+
+-- what stands at a number of a lawful state is lawful
+pub object_lawful : (snap : DatedState) (k : ℕ) (object : Object) → IsState snap.state → snap.state k ≡ Some object → IsObject object
+object_lawful snap k object lawful there = subst IsObjectOrNone there (lawful.objects k)
+
+-- the bytes of a block of a lawful object, and of its spill block, are no more than the most
+pub data_most : (object : Object) (i : ℕ) (bytes : List ℕ) → IsObject object → object.blocks i ≡ Data bytes → length bytes ≤ 131072
+data_most object i bytes lawful is =
+    let long : length bytes ≡ object.attr.block_size = subst (BlockFits object.attr.block_size) is (lawful.fits i) in
+    let most : object.attr.block_size ≤ 131072 = size_most object.attr.block_size lawful.attr.head.size in
+    omega (arith, long, most)
+
+spills_most : (spill : Option (List ℕ)) → IfSome spill IsSpill → IfSome spill (λ bytes. length bytes ≤ 131072)
+spills_most None is = tt
+spills_most (Some bytes) is = size_most (length bytes) (spill_is_block (length bytes) is)
+
+pub spill_most : (object : Object) → IsObject object → IfSome object.attr.spill (λ bytes. length bytes ≤ 131072)
+spill_most object lawful = spills_most object.attr.spill lawful.attr.spill

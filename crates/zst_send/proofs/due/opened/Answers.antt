@@ -1,0 +1,9 @@
+use Rattle.std.proofs.Common.{arith, ◌≡◌, ◌*◌, ◌^◌, ◌≤◌, subst, sym}
+use Rattle.zst_send.proofs.Sizes.{tail_most}
+use Rattle.zst_send.proofs.due.opened.Goals as goal
+
+pub overflow_mul-tail : goal.overflow_mul-tail
+overflow_mul-tail c =
+    let most = tail_most c.args.dnode.now c.requires in
+    let same : c.from.result ≡ c.args.dnode.now.block_size = c.from.ensures in
+    rw same (omega (arith, most))

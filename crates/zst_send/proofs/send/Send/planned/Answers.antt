@@ -1,0 +1,32 @@
+use Rattle.std.proofs.Common.{List, Option, get_or, refl, sym, ap, ◌∙◌, subst}
+use Rattle.zst_block.specs.declared.ptr.Ptr.{Ptr}
+use Rattle.zst_block.specs.Blocks.{Has}
+use Rattle.zst_dir.specs.declared.rows.Snapshot.{Snapshot}
+use Rattle.zst_model.specs.declared.sends.header.Header.{Header}
+use Rattle.zst_model.specs.sends.Headers.{sent_view}
+use Rattle.zst_model.specs.sends.Items.{origin}
+use Rattle.zst_stream.specs.Records.{view_text}
+use Rattle.zst_send.specs.Standing.{StandsAt}
+use Rattle.zst_send.specs.Working.{HasBlock}
+use Rattle.zst_objset.specs.Sets.{SetHolds}
+use Rattle.zst_pool.proofs.Naming.{rows_named}
+use Rattle.zst_send.proofs.Planning.{plan_choice, plan_holds}
+use Rattle.zst_send.proofs.send.Send.planned.Goals as goal
+
+pub returns-clause-sends : goal.returns-clause-sends
+returns-clause-sends c = λ image space running sent runs is plain.
+    let has = Has image space in
+    let rows = c.args.dir.now in
+    let plan = c.args.plan.now in
+    let row = c.index-snapshots-plan.result in
+    let header = c.header-header.ensures running sent (rows_named has rows running runs) is in
+    let here = c.index-snapshots-plan.is ∙ ap (λ (xs : List Snapshot). get_or xs plan.snap row) c.snapshots.ensures in
+    record {
+      text = refl;
+      holds = subst (λ (r : Snapshot). SetHolds has r.objects sent.snapshot.objects) c.index-snapshots-plan.is (plan_holds has rows running runs plan sent is row here);
+      choice = plan_choice has rows running runs plan sent is plain;
+      to = ap (λ (h : Header). h.to) header;
+      stands = subst (λ (h : Header). StandsAt has sent.snapshot.objects (sent_view sent) c.header-header.result.to c.start.result (view_text h (sent_view sent) origin)) header
+          (c.start.ensures.stands image space sent.snapshot.objects (sent_view sent));
+      loaded = subst (λ (holds : Option Ptr). HasBlock has c.args.room.bytes.items holds) (sym c.requires.empty) tt;
+    }

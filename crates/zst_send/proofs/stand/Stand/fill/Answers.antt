@@ -1,0 +1,101 @@
+use Rattle.std.proofs.Common.{◌≡◌, ℕ, Bool, ◌+◌, ◌-◌, ◌≤◌, rules, min, List, length, take, drop, arith, refl, sym, ap, ◌∙◌, subst}
+use borrow.Rule.Slice.PartMut.{put_mid}
+use Rattle.std.proofs.lemmas.Result.{err_from_is_err_and}
+use Rattle.zst_space.specs.FreeSectors.{FreeSectors}
+use Rattle.zst_block.specs.Blocks.{Has}
+use Rattle.zst_block.proofs.Working.{Looks-then}
+use Rattle.zst_model.specs.sends.View.{View, view_of}
+use Rattle.zst_objset.proofs.LeafLaws.{look_back, look_on}
+use Rattle.zst_objset.specs.Sets.{SetHolds}
+use Rattle.zst_traverse.specs.Cells.{choice_after}
+use Rattle.zst_send.specs.Standing.{Advances}
+use Rattle.zst_send.specs.Working.{IsLoaded, IsWork}
+use Rattle.zst_send.proofs.Filling.{HasGiven, filled_all, filled_room, given_on}
+use Rattle.zst_send.proofs.stand.Stand.fill.Goals as goal
+
+pub returns-in_err-has_more-clause-fills : goal.returns-in_err-has_more-clause-fills
+returns-in_err-has_more-clause-fills g c = λ header snap left honest holds loaded at.
+    let p = err_from_is_err_and c.from_residual.result c.from_residual.ensures.1 in
+    let was = c.in_err-has_more.ensures.looks.reads.honest honest in
+    let on = look_on (λ (seen : List ℕ) (space : FreeSectors). SetHolds (Has seen space) c.args.subject.now.set snap) _ _ _ _ _ _ _ c.loop-count.invariant.looks holds in
+    let given = c.loop-count.invariant.stands header snap left was holds loaded at in
+    rw (p.1, p.2) (c.in_err-has_more.ensures.advances header snap (drop c.loop-count.count left) honest on given.loaded given.stands)
+
+pub returns-in_err-has_more-clause-loaded : goal.returns-in_err-has_more-clause-loaded
+returns-in_err-has_more-clause-loaded g c = λ header snap left honest holds loaded at.
+    let was = c.in_err-has_more.ensures.looks.reads.honest honest in
+    let on = look_on (λ (seen : List ℕ) (space : FreeSectors). SetHolds (Has seen space) c.args.subject.now.set snap) _ _ _ _ _ _ _ c.loop-count.invariant.looks holds in
+    let given = c.loop-count.invariant.stands header snap left was holds loaded at in
+    c.in_err-has_more.ensures.loaded header snap (drop c.loop-count.count left) honest on given.loaded given.stands
+
+pub returns-then-not-branch-clause-fills : goal.returns-then-not-branch-clause-fills
+returns-then-not-branch-clause-fills g c = λ header snap left honest holds loaded at.
+    let view : View = view_of header snap (choice_after c.args.subject.now.source) in
+    let was = c.in_ok-has_more.ensures.looks.reads.honest honest in
+    let on = look_on (λ (seen : List ℕ) (space : FreeSectors). SetHolds (Has seen space) c.args.subject.now.set snap) _ _ _ _ _ _ _ c.loop-count.invariant.looks holds in
+    let given = c.loop-count.invariant.stands header snap left was holds loaded at in
+    let ended = subst (λ (b : Bool). Advances (Has (g.D.Disk.state c.has_more.new.io.disk.now).seen c.has_more.new.io.space) snap view c.args.subject.now.to (drop c.loop-count.count left) c.has_more.new.self b) c.if-not-branch.true (c.in_ok-has_more.ensures.advances header snap (drop c.loop-count.count left) honest on given.loaded given.stands) in
+    filled_all _ snap view c.args.subject.now.to left c.loop-count.into c.loop-count.count c.has_more.new.self given.less given.same c.loop-count.invariant.count ended.0 ended.1
+
+pub returns-then-not-branch-clause-loaded : goal.returns-then-not-branch-clause-loaded
+returns-then-not-branch-clause-loaded g c = λ header snap left honest holds loaded at.
+    let was = c.in_ok-has_more.ensures.looks.reads.honest honest in
+    let on = look_on (λ (seen : List ℕ) (space : FreeSectors). SetHolds (Has seen space) c.args.subject.now.set snap) _ _ _ _ _ _ _ c.loop-count.invariant.looks holds in
+    let given = c.loop-count.invariant.stands header snap left was holds loaded at in
+    c.in_ok-has_more.ensures.loaded header snap (drop c.loop-count.count left) honest on given.loaded given.stands
+
+pub returns-in_err-count-clause-fills : goal.returns-in_err-count-clause-fills
+returns-in_err-count-clause-fills g c = λ header snap left honest holds loaded at.
+    let p = err_from_is_err_and c.from_residual-in_err-count.result c.from_residual-in_err-count.ensures.1 in
+    let mid = c.in_err-count.ensures.looks.reads.honest honest in
+    let was = c.in_ok-has_more.ensures.looks.reads.honest mid in
+    let on = look_on (λ (seen : List ℕ) (space : FreeSectors). SetHolds (Has seen space) c.args.subject.now.set snap) _ _ _ _ _ _ _ c.loop-count.invariant.looks holds in
+    let given = c.loop-count.invariant.stands header snap left was holds loaded at in
+    let at_next = subst (λ (b : Bool). Advances (Has (g.D.Disk.state c.has_more.new.io.disk.now).seen c.has_more.new.io.space) snap (view_of header snap (choice_after c.args.subject.now.source)) c.args.subject.now.to (drop c.loop-count.count left) c.has_more.new.self b) c.if-not-branch.false (c.in_ok-has_more.ensures.advances header snap (drop c.loop-count.count left) mid on given.loaded given.stands) in
+    let still = c.in_ok-has_more.ensures.loaded header snap (drop c.loop-count.count left) mid on given.loaded given.stands in
+    rw (p.1, p.2) (c.in_err-count.ensures.gives at_next.pending honest still at_next.work)
+
+pub returns-in_err-count-clause-loaded : goal.returns-in_err-count-clause-loaded
+returns-in_err-count-clause-loaded g c = λ header snap left honest holds loaded at.
+    let mid = c.in_err-count.ensures.looks.reads.honest honest in
+    let was = c.in_ok-has_more.ensures.looks.reads.honest mid in
+    let on = look_on (λ (seen : List ℕ) (space : FreeSectors). SetHolds (Has seen space) c.args.subject.now.set snap) _ _ _ _ _ _ _ c.loop-count.invariant.looks holds in
+    let given = c.loop-count.invariant.stands header snap left was holds loaded at in
+    let at_next = subst (λ (b : Bool). Advances (Has (g.D.Disk.state c.has_more.new.io.disk.now).seen c.has_more.new.io.space) snap (view_of header snap (choice_after c.args.subject.now.source)) c.args.subject.now.to (drop c.loop-count.count left) c.has_more.new.self b) c.if-not-branch.false (c.in_ok-has_more.ensures.advances header snap (drop c.loop-count.count left) mid on given.loaded given.stands) in
+    let still = c.in_ok-has_more.ensures.loaded header snap (drop c.loop-count.count left) mid on given.loaded given.stands in
+    c.in_err-count.ensures.loaded at_next.pending honest still at_next.work
+
+pub loop-count-preserved : goal.loop-count-preserved
+loop-count-preserved g c = record {
+  stands = λ header snap left honest holds loaded at.
+      let mid = c.in_ok-count.ensures.looks.reads.honest honest in
+      let was = c.in_ok-has_more.ensures.looks.reads.honest mid in
+      let on = look_on (λ (seen : List ℕ) (space : FreeSectors). SetHolds (Has seen space) c.args.subject.now.set snap) _ _ _ _ _ _ _ c.loop-count.invariant.looks holds in
+      let given = c.loop-count.invariant.stands header snap left was holds loaded at in
+      let at_next = subst (λ (b : Bool). Advances (Has (g.D.Disk.state c.has_more.new.io.disk.now).seen c.has_more.new.io.space) snap (view_of header snap (choice_after c.args.subject.now.source)) c.args.subject.now.to (drop c.loop-count.count left) c.has_more.new.self b) c.if-not-branch.false (c.in_ok-has_more.ensures.advances header snap (drop c.loop-count.count left) mid on given.loaded given.stands) in
+      let still = c.in_ok-has_more.ensures.loaded header snap (drop c.loop-count.count left) mid on given.loaded given.stands in
+      let gives = c.in_ok-count.ensures.gives at_next.pending honest still at_next.work in
+      let work = look_back (λ (seen : List ℕ) (space : FreeSectors). IsWork (Has seen space) c.give.new.self (drop c.in_ok-count.field-0 at_next.pending)) _ _ _ _ _ _ _ c.in_ok-count.ensures.looks gives.2 in
+      let room = look_back (λ (seen : List ℕ) (space : FreeSectors). IsLoaded (Has seen space) c.give.new.room) _ _ _ _ _ _ _ c.in_ok-count.ensures.looks (c.in_ok-count.ensures.loaded at_next.pending honest still at_next.work) in
+      let most : c.in_ok-count.field-0 ≤ length c.give.new.into = omega (arith, c.in_ok-count.ensures.count.1, c.in_ok-count.ensures.into) in
+      let more = given_on _ snap (view_of header snap (choice_after c.args.subject.now.source)) c.args.subject.now.to left c.loop-count.into c.give.new.into c.loop-count.count c.in_ok-count.field-0 c.has_more.new.self c.give.new.self c.give.new.room
+      given.less given.same c.loop-count.invariant.count at_next gives.0 gives.1 most work room in
+      look_on (λ (seen : List ℕ) (space : FreeSectors). HasGiven (Has seen space) snap (view_of header snap (choice_after c.args.subject.now.source)) c.args.subject.now.to left
+      (put_mid c.loop-count.count (length c.loop-count.into - c.loop-count.count) c.loop-count.into c.give.new.into) (c.loop-count.count + c.in_ok-count.field-0)
+      (record c.has_more.new.self { work = c.give.new.self }) c.give.new.room) _ _ _ _ _ _ _ c.in_ok-count.ensures.looks more;
+  stand = record { walk = c.in_ok-has_more.ensures.stand.walk; work = c.in_ok-count.ensures.work };
+  room = c.in_ok-count.ensures.room;
+  into = search rules;
+  count = search rules;
+  looks = Looks-then (Looks-then c.loop-count.invariant.looks c.in_ok-has_more.ensures.looks) c.in_ok-count.ensures.looks;
+  fits = c.in_ok-count.ensures.kept_fit;
+  same = c.in_ok-count.ensures.same ∙ c.in_ok-has_more.ensures.same ∙ c.loop-count.invariant.same;
+}
+
+pub returns-clause-fills : goal.returns-clause-fills
+returns-clause-fills g c = λ header snap left honest holds loaded at.
+    filled_room _ snap (view_of header snap (choice_after c.args.subject.now.source)) c.args.subject.now.to left c.loop-count.into c.loop-count.count c.loop-count.self c.loop-count.room
+    (c.loop-count.invariant.stands header snap left honest holds loaded at) (omega (arith, c.loop-count.invariant.count, c.loop-count-test.false))
+
+pub returns-clause-loaded : goal.returns-clause-loaded
+returns-clause-loaded g c = λ header snap left honest holds loaded at. (c.loop-count.invariant.stands header snap left honest holds loaded at).loaded

@@ -1,0 +1,27 @@
+use Rattle.std.proofs.Common.{◌≡◌, List, [], ◌++◌, sym, ◌∙◌, ap, refl, subst}
+use Rattle.std.specs.Prelude.{Option, Some, None, Ok, Err, Result}
+use Rattle.zst_block.specs.Blocks.{Has}
+use Rattle.zst_block.specs.declared.fault.BlockFault.{BlockFault}
+use Rattle.zst_model.specs.declared.states.item.Item.{Item}
+use Rattle.zst_model.specs.sends.Items.{joined}
+use Rattle.zst_model.specs.sends.View.{View, view_of}
+use Rattle.zst_model.specs.states.Dated.{DatedState}
+use Rattle.zst_traverse.specs.Cells.{choice_after}
+use Rattle.zst_tree.proofs.Results.{delivers_if}
+use Rattle.zst_tree.specs.Indices.{Blocks}
+use Rattle.zst_send.specs.Due.{AreHeld}
+use Rattle.zst_send.specs.Places.{ComesFirst, GoesTo, left_behind}
+use Rattle.zst_send.specs.declared.due.Due.{Due}
+use Rattle.zst_send.specs.declared.place.Place.{Place}
+use Rattle.zst_send.proofs.walk.Walk.first.Goals as goal
+
+-- where nothing is held, what is found comes first
+found_first : (has : Blocks) (snap : DatedState) (view : View) (held : List Item) (old new : Place) → held ≡ [] → (found : Option Due)
+    → GoesTo has snap view old new found → ComesFirst has snap view (joined (held ++ left_behind view old)) new found
+found_first has snap view held old new empty None (none, behind, of) = (ap (λ (l : List Item). joined (l ++ left_behind view old)) empty ∙ ap joined none, of)
+found_first has snap view held old new empty (Some due) (items, are, goes, of) = (items, are, ap (λ (l : List Item). joined (l ++ left_behind view old)) empty ∙ goes, of)
+
+pub returns-in-None-clause-goes : goal.returns-in-None-clause-goes
+returns-in-None-clause-goes g c = λ header snap held honest holds walk.
+    let empty : held ≡ [] = subst (λ (h : Option Due). AreHeld (Has (g.D.Disk.state c.args.io.now.disk.now).seen c.args.io.now.space) h held) c.in-None.is walk.held_are in
+    delivers_if _ _ c.find.result (found_first _ snap (view_of header snap (choice_after c.args.source)) held c.args.self.now.place c.find.new.self empty) (c.find.ensures.found header snap honest holds walk.place_is)

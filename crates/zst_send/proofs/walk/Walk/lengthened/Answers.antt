@@ -1,0 +1,67 @@
+use Rattle.std.proofs.Common.{ℕ, List, sym, ◌∙◌}
+use Rattle.std.specs.Prelude.{Some}
+use Rattle.std.proofs.lemmas.Result.{err_from_is_err_and}
+use Rattle.zst_space.specs.FreeSectors.{FreeSectors}
+use Rattle.zst_block.specs.Blocks.{Has}
+use Rattle.zst_block.proofs.Working.{Looks-then}
+use Rattle.zst_model.specs.declared.states.item.Item.{Item}
+use Rattle.zst_model.specs.sends.View.{View, view_of}
+use Rattle.zst_objset.proofs.LeafLaws.{look_on}
+use Rattle.zst_objset.specs.Sets.{SetHolds}
+use Rattle.zst_traverse.specs.Cells.{choice_after}
+use Rattle.zst_send.specs.Places.{ComesFirst}
+use Rattle.zst_send.proofs.Joining.{RunComes, run_begins, run_ends, run_goes_on}
+use Rattle.zst_send.proofs.walk.Walk.lengthened.Goals as goal
+
+pub returns-in_err-next-clause-gives : goal.returns-in_err-next-clause-gives
+returns-in_err-next-clause-gives g c = λ header snap left honest holds first.
+    let p = err_from_is_err_and c.from_residual.result c.from_residual.ensures.1 in
+    rw (p.1, p.2) (c.in_err-next.ensures.found header snap honest holds first.3)
+
+pub loop-both-init : goal.loop-both-init
+loop-both-init g c = record {
+  comes = λ header snap left honest holds first.
+      let view : View = view_of header snap (choice_after c.args.source) in
+      let on = look_on (λ (seen : List ℕ) (space : FreeSectors). ComesFirst (Has seen space) snap view left c.args.self.now.place (Some c.args.run)) _ _ _ _ _ _ _ c.in_ok-next.ensures.looks first in
+      run_begins _ snap view left c.args.self.now.place c.find.new.self c.args.run c.in_ok-next.next c.requires.run.0 on (c.in_ok-next.ensures.found header snap honest holds first.3);
+  walk = record { place = c.in_ok-next.ensures.place; held = c.requires.walk.held };
+  run = c.requires.run.0;
+  run_fits = c.requires.run.1;
+  next = c.in_ok-next.ensures.ranges;
+  looks = c.in_ok-next.ensures.looks;
+  fits = c.in_ok-next.ensures.kept_fit;
+  same = c.in_ok-next.ensures.same;
+}
+
+pub returns-in_err-next-2-clause-gives : goal.returns-in_err-next-2-clause-gives
+returns-in_err-next-2-clause-gives g c = λ header snap left honest holds first.
+    let p = err_from_is_err_and c.from_residual-in_err-next-2.result c.from_residual-in_err-next-2.ensures.1 in
+    let was = c.in_err-next-2.ensures.looks.reads.honest honest in
+    let on = look_on (λ (seen : List ℕ) (space : FreeSectors). SetHolds (Has seen space) c.args.set.now snap) _ _ _ _ _ _ _ c.loop-both.invariant.looks holds in
+    let comes = c.loop-both.invariant.comes header snap left was holds first in
+    rw (p.1, p.2) (c.in_err-next-2.ensures.found header snap honest on comes.of)
+
+pub loop-both-preserved : goal.loop-both-preserved
+loop-both-preserved g c = record {
+  comes = λ header snap left honest holds first.
+      let view : View = view_of header snap (choice_after c.args.source) in
+      let was = c.in_ok-next-2.ensures.looks.reads.honest honest in
+      let on = look_on (λ (seen : List ℕ) (space : FreeSectors). SetHolds (Has seen space) c.args.set.now snap) _ _ _ _ _ _ _ c.loop-both.invariant.looks holds in
+      let comes = c.loop-both.invariant.comes header snap left was holds first in
+      let moved = look_on (λ (seen : List ℕ) (space : FreeSectors). RunComes (Has seen space) snap view left c.loop-both.self.place c.loop-both.run c.loop-both.next) _ _ _ _ _ _ _ c.in_ok-next-2.ensures.looks comes in
+      run_goes_on _ c.held_goes_on.ensures snap view left c.loop-both.self.place c.find-in-Some.new.self c.loop-both.run c.in-Some.both c.loop-both.next c.in_ok-next-2.next c.loop-both.invariant.run
+      (sym c.in-Some.ensures.joined) moved (c.in_ok-next-2.ensures.found header snap honest on comes.of);
+  walk = record { place = c.in_ok-next-2.ensures.place; held = c.loop-both.invariant.walk.held };
+  run = c.in-Some.ensures.run;
+  run_fits = c.in-Some.ensures.fits;
+  next = c.in_ok-next-2.ensures.ranges;
+  looks = Looks-then c.loop-both.invariant.looks c.in_ok-next-2.ensures.looks;
+  fits = c.in_ok-next-2.ensures.kept_fit;
+  same = c.in_ok-next-2.ensures.same ∙ c.loop-both.invariant.same;
+}
+
+pub returns-clause-gives : goal.returns-clause-gives
+returns-clause-gives g c = λ header snap left honest holds first.
+    let comes = c.loop-both.invariant.comes header snap left honest holds first in
+    run_ends _ c.held_goes_on.ensures snap (view_of header snap (choice_after c.args.source)) left c.loop-both.self.place c.loop-both.run c.loop-both.next c.loop-both.invariant.run
+    (sym c.joined.ensures.joined ∙ c.in_default.is) comes

@@ -1,0 +1,31 @@
+use Rattle.std.proofs.Common.{◌≡◌, ◌-◌, ◌^◌, true, List}
+use Rattle.std.specs.Prelude.{None, Some, IfSome}
+use Rattle.zst_block.specs.Blocks.{FitsDisk, Has}
+use Rattle.zst_block.specs.Working.{Looks}
+use Rattle.zst_model.specs.declared.sends.header.Header.{Header}
+use Rattle.zst_model.specs.declared.states.item.Item.{Item}
+use Rattle.zst_model.specs.sends.View.{view_of}
+use Rattle.zst_model.specs.states.Dated.{DatedState}
+use Rattle.zst_objset.specs.Sets.{SetHolds}
+use Rattle.zst_traverse.specs.Cells.{choice_after}
+use Rattle.zst_send.specs.Due.{DueFits, is_run, size_of_run}
+use Rattle.zst_send.specs.Places.{ComesFirst, WalkFits}
+use Rattle.zst_send.proofs.Joining.{RunComes}
+use Rattle.zst_send.proofs.walk.Walk.lengthened.Given as goal
+
+abbrev pub invariant-loop-both : goal.invariant-loop-both
+invariant-loop-both g l = record {
+  comes : (header : Header) (snap : DatedState) (left : List Item) → (g.D.Disk.state l.io.disk.now).honest → SetHolds (Has (g.D.Disk.state l.fn.io.disk.now).seen l.fn.io.space) l.set snap
+      → ComesFirst (Has (g.D.Disk.state l.fn.io.disk.now).seen l.fn.io.space) snap (view_of header snap (choice_after l.source)) left l.fn.self.place (Some l.fn.run)
+      → RunComes (Has (g.D.Disk.state l.io.disk.now).seen l.io.space) snap (view_of header snap (choice_after l.source)) left l.self.place l.run l.next;
+  walk : WalkFits l.self;
+  run : is_run l.run ≡ true;
+  run_fits : DueFits l.run;
+  next : IfSome l.next DueFits;
+  looks : Looks (g.D.Disk.state l.fn.io.disk.now) l.fn.io.space l.fn.io.failed (g.D.Disk.state l.io.disk.now) l.io.space l.io.failed None;
+  fits : FitsDisk (g.D.Disk.state l.io.disk.now).size l.io.space;
+  same : l.io.disk.ghost_name ≡ l.fn.io.disk.ghost_name;
+}
+
+abbrev pub decreases-loop-both : goal.decreases-loop-both
+decreases-loop-both g l = 2 ^ 61 - size_of_run l.run

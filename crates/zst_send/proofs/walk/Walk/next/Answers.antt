@@ -1,0 +1,58 @@
+use Rattle.std.proofs.Common.{◌≡◌, ℕ, List, [], sym, ◌∙◌, refl, subst}
+use Rattle.std.specs.Prelude.{Option, Some}
+use Rattle.std.proofs.lemmas.Result.{err_from_is_err_and}
+use Rattle.zst_space.specs.FreeSectors.{FreeSectors}
+use Rattle.zst_block.specs.Blocks.{Has}
+use Rattle.zst_model.specs.declared.states.item.Item.{Item}
+use Rattle.zst_model.specs.sends.View.{View, view_of}
+use Rattle.zst_objset.proofs.LeafLaws.{look_on}
+use Rattle.zst_objset.specs.Sets.{SetHolds}
+use Rattle.zst_traverse.specs.Cells.{choice_after}
+use Rattle.zst_send.specs.Due.{AreHeld}
+use Rattle.zst_send.specs.Places.{ComesFirst, Gives, items_left}
+use Rattle.zst_send.specs.declared.due.Due.{Due}
+use Rattle.zst_send.proofs.Joining.{gives_alone}
+use Rattle.zst_send.proofs.walk.Walk.next.Goals as goal
+
+pub returns-in_err-due-clause-gives : goal.returns-in_err-due-clause-gives
+returns-in_err-due-clause-gives g c = λ header snap held honest holds walk.
+    let p = err_from_is_err_and c.from_residual.result c.from_residual.ensures.1 in
+    rw (p.1, p.2) (c.in_err-due.ensures.goes header snap held honest holds walk)
+
+pub returns-in_default-clause-gives : goal.returns-in_default-clause-gives
+returns-in_default-clause-gives g c = λ header snap held honest holds walk.
+    let has = Has (g.D.Disk.state c.first.new.io.disk.now).seen c.first.new.io.space in
+    let view : View = view_of header snap (choice_after c.args.source) in
+    let first = subst (λ (d : Option Due). ComesFirst has snap view (items_left view c.args.self.now held) c.first.new.self.place d) c.in_default.is (c.in_ok-due.ensures.goes header snap held honest holds walk) in
+    (first.0, record { held_are = subst (λ (h : Option Due). AreHeld has h []) (sym c.in_ok-due.ensures.held) refl; place_is = first.1 })
+
+pub returns-in_err-lengthened-clause-gives : goal.returns-in_err-lengthened-clause-gives
+returns-in_err-lengthened-clause-gives g c = λ header snap held honest holds walk.
+    let has = Has (g.D.Disk.state c.first.new.io.disk.now).seen c.first.new.io.space in
+    let view : View = view_of header snap (choice_after c.args.source) in
+    let left : List Item = items_left view c.args.self.now held in
+    let p = err_from_is_err_and c.from_residual-in_err-lengthened.result c.from_residual-in_err-lengthened.ensures.1 in
+    let was = c.in_err-lengthened.ensures.looks.reads.honest honest in
+    let on = look_on (λ (seen : List ℕ) (space : FreeSectors). SetHolds (Has seen space) c.args.set.now snap) _ _ _ _ _ _ _ c.in_ok-due.ensures.looks holds in
+    let first = subst (λ (d : Option Due). ComesFirst has snap view left c.first.new.self.place d) c.in-Some.is (c.in_ok-due.ensures.goes header snap held was holds walk) in
+    rw (p.1, p.2) (c.in_err-lengthened.ensures.gives header snap left honest on first)
+
+pub returns-then-is_run-clause-gives : goal.returns-then-is_run-clause-gives
+returns-then-is_run-clause-gives g c = λ header snap held honest holds walk.
+    let has = Has (g.D.Disk.state c.first.new.io.disk.now).seen c.first.new.io.space in
+    let view : View = view_of header snap (choice_after c.args.source) in
+    let left : List Item = items_left view c.args.self.now held in
+    let was = c.in_ok-lengthened.ensures.looks.reads.honest honest in
+    let on = look_on (λ (seen : List ℕ) (space : FreeSectors). SetHolds (Has seen space) c.args.set.now snap) _ _ _ _ _ _ _ c.in_ok-due.ensures.looks holds in
+    let first = subst (λ (d : Option Due). ComesFirst has snap view left c.first.new.self.place d) c.in-Some.is (c.in_ok-due.ensures.goes header snap held was holds walk) in
+    c.in_ok-lengthened.ensures.gives header snap left honest on first
+
+pub returns-clause-gives : goal.returns-clause-gives
+returns-clause-gives g c = λ header snap held honest holds walk.
+    let has = Has (g.D.Disk.state c.first.new.io.disk.now).seen c.first.new.io.space in
+    let view : View = view_of header snap (choice_after c.args.source) in
+    let left : List Item = items_left view c.args.self.now held in
+    let place = c.first.new.self.place in
+    let first = subst (λ (d : Option Due). ComesFirst has snap view left place d) c.in-Some.is (c.in_ok-due.ensures.goes header snap held honest holds walk) in
+    let alone = gives_alone has snap view left place c.in-Some.due (sym c.is_run.ensures ∙ c.if-is_run.false) first in
+    subst (λ (h : Option Due). Gives has snap view left (record { place = place; held = h }) (Some c.in-Some.due)) (sym c.behind-self.ensures.behind) alone

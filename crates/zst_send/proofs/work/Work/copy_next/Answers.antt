@@ -1,0 +1,32 @@
+use Rattle.std.proofs.Common.{◌≡◌, ℕ, ◌+◌, ◌-◌, ◌≤◌, List, length, take, drop, min, arith, subst, ◌∙◌, sym, ap}
+use Rattle.zst_block.specs.Blocks.{Has}
+use Rattle.zst_send.specs.Working.{IsPayload, PayloadFits}
+use Rattle.zst_send.specs.declared.work.Payload.{Payload}
+use Rattle.zst_send.proofs.Giving.{payload_given}
+use Rattle.zst_send.proofs.work.Work.copy_next.Goals as goal
+
+pub returns-in-Bonus-clause-gives : goal.returns-in-Bonus-clause-gives
+returns-in-Bonus-clause-gives g c = λ left honest loaded work.
+    let has = Has (g.D.Disk.state c.args.io.now.disk.now).seen c.args.io.now.space in
+    let given : ℕ = c.args.self.now.given in
+    let copied = c.copy_from-in-Bonus in
+    let payload : work.payload ≡ take c.in-Bonus.count c.in-Bonus.field = subst (λ (p : Payload). IsPayload has p work.payload) c.in-Bonus.is work.payload_is in
+    let all = payload_given c.args.self.now.head work.payload copied.new.into left given (given - 312) copied.result (length c.args.into.now) (omega (arith, c.requires.work.head, c.if-self-lt-RECORD_LEN.false)) work.left_are
+    (subst (λ (p : List ℕ). copied.result ≡ min (length p - (given - 312)) (length c.args.into.now)) (sym payload) copied.ensures.count)
+    (subst (λ (p : List ℕ). take copied.result copied.new.into ≡ take copied.result (drop (given - 312) p)) (sym payload) copied.ensures.copied) in
+    (all.same, all.less)
+
+pub returns-in_ok-load-in-Block-clause-gives : goal.returns-in_ok-load-in-Block-clause-gives
+returns-in_ok-load-in-Block-clause-gives g c = λ left honest loaded work.
+    let has = Has (g.D.Disk.state c.args.io.now.disk.now).seen c.args.io.now.space in
+    let given : ℕ = c.args.self.now.given in
+    let copied = c.copy_from-in-Block in
+    let named = subst (λ (p : Payload). IsPayload has p work.payload) c.in-Block.is work.payload_is in
+    let most : c.in-Block.ptr.length ≤ 131072 = subst PayloadFits c.in-Block.is c.requires.work.payload in
+    let long : length work.payload ≡ c.in-Block.ptr.length = named.1 in
+    let there = c.in_ok-load-in-Block.ensures.there work.payload honest loaded named.0 (omega (arith, most, long)) in
+    let payload : work.payload ≡ c.block.result.now = sym (c.block.ensures ∙ there) in
+    let all = payload_given c.args.self.now.head work.payload copied.new.into left given (given - 312) copied.result (length c.args.into.now) (omega (arith, c.requires.work.head, c.if-self-lt-RECORD_LEN.false)) work.left_are
+    (subst (λ (p : List ℕ). copied.result ≡ min (length p - (given - 312)) (length c.args.into.now)) (sym payload) copied.ensures.count)
+    (subst (λ (p : List ℕ). take copied.result copied.new.into ≡ take copied.result (drop (given - 312) p)) (sym payload) copied.ensures.copied) in
+    (all.same, all.less)

@@ -1,0 +1,38 @@
+use Rattle.std.proofs.Common.{◌≡◌, ℕ, ◌≤◌, List, ◌++◌, length, take, drop, sym, ◌∙◌, ap, refl, subst}
+use Rattle.std.proofs.lemmas.Result.{err_from_is_err_and}
+use Rattle.zst_space.specs.FreeSectors.{FreeSectors}
+use Rattle.zst_block.specs.Blocks.{Has}
+use Rattle.zst_model.specs.declared.states.item.Item.{Item}
+use Rattle.zst_stream.specs.Records.{item_payload}
+use Rattle.zst_send.specs.Due.{IsFirst}
+use Rattle.zst_send.specs.Working.{IsPayload}
+use Rattle.zst_send.specs.declared.work.Payload.{Payload}
+use Rattle.zst_send.specs.declared.due.Due.{Due}
+use Rattle.zst_send.proofs.work.Work.put.Goals as goal
+
+pub returns-in_err-load-in-Spill-clause-put : goal.returns-in_err-load-in-Spill-clause-put
+returns-in_err-load-in-Spill-clause-put g c = λ text item honest loaded written first.
+    let p = err_from_is_err_and c.from_residual.result c.from_residual.ensures.1 in
+    let named = subst (λ (d : Due). IsFirst (Has (g.D.Disk.state c.args.io.now.disk.now).seen c.args.io.now.space) d item) c.in-Spill.is first in
+    rw (p.1, p.2) (c.in_err-load-in-Spill.ensures.there named.0 honest loaded named.1 named.2)
+
+pub returns-in_err-load-in-Block-clause-put : goal.returns-in_err-load-in-Block-clause-put
+returns-in_err-load-in-Block-clause-put g c = λ text item honest loaded written first.
+    let p = err_from_is_err_and c.from_residual-in_err-load-in-Block.result c.from_residual-in_err-load-in-Block.ensures.1 in
+    let named = subst (λ (d : Due). IsFirst (Has (g.D.Disk.state c.args.io.now.disk.now).seen c.args.io.now.space) d item) c.in-Block.is first in
+    rw (p.1, p.2) (c.in_err-load-in-Block.ensures.there named.0 honest loaded named.1 named.2)
+
+pub returns-in-Object-clause-put : goal.returns-in-Object-clause-put
+returns-in-Object-clause-put g c = λ text item honest loaded written first.
+    let has = Has (g.D.Disk.state c.args.io.now.disk.now).seen c.args.io.now.space in
+    let named = subst (λ (d : Due). IsFirst has d item) c.in-Object.is first in
+    let put = c.of_object.ensures.put text item written named in
+    let field = c.of_object.ensures.payload in
+    record {
+      written = put.0;
+      work_is = record {
+        payload = item_payload item;
+        payload_is = subst (λ (p : Payload). IsPayload has p (item_payload item)) (sym field.2) (ap item_payload named ∙ sym field.3);
+        left_are = sym put.1 ∙ ap (λ (n : ℕ). drop n (c.of_object.result.head ++ item_payload item)) (sym c.of_object.ensures.given);
+      };
+    }

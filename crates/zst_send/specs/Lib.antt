@@ -1,0 +1,6 @@
+pub mod Due
+pub mod Opening
+pub mod Places
+pub mod Sends
+pub mod Standing
+pub mod Working

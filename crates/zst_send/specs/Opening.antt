@@ -1,0 +1,39 @@
+-- What opening a send answers.
+use Rattle.std.specs.Prelude.{◌≡◌, ◌&&◌, Bool, not, [], is_some, Result, Ok, Err}
+use Rattle.zst_model.specs.declared.refusals.faults.Lack.TheVariants as lacks
+use Rattle.zst_model.specs.declared.refusals.plan_fault.PlanFault.{PlanFault}
+use Rattle.zst_model.specs.declared.refusals.plan_fault.PlanFault.TheVariants as plans
+use Rattle.zst_model.specs.declared.sends.ask.SendAsk.{SendAsk}
+use Rattle.zst_model.specs.pools.Pool.{Pool}
+use Rattle.zst_model.specs.sends.Headers.{Sent, source_guids}
+use Rattle.zst_model.specs.sends.SendPlan.{has_guids, send_plan}
+use Rattle.zst_model.specs.states.Apply.{unless, ◌>>=◌}
+use Rattle.zst_pool.specs.declared.fault.PoolFault.{PoolFault}
+use Rattle.zst_pool.specs.declared.fault.PoolFault.TheVariants.{Plan, CannotApply, Redacted, Full, Damaged, DiskFault, Failed, OutOfMemory}
+use Rattle.zst_tree.specs.Indices.{Blocks}
+use Rattle.zst_send.specs.Sends.{Sends, sent_text}
+use Rattle.zst_send.specs.declared.send.Send.{Send}
+
+-- a send that needs no list of a redaction bookmark: the others aren't built yet
+abbrev pub is_plain : Sent → Bool
+is_plain sent = not (is_some sent.redaction) && not (has_guids (source_guids sent.source))
+
+-- what is planned, where it is built
+abbrev pub built : Sent → Result Sent PlanFault
+built sent = unless (not (is_plain sent)) (plans.Unsupported lacks.NotBuilt) (Ok sent)
+
+-- what a send is to give, or why it can't: the refusals of its plan, and then that it isn't built
+abbrev pub opening : SendAsk → Pool → Result Sent PlanFault
+opening ask pool = send_plan ask pool >>= built
+
+-- a send is opened by its plan, and has given nothing; its refusals are the plan's, unless no memory was left
+abbrev pub Opens : Blocks → SendAsk → Pool → Result Send PoolFault → Type 0
+Opens has ask pool (Ok send) = (sent : Sent) × (opening ask pool ≡ Ok sent) × Sends has send sent [] (sent_text sent)
+Opens has ask pool (Err (Plan fault)) = opening ask pool ≡ Err fault
+Opens has ask pool (Err (CannotApply fault)) = ⊥
+Opens has ask pool (Err (Redacted object block)) = ⊥
+Opens has ask pool (Err (Full need largest)) = ⊥
+Opens has ask pool (Err (Damaged sector stated found)) = ⊥
+Opens has ask pool (Err DiskFault) = ⊥
+Opens has ask pool (Err Failed) = ⊥
+Opens has ask pool (Err OutOfMemory) = Unit {0}

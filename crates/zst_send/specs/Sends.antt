@@ -1,0 +1,66 @@
+-- What a send has given and what is left of it.
+use Rattle.std.specs.Prelude.{◌≡◌, ℕ, List, ◌++◌, length, take, drop, min, Result, Ok, Err}
+use Rattle.zst_block.specs.Blocks.{Has, KeepsBlocks}
+use Rattle.zst_model.specs.sends.Headers.{Sent, choice_of, header_of, sent_view}
+use Rattle.zst_model.specs.sends.Items.{origin}
+use Rattle.zst_objset.specs.Sets.{SetHolds}
+use Rattle.zst_pool.specs.declared.fault.PoolFault.{PoolFault}
+use Rattle.zst_pool.specs.declared.fault.PoolFault.TheVariants.{Plan, CannotApply, Redacted, Full, Damaged, DiskFault, Failed, OutOfMemory}
+use Rattle.zst_space.specs.FreeSectors.{FreeSectors}
+use Rattle.zst_stream.specs.Records.{view_text}
+use Rattle.zst_traverse.specs.Cells.{choice_after}
+use Rattle.zst_tree.specs.Indices.{Blocks}
+use Rattle.zst_send.specs.Standing.{StandFits, StandsAt}
+use Rattle.zst_send.specs.Working.{IsLoaded, RoomFits}
+use Rattle.zst_send.specs.declared.send.Send.{Send}
+
+-- the bytes of a send: nothing else of the pool is in them than its view and its header
+abbrev pub sent_text : Sent → List ℕ
+sent_text sent = view_text (header_of sent) (sent_view sent) origin
+
+-- the send of what is sent has given these bytes, and these are left: over the blocks that are there its set holds the snapshot
+pub record Sends (has : Blocks) (send : Send) (sent : Sent) (given left : List ℕ) : Type 0 where
+  pub text : given ++ left ≡ sent_text sent
+  pub holds : SetHolds has send.subject.set sent.snapshot.objects
+  pub choice : choice_of sent ≡ choice_after send.subject.source
+  pub to : send.subject.to ≡ (header_of sent).to
+  pub stands : StandsAt has sent.snapshot.objects (sent_view sent) send.subject.to send.stand left
+  pub loaded : IsLoaded has send.room
+
+-- what it keeps is in its ranges, whatever the image
+pub record SendFits (send : Send) : Type 0 where
+  pub stand : StandFits send.stand
+  pub room : RoomFits send.room
+
+-- why no bytes are given: the disk fails, or failed before; no block is told as damaged, and no memory is asked
+abbrev pub IsTakeFault : PoolFault → Type 0
+IsTakeFault (Plan fault) = ⊥
+IsTakeFault (CannotApply fault) = ⊥
+IsTakeFault (Redacted object block) = ⊥
+IsTakeFault (Full need largest) = ⊥
+IsTakeFault (Damaged sector stated found) = ⊥
+IsTakeFault DiskFault = Unit {0}
+IsTakeFault Failed = Unit {0}
+IsTakeFault OutOfMemory = ⊥
+
+-- the next bytes were given, as many as were asked or are left, and those behind them are left; after a refusal the send stands where it stood
+abbrev pub Takes : Blocks → Send → Sent → List ℕ → List ℕ → List ℕ → Result ℕ PoolFault → Type 0
+Takes has send sent given left into (Ok count) =
+    (count ≡ min (length into) (length left)) × (take count into ≡ take count left) × Sends has send sent (given ++ take count left) (drop count left)
+Takes has send sent given left into (Err fault) = IsTakeFault fault × Sends has send sent given left
+
+-- ---- laws
+
+-- What others do between two takes doesn't matter, as long as the blocks that were there still are.
+abbrev pub SendsGoOn : Type 0
+SendsGoOn =
+    (send : Send) (sent : Sent) (given left old new : List ℕ) (space less : FreeSectors)
+    → KeepsBlocks old space new less → Sends (Has old space) send sent given left → Sends (Has new less) send sent given left
+
+-- Two sends of one header and one view that have given equally many bytes have given the same ones, and the same are left, whatever else their pools hold.
+abbrev pub EqualViewsAreSentAlike : Type 0
+EqualViewsAreSentAlike =
+    (one other : Send) (sent also : Sent) (image others : List ℕ) (space elsewhere : FreeSectors) (given left told behind : List ℕ)
+    → header_of sent ≡ header_of also → sent_view sent ≡ sent_view also → length given ≡ length told
+    → Sends (Has image space) one sent given left → Sends (Has others elsewhere) other also told behind
+    → (given ≡ told) × (left ≡ behind)

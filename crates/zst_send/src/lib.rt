@@ -1,0 +1,16 @@
+//! The bytes of a send: a walk over what a snapshot's view shows, and the records of what it finds.
+#![tactic(auto)]
+
+mod built;
+mod due;
+mod laws;
+mod place;
+mod room;
+mod send;
+mod stand;
+mod walk;
+mod work;
+
+pub use laws::{equal_views_are_sent_alike, sends_go_on};
+pub use send::Send;
+pub use zst_plan::{FromName, SendAsk};

@@ -1,0 +1,200 @@
+ghost use Rattle.std.specs.Prelude.{◌≡◌, ◌<◌, ◌≤◌, true, IfOk, IfSome};
+ghost use Rattle.zst_block.specs.Blocks.{FitsDisk, Has};
+ghost use Rattle.zst_block.specs.Working.{Looks, stop_of};
+ghost use Rattle.zst_model.specs.declared.sends.header.Header.{Header};
+ghost use Rattle.zst_model.specs.sends.Items.{origin};
+ghost use Rattle.zst_model.specs.sends.View.{view_of};
+ghost use Rattle.zst_model.specs.states.Dated.{DatedState};
+ghost use Rattle.zst_model.specs.states.State.{number_bound};
+ghost use Rattle.zst_objset.specs.Damage.{IfDamaged};
+ghost use Rattle.zst_objset.specs.Sets.{SetHolds};
+ghost use Rattle.zst_send.specs.Due.{DueFits};
+ghost use Rattle.zst_send.specs.Places.{GoesTo, IsPlaceOf, PlaceFits, place_after};
+ghost use Rattle.zst_traverse.specs.Cells.{FoundFits, IsNextCell, choice_after};
+ghost use Rattle.zst_traverse.specs.Telling.{IsDamagedCell};
+ghost use Rattle.zst_tree.specs.Damage.{IsSeen};
+ghost use Rattle.zst_tree.specs.Indices.{Delivers};
+
+use crate::due::{Due, due_of};
+use std::marker::Brand;
+use std::sync::ledger::{Blank, Ledger};
+use zst_block::{BlockFault, Io};
+use zst_laws::{block_run_is_next, gone_run_is_next, object_is_next, walk_ends};
+use zst_model::Point;
+use zst_model::limits::NUMBER_BOUND;
+use zst_outside::Disk;
+use zst_traverse::{Found, next_cell};
+use zst_tree::{ObjSet, Steps};
+
+/// Where a walk stands.
+#[derive(Clone, Copy, Debug, PartialEq, Eq)]
+pub(crate) struct Place {
+    pub point: Point,
+    /// Whether the point's own number comes first.
+    pub slot: bool,
+    /// The type of the object that was passed last.
+    pub type_: u32,
+    /// The size of its blocks in bytes.
+    pub block_size: u32,
+}
+
+// The place behind what was found.
+fn place_after(place: &Place, found: &Found) -> Place
+    requires place { PlaceFits place.now }
+    requires found { FoundFits place.now.point found.now }
+    ensures place { result ≡ place_after place.now found.now }
+    ensures fits { PlaceFits result }
+{
+    match *found {
+        Found::Object { number, dnode } => Place {
+            point: Point {
+                object: number,
+                offset: if number == place.point.object {
+                    place.point.offset
+                } else {
+                    0
+                },
+            },
+            slot: false,
+            type_: dnode.type_,
+            block_size: dnode.block_size,
+        },
+        Found::Gone { first, count } => Place {
+            point: Point {
+                object: first + count,
+                offset: 0,
+            },
+            slot: true,
+            ..*place
+        },
+        Found::Pairs {
+            object,
+            first,
+            count,
+            ..
+        } => Place {
+            point: Point {
+                object,
+                offset: (first + count) * u64::from(place.block_size),
+            },
+            slot: false,
+            ..*place
+        },
+    }
+}
+
+impl Place {
+    /// Before all numbers. No object was passed yet, and any block size stands for that.
+    pub(crate) fn start() -> Place
+        ensures point { result.point ≡ origin }
+        ensures slot { result.slot ≡ true }
+        ensures fits { PlaceFits result }
+    {
+        Place {
+            point: Point {
+                object: 0,
+                offset: 0,
+            },
+            slot: true,
+            type_: 0,
+            block_size: 512,
+        }
+    }
+
+    // Behind all numbers.
+    #[tactic(auto, unfolding(zst_model::specs::states::State::number_bound))]
+    fn at_end(&self) -> Place
+        ensures point { number_bound ≤ result.point.object }
+        ensures slot { result.slot ≡ true }
+        ensures fits { PlaceFits self.now → PlaceFits result }
+    {
+        Place {
+            point: Point {
+                object: NUMBER_BOUND,
+                offset: 0,
+            },
+            slot: true,
+            ..*self
+        }
+    }
+
+    /// Finds what comes first of what is left, and goes behind it.
+    pub(crate) fn find<D: Disk>(
+        &mut self,
+        io: &mut Io<'_, D>,
+        set: &ObjSet,
+        source: Option<u64>,
+    ) -> Result<Option<Due>, BlockFault>
+        requires place { PlaceFits self.old }
+        requires fits { FitsDisk (D.state io.old.disk.now).size io.old.space }
+
+        // Of a set that holds a state, what is found comes first, and no damage is told.
+        ensures found { (header : Header) (snap : DatedState) → (D.state io.new.disk.now).honest → SetHolds (Has (D.state io.old.disk.now).seen io.old.space) set.now snap → IsPlaceOf snap self.old
+            → Delivers (GoesTo (Has (D.state io.new.disk.now).seen io.new.space) snap (view_of header snap (choice_after source)) self.old self.new) result }
+
+        // Whatever the image, what is found is in its range, and damage is told of a block of the walk.
+        ensures place { PlaceFits self.new }
+        ensures ranges { IfOk result (λ found. IfSome found DueFits) }
+        ensures damaged { (D.state io.new.disk.now).honest → IfDamaged result (IsDamagedCell (IsSeen (D.state io.old.disk.now).seen) (D.state io.old.disk.now).size set.now) }
+        ensures looks { Looks (D.state io.old.disk.now) io.old.space io.old.failed (D.state io.new.disk.now) io.new.space io.new.failed (stop_of result) }
+        ensures kept_fit { FitsDisk (D.state io.new.disk.now).size io.new.space }
+        ensures same { io.new.disk.ghost_name ≡ io.old.disk.ghost_name }
+    {
+        walk_ends();
+        object_is_next();
+        gone_run_is_next();
+        block_run_is_next();
+        let Some(found) = next_found(io, set, source, self)? else {
+            // Who asks again looks at no block.
+            *self = self.at_end();
+            return Ok(None);
+        };
+        let place = place_after(self, &found);
+        let due = due_of(found, place.type_, place.block_size);
+        *self = place;
+        Ok(Some(due))
+    }
+}
+
+// What is found at a place, its steps counted from 0 in a ledger of their own.
+fn next_found<D: Disk>(
+    io: &mut Io<'_, D>,
+    set: &ObjSet,
+    source: Option<u64>,
+    place: &Place,
+) -> Result<Option<Found>, BlockFault>
+    requires fits { FitsDisk (D.state io.old.disk.now).size io.old.space }
+    ensures found { (snap : DatedState) → (D.state io.new.disk.now).honest → SetHolds (Has (D.state io.old.disk.now).seen io.old.space) set.now snap
+        → Delivers (IsNextCell (Has (D.state io.new.disk.now).seen io.new.space) snap (choice_after source) place.now.point place.now.slot) result }
+    ensures ranges { IfOk result (λ found. IfSome found (FoundFits place.now.point)) }
+    ensures damaged { (D.state io.new.disk.now).honest → IfDamaged result (IsDamagedCell (IsSeen (D.state io.old.disk.now).seen) (D.state io.old.disk.now).size set.now) }
+    ensures looks { Looks (D.state io.old.disk.now) io.old.space io.old.failed (D.state io.new.disk.now) io.new.space io.new.failed (stop_of result) }
+    ensures kept_fit { FitsDisk (D.state io.new.disk.now).size io.new.space }
+    ensures same { io.new.disk.ghost_name ≡ io.old.disk.ghost_name }
+{
+    counted::<D, Brand>(io, set, source, place, Blank::new(1))
+}
+
+// That, in this ledger.
+fn counted<D: Disk, L: Ledger>(
+    io: &mut Io<'_, D>,
+    set: &ObjSet,
+    source: Option<u64>,
+    place: &Place,
+    blank: Blank,
+) -> Result<Option<Found>, BlockFault>
+    requires name { blank.name ≡ L.name }
+    requires parts { blank.parts ≡ L.parts }
+    requires some { 0 < blank.parts }
+    requires fits { FitsDisk (D.state io.old.disk.now).size io.old.space }
+    ensures found { (snap : DatedState) → (D.state io.new.disk.now).honest → SetHolds (Has (D.state io.old.disk.now).seen io.old.space) set.now snap
+        → Delivers (IsNextCell (Has (D.state io.new.disk.now).seen io.new.space) snap (choice_after source) place.now.point place.now.slot) result }
+    ensures ranges { IfOk result (λ found. IfSome found (FoundFits place.now.point)) }
+    ensures damaged { (D.state io.new.disk.now).honest → IfDamaged result (IsDamagedCell (IsSeen (D.state io.old.disk.now).seen) (D.state io.old.disk.now).size set.now) }
+    ensures looks { Looks (D.state io.old.disk.now) io.old.space io.old.failed (D.state io.new.disk.now) io.new.space io.new.failed (stop_of result) }
+    ensures kept_fit { FitsDisk (D.state io.new.disk.now).size io.new.space }
+    ensures same { io.new.disk.ghost_name ≡ io.old.disk.ghost_name }
+{
+    let mut steps = Steps::<L>::new(blank);
+    next_cell(io, set, source, place.point, place.slot, &mut steps)
+}

@@ -1,0 +1,119 @@
+use crate::built::check_built;
+use crate::room::Room;
+use crate::stand::{Stand, Subject};
+use std::alloc::Global;
+use zst_dir::Dir;
+use zst_model::SendAsk;
+use zst_outside::Disk;
+use zst_plan::{SendPlan, send_plan};
+use zst_pool::{Pool, PoolFault};
+
+/// A send: what it is of, where it stands, and the room of one block. It has no part of the pool.
+#[derive(Drop)]
+pub struct Send {
+    subject: Subject,
+    stand: Stand,
+    room: Room,
+}
+
+impl Send {
+    ghost use Rattle.std.specs.Prelude.{◌≡◌, ◌≤◌, false, true, List, [], ℕ, IfOk, None, Err, length};
+    ghost use Rattle.zst_space.specs.FreeSectors.{FreeSectors};
+    ghost use Rattle.zst_block.specs.Blocks.{FitsDisk, Has};
+    ghost use Rattle.zst_block.specs.Working.{Looks};
+    ghost use Rattle.zst_image.specs.Reads.{RunsBy};
+    ghost use Rattle.zst_model.specs.pools.Pool.{Pool as Plain};
+    ghost use Rattle.zst_model.specs.sends.Headers.{Sent};
+    ghost use Rattle.zst_plan.specs.Plans.{IsInside, IsPlanOf};
+    ghost use Rattle.zst_pool.specs.Telling.{stop_of};
+    ghost use Rattle.zst_send.specs.Opening.{Opens, is_plain};
+    ghost use Rattle.zst_send.specs.Sends.{SendFits, Sends, Takes, sent_text};
+    ghost use Rattle.zst_send.specs.Working.{RoomFits};
+
+    /// Plans a send and takes all of its memory. Nothing is read.
+    pub fn open<D: Disk>(
+        pool: &mut Pool<'_, D>,
+        alloc: Global,
+        ask: &SendAsk,
+    ) -> Result<Send, PoolFault>
+        // By its plan it has given nothing, and all of its text is left.
+        ensures opens { (image : List ℕ) (space : FreeSectors) (running : Plain) → pool.old.io.failed ≡ false → RunsBy (Has image space) pool.old.kept.dir running → Opens (Has image space) ask.now running result }
+        ensures fits { IfOk result SendFits }
+        // A pool that has failed answers nothing else.
+        ensures failed_pool { pool.old.io.failed ≡ true → result ≡ Err PoolFault.Failed }
+        ensures open_still { pool.old.io.failed ≡ false → ¬ (result ≡ Err PoolFault.Failed) }
+        // The pool stays as it was.
+        ensures disk { pool.new.io.disk.now ≡ pool.old.io.disk.now }
+        ensures space { pool.new.io.space ≡ pool.old.io.space }
+        ensures failed { pool.new.io.failed ≡ pool.old.io.failed }
+        ensures kept { pool.new.kept ≡ pool.old.kept }
+        ensures same { pool.new.io.disk.ghost_name ≡ pool.old.io.disk.ghost_name }
+    {
+        if pool.io.failed {
+            return Err(PoolFault::Failed);
+        }
+        let plan = send_plan(&pool.kept.dir, ask)?;
+        check_built(&pool.kept.dir, &plan)?;
+        let room = Room::new(alloc)?;
+        Ok(Send::planned(&pool.kept.dir, &plan, room))
+    }
+
+    /// Fills `into` with the next bytes, and counts them: fewer are given exactly at the end. After
+    /// a refusal it stands where it stood, and `into` may hold any bytes.
+    pub fn take<D: Disk>(
+        &mut self,
+        pool: &mut Pool<'_, D>,
+        into: &mut [u8],
+    ) -> Result<usize, PoolFault>
+        requires send { SendFits self.old }
+        requires fits { FitsDisk (D.state pool.old.io.disk.now).size pool.old.io.space }
+
+        // The next bytes of the text are given, and those behind them are left.
+        ensures takes { (sent : Sent) (given left : List ℕ) → (D.state pool.new.io.disk.now).honest → Sends (Has (D.state pool.old.io.disk.now).seen pool.old.io.space) self.old sent given left
+            → Takes (Has (D.state pool.new.io.disk.now).seen pool.new.io.space) self.new sent given left into.new result }
+        // Whatever the image, only as many as were asked are given.
+        ensures count { IfOk result (λ count. count ≤ length into.old) }
+        ensures into { length into.new ≡ length into.old }
+        ensures send { SendFits self.new }
+
+        // A pool that has failed answers nothing else.
+        ensures failed_pool { pool.old.io.failed ≡ true → result ≡ Err PoolFault.Failed }
+        ensures open_still { pool.old.io.failed ≡ false → ¬ (result ≡ Err PoolFault.Failed) }
+        // The pool is only read. E28 comes only where its disk failed in this call.
+        ensures looks { Looks (D.state pool.old.io.disk.now) pool.old.io.space pool.old.io.failed (D.state pool.new.io.disk.now) pool.new.io.space pool.new.io.failed (stop_of result) }
+        ensures kept { pool.new.kept ≡ pool.old.kept }
+        ensures kept_fit { FitsDisk (D.state pool.new.io.disk.now).size pool.new.io.space }
+        ensures same { pool.new.io.disk.ghost_name ≡ pool.old.io.disk.ghost_name }
+    {
+        if pool.io.failed {
+            return Err(PoolFault::Failed);
+        }
+        // A copy goes on, so that a refusal leaves the send where it stood.
+        let mut stand = self.stand;
+        let count = stand.fill(&mut self.room, &mut pool.io, &self.subject, into)?;
+        self.stand = stand;
+        Ok(count)
+    }
+
+    // A send by this plan that has given nothing.
+    fn planned(dir: &Dir, plan: &SendPlan, room: Room) -> Send
+        requires inside { IsInside dir.now plan.now }
+        requires room { RoomFits room }
+        requires empty { room.holds ≡ None }
+        ensures fits { SendFits result }
+        ensures sends { (image : List ℕ) (space : FreeSectors) (running : Plain) (sent : Sent) → RunsBy (Has image space) dir.now running → IsPlanOf dir.now running plan.now sent → is_plain sent ≡ true
+            → Sends (Has image space) result sent [] (sent_text sent) }
+    {
+        let header = plan.header(dir);
+        let subject = Subject {
+            set: dir.snapshots()[plan.snap].objects,
+            source: plan.from_number,
+            to: header.to,
+        };
+        Send {
+            subject,
+            stand: Stand::start(header),
+            room,
+        }
+    }
+}

@@ -1,0 +1,139 @@
+ghost use Rattle.std.specs.Prelude.{◌≡◌, true, List, None, Some, IfOk, IfSome};
+ghost use Rattle.zst_block.specs.Blocks.{FitsDisk, Has};
+ghost use Rattle.zst_block.specs.Working.{Looks, stop_of};
+ghost use Rattle.zst_model.specs.declared.sends.header.Header.{Header};
+ghost use Rattle.zst_model.specs.declared.states.item.Item.{Item};
+ghost use Rattle.zst_model.specs.sends.Items.{origin};
+ghost use Rattle.zst_model.specs.sends.View.{view_of};
+ghost use Rattle.zst_model.specs.states.Dated.{DatedState};
+ghost use Rattle.zst_objset.specs.Damage.{IfDamaged};
+ghost use Rattle.zst_objset.specs.Sets.{SetHolds};
+ghost use Rattle.zst_send.specs.Due.{DueFits, is_run};
+ghost use Rattle.zst_send.specs.Places.{ComesFirst, Gives, IsWalk, WalkFits, items_left};
+ghost use Rattle.zst_traverse.specs.Cells.{choice_after};
+ghost use Rattle.zst_traverse.specs.Telling.{IsDamagedCell};
+ghost use Rattle.zst_tree.specs.Damage.{IsSeen};
+ghost use Rattle.zst_tree.specs.Indices.{Delivers};
+
+use crate::due::{Due, joined};
+use crate::place::Place;
+use zst_block::{BlockFault, Io};
+use zst_laws::held_goes_on;
+use zst_outside::Disk;
+use zst_tree::ObjSet;
+
+/// A walk over what a view shows: where it stands, and what it found and hasn't given.
+#[derive(Clone, Copy, Debug, PartialEq, Eq)]
+pub(crate) struct Walk {
+    pub place: Place,
+    pub held: Option<Due>,
+}
+
+impl Walk {
+    /// A walk that holds nothing and stands before all numbers.
+    pub(crate) fn start() -> Walk
+        ensures held { result.held ≡ None }
+        ensures point { result.place.point ≡ origin }
+        ensures slot { result.place.slot ≡ true }
+        ensures fits { WalkFits result }
+    {
+        Walk {
+            place: Place::start(),
+            held: None,
+        }
+    }
+
+    /// What comes next: a run is as long as it can be. After a refusal the walk is of no use.
+    pub(crate) fn next<D: Disk>(
+        &mut self,
+        io: &mut Io<'_, D>,
+        set: &ObjSet,
+        source: Option<u64>,
+    ) -> Result<Option<Due>, BlockFault>
+        requires walk { WalkFits self.old }
+        requires fits { FitsDisk (D.state io.old.disk.now).size io.old.space }
+
+        // Of a set that holds a state, the first item that is left comes next, and no damage is told.
+        ensures gives { (header : Header) (snap : DatedState) (held : List Item) → (D.state io.new.disk.now).honest → SetHolds (Has (D.state io.old.disk.now).seen io.old.space) set.now snap
+            → IsWalk (Has (D.state io.old.disk.now).seen io.old.space) snap self.old held
+            → Delivers (Gives (Has (D.state io.new.disk.now).seen io.new.space) snap (view_of header snap (choice_after source)) (items_left (view_of header snap (choice_after source)) self.old held) self.new) result }
+
+        // Whatever the image, what comes next is in its range, and damage is told of a block of the walk.
+        ensures walk { WalkFits self.new }
+        ensures ranges { IfOk result (λ next. IfSome next DueFits) }
+        ensures damaged { (D.state io.new.disk.now).honest → IfDamaged result (IsDamagedCell (IsSeen (D.state io.old.disk.now).seen) (D.state io.old.disk.now).size set.now) }
+        ensures looks { Looks (D.state io.old.disk.now) io.old.space io.old.failed (D.state io.new.disk.now) io.new.space io.new.failed (stop_of result) }
+        ensures kept_fit { FitsDisk (D.state io.new.disk.now).size io.new.space }
+        ensures same { io.new.disk.ghost_name ≡ io.old.disk.ghost_name }
+    {
+        let Some(due) = self.first(io, set, source)? else {
+            return Ok(None);
+        };
+        if due.is_run() {
+            return Ok(Some(self.lengthened(io, set, source, due)?));
+        }
+        self.held = due.behind();
+        Ok(Some(due))
+    }
+
+    // What is held, or else what is found. It is held no longer.
+    fn first<D: Disk>(
+        &mut self,
+        io: &mut Io<'_, D>,
+        set: &ObjSet,
+        source: Option<u64>,
+    ) -> Result<Option<Due>, BlockFault>
+        requires walk { WalkFits self.old }
+        requires fits { FitsDisk (D.state io.old.disk.now).size io.old.space }
+        ensures goes { (header : Header) (snap : DatedState) (held : List Item) → (D.state io.new.disk.now).honest → SetHolds (Has (D.state io.old.disk.now).seen io.old.space) set.now snap
+            → IsWalk (Has (D.state io.old.disk.now).seen io.old.space) snap self.old held
+            → Delivers (ComesFirst (Has (D.state io.new.disk.now).seen io.new.space) snap (view_of header snap (choice_after source)) (items_left (view_of header snap (choice_after source)) self.old held) self.new.place) result }
+        ensures held { self.new.held ≡ None }
+        ensures walk { WalkFits self.new }
+        ensures ranges { IfOk result (λ next. IfSome next DueFits) }
+        ensures damaged { (D.state io.new.disk.now).honest → IfDamaged result (IsDamagedCell (IsSeen (D.state io.old.disk.now).seen) (D.state io.old.disk.now).size set.now) }
+        ensures looks { Looks (D.state io.old.disk.now) io.old.space io.old.failed (D.state io.new.disk.now) io.new.space io.new.failed (stop_of result) }
+        ensures kept_fit { FitsDisk (D.state io.new.disk.now).size io.new.space }
+        ensures same { io.new.disk.ghost_name ≡ io.old.disk.ghost_name }
+    {
+        match self.held {
+            Some(due) => {
+                self.held = None;
+                Ok(Some(due))
+            }
+            None => self.place.find(io, set, source),
+        }
+    }
+
+    // A run joined with all that is found behind it and touches it. What is found last is held.
+    fn lengthened<D: Disk>(
+        &mut self,
+        io: &mut Io<'_, D>,
+        set: &ObjSet,
+        source: Option<u64>,
+        run: Due,
+    ) -> Result<Due, BlockFault>
+        requires walk { WalkFits self.old }
+        requires run { (is_run run ≡ true) × DueFits run }
+        requires fits { FitsDisk (D.state io.old.disk.now).size io.old.space }
+        ensures gives { (header : Header) (snap : DatedState) (left : List Item) → (D.state io.new.disk.now).honest → SetHolds (Has (D.state io.old.disk.now).seen io.old.space) set.now snap
+            → ComesFirst (Has (D.state io.old.disk.now).seen io.old.space) snap (view_of header snap (choice_after source)) left self.old.place (Some run)
+            → Delivers (λ due. Gives (Has (D.state io.new.disk.now).seen io.new.space) snap (view_of header snap (choice_after source)) left self.new (Some due)) result }
+        ensures walk { WalkFits self.new }
+        ensures ranges { IfOk result DueFits }
+        ensures damaged { (D.state io.new.disk.now).honest → IfDamaged result (IsDamagedCell (IsSeen (D.state io.old.disk.now).seen) (D.state io.old.disk.now).size set.now) }
+        ensures looks { Looks (D.state io.old.disk.now) io.old.space io.old.failed (D.state io.new.disk.now) io.new.space io.new.failed (stop_of result) }
+        ensures kept_fit { FitsDisk (D.state io.new.disk.now).size io.new.space }
+        ensures same { io.new.disk.ghost_name ≡ io.old.disk.ghost_name }
+    {
+        held_goes_on();
+        let mut run = run;
+        let mut next = self.place.find(io, set, source)?;
+        while let Some(both) = joined(&run, &next) {
+            run = both;
+            next = self.place.find(io, set, source)?;
+        }
+        self.held = next;
+        Ok(run)
+    }
+}

@@ -1,0 +1,330 @@
+ghost use Rattle.std.specs.Prelude.{◌≡◌, ◌==◌, ◌+◌, ◌-◌, ◌%◌, ◌<◌, ◌≤◌, ◌++◌, false, List, [], ℕ, IfOk, OnErr, drop, length, min, pred, take};
+ghost use Rattle.zst_block.specs.Blocks.{FitsDisk, Has};
+ghost use Rattle.zst_block.specs.Working.{Looks, stop_of};
+ghost use Rattle.zst_dnode.specs.Dnode.{DnodeFits};
+ghost use Rattle.zst_model.specs.declared.states.item.Change.TheVariants.{Put};
+ghost use Rattle.zst_model.specs.declared.states.item.Item.{Item};
+ghost use Rattle.zst_model.specs.declared.states.item.Item.TheVariants.{At};
+ghost use Rattle.zst_record.specs.Formats.{record_len};
+ghost use Rattle.zst_record.specs.Heads.{payload_len};
+ghost use Rattle.zst_send.specs.Due.{DueFits, IsFirst, head_in};
+ghost use Rattle.zst_send.specs.Working.{IsLoaded, IsPut, IsWork, RoomFits, WorkFits, payload_size};
+ghost use Rattle.zst_stream.specs.Found.{HasBonus, found_item};
+ghost use Rattle.zst_stream.specs.Image.{piece_after};
+ghost use Rattle.zst_stream.specs.Records.{item_head, item_payload, padded_bonus, piece_for};
+ghost use Rattle.zst_tree.specs.Indices.{Delivers};
+ghost use Rattle.zst_writer.specs.Writes.{HasWritten, bytes_after};
+
+use crate::due::Due;
+use crate::room::Room;
+use zst_block::{BlockFault, Io, Ptr};
+use zst_dnode::Dnode;
+use zst_model::ObjectHead;
+use zst_outside::Disk;
+use zst_record::{Head, RECORD_LEN};
+use zst_stream::{ItemRef, head_of, pad_bonus};
+use zst_writer::Writer;
+
+/// What follows a record.
+#[derive(Clone, Copy, Debug)]
+pub(crate) enum Payload {
+    Nothing,
+    /// A bonus: so many bytes of a field, zeros that pad it among them.
+    Bonus { field: [u8; 320], count: u32 },
+    /// The block that a pointer names.
+    Block { ptr: Ptr },
+}
+
+/// The record in work: its bytes, what follows it, and how many bytes of both were given.
+#[derive(Clone, Copy, Debug)]
+pub(crate) struct Work {
+    pub head: [u8; RECORD_LEN],
+    pub payload: Payload,
+    pub given: usize,
+}
+
+impl Payload {
+    /// The count of its bytes.
+    fn size(&self) -> usize
+        ensures { result ≡ payload_size self.now }
+    {
+        match self {
+            Payload::Nothing => 0,
+            Payload::Bonus { count, .. } => *count as usize,
+            Payload::Block { ptr } => ptr.length as usize,
+        }
+    }
+}
+
+impl Work {
+    /// A record that nothing follows.
+    pub(crate) fn alone(writer: &mut Writer, head: &Head) -> Work
+        requires { payload_len head.now ≡ 0 }
+        ensures written { (text : List ℕ) → HasWritten writer.old text → HasWritten writer.new (text ++ bytes_after text head.now) }
+        ensures head { (text : List ℕ) → HasWritten writer.old text → result.head ≡ bytes_after text head.now }
+        ensures payload { result.payload ≡ Payload.Nothing }
+        ensures long { length result.head ≡ record_len }
+        ensures given { result.given ≡ 0 }
+    {
+        let mut bytes = [0; RECORD_LEN];
+        writer.put(head, &[], &mut bytes);
+        Work {
+            head: bytes,
+            payload: Payload::Nothing,
+            given: 0,
+        }
+    }
+
+    /// Puts the record of what is due, whose bytes are loaded.
+    pub(crate) fn put<D: Disk>(
+        writer: &mut Writer,
+        room: &mut Room,
+        io: &mut Io<'_, D>,
+        due: &Due,
+        to: u64,
+    ) -> Result<Work, BlockFault>
+        requires due { DueFits due.now }
+        requires room { RoomFits room.old }
+        requires fits { FitsDisk (D.state io.old.disk.now).size io.old.space }
+
+        ensures put { (text : List ℕ) (item : Item) → (D.state io.new.disk.now).honest → IsLoaded (Has (D.state io.old.disk.now).seen io.old.space) room.old
+            → HasWritten writer.old text → IsFirst (Has (D.state io.old.disk.now).seen io.old.space) due.now item
+            → Delivers (IsPut (Has (D.state io.new.disk.now).seen io.new.space) to text item writer.new) result }
+        ensures loaded { (item : Item) → (D.state io.new.disk.now).honest → IsLoaded (Has (D.state io.old.disk.now).seen io.old.space) room.old
+            → IsFirst (Has (D.state io.old.disk.now).seen io.old.space) due.now item → IsLoaded (Has (D.state io.new.disk.now).seen io.new.space) room.new }
+
+        ensures work { IfOk result WorkFits }
+        ensures fresh { IfOk result (λ work. work.given ≡ 0) }
+        ensures room { RoomFits room.new }
+        ensures looks { Looks (D.state io.old.disk.now) io.old.space io.old.failed (D.state io.new.disk.now) io.new.space io.new.failed (stop_of result) }
+        ensures kept_fit { FitsDisk (D.state io.new.disk.now).size io.new.space }
+        ensures same { io.new.disk.ghost_name ≡ io.old.disk.ghost_name }
+    {
+        match *due {
+            Due::Absent { first, count } => Ok(Work::of(
+                writer,
+                &ItemRef::Absent { first, count },
+                to,
+            )),
+            Due::Object { object, dnode } => Ok(Work::of_object(writer, object, &dnode, to)),
+            Due::Spill { object, ptr, .. } => {
+                room.load(io, &ptr)?;
+                let bytes = room.block(ptr.length);
+                Ok(Work::of_block(writer, &ItemRef::Spill { object, bytes }, bytes, ptr, to))
+            }
+            Due::Tail { object, offset } => Ok(Work::of(
+                writer,
+                &ItemRef::Tail { object, offset },
+                to,
+            )),
+            Due::Holes {
+                object,
+                offset,
+                length,
+            } => Ok(Work::of(
+                writer,
+                &ItemRef::Holes {
+                    object,
+                    offset,
+                    length,
+                },
+                to,
+            )),
+            Due::Redacted {
+                object,
+                offset,
+                length,
+            } => Ok(Work::of(
+                writer,
+                &ItemRef::Redacted {
+                    object,
+                    offset,
+                    length,
+                },
+                to,
+            )),
+            Due::Block {
+                object,
+                type_,
+                offset,
+                ptr,
+            } => {
+                room.load(io, &ptr)?;
+                let bytes = room.block(ptr.length);
+                let item = ItemRef::Block {
+                    object,
+                    type_,
+                    offset,
+                    bytes,
+                };
+                Ok(Work::of_block(writer, &item, bytes, ptr, to))
+            }
+        }
+    }
+
+    /// Whether all of it was given.
+    pub(crate) fn is_given(&self) -> bool
+        requires { WorkFits self.now }
+        ensures { result ≡ (record_len + payload_size self.now.payload == self.now.given) }
+    {
+        RECORD_LEN + self.payload.size() == self.given
+    }
+
+    /// Gives as much of it as there is room for, in one piece: of the record, or of what follows it.
+    pub(crate) fn give<D: Disk>(
+        &mut self,
+        room: &mut Room,
+        io: &mut Io<'_, D>,
+        into: &mut [u8],
+    ) -> Result<usize, BlockFault>
+        requires work { WorkFits self.old }
+        requires room { RoomFits room.old }
+        requires some { 0 < length into.old }
+        requires left { self.old.given < record_len + payload_size self.old.payload }
+        requires fits { FitsDisk (D.state io.old.disk.now).size io.old.space }
+
+        // The next bytes are given, and those behind them are left.
+        ensures gives { (left : List ℕ) → (D.state io.new.disk.now).honest → IsLoaded (Has (D.state io.old.disk.now).seen io.old.space) room.old
+            → IsWork (Has (D.state io.old.disk.now).seen io.old.space) self.old left
+            → Delivers (λ count. (take count into.new ≡ take count left) × (count ≤ length left) × IsWork (Has (D.state io.new.disk.now).seen io.new.space) self.new (drop count left)) result }
+        ensures loaded { (left : List ℕ) → (D.state io.new.disk.now).honest → IsLoaded (Has (D.state io.old.disk.now).seen io.old.space) room.old
+            → IsWork (Has (D.state io.old.disk.now).seen io.old.space) self.old left → IsLoaded (Has (D.state io.new.disk.now).seen io.new.space) room.new }
+
+        ensures count { IfOk result (λ count. (0 < count) × (count ≤ length into.old)) }
+        ensures into { length into.new ≡ length into.old }
+        ensures work { WorkFits self.new }
+        ensures room { RoomFits room.new }
+        ensures stays { OnErr result (self.new ≡ self.old) }
+        ensures looks { Looks (D.state io.old.disk.now) io.old.space io.old.failed (D.state io.new.disk.now) io.new.space io.new.failed (stop_of result) }
+        ensures kept_fit { FitsDisk (D.state io.new.disk.now).size io.new.space }
+        ensures same { io.new.disk.ghost_name ≡ io.old.disk.ghost_name }
+    {
+        let count = self.copy_next(room, io, into)?;
+        self.given += count;
+        Ok(count)
+    }
+
+    // Copies as much as there is room for, from where it was left: of the record, or of what follows it.
+    fn copy_next<D: Disk>(
+        &self,
+        room: &mut Room,
+        io: &mut Io<'_, D>,
+        into: &mut [u8],
+    ) -> Result<usize, BlockFault>
+        requires work { WorkFits self.now }
+        requires room { RoomFits room.old }
+        requires some { 0 < length into.old }
+        requires left { self.now.given < record_len + payload_size self.now.payload }
+        requires fits { FitsDisk (D.state io.old.disk.now).size io.old.space }
+        ensures gives { (left : List ℕ) → (D.state io.new.disk.now).honest → IsLoaded (Has (D.state io.old.disk.now).seen io.old.space) room.old
+            → IsWork (Has (D.state io.old.disk.now).seen io.old.space) self.now left
+            → Delivers (λ count. (take count into.new ≡ take count left) × (count ≤ length left)) result }
+        ensures loaded { (left : List ℕ) → (D.state io.new.disk.now).honest → IsLoaded (Has (D.state io.old.disk.now).seen io.old.space) room.old
+            → IsWork (Has (D.state io.old.disk.now).seen io.old.space) self.now left → IsLoaded (Has (D.state io.new.disk.now).seen io.new.space) room.new }
+        ensures count { IfOk result (λ count. (0 < count) × (count ≤ length into.old) × (self.now.given + count ≤ record_len + payload_size self.now.payload)) }
+        ensures into { length into.new ≡ length into.old }
+        ensures room { RoomFits room.new }
+        ensures looks { Looks (D.state io.old.disk.now) io.old.space io.old.failed (D.state io.new.disk.now) io.new.space io.new.failed (stop_of result) }
+        ensures kept_fit { FitsDisk (D.state io.new.disk.now).size io.new.space }
+        ensures same { io.new.disk.ghost_name ≡ io.old.disk.ghost_name }
+    {
+        if self.given < RECORD_LEN {
+            return Ok(copy_from(&self.head, self.given, into));
+        }
+        let from = self.given - RECORD_LEN;
+        match &self.payload {
+            Payload::Nothing => Ok(0),
+            Payload::Bonus { field, count } => Ok(copy_from(&field[..*count as usize], from, into)),
+            Payload::Block { ptr } => {
+                room.load(io, ptr)?;
+                Ok(copy_from(room.block(ptr.length), from, into))
+            }
+        }
+    }
+
+    // The record of an item that nothing follows.
+    fn of(writer: &mut Writer, item: &ItemRef<'_>, to: u64) -> Work
+        requires alone { item_payload (found_item item.now) ≡ [] }
+        requires len { payload_len (item_head to (found_item item.now)) ≡ 0 }
+        requires bonus { HasBonus item.now }
+        ensures put { (text : List ℕ) → HasWritten writer.old text
+            → HasWritten writer.new (text ++ piece_after text (piece_for to (found_item item.now))) × (result.head ≡ piece_after text (piece_for to (found_item item.now))) }
+        ensures payload { result.payload ≡ Payload.Nothing }
+        ensures long { length result.head ≡ record_len }
+        ensures given { result.given ≡ 0 }
+    {
+        Work::alone(writer, &head_of(item, to))
+    }
+
+    // The record of an item whose bytes are those of a block.
+    fn of_block(writer: &mut Writer, item: &ItemRef<'_>, bytes: &[u8], ptr: Ptr, to: u64) -> Work
+        requires item { item_payload (found_item item.now) ≡ bytes.now }
+        requires bonus { HasBonus item.now }
+        requires len { payload_len (item_head to (found_item item.now)) ≡ length bytes.now }
+        requires words { length bytes.now % 4 ≡ 0 }
+        ensures put { (text : List ℕ) → HasWritten writer.old text
+            → HasWritten writer.new (text ++ piece_after text (piece_for to (found_item item.now))) × (result.head ++ bytes.now ≡ piece_after text (piece_for to (found_item item.now))) }
+        ensures payload { result.payload ≡ Payload.Block ptr }
+        ensures long { length result.head ≡ record_len }
+        ensures given { result.given ≡ 0 }
+    {
+        let mut head = [0; RECORD_LEN];
+        writer.put(&head_of(item, to), bytes, &mut head);
+        Work {
+            head,
+            payload: Payload::Block { ptr },
+            given: 0,
+        }
+    }
+
+    // The OBJECT of an object, with its bonus.
+    fn of_object(writer: &mut Writer, object: u64, dnode: &Dnode, to: u64) -> Work
+        requires { DnodeFits dnode.now }
+        ensures put { (text : List ℕ) (item : Item) → HasWritten writer.old text
+            → item ≡ At object (Put (head_in dnode.now) (take dnode.now.bonus_len dnode.now.bonus) false (pred dnode.now.end))
+            → HasWritten writer.new (text ++ piece_after text (piece_for to item)) × (result.head ++ item_payload item ≡ piece_after text (piece_for to item)) }
+        ensures payload { (field : List ℕ) × (count : ℕ) × (result.payload ≡ Payload.Bonus field count) × (take count field ≡ padded_bonus (take dnode.now.bonus_len dnode.now.bonus)) × (count ≤ 320) }
+        ensures long { length result.head ≡ record_len }
+        ensures given { result.given ≡ 0 }
+    {
+        let bonus = &dnode.bonus[..dnode.bonus_len as usize];
+        let mut room = [0; 320];
+        let padded = pad_bonus(bonus, &mut room);
+        let mut field = [0; 320];
+        field[..padded.len()].copy_from_slice(padded);
+        let head = ObjectHead {
+            type_: dnode.type_,
+            bonus_type: dnode.bonus_type,
+            block_size: dnode.block_size,
+        };
+        let item = ItemRef::Object {
+            object,
+            head,
+            bonus,
+            end: dnode.end,
+        };
+        let mut bytes = [0; RECORD_LEN];
+        writer.put(&head_of(&item, to), padded, &mut bytes);
+        Work {
+            head: bytes,
+            payload: Payload::Bonus {
+                field,
+                count: padded.len() as u32,
+            },
+            given: 0,
+        }
+    }
+}
+
+// Copies the bytes from a place on, as many as there is room for, and counts them.
+fn copy_from(bytes: &[u8], from: usize, into: &mut [u8]) -> usize
+    requires { from ≤ length bytes.now }
+    ensures count { result ≡ min (length bytes.now - from) (length into.old) }
+    ensures copied { take result into.new ≡ take result (drop from bytes.now) }
+    ensures rest { drop result into.new ≡ drop result into.old }
+    ensures into { length into.new ≡ length into.old }
+{
+    let count = (bytes.len() - from).min(into.len());
+    into[..count].copy_from_slice(&bytes[from..from + count]);
+    count
+}
