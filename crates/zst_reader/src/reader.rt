@@ -13,7 +13,7 @@ use zst_model::StreamFault;
 use zst_outside::{Fault, Source};
 use zst_record::{Head, RECORD_LEN, Record};
 
-/// The most bytes that are read at once.
+/// How many bytes are asked of an input at once. A record that is most of so many is asked for by itself.
 const PIECE: usize = 131_072;
 
 /// What `next` found.
@@ -113,10 +113,23 @@ impl Reader {
     {
         self.settle();
         let left = STREAM_LIMIT - self.pushed;
-        let most = left.min(self.room().min(PIECE) as u64) as usize;
+        let most = left.min(self.room().min(self.wanted()) as u64) as usize;
         let got = self.window.read_from(input, most)?;
         self.pushed += got as u64;
         Ok(got)
+    }
+
+    // How many bytes are asked of an input at once: a piece, or where the record at hand is most of one, what completes it with
+    // the next one's 312 bytes. So these alone are left behind a large block, and moved to the front.
+    fn wanted(&self) -> usize
+        ensures some { 0 < result }
+    {
+        let whole = (self.head.payload_len() as usize).saturating_add(2 * RECORD_LEN);
+        let lacking = whole.saturating_sub(self.window.as_slice().len());
+        if self.known && whole > PIECE / 2 && lacking > 0 {
+            return lacking;
+        }
+        PIECE
     }
 
     /// How many more bytes it can take.

@@ -30,15 +30,19 @@ fn take_all(reader: &mut Reader, found: &mut Found) {
     }
 }
 
-/// Reads an input to its end, and goes on after each fault.
-fn read_all(rt: &impl Abort, alloc: Global, input: &mut MemSource) -> Found {
-    let mut reader = open_reader(rt, alloc);
-    let mut found = Found {
+fn nothing() -> Found {
+    Found {
         records: 0,
         payload: 0,
         faults: 0,
         finish: Ok(()),
-    };
+    }
+}
+
+/// Reads an input to its end, and goes on after each fault.
+fn read_all(rt: &impl Abort, alloc: Global, input: &mut MemSource) -> Found {
+    let mut reader = open_reader(rt, alloc);
+    let mut found = nothing();
     for _ in 0..10_000 {
         take_all(&mut reader, &mut found);
         if reader.room() == 0 || reader.pushed() >= 1 << 40 {
@@ -159,6 +163,22 @@ fn records_longer_than_what_is_read_at_once_are_read_whole(rt: HostRuntime) -> R
             is_found(&rt, alloc, &stream, size, want)?,
             "pieces of {size}"
         );
+    }
+    Ok(())
+}
+
+#[test]
+fn large_records_are_asked_for_one_by_one(rt: HostRuntime) -> Result<(), Fail> {
+    let alloc = rt.alloc();
+    let stream = long_stream(&rt, alloc)?;
+    let mut input = MemSource::new(stream.bytes.clone()?, Vec::new(alloc));
+    let mut reader = open_reader(&rt, alloc);
+    let mut found = nothing();
+    // A piece, the rest of the first block and the head of the next, and then a block and a head at a time.
+    for size in [131_072, 936, 131_384, 131_384] {
+        take_all(&mut reader, &mut found);
+        assert!(rt; reader.room() > 0 && reader.pushed() < 1 << 40);
+        assert!(rt; reader.fill(&mut input) == Ok(size));
     }
     Ok(())
 }
