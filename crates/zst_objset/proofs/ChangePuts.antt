@@ -73,6 +73,13 @@ module _ (number j : ℕ) (change : Change) (old : DatedState) where
     dates = λ i less. no_at_index (k == j) (dates_index change (old.state j) i) (nat_lt i index_bound) number (old.index_date k i) other;
   }
 
+  -- the dates of the number and of its indices
+  pub date_put : (if j == j && dates_number change then number else old.number_date j) ≡ date_to number j change old
+  date_put = at_number (j == j) (dates_number change) number (old.number_date j) (same j)
+
+  pub dates_put : (i : ℕ) → i < index_bound → (if (j == j && dates_index change (old.state j) i) && nat_lt i index_bound then number else old.index_date j i) ≡ dates_to number j change old i
+  dates_put i less = at_index (j == j) (dates_index change (old.state j) i) (nat_lt i index_bound) number (old.index_date j i) (same j) (under i less)
+
   -- the slot of the number is put
   pub change_puts : (has : Blocks) (object : Object) (dnode : Dnode) (map : Map) → is_number j ≡ true → IsState old.state → IsBounded old → apply_change change (old.state j) ≡ Ok (Some object) → IsLawfulItem (At j change) old.state
       → AppliedIsState → ObjectIs has dnode object (date_to number j change old) (dates_to number j change old) map → PutsSlot has old (changed_to object) j (j + 1) (There dnode)
@@ -97,12 +104,12 @@ module _ (number j : ℕ) (change : Change) (old : DatedState) where
           bonus_type_is = object_is.bonus_type_is;
           size_is = object_is.size_is;
           bonus_is = object_is.bonus_is;
-          date_is = object_is.date_is ∙ sym (at_number (j == j) (dates_number change) number (old.number_date j) (same j));
+          date_is = object_is.date_is ∙ sym date_put;
           end_is = object_is.end_is;
           spill_is = object_is.spill_is;
           tree = object_is.tree;
           blocks = object_is.blocks;
-          index_dates = λ i less. object_is.index_dates i less ∙ sym (at_index (j == j) (dates_index change (old.state j) i) (nat_lt i index_bound) number (old.index_date j i) (same j) (under i less));
+          index_dates = λ i less. object_is.index_dates i less ∙ sym (dates_put i less);
         };
       }
 

@@ -85,6 +85,13 @@ module _ (number first below : ℕ) (old : DatedState) where
       alike_at : (k : ℕ) → is_in first below k ≡ false → Alike old (freed number first below old) k
       alike_at k test = record { state = rw test refl; date = rw test refl; dates = λ i less. rw test refl }
 
+-- a range of no numbers
+pub freed-none : (number first below : ℕ) (old : DatedState) → first ≡ below → freed number first below old ≡ old
+freed-none number first below old same = dated_made _ _ _ old (fun_ext (λ k. rw (none k) refl)) (fun_ext (λ k. rw (none k) refl)) (fun_ext (λ k. fun_ext (λ i. rw (none k) refl)))
+  where
+    none : (k : ℕ) → is_in first below k ≡ false
+    none k = grind (arith, nat_tests)
+
 -- two ranges that meet are one
 joined : {A : Type 0} (t u v : Bool) (x y : A) → (t || u) ≡ v → (if t then x else (if u then x else y)) ≡ (if v then x else y)
 joined true u v x y is = rw (← is) refl

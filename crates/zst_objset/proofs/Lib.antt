@@ -16,6 +16,7 @@ pub mod SetOnly
 pub mod SetPuts
 pub mod SlotLaws
 pub mod SpillLaws
+pub mod TightLaws
 pub mod TreeFits
 pub mod Within
 pub mod WriteLaws

@@ -1,5 +1,5 @@
 -- What an OBJECT makes of what stands at a number, and the dnode that it makes.
-use Rattle.std.proofs.Common.{◌≡◌, ℕ, zero, suc, ◌-◌, ◌^◌, ◌<◌, ◌≤◌, ◌==◌, nat_lt, Bool, true, false, not, List, length, refl, sym, subst, arith, if◌then◌else◌, Option, Some, None, Result, Ok, Err, eqb-true}
+use Rattle.std.proofs.Common.{◌≡◌, ℕ, zero, suc, ◌-◌, ◌^◌, ◌<◌, ◌≤◌, max, ◌==◌, nat_lt, Bool, true, false, not, List, length, refl, sym, subst, arith, if◌then◌else◌, Option, Some, None, Result, Ok, Err, eqb-true}
 use Rattle.std.specs.Prelude.{IfSome, IsTrue, replicate}
 use Rattle.std.proofs.lemmas.Bool.Decides.{nat_tests}
 use Rattle.std.proofs.lemmas.List.{drop_at, length-append, length-replicate, take_at}
@@ -8,6 +8,7 @@ use Rattle.zst_block.specs.Ptr.{PtrFits, hole_of, is_lawful}
 use Rattle.zst_block.specs.declared.ptr.Ptr.{Ptr}
 use Rattle.zst_dnode.specs.Dnode.{DnodeFits, IsBonusField, is_root, is_spill}
 use Rattle.zst_dnode.specs.declared.dnode.Dnode.{Dnode}
+use Rattle.zst_dnode.specs.declared.slot.Slot.TheVariants.{There}
 use Rattle.zst_model.specs.declared.refusals.faults.Quantity.TheVariants as quantities
 use Rattle.zst_model.specs.declared.refusals.refusal.Refusal.{Refusal}
 use Rattle.zst_model.specs.declared.refusals.refusal.Refusal.TheVariants as refusals
@@ -21,6 +22,7 @@ use Rattle.zst_tree.specs.Indices.{Blocks, Map, TreeIs}
 use Rattle.zst_objset.specs.Allocating.{kept_blocks, kept_spill, no_blocks}
 use Rattle.zst_objset.specs.Dnodes.{BlockIs, DnodeAt, DnodeIs, ObjectIs, SpillIs, tree_of}
 use Rattle.zst_objset.specs.Putting.{MakesDnode}
+use Rattle.zst_objset.specs.Sets.{date_in}
 use Rattle.zst_objset.specs.declared.allocating.BlockTree.{BlockTree}
 use Rattle.zst_objset.proofs.SetLaws.{TreeIs-hole}
 
@@ -199,3 +201,13 @@ put_makes_dnode has number k head bonus keep_spill state found is_one is_head fe
         index_dates = kept.dates_are;
       };
     }
+
+-- it tells no date past the commit's number, where what was there tells none
+kept_dated : (number : ℕ) (dnode : Dnode) (equal : Bool) (kept : BlockTree) → kept ≡ (if equal then record { tree = tree_of dnode; end = dnode.end } else no_blocks number) → date_in (There dnode) ≤ number → max kept.tree.past kept.tree.root.number ≤ number
+kept_dated number dnode true kept is early = rw is (omega (arith, early))
+kept_dated number dnode false kept is early = rw is (omega arith)
+
+pub put_dated : (number : ℕ) (head : ObjectHead) (bonus : List ℕ) (keep_spill : Bool) (found : Option Dnode) → IfSome found (λ dnode. date_in (There dnode) ≤ number)
+    → date_in (There (dnode_with head bonus (kept_blocks head.block_size number found) (kept_spill keep_spill number found) number)) ≤ number
+put_dated number head bonus keep_spill None early = omega arith
+put_dated number head bonus keep_spill (Some dnode) early = omega (arith, kept_dated number dnode (dnode.block_size == head.block_size) (kept_blocks head.block_size number (Some dnode)) refl early)

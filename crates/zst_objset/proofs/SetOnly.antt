@@ -21,10 +21,10 @@ use Rattle.zst_objset.specs.Dnodes.{BlockIs, SpillIs, SlotIs, ObjectIs, tree_of}
 use Rattle.zst_objset.specs.Sets.{any_there, LeafIs, SetHolds}
 
 -- which of some ranges a place is in
-abbrev Found : ℕ → ℕ → ℕ → ℕ → Type 0
+abbrev pub Found : ℕ → ℕ → ℕ → ℕ → Type 0
 Found n base j count = (k : ℕ) × (k < count) × (base + k * n ≤ j) × (j < base + k * n + n)
 
-find : (n base j count : ℕ) → base ≤ j → j < base + count * n → Found n base j count
+pub find : (n base j count : ℕ) → base ≤ j → j < base + count * n → Found n base j count
 find n base j zero from under = absurd (omega (arith, from, under, zero-mul n))
 find n base j (suc count) from under = go (find n base j count from) (nat_lt j (base + count * n)) refl
   where

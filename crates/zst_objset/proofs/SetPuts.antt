@@ -123,10 +123,10 @@ HasSlots-put has old new j from below slot before after less first fits puts lon
 abbrev pub with_one : Map → ℕ → Ptr → Map
 with_one map j ptr i = if i == j then ptr else map i
 
-at_one : (map : Map) (j : ℕ) (ptr : Ptr) (i : ℕ) → i ≡ j → with_one map j ptr i ≡ ptr
+pub at_one : (map : Map) (j : ℕ) (ptr : Ptr) (i : ℕ) → i ≡ j → with_one map j ptr i ≡ ptr
 at_one map j ptr i is = grind (arith, nat_tests)
 
-beside_one : (map : Map) (j : ℕ) (ptr : Ptr) (i : ℕ) → (i < j) ⊎ (j < i) → with_one map j ptr i ≡ map i
+pub beside_one : (map : Map) (j : ℕ) (ptr : Ptr) (i : ℕ) → (i < j) ⊎ (j < i) → with_one map j ptr i ≡ map i
 beside_one map j ptr i (inl less) = grind (arith, nat_tests)
 beside_one map j ptr i (inr more) = grind (arith, nat_tests)
 

@@ -1,5 +1,5 @@
 -- What a change of an object is refused for, and what a spill makes of it.
-use Rattle.std.proofs.Common.{◌≡◌, ℕ, ◌%◌, ◌^◌, ◌<◌, true, List, refl, ap, arith, Option, Some, None, Result, Ok, Err}
+use Rattle.std.proofs.Common.{◌≡◌, ℕ, ◌%◌, ◌^◌, ◌<◌, true, List, refl, sym, ap, subst, arith, Option, Some, None, Result, Ok, Err}
 use Rattle.std.proofs.lemmas.Bool.Decides.{nat_tests}
 use Rattle.zst_block.specs.Ptr.{PtrFits}
 use Rattle.zst_block.specs.declared.fault.BlockFault.{BlockFault}
@@ -15,7 +15,7 @@ use Rattle.zst_model.specs.declared.states.item.Change.TheVariants.{Spill}
 use Rattle.zst_model.specs.declared.states.item.Item.TheVariants.{At}
 use Rattle.zst_model.specs.states.Apply.{apply, apply_change}
 use Rattle.zst_model.specs.states.Dated.{DatedState}
-use Rattle.zst_model.specs.states.State.{Object, is_spill_size}
+use Rattle.zst_model.specs.states.State.{IsSpill, Object, is_number, is_spill_size}
 use Rattle.zst_model.specs.pools.Step.{of_applying}
 use Rattle.zst_tree.specs.Indices.{Blocks, IsNoDamage}
 use Rattle.zst_objset.specs.Answers.{BlockStops, FindsThere, Refuses}
@@ -23,7 +23,7 @@ use Rattle.zst_objset.specs.Changes.{changed}
 use Rattle.zst_objset.specs.Dnodes.{IsThere, ObjectIs}
 use Rattle.zst_objset.specs.declared.fault.ObjFault.{ObjFault}
 use Rattle.zst_objset.proofs.AnswerLaws.{none_refused}
-use Rattle.zst_objset.specs.Putting.{date_to, dates_to}
+use Rattle.zst_objset.specs.Putting.{MakesDnode, date_to, dates_to}
 use Rattle.zst_objset.proofs.ChangePuts.{changed_is, changed_to}
 
 changed_none : (number k : ℕ) (change : Change) (snap : DatedState) → apply_change change None ≡ Err NoObject → snap.state k ≡ None → changed number (At k change) snap ≡ Err (refusals.CannotApply 0 NoObject)
@@ -75,6 +75,18 @@ spill_object has number k bytes snap dnode spill there kind is = record {
   blocks = there.is.blocks;
   index_dates = there.is.index_dates;
 }
+
+-- so the change makes it
+pub spill_makes_dnode : (has : Blocks) (number k : ℕ) (bytes : List ℕ) (snap : DatedState) (dnode made : Dnode) (spill : Ptr) → IsThere has snap k dnode → is_number k ≡ true → IsSpill bytes → spill.kind ≡ 1 → has spill bytes
+    → made ≡ record dnode { spill = spill; date = number } → DnodeFits (record dnode { spill = spill; date = number }) → MakesDnode has number k (Spill bytes) snap made
+spill_makes_dnode has number k bytes snap dnode made spill there is_one size kind is made_is fits = subst (MakesDnode has number k (Spill bytes) snap) (sym made_is) (record {
+  object = spilled there.object bytes;
+  made = spill_makes bytes (snap.state k) there.object there.there;
+  lawful = (is_one, size);
+  fits = fits;
+  map = there.map;
+  is = spill_object has number k bytes snap dnode spill there kind is;
+})
 
 pub spill_fits : (dnode : Dnode) (spill : Ptr) (number : ℕ) → DnodeFits dnode → PtrFits spill → number < 2 ^ 64 → spill.kind ≡ 1 → is_spill_size spill.length ≡ true → DnodeFits (record dnode { spill = spill; date = number })
 spill_fits dnode spill number fits ptr small kind size = record {

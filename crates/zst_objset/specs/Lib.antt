@@ -8,4 +8,5 @@ pub mod Putting
 pub mod Ranges
 pub mod Searching
 pub mod Sets
+pub mod Tight
 pub mod Writing

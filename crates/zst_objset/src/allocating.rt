@@ -1,11 +1,13 @@
 //! The call that allocates an object, or gives it other attributes.
-ghost use Rattle.std.specs.Prelude.{◌≡◌, ◌<◌, ℕ, true, List, IfSome, OnErr, OnOk, ◌+◌, IfErr};
+ghost use Rattle.std.specs.Prelude.{◌≡◌, ◌<◌, ◌≤◌, ℕ, true, List, IfSome, OnErr, OnOk, ◌+◌, IfErr};
 ghost use Rattle.zst_space.specs.FreeSectors.{FreeSectors};
 ghost use Rattle.zst_block.specs.Blocks.{FitsDisk, Has, SparesTaken};
 ghost use Rattle.zst_block.specs.Working.{Works};
 ghost use Rattle.zst_dnode.specs.Dnode.{DnodeFits};
+ghost use Rattle.zst_dnode.specs.declared.slot.Slot.TheVariants.{There};
 ghost use Rattle.zst_model.specs.declared.refusals.faults.Quantity.TheVariants as quantities;
 ghost use Rattle.zst_model.specs.declared.states.item.Change.TheVariants.{Put};
+ghost use Rattle.zst_model.specs.pools.Sound.{DatedUpTo};
 ghost use Rattle.zst_model.specs.pools.Step.{filled};
 ghost use Rattle.zst_model.specs.states.Dated.{DatedState};
 ghost use Rattle.zst_model.specs.states.State.{IsBonus, IsHead, is_number, number_bound};
@@ -16,7 +18,8 @@ ghost use Rattle.zst_objset.specs.Changes.{object_put};
 ghost use Rattle.zst_objset.specs.Damage.{IfSetDamaged, IsDamagedSet, IsSetWithin};
 ghost use Rattle.zst_objset.specs.Dnodes.{DnodeIs};
 ghost use Rattle.zst_objset.specs.Putting.{MakesDnode};
-ghost use Rattle.zst_objset.specs.Sets.{SetHolds};
+ghost use Rattle.zst_objset.specs.Sets.{date_in, SetHolds};
+ghost use Rattle.zst_objset.specs.Tight.{SetIsTight};
 
 use crate::changing::put_dnode;
 use crate::fault::ObjFault;
@@ -98,6 +101,7 @@ fn made_dnode(
     requires bonus { IsBonus bonus.now }
     requires ranges { IfSome was.now DnodeFits }
     ensures fits { DnodeFits result }
+    ensures dated { IfSome was.now (λ dnode. date_in (There dnode) ≤ number) → date_in (There result) ≤ number }
     ensures made { (image : List ℕ) (space : FreeSectors) (object : ℕ) (state : DatedState) → is_number object ≡ true → DnodeIs (Has image space) state object was.now
         → MakesDnode (Has image space) number object (Put head bonus.now keep_spill 0) state result }
 {
@@ -135,6 +139,8 @@ pub(crate) fn put_object<D: Disk>(
     requires fits { FitsDisk (D.state io.old.disk.now).size io.old.space }
     ensures changed { (state : DatedState) → (D.state io.new.disk.now).honest → SetHolds (Has (D.state io.old.disk.now).seen io.old.space) set.old state
         → Changes (SetHolds (Has (D.state io.new.disk.now).seen io.new.space) set.new) (object_put number object head bonus.now keep_spill state) result }
+    ensures tight { (state : DatedState) → (D.state io.new.disk.now).honest → SetIsTight (Has (D.state io.old.disk.now).seen io.old.space) set.old state → DatedUpTo number state
+        → Changes (SetIsTight (Has (D.state io.new.disk.now).seen io.new.space) set.new) (object_put number object head bonus.now keep_spill state) result }
     ensures limits { IfErr result (LimitOnly quantities.Object number_bound (object + 1)) }
     ensures damaged { (D.state io.new.disk.now).honest → IfSetDamaged result (IsDamagedSet (SparesTaken io.old.space (D.state io.old.disk.now).seen) (D.state io.old.disk.now).size set.old) }
     ensures within { (D.state io.new.disk.now).honest → OnOk result (IsSetWithin (SparesTaken io.old.space (D.state io.old.disk.now).seen) (D.state io.old.disk.now).size set.old (SparesTaken io.new.space (D.state io.new.disk.now).seen) set.new) }

@@ -5,6 +5,7 @@ ghost use Rattle.zst_block.specs.Ptr.{is_flat};
 ghost use Rattle.zst_block.specs.Working.{Looks};
 ghost use Rattle.zst_dnode.specs.Dnode.{DnodeFits};
 ghost use Rattle.zst_dnode.specs.Slot.{SlotFits};
+ghost use Rattle.zst_dnode.specs.declared.slot.Slot.TheVariants.{There};
 ghost use Rattle.zst_model.specs.states.Dated.{DatedState};
 ghost use Rattle.zst_model.specs.declared.refusals.faults.Quantity.TheVariants as quantities;
 ghost use Rattle.zst_model.specs.states.State.{Block, BlockFits, Object, index_bound};
@@ -14,6 +15,7 @@ ghost use Rattle.zst_objset.specs.Changes.{block_found, found_at};
 ghost use Rattle.zst_objset.specs.Damage.{IfSetDamaged, IsDamagedBlock, IsDamagedData, IsDamagedSet, StandsIn};
 ghost use Rattle.zst_objset.specs.Dnodes.{BlockIs};
 ghost use Rattle.zst_objset.specs.Sets.{SetHolds};
+ghost use Rattle.zst_objset.specs.Tight.{IsTightSlot, SetIsTight};
 
 use crate::fault::ObjFault;
 use crate::reading::{dnode_at, slot_at};
@@ -77,6 +79,8 @@ pub(crate) fn object_there<D: Disk>(
     requires fits { FitsDisk (D.state io.old.disk.now).size io.old.space }
     ensures found { (snap : DatedState) → (D.state io.new.disk.now).honest → SetHolds (Has (D.state io.old.disk.now).seen io.old.space) set.now snap
         → FindsThere (Has (D.state io.new.disk.now).seen io.new.space) snap object result }
+    ensures tight { (snap : DatedState) → (D.state io.new.disk.now).honest → SetIsTight (Has (D.state io.old.disk.now).seen io.old.space) set.now snap
+        → IfOk result (λ dnode. IsTightSlot snap object (There dnode)) }
     ensures ranges { IfOk result DnodeFits }
     ensures limits { IfErr result NotLimit }
     ensures bound { OnOk result (object < 2 ^ 48) }

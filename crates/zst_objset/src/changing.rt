@@ -6,6 +6,7 @@ ghost use Rattle.zst_block.specs.Working.{Works};
 ghost use Rattle.zst_dnode.specs.Dnode.{DnodeFits};
 ghost use Rattle.zst_model.specs.declared.states.item.Change.{Change};
 ghost use Rattle.zst_model.specs.declared.states.item.Item.TheVariants.{At};
+ghost use Rattle.zst_model.specs.pools.Sound.{DatedUpTo};
 ghost use Rattle.zst_model.specs.states.Dated.{DatedState};
 ghost use Rattle.zst_model.specs.states.State.{IsSpill};
 ghost use Rattle.zst_tree.specs.Sets.{SetFits};
@@ -14,6 +15,7 @@ ghost use Rattle.zst_objset.specs.Changes.{changed, spill_put};
 ghost use Rattle.zst_objset.specs.Damage.{IfSetDamaged, IsDamagedSet, IsSetWithin};
 ghost use Rattle.zst_objset.specs.Putting.{MakesDnode};
 ghost use Rattle.zst_objset.specs.Sets.{SetHolds};
+ghost use Rattle.zst_objset.specs.Tight.{IsTightDnode, SetIsTight};
 
 use crate::answers::object_there;
 use crate::fault::ObjFault;
@@ -66,6 +68,9 @@ pub(crate) fn put_dnode<D: Disk>(
     ensures changed { (number : ℕ) (change : Change) (state : DatedState) → (D.state io.new.disk.now).honest → SetHolds (Has (D.state io.old.disk.now).seen io.old.space) set.old state
         → MakesDnode (Has (D.state io.old.disk.now).seen io.old.space) number object change state dnode
         → Changes (SetHolds (Has (D.state io.new.disk.now).seen io.new.space) set.new) (changed number (At object change) state) result }
+    ensures tight { (number : ℕ) (change : Change) (state : DatedState) → (D.state io.new.disk.now).honest → SetIsTight (Has (D.state io.old.disk.now).seen io.old.space) set.old state
+        → MakesDnode (Has (D.state io.old.disk.now).seen io.old.space) number object change state dnode → IsTightDnode number object change state dnode
+        → Changes (SetIsTight (Has (D.state io.new.disk.now).seen io.new.space) set.new) (changed number (At object change) state) result }
     ensures limits { IfErr result NotLimit }
     ensures damaged { (D.state io.new.disk.now).honest → IfSetDamaged result (IsDamagedSet (SparesTaken io.old.space (D.state io.old.disk.now).seen) (D.state io.old.disk.now).size set.old) }
     ensures within { (D.state io.new.disk.now).honest → OnOk result (IsSetWithin (SparesTaken io.old.space (D.state io.old.disk.now).seen) (D.state io.old.disk.now).size set.old (SparesTaken io.new.space (D.state io.new.disk.now).seen) set.new) }
@@ -97,6 +102,8 @@ pub(crate) fn put_spill<D: Disk>(
     requires fits { FitsDisk (D.state io.old.disk.now).size io.old.space }
     ensures changed { (state : DatedState) → (D.state io.new.disk.now).honest → SetHolds (Has (D.state io.old.disk.now).seen io.old.space) set.old state
         → Changes (SetHolds (Has (D.state io.new.disk.now).seen io.new.space) set.new) (spill_put number object bytes.now state) result }
+    ensures tight { (state : DatedState) → (D.state io.new.disk.now).honest → SetIsTight (Has (D.state io.old.disk.now).seen io.old.space) set.old state → DatedUpTo number state
+        → Changes (SetIsTight (Has (D.state io.new.disk.now).seen io.new.space) set.new) (spill_put number object bytes.now state) result }
     ensures limits { IfErr result NotLimit }
     ensures damaged { (D.state io.new.disk.now).honest → IfSetDamaged result (IsDamagedSet (SparesTaken io.old.space (D.state io.old.disk.now).seen) (D.state io.old.disk.now).size set.old) }
     ensures kept { OnErr result (set.new ≡ set.old) }

@@ -9,6 +9,7 @@ ghost use Rattle.zst_tree.specs.Damage.{HangsIn, IsSeen, MayHave};
 ghost use Rattle.zst_tree.specs.Indices.{Delivers};
 ghost use Rattle.zst_objset.specs.Damage.{HasAllSlots, IfDamaged, IsDamagedLeaf, IsDamagedSet, IsLoaded, TellsLacking};
 ghost use Rattle.zst_objset.specs.Sets.{HasSlots, LeafIs, NamesSlots, SetHolds, Spells};
+ghost use Rattle.zst_objset.specs.Tight.{AreTight, SetIsTight};
 
 use crate::slots::{put_slots, summed_up};
 use crate::trees::leaf_at;
@@ -73,6 +74,8 @@ pub(crate) fn find_slots<D: Disk>(
     requires fits { FitsDisk (D.state io.old.disk.now).size io.old.space }
     ensures slots { (snap : DatedState) → (D.state io.new.disk.now).honest → SetHolds (Has (D.state io.old.disk.now).seen io.old.space) set.now snap
         → Delivers (λ was. HasSlots (Has (D.state io.old.disk.now).seen io.old.space) snap leaf io.new.node) result }
+    ensures tight { (snap : DatedState) → (D.state io.new.disk.now).honest → SetIsTight (Has (D.state io.old.disk.now).seen io.old.space) set.now snap
+        → OnOk result (AreTight snap leaf io.new.node) }
     ensures levels { OnOk result (set.now.tree.levels ≤ 7) }
     ensures hangs { (D.state io.new.disk.now).honest → IfOk result (HangsIn (MayHave (IsSeen (D.state io.old.disk.now).seen)) set.now.tree) }
     ensures loaded { (D.state io.new.disk.now).honest → IfOk result (λ was. IsLoaded (IsSeen (D.state io.old.disk.now).seen) was io.new.node) }

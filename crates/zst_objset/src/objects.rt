@@ -6,6 +6,7 @@ ghost use Rattle.zst_block.specs.declared.ptr.Ptr.{Ptr};
 ghost use Rattle.zst_dnode.specs.Dnode.{DnodeFits};
 ghost use Rattle.zst_dnode.specs.Slot.{SlotFits};
 ghost use Rattle.zst_model.specs.pools.Pool.{untouched};
+ghost use Rattle.zst_model.specs.pools.Sound.{DatedUpTo};
 ghost use Rattle.zst_model.specs.states.Dated.{DatedState};
 ghost use Rattle.zst_model.specs.declared.refusals.faults.Quantity.TheVariants as quantities;
 ghost use Rattle.zst_model.specs.states.State.{Object, IsBonus, IsHead, IsSpill, index_bound, number_bound};
@@ -33,6 +34,10 @@ pub trait Objects<D: Disk> {
     /// is held are clauses of `sets_hold_states`.
     ghost holds: { Self → Blocks → DatedState → Type 0 };
 
+    /// It holds the state tightly: no slot of it tells a later date than its number or one of its
+    /// indices has.
+    ghost tight: { Self → Blocks → DatedState → Type 0 };
+
     /// The set fits the bytes in which it is named: its levels aren't too many.
     ghost fits: { Self → Type 0 };
 
@@ -50,6 +55,7 @@ pub trait Objects<D: Disk> {
     /// The set of no objects, which nothing touched.
     fn empty() -> Self
         ensures held { (image : List ℕ) (space : FreeSectors) → holds result (Has image space) untouched }
+        ensures tight { (image : List ℕ) (space : FreeSectors) → tight result (Has image space) untouched }
         ensures levels { fits result };
 
     /// The dnode of an object.
@@ -125,6 +131,8 @@ pub trait Objects<D: Disk> {
         requires fits { FitsDisk (D.state io.old.disk.now).size io.old.space }
         ensures changed { (state : DatedState) → (D.state io.new.disk.now).honest → holds self.old (Has (D.state io.old.disk.now).seen io.old.space) state
             → Changes (holds self.new (Has (D.state io.new.disk.now).seen io.new.space)) (object_put number object head bonus.now keep_spill state) result }
+        ensures tight { (state : DatedState) → (D.state io.new.disk.now).honest → tight self.old (Has (D.state io.old.disk.now).seen io.old.space) state → DatedUpTo number state
+            → Changes (tight self.new (Has (D.state io.new.disk.now).seen io.new.space)) (object_put number object head bonus.now keep_spill state) result }
         ensures limits { IfErr result (LimitOnly quantities.Object number_bound (object + 1)) }
         ensures damaged { (D.state io.new.disk.now).honest → IfSetDamaged result (slot_damage (SparesTaken io.old.space (D.state io.old.disk.now).seen) (D.state io.old.disk.now).size self.old) }
         ensures within { (D.state io.new.disk.now).honest → OnOk result ((sector : ℕ) (stated found : List ℕ) → slot_damage (SparesTaken io.new.space (D.state io.new.disk.now).seen) (D.state io.old.disk.now).size self.new sector stated found
@@ -147,6 +155,8 @@ pub trait Objects<D: Disk> {
         requires fits { FitsDisk (D.state io.old.disk.now).size io.old.space }
         ensures changed { (state : DatedState) → (D.state io.new.disk.now).honest → holds self.old (Has (D.state io.old.disk.now).seen io.old.space) state
             → Changes (holds self.new (Has (D.state io.new.disk.now).seen io.new.space)) (spill_put number object bytes.now state) result }
+        ensures tight { (state : DatedState) → (D.state io.new.disk.now).honest → tight self.old (Has (D.state io.old.disk.now).seen io.old.space) state → DatedUpTo number state
+            → Changes (tight self.new (Has (D.state io.new.disk.now).seen io.new.space)) (spill_put number object bytes.now state) result }
         ensures limits { IfErr result NotLimit }
         ensures damaged { (D.state io.new.disk.now).honest → IfSetDamaged result (slot_damage (SparesTaken io.old.space (D.state io.old.disk.now).seen) (D.state io.old.disk.now).size self.old) }
         ensures kept { OnErr result (self.new ≡ self.old) }
@@ -166,6 +176,8 @@ pub trait Objects<D: Disk> {
         requires fits { FitsDisk (D.state io.old.disk.now).size io.old.space }
         ensures changed { (state : DatedState) → (D.state io.new.disk.now).honest → holds self.old (Has (D.state io.old.disk.now).seen io.old.space) state
             → Changes (holds self.new (Has (D.state io.new.disk.now).seen io.new.space)) (objects_freed number first count state) result }
+        ensures tight { (state : DatedState) → (D.state io.new.disk.now).honest → tight self.old (Has (D.state io.old.disk.now).seen io.old.space) state
+            → Changes (tight self.new (Has (D.state io.new.disk.now).seen io.new.space)) (objects_freed number first count state) result }
         ensures limits { IfErr result (LimitOnly quantities.Object number_bound (first + count)) }
         ensures damaged { (D.state io.new.disk.now).honest → IfSetDamaged result (slot_damage (SparesTaken io.old.space (D.state io.old.disk.now).seen) (D.state io.old.disk.now).size self.old) }
         ensures kept { OnErr result (self.new ≡ self.old) }

@@ -1,5 +1,5 @@
 //! A slot, put at some numbers of one leaf of a set.
-ghost use Rattle.std.specs.Prelude.{◌≡◌, ◌+◌, ◌*◌, ◌/◌, ◌<◌, ◌≤◌, ◌^◌, IfOk};
+ghost use Rattle.std.specs.Prelude.{◌≡◌, ◌+◌, ◌*◌, ◌/◌, ◌<◌, ◌≤◌, ◌^◌, ℕ, IfOk};
 ghost use Rattle.zst_block.specs.Blocks.{FitsDisk, Has, SparesTaken};
 ghost use Rattle.zst_block.specs.Working.{Works, stop_of};
 ghost use Rattle.zst_dnode.specs.Slot.{SlotFits};
@@ -9,6 +9,7 @@ ghost use Rattle.zst_tree.specs.Sets.{SetFits};
 ghost use Rattle.zst_objset.specs.Damage.{IfDamaged, IsDamagedSet, IsSetWithin};
 ghost use Rattle.zst_objset.specs.Putting.{PutsSlot};
 ghost use Rattle.zst_objset.specs.Sets.{SetHolds};
+ghost use Rattle.zst_objset.specs.Tight.{IsTightSlot, SetIsTight};
 
 use crate::leaves::{find_slots, save_slots};
 use crate::slots::put_slots;
@@ -43,6 +44,9 @@ pub(crate) fn put_in_leaf<D: Disk>(
     ensures put { (snap after : DatedState) → (D.state io.new.disk.now).honest → SetHolds (Has (D.state io.old.disk.now).seen io.old.space) set snap
         → PutsSlot (Has (D.state io.old.disk.now).seen io.old.space) snap after first below slot.now
         → Delivers (λ made. SetHolds (Has (D.state io.new.disk.now).seen io.new.space) made after) result }
+    ensures tight { (snap after : DatedState) → (D.state io.new.disk.now).honest → SetIsTight (Has (D.state io.old.disk.now).seen io.old.space) set snap
+        → PutsSlot (Has (D.state io.old.disk.now).seen io.old.space) snap after first below slot.now → ((k : ℕ) → first ≤ k → k < below → IsTightSlot after k slot.now)
+        → IfOk result (λ made. SetIsTight (Has (D.state io.new.disk.now).seen io.new.space) made after) }
     ensures damaged { (D.state io.new.disk.now).honest → IfDamaged result (IsDamagedSet (SparesTaken io.old.space (D.state io.old.disk.now).seen) (D.state io.old.disk.now).size set) }
     ensures within { (D.state io.new.disk.now).honest → IfOk result (IsSetWithin (SparesTaken io.old.space (D.state io.old.disk.now).seen) (D.state io.old.disk.now).size set (SparesTaken io.new.space (D.state io.new.disk.now).seen)) }
     ensures works { Works 240 16 (D.state io.old.disk.now) io.old.space io.old.failed (D.state io.new.disk.now) io.new.space io.new.failed (stop_of result) }

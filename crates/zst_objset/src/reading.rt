@@ -4,12 +4,14 @@ ghost use Rattle.zst_block.specs.Blocks.{FitsDisk, Has};
 ghost use Rattle.zst_block.specs.Working.{Looks, stop_of};
 ghost use Rattle.zst_dnode.specs.Dnode.{DnodeFits};
 ghost use Rattle.zst_dnode.specs.Slot.{SlotFits};
+ghost use Rattle.zst_dnode.specs.declared.slot.Slot.TheVariants.{There};
 ghost use Rattle.zst_model.specs.states.Dated.{DatedState};
 ghost use Rattle.zst_tree.specs.Damage.{IsSeen};
 ghost use Rattle.zst_tree.specs.Indices.{Delivers};
 ghost use Rattle.zst_objset.specs.Damage.{IfDamaged, IsDamagedSet, SlotStands, StandsIn};
 ghost use Rattle.zst_objset.specs.Dnodes.{DnodeIs, SlotIs};
 ghost use Rattle.zst_objset.specs.Sets.{SetHolds};
+ghost use Rattle.zst_objset.specs.Tight.{IsTightSlot, SetIsTight};
 
 use crate::leaves::find_slots;
 use zst_block::{BlockFault, Io};
@@ -28,6 +30,8 @@ pub(crate) fn slot_at<D: Disk>(
     requires fits { FitsDisk (D.state io.old.disk.now).size io.old.space }
     ensures found { (snap : DatedState) → (D.state io.new.disk.now).honest → SetHolds (Has (D.state io.old.disk.now).seen io.old.space) set.now snap
         → Delivers (SlotIs (Has (D.state io.new.disk.now).seen io.new.space) snap object) result }
+    ensures tight { (snap : DatedState) → (D.state io.new.disk.now).honest → SetIsTight (Has (D.state io.old.disk.now).seen io.old.space) set.now snap
+        → IfOk result (IsTightSlot snap object) }
     ensures ranges { IfOk result SlotFits }
     ensures stands { (D.state io.new.disk.now).honest → IfOk result (SlotStands (IsSeen (D.state io.old.disk.now).seen) set.now) }
     ensures damaged { (D.state io.new.disk.now).honest → IfDamaged result (IsDamagedSet (IsSeen (D.state io.old.disk.now).seen) (D.state io.old.disk.now).size set.now) }
@@ -54,6 +58,8 @@ pub(crate) fn dnode_at<D: Disk>(
     requires fits { FitsDisk (D.state io.old.disk.now).size io.old.space }
     ensures found { (snap : DatedState) → (D.state io.new.disk.now).honest → SetHolds (Has (D.state io.old.disk.now).seen io.old.space) set.now snap
         → Delivers (DnodeIs (Has (D.state io.new.disk.now).seen io.new.space) snap object) result }
+    ensures tight { (snap : DatedState) → (D.state io.new.disk.now).honest → SetIsTight (Has (D.state io.old.disk.now).seen io.old.space) set.now snap
+        → IfOk result (λ found. IfSome found (λ dnode. IsTightSlot snap object (There dnode))) }
     ensures ranges { IfOk result (λ found. IfSome found DnodeFits) }
     ensures bound { IfOk result (λ found. IfSome found (λ dnode. object < 2 ^ 48)) }
     ensures stands { (D.state io.new.disk.now).honest → IfOk result (λ found. IfSome found (StandsIn (IsSeen (D.state io.old.disk.now).seen) set.now)) }

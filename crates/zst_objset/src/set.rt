@@ -17,9 +17,12 @@ use zst_tree::ObjSet;
 impl<D: Disk> Objects<D> for ObjSet {
     ghost use Rattle.zst_objset.specs.Damage.{IsDamagedBlock, IsDamagedObject, IsDamagedSet};
     ghost use Rattle.zst_objset.specs.Sets.{SetHolds};
+    ghost use Rattle.zst_objset.specs.Tight.{SetIsTight};
     ghost use Rattle.zst_tree.specs.Sets.{SetFits};
 
     ghost holds = { λ set has state. SetHolds has set state };
+
+    ghost tight = { λ set has state. SetIsTight has set state };
 
     ghost fits = { λ set. SetFits set };
 
@@ -29,7 +32,7 @@ impl<D: Disk> Objects<D> for ObjSet {
 
     ghost block_damage = { λ images size count set. IsDamagedBlock images size count set };
 
-    #[tactic(auto, using(crate::proofs::SetLaws::empty))]
+    #[tactic(auto, using(crate::proofs::SetLaws::empty, crate::proofs::TightLaws::tight_empty))]
     fn empty() -> Self {
         ObjSet::empty()
     }

@@ -18,7 +18,7 @@ use Rattle.zst_objset.proofs.LeafLaws.{leaf_of}
 use Rattle.zst_traverse.specs.Cells.{choice_after, IsNextGone, NoNumber}
 use Rattle.zst_traverse.specs.Leaves.{EndsAll, EndsLeaf, IfNothing, IsNext, ShowsAhead, StandsFor}
 use Rattle.zst_traverse.specs.Slots.{AreEarly, IsFirstSlot, ShowsAbsent}
-use Rattle.zst_traverse.specs.Tight.{IsTightLeaf, IsTightSlot}
+use Rattle.zst_objset.specs.Tight.{IsTightLeaf, IsTightSlot}
 use Rattle.zst_traverse.specs.declared.leaves.Ahead.{Ahead}
 use Rattle.zst_traverse.specs.declared.leaves.Ahead.TheVariants as ahead
 use Rattle.zst_traverse.specs.declared.leaves.Leaf.{Leaf}

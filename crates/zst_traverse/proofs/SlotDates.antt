@@ -17,7 +17,7 @@ use Rattle.zst_objset.specs.Sets.{date_in, latest}
 use Rattle.zst_traverse.specs.Cells.{choice_after}
 use Rattle.zst_traverse.specs.Dates.{IsFirstLate, NoneLate}
 use Rattle.zst_traverse.specs.Slots.{AreEarly}
-use Rattle.zst_traverse.specs.Tight.{IsTightSlot}
+use Rattle.zst_objset.specs.Tight.{IsTightSlot}
 use Rattle.zst_traverse.proofs.Including.{early_before, included_by_date, included_by_index, not_included}
 
 -- what is dated after a source is dated after each earlier one

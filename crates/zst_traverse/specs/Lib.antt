@@ -4,4 +4,3 @@ pub mod Leaves
 pub mod Runs
 pub mod Slots
 pub mod Telling
-pub mod Tight

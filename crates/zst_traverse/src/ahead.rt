@@ -10,7 +10,7 @@ ghost use Rattle.zst_objset.specs.Sets.{SetHolds};
 ghost use Rattle.zst_traverse.specs.Cells.{choice_after};
 ghost use Rattle.zst_traverse.specs.Leaves.{AheadFits, EndsAll, FindsNumber, GoesOn, NumberFits, ShowsAhead, StandsFor};
 ghost use Rattle.zst_traverse.specs.Telling.{IsDamagedCell};
-ghost use Rattle.zst_traverse.specs.Tight.{IsTightLeaf, SetIsTight};
+ghost use Rattle.zst_objset.specs.Tight.{IsTightLeaf, SetIsTight};
 
 use crate::dates::next_late;
 use crate::found::Found;

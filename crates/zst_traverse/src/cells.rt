@@ -14,7 +14,7 @@ ghost use Rattle.zst_traverse.specs.Cells.{choice_after, FoundFits, IsNextCell};
 ghost use Rattle.zst_traverse.specs.Leaves.{StandsFor};
 ghost use Rattle.zst_traverse.specs.Runs.{FindsPairs, RunFits};
 ghost use Rattle.zst_traverse.specs.Telling.{IsDamagedCell};
-ghost use Rattle.zst_traverse.specs.Tight.{IsTightLeaf, SetIsTight};
+ghost use Rattle.zst_objset.specs.Tight.{IsTightLeaf, SetIsTight};
 
 use crate::ahead::next_number;
 use crate::found::Found;

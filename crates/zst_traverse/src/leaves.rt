@@ -14,7 +14,7 @@ ghost use Rattle.zst_objset.specs.Sets.{HasSlots, LeafIs};
 ghost use Rattle.zst_traverse.specs.Cells.{choice_after};
 ghost use Rattle.zst_traverse.specs.Leaves.{AheadFits, EndsLeaf, GoesOn, IfNothing, IsNext, ShowsAhead, StandsFor};
 ghost use Rattle.zst_traverse.specs.Telling.{IsDamagedCell};
-ghost use Rattle.zst_traverse.specs.Tight.{IsTightLeaf};
+ghost use Rattle.zst_objset.specs.Tight.{IsTightLeaf};
 
 use crate::dates::is_after;
 use crate::found::Found;

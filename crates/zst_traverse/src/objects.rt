@@ -15,7 +15,7 @@ ghost use Rattle.zst_objset.specs.Sets.{date_in};
 ghost use Rattle.zst_traverse.specs.Cells.{choice_after};
 ghost use Rattle.zst_traverse.specs.Leaves.{AheadFits, GoesOn, IsNext, ShowsAhead};
 ghost use Rattle.zst_traverse.specs.Telling.{IsDamagedCell};
-ghost use Rattle.zst_traverse.specs.Tight.{IsTightSlot};
+ghost use Rattle.zst_objset.specs.Tight.{IsTightSlot};
 
 use crate::dates::{is_after, next_late};
 use crate::found::Found;

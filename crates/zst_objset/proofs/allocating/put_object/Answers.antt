@@ -16,6 +16,9 @@ use Rattle.zst_model.specs.states.State.{number_bound}
 use Rattle.zst_model.specs.declared.refusals.faults.Quantity.TheVariants as quantities
 use Rattle.std.proofs.Common.{refl}
 use Rattle.zst_objset.proofs.LimitLaws.{if_no_limit}
+use Rattle.std.proofs.Common.{inl}
+use Rattle.zst_objset.specs.Tight.{SetIsTight}
+use Rattle.zst_objset.proofs.TightLaws.{found_dated}
 use Rattle.zst_objset.proofs.allocating.put_object.Goals as goal
 
 pub returns-then-object-ge-NUMBER_BOUND-clause-changed : goal.returns-then-object-ge-NUMBER_BOUND-clause-changed
@@ -55,3 +58,19 @@ returns-then-object-ge-NUMBER_BOUND-clause-limits g c = (refl, refl, omega arith
 
 pub returns-clause-limits : goal.returns-clause-limits
 returns-clause-limits g c = if_no_limit quantities.Object number_bound (c.args.object + 1) c.put_dnode.result c.put_dnode.ensures.limits
+
+pub returns-then-object-ge-NUMBER_BOUND-clause-tight : goal.returns-then-object-ge-NUMBER_BOUND-clause-tight
+returns-then-object-ge-NUMBER_BOUND-clause-tight g c = λ state honest tight dated. returns-then-object-ge-NUMBER_BOUND-clause-changed g c state honest tight.holds
+
+pub returns-in-Err-clause-tight : goal.returns-in-Err-clause-tight
+returns-in-Err-clause-tight g c = λ state honest tight dated. returns-in-Err-clause-changed g c state honest tight.holds
+
+pub returns-clause-tight : goal.returns-clause-tight
+returns-clause-tight g c = λ state honest tight dated.
+    let was_honest = c.put_dnode.ensures.works.fills.honest honest in
+    let mid = g.D.Disk.state c.dnode_at.new.io.disk.now in
+    let grown = look_on (λ (seen : List ℕ) (space : FreeSectors). SetIsTight (Has seen space) c.args.set.now state) _ _ _ _ _ _ _ c.in-Ok.ensures.looks tight in
+    let makes = c.made_dnode.ensures.made mid.seen c.dnode_at.new.io.space c.args.object state (is_number_at c.args.object (omega arith) (omega arith)) (c.in-Ok.ensures.found state was_honest tight.holds) in
+    let change = Put c.args.head c.args.bonus.now c.args.keep_spill 0 in
+    let early = c.made_dnode.ensures.dated (found_dated c.args.number state c.args.object _ dated (c.in-Ok.ensures.tight state was_honest tight)) in
+    rw (in_numbers-within (c.args.object + 1) (changed c.args.number (At c.args.object change) state) (omega arith)) (c.put_dnode.ensures.tight c.args.number change state honest grown makes (inl early))

@@ -5,15 +5,17 @@ use Rattle.zst_block.proofs.BlocksLaws.{FillsFree-then, KeepsBlocks-fills}
 use Rattle.zst_block.proofs.Working.{Works-after, Works-block, Works-more, Works-then}
 use Rattle.zst_model.specs.declared.states.item.Change.TheVariants.{Spill}
 use Rattle.zst_model.specs.states.State.{is_spill_size}
-use Rattle.zst_objset.specs.Putting.{MakesDnode, date_to, dates_to}
-use Rattle.zst_objset.proofs.SpillLaws.{change_not_there, no_spill, spill_fits, spill_is, spill_makes, spill_object, spill_some, spill_whole, spill_small, spilled, stops, undamaged_write}
+use Rattle.zst_objset.proofs.SpillLaws.{change_not_there, no_spill, spill_fits, spill_is, spill_makes_dnode, spill_some, spill_whole, spill_small, stops, undamaged_write}
 use Rattle.zst_dnode.specs.Dnode.{DnodeFits}
 use Rattle.zst_dnode.specs.declared.dnode.Dnode.{Dnode}
-use Rattle.zst_objset.specs.Dnodes.{ObjectIs}
 use Rattle.zst_objset.proofs.LeafLaws.{is_number_at, keeps_on}
 use Rattle.zst_objset.proofs.SetGrows.{IsThere-grows, SetHolds-grows}
 use Rattle.zst_tree.proofs.Told.{fills_looks}
 use Rattle.zst_objset.proofs.DamageLaws.{set_after, set_spared}
+use Rattle.std.proofs.Common.{inl, ◌≤◌}
+use Rattle.zst_dnode.specs.declared.slot.Slot.TheVariants.{There}
+use Rattle.zst_objset.specs.Sets.{date_in}
+use Rattle.zst_objset.proofs.TightLaws.{tight_dated, tight_grows}
 use Rattle.zst_objset.proofs.changing.put_spill.Goals as goal
 
 pub write-requires-clause-some : goal.write-requires-clause-some
@@ -56,15 +58,8 @@ returns-clause-changed g c = λ state honest holds.
     let size : is_spill_size c.in-Ok-write.ptr.length ≡ true = ap (λ (ptr : Ptr). is_spill_size ptr.length) wrote.pointer ∙ c.requires.spill in
     let made = c.with_spill.ensures in
     let number = is_number_at c.args.object (omega arith) (omega (arith, c.in-Ok.ensures.bound)) in
-    let makes : MakesDnode has c.args.number c.args.object (Spill c.args.bytes.now) state c.with_spill.result = record {
-      object = spilled here.object c.args.bytes.now;
-      made = spill_makes c.args.bytes.now (state.state c.args.object) here.object here.there;
-      lawful = (number, c.requires.spill);
-      fits = subst (λ (dnode : Dnode). DnodeFits dnode) (sym made.made) (spill_fits c.in-Ok.dnode c.in-Ok-write.ptr c.args.number c.in-Ok.ensures.ranges made.fits made.date kind size);
-      map = here.map;
-      is = subst (λ (dnode : Dnode). ObjectIs has dnode (spilled here.object c.args.bytes.now) (date_to c.args.number c.args.object (Spill c.args.bytes.now) state) (dates_to c.args.number c.args.object (Spill c.args.bytes.now) state) here.map) (sym made.made)
-          (spill_object has c.args.number c.args.object c.args.bytes.now state c.in-Ok.dnode c.in-Ok-write.ptr here kind wrote.wrote);
-    } in
+    let makes = spill_makes_dnode has c.args.number c.args.object c.args.bytes.now state c.in-Ok.dnode c.with_spill.result c.in-Ok-write.ptr here number c.requires.spill kind wrote.wrote made.made
+    (spill_fits c.in-Ok.dnode c.in-Ok-write.ptr c.args.number c.in-Ok.ensures.ranges made.fits made.date kind size) in
     c.put_dnode.ensures.changed c.args.number (Spill c.args.bytes.now) state honest grown makes
 
 pub put_dnode-requires-clause-dnode : goal.put_dnode-requires-clause-dnode
@@ -81,3 +76,31 @@ pub returns-clause-damaged : goal.returns-clause-damaged
 returns-clause-damaged g c = λ honest.
     let filled = FillsFree-then _ _ _ _ _ _ (fills_looks _ _ _ _ _ _ _ c.in-Ok.ensures.looks) c.in-Ok-write.ensures.works.fills in
     set_after _ _ _ _ filled c.args.set.now c.put_dnode.result (c.put_dnode.ensures.damaged honest)
+
+pub returns-in-Err-clause-tight : goal.returns-in-Err-clause-tight
+returns-in-Err-clause-tight g c = λ state honest tight dated. returns-in-Err-clause-changed g c state honest tight.holds
+
+pub returns-in-Err-write-clause-tight : goal.returns-in-Err-write-clause-tight
+returns-in-Err-write-clause-tight g c = λ state honest tight dated. returns-in-Err-write-clause-changed g c state honest tight.holds
+
+pub returns-clause-tight : goal.returns-clause-tight
+returns-clause-tight g c = λ state honest tight dated.
+    let was_written = c.put_dnode.ensures.works.fills.honest honest in
+    let wrote = c.in-Ok-write.ensures in
+    let there = c.in-Ok.ensures.found state (wrote.works.fills.honest was_written) tight.holds in
+    let old = g.D.Disk.state c.args.io.now.disk.now in
+    let mid = g.D.Disk.state c.object_there.new.io.disk.now in
+    let new = g.D.Disk.state c.write.new.io.disk.now in
+    let has = Has new.seen c.write.new.io.space in
+    let writing : KeepsBlocks mid.seen c.object_there.new.io.space new.seen c.write.new.io.space = KeepsBlocks-fills _ _ _ _ wrote.works.fills in
+    let grown = tight_grows c.args.set.now old.seen c.args.io.now.space new.seen c.write.new.io.space state (keeps_on _ _ _ _ _ _ _ _ _ c.in-Ok.ensures.looks wrote.works.fills) tight in
+    let here = IsThere-grows (Has mid.seen c.object_there.new.io.space) has writing state c.args.object c.in-Ok.dnode there in
+    let kind = ap (λ (ptr : Ptr). ptr.kind) wrote.pointer in
+    let size : is_spill_size c.in-Ok-write.ptr.length ≡ true = ap (λ (ptr : Ptr). is_spill_size ptr.length) wrote.pointer ∙ c.requires.spill in
+    let made = c.with_spill.ensures in
+    let number = is_number_at c.args.object (omega arith) (omega (arith, c.in-Ok.ensures.bound)) in
+    let makes = spill_makes_dnode has c.args.number c.args.object c.args.bytes.now state c.in-Ok.dnode c.with_spill.result c.in-Ok-write.ptr here number c.requires.spill kind wrote.wrote made.made
+    (spill_fits c.in-Ok.dnode c.in-Ok-write.ptr c.args.number c.in-Ok.ensures.ranges made.fits made.date kind size) in
+    let was = tight_dated c.args.number state c.args.object (There c.in-Ok.dnode) dated (c.in-Ok.ensures.tight state (wrote.works.fills.honest was_written) tight) in
+    let early = subst (λ (dnode : Dnode). date_in (There dnode) ≤ c.args.number) (sym made.made) (omega (arith, was)) in
+    c.put_dnode.ensures.tight c.args.number (Spill c.args.bytes.now) state honest grown makes (inl early)

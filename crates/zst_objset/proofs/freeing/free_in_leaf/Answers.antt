@@ -1,4 +1,9 @@
 use Rattle.zst_objset.proofs.FreeLaws.{freed_puts}
+use Rattle.zst_objset.proofs.TightLaws.{freed_tight}
+use Rattle.std.proofs.Common.{subst, sym}
+use Rattle.zst_block.specs.Blocks.{Has}
+use Rattle.zst_objset.specs.Tight.{SetIsTight}
+use Rattle.zst_objset.proofs.FreeLaws.{freed-none}
 use Rattle.zst_objset.proofs.freeing.free_in_leaf.Goals as goal
 
 pub returns-clause-frees : goal.returns-clause-frees
@@ -7,3 +12,12 @@ returns-clause-frees g c = λ state honest holds.
 
 pub returns-then-first-below-clause-within : goal.returns-then-first-below-clause-within
 returns-then-first-below-clause-within g c = λ honest sector stated found damaged. damaged
+
+pub returns-clause-tight : goal.returns-clause-tight
+returns-clause-tight g c = λ state honest tight.
+    let puts = freed_puts c.args.number c.args.first c.args.below state _ tight.holds.lawful tight.holds.bounded in
+    c.put_in_leaf.ensures.tight state _ honest tight puts (freed_tight _ c.args.number c.args.first c.args.below state puts c.requires.first c.requires.bound)
+
+pub returns-then-first-below-clause-tight : goal.returns-then-first-below-clause-tight
+returns-then-first-below-clause-tight g c = λ state honest tight.
+    subst (SetIsTight (Has (g.D.Disk.state c.args.io.now.disk.now).seen c.args.io.now.space) c.args.set) (sym (freed-none c.args.number c.args.first c.args.below state c.if-first-below.true)) tight

@@ -8,6 +8,8 @@ use Rattle.zst_tree.specs.Indices.{Delivers}
 use Rattle.zst_objset.specs.Sets.{SetHolds}
 use Rattle.zst_objset.proofs.FreeLaws.{freed-parts}
 use Rattle.zst_objset.proofs.DamageLaws.{fault_within, result_within, set_within}
+use Rattle.std.specs.Prelude.{IfOk}
+use Rattle.zst_objset.specs.Tight.{SetIsTight}
 use Rattle.zst_objset.proofs.freeing.free_range.Goals as goal
 
 pub returns-in_err-begun-clause-frees : goal.returns-in_err-begun-clause-frees
@@ -52,3 +54,12 @@ returns-clause-damaged g c = λ honest.
     let filled = FillsFree-then _ _ _ _ _ _ begun.works.fills made.works.fills in
     let within = set_within _ _ _ c.args.set _ c.in_ok-begun.begun _ c.in_ok-made.made begun.works.fills.size (begun.within (made.works.fills.honest was_made)) (made.within was_made) in
     result_within _ _ _ c.args.set _ c.in_ok-made.made filled.size within c.free_in_leaf-3.result (c.free_in_leaf-3.ensures.damaged honest)
+
+pub returns-clause-tight : goal.returns-clause-tight
+returns-clause-tight g c = λ state honest tight.
+    let was_made = c.free_in_leaf-3.ensures.works.fills.honest honest in
+    let begun = c.in_ok-begun.ensures.tight state (c.in_ok-made.ensures.works.fills.honest was_made) tight in
+    let made = c.in_ok-made.ensures.tight _ was_made begun in
+    subst (λ (after : DatedState). IfOk c.free_in_leaf-3.result (λ set. SetIsTight (Has (g.D.Disk.state c.free_in_leaf-3.new.io.disk.now).seen c.free_in_leaf-3.new.io.space) set after))
+    (freed-parts c.args.number c.args.first (16 * c.div_ceil-whole.result) (16 * (c.args.below / 16)) c.args.below state (omega arith) (omega arith) (omega arith))
+    (c.free_in_leaf-3.ensures.tight _ honest made)

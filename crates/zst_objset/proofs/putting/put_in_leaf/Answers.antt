@@ -9,6 +9,7 @@ use Rattle.zst_tree.proofs.Told.{fills_looks}
 use Rattle.zst_objset.proofs.DamageLaws.{IfDamage-weaker, LacksSlot-put, fault_spared, lacking_spared, node_after}
 use Rattle.std.proofs.Common.{◌∙◌}
 use Rattle.zst_objset.proofs.DamageLaws.{changed_within, leaf_whole, set_now, set_within}
+use Rattle.zst_objset.proofs.TightLaws.{put_leaf_tight}
 use Rattle.zst_objset.proofs.putting.put_in_leaf.Goals as goal
 
 pub returns-in_err-was-clause-put : goal.returns-in_err-was-clause-put
@@ -87,3 +88,15 @@ returns-clause-within g c = λ honest.
     let whole = leaf_whole _ _ _ c.in_ok-ptr.ptr _ (g.met.D.Disk.seen_size c.set.new.io.disk.now ∙ set.works.fills.size) (KeepsBlocks-fills _ _ _ _ set.works.fills _ _ saved.wrote) (c.put_slots.ensures.long (omega arith)) saved.some in
     rw c.set_over.ensures.made (set_within _ _ _ c.args.set _ c.args.set _ _ filled.size (set_now _ _ _ _ filled c.args.set)
     (changed_within _ _ _ _ set.works.fills c.args.set (record { tree = c.set.new.self }) c.in_ok-ptr.ptr set.levels whole (set.within honest)))
+
+pub returns-clause-tight : goal.returns-clause-tight
+returns-clause-tight g c = λ snap after honest tight puts each.
+    let was_saved = c.in_ok-set.ensures.works.fills.honest honest in
+    let was_found = c.in_ok-ptr.ensures.works.fills.honest was_saved in
+    let found = c.in_ok-was.ensures in
+    let all = c.put_slots.ensures in
+    let at : InLeaf c.args.first c.args.below (c.args.first / 16) (c.args.first - 16 * (c.args.first / 16)) (c.args.below - 16 * (c.args.first / 16)) = record { first_is = omega arith; below_is = omega arith; some = omega arith; inside = omega arith; small = omega arith; above = omega arith } in
+    let is : IsPut c.args.slot.now (c.args.first - 16 * (c.args.first / 16)) (c.args.below - 16 * (c.args.first / 16)) c.find_slots.new.io.node c.put_slots.new.node = record { fits = c.requires.slot; long = all.long at.some; put = all.put; kept = all.kept } in
+    let saving = keeps_on _ _ _ _ _ _ _ _ _ found.looks c.in_ok-ptr.ensures.works.fills in
+    rw c.set_over.ensures.made (put_leaf_tight _ _ _ _ _ _ saving (KeepsBlocks-fills _ _ _ _ c.in_ok-set.ensures.works.fills) c.args.set c.set.new.self snap after c.args.first c.args.below (c.args.first / 16) _ _ c.args.slot.now c.in_ok-ptr.ptr _ _
+    at is puts tight (found.slots snap was_found tight.holds) (found.tight snap was_found tight) each c.in_ok-ptr.ensures.names (λ map other tree put. c.in_ok-set.ensures.puts map other honest tree put) c.in_ok-set.ensures.levels)

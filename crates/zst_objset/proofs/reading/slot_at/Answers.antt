@@ -5,6 +5,7 @@ use Rattle.zst_block.specs.Blocks.{Has}
 use Rattle.zst_objset.specs.Dnodes.{SlotIs}
 use Rattle.zst_objset.proofs.DamageLaws.{lacking_told, slot_stands}
 use Rattle.zst_objset.proofs.LeafLaws.{look_on, slot_found, slot_there}
+use Rattle.zst_objset.proofs.TightLaws.{slot_tight}
 use Rattle.zst_objset.proofs.reading.slot_at.Goals as goal
 
 pub returns-in_err-was-clause-found : goal.returns-in_err-was-clause-found
@@ -34,3 +35,8 @@ returns-in-None-clause-damaged g c = λ honest.
     let found = c.in_ok-was.ensures in
     rw c.of_layout.ensures (lacking_told _ _ c.args.set.now c.in_ok-was.was' c.find_slots.new.io.node (found.hangs honest) (found.loaded honest)
     (record { place = c.args.object % 16; under = omega arith; none = λ slot has. c.in-None.ensures.none refl slot has.fits (rw c.as_slice.ensures.bytes has.spelled) }))
+
+pub returns-in-Some-clause-tight : goal.returns-in-Some-clause-tight
+returns-in-Some-clause-tight g c = λ snap honest tight.
+    let found = c.in_ok-was.ensures in
+    slot_tight _ snap c.args.object _ _ c.in-Some.slot (found.slots snap honest tight.holds) (found.tight snap honest tight) c.as_slice.ensures.bytes c.in-Some.ensures.back

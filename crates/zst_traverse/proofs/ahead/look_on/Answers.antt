@@ -13,7 +13,7 @@ use Rattle.zst_objset.proofs.LeafLaws.{look_back, look_on}
 use Rattle.zst_traverse.specs.Cells.{choice_after, NoNumber}
 use Rattle.zst_traverse.specs.Dates.{FindsLate, IsFirstLate}
 use Rattle.zst_traverse.specs.Leaves.{EndsAll, IsNext, ShowsAhead, StandsFor}
-use Rattle.zst_traverse.specs.Tight.{IsTightLeaf}
+use Rattle.zst_objset.specs.Tight.{IsTightLeaf}
 use Rattle.zst_traverse.proofs.Looking.{if_ok, next_all}
 use Rattle.zst_traverse.proofs.Numbers.{ahead_behind, leaves_early, stands_for}
 use Rattle.zst_traverse.proofs.ahead.look_on.Goals as goal

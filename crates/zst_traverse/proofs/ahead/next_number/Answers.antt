@@ -9,7 +9,7 @@ use Rattle.zst_objset.proofs.LeafLaws.{look_back, look_on}
 use Rattle.zst_objset.specs.Sets.{SetHolds}
 use Rattle.zst_traverse.specs.Cells.{choice_after, IsNextNumber}
 use Rattle.zst_traverse.specs.Leaves.{AheadFits, EndsAll, ShowsAhead}
-use Rattle.zst_traverse.specs.Tight.{SetIsTight}
+use Rattle.zst_objset.specs.Tight.{SetIsTight}
 use Rattle.zst_traverse.specs.declared.leaves.Ahead.{Ahead}
 use Rattle.zst_traverse.specs.declared.leaves.Ahead.TheVariants as ahead
 use Rattle.zst_traverse.proofs.Numbers.{ahead_behind}

@@ -6,7 +6,7 @@ use Rattle.zst_model.specs.states.Dated.{DatedState}
 use Rattle.zst_objset.specs.Sets.{SetHolds}
 use Rattle.zst_traverse.specs.Cells.{choice_after, NoNumber}
 use Rattle.zst_traverse.specs.Leaves.{StandsFor}
-use Rattle.zst_traverse.specs.Tight.{IsTightLeaf, SetIsTight}
+use Rattle.zst_objset.specs.Tight.{IsTightLeaf, SetIsTight}
 use Rattle.zst_traverse.proofs.ahead.next_number.Given as goal
 
 abbrev pub invariant-loop-at : goal.invariant-loop-at

@@ -12,7 +12,7 @@ use Rattle.zst_objset.proofs.LeafLaws.{look_on}
 use Rattle.zst_objset.specs.Sets.{SetHolds}
 use Rattle.zst_traverse.specs.Cells.{choice_after, IsNextCell}
 use Rattle.zst_traverse.specs.Leaves.{FindsNumber, StandsFor}
-use Rattle.zst_traverse.specs.Tight.{IsTightLeaf, SetIsTight}
+use Rattle.zst_objset.specs.Tight.{IsTightLeaf, SetIsTight}
 use Rattle.zst_traverse.proofs.Nexts.{past_next, slot_next}
 use Rattle.zst_traverse.proofs.Numbers.{stands_for}
 use Rattle.zst_traverse.proofs.cells.next_cell.Goals as goal

@@ -18,7 +18,7 @@ use Rattle.zst_traverse.specs.Telling.{IsDamagedCell}
 use Rattle.zst_traverse.specs.declared.slots.Glance.{Glance}
 use Rattle.zst_traverse.proofs.Damage.{dnode_stands}
 use Rattle.zst_traverse.proofs.Looking.{gone_shown, if_ok, late_shown, leaf_is, next_ends, next_some, nothing_shown, object_shown, spelled}
-use Rattle.zst_traverse.specs.Tight.{IsTightLeaf}
+use Rattle.zst_objset.specs.Tight.{IsTightLeaf}
 use Rattle.zst_model.specs.states.Dated.{DatedState}
 use Rattle.std.specs.Prelude.{IfOk}
 use Rattle.zst_traverse.proofs.leaves.look.Given as given
