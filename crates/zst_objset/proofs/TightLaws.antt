@@ -1,5 +1,5 @@
 -- A set whose slots are tight keeps them so, and a slot that is put into it is tight where its dates are the state's.
-use Rattle.std.proofs.Common.{◌≡◌, ◌⊎◌, inl, inr, ⊎_elim, ℕ, zero, suc, ◌+◌, ◌*◌, ◌/◌, ◌%◌, ◌^◌, ◌<◌, ◌≤◌, ◌==◌, ◌&&◌, nat_lt, Bool, true, false, List, Some, refl, sym, ◌∙◌, ap, subst, arith}
+use Rattle.std.proofs.Common.{◌≡◌, ◌⊎◌, inl, inr, ⊎_elim, ℕ, zero, suc, ◌+◌, ◌*◌, ◌/◌, ◌%◌, ◌^◌, ◌<◌, ◌≤◌, ◌==◌, ◌&&◌, nat_lt, Bool, true, false, List, Some, refl, sym, ◌∙◌, ap, subst, arith, if◌then◌else◌}
 use Rattle.std.specs.Prelude.{IfSome, Option, None}
 use Rattle.std.proofs.lemmas.Bool.{cases_lt}
 use Rattle.std.proofs.lemmas.Bool.Decides.{nat_tests}
@@ -16,8 +16,10 @@ use Rattle.zst_dnode.specs.declared.slot.Slot.TheVariants.{Absent, There}
 use Rattle.zst_model.specs.declared.states.item.Change.{Change}
 use Rattle.zst_model.specs.pools.Pool.{untouched}
 use Rattle.zst_model.specs.pools.Sound.{DatedUpTo}
-use Rattle.zst_model.specs.states.Dated.{DatedState}
-use Rattle.zst_model.specs.states.State.{Object, is_number}
+use Rattle.zst_model.specs.states.Apply.{within}
+use Rattle.zst_model.specs.states.Dated.{DatedState, dates_index, dates_number}
+use Rattle.zst_model.specs.states.State.{Object, index_bound, is_number}
+use Rattle.zst_tree.specs.Changes.{TreeDatedUpTo}
 use Rattle.zst_tree.specs.Indices.{Blocks, Map, Puts, Subtree, TreeIs, child, span}
 use Rattle.zst_tree.specs.Sets.{no_objects}
 use Rattle.zst_tree.specs.declared.tree.ObjSet.{ObjSet}
@@ -25,9 +27,9 @@ use Rattle.zst_tree.specs.declared.tree.Tree.{Tree}
 use Rattle.zst_tree.proofs.IndicesLaws.{TreeIs-grows}
 use Rattle.zst_tree.specs.Damage.{IsSeen}
 use Rattle.zst_objset.specs.Damage.{IsLoaded}
-use Rattle.zst_objset.specs.Dnodes.{SlotIs}
+use Rattle.zst_objset.specs.Dnodes.{SlotIs, tree_of}
 use Rattle.zst_objset.specs.Freeing.{freed}
-use Rattle.zst_objset.specs.Putting.{Alike, PutsSlot}
+use Rattle.zst_objset.specs.Putting.{Alike, PutsSlot, dates_to}
 use Rattle.zst_objset.specs.Sets.{date_in, AreSlots, HasSlots, LeafIs, NamesSlots, SetHolds, Spells}
 use Rattle.zst_objset.specs.Tight.{AreTight, IsTightDnode, IsTightLeaf, IsTightSlot, SetIsTight}
 use Rattle.zst_objset.proofs.ChangePuts.{changed_to, date_put, dates_put}
@@ -259,3 +261,36 @@ change_tight number j change old object dnode tight k from less = subst (λ (n :
     go : IsTightDnode number j change old dnode → IsTightSlot (changed_to number j change old object) j (There dnode)
     go (inl date) = inl (subst (λ (n : ℕ). date_in (There dnode) ≤ n) (sym (date_put number j change old)) date)
     go (inr index) = inr (index.0, index.1, subst (λ (n : ℕ). date_in (There dnode) ≤ n) (sym (dates_put number j change old index.0 index.1)) index.2)
+
+-- a date stays, or is the commit's
+later_date : (number date : ℕ) (t : Bool) → date ≤ number → date ≤ (if t then number else date)
+later_date number date true early = early
+later_date number date false early = omega arith
+
+module _ (number k : ℕ) (change : Change) (state : DatedState) (old new : Dnode) (dated : DatedUpTo number state) (tight : IsTightSlot state k (There old)) where
+  -- a dnode that tells no later date than the one that was there
+  kept_tight : date_in (There new) ≤ date_in (There old) → IsTightDnode number k change state new
+  kept_tight early = go tight
+    where
+      go : IsTightSlot state k (There old) → IsTightDnode number k change state new
+      go (inl date) = inl (omega (arith, early, date, later_date number (state.number_date k) (dates_number change) (dated.numbers k)))
+      go (inr index) = inr (index.0, index.1, omega (arith, early, index.2, later_date number (state.index_date k index.0) (dates_index change (state.state k) index.0) (dated.indices k index.0)))
+
+  -- one with another tree, in which a range of indices has the commit's date
+  pub range_tight : (first count : ℕ) → new.date ≡ old.date → ((i : ℕ) → dates_index change (state.state k) i ≡ within first count i) → first + count ≤ index_bound
+      → ((bound : ℕ) → TreeDatedUpTo bound (tree_of old) → (0 < count → number ≤ bound) → TreeDatedUpTo bound (tree_of new)) → IsTightDnode number k change state new
+  range_tight first zero same dates range tree =
+      let made = tree (date_in (There old)) (omega arith, omega arith) (λ some. absurd (omega arith)) in
+      kept_tight (omega (arith, same, made.0, made.1))
+  range_tight first (suc count) same dates range tree =
+      let early = tight_dated number state k (There old) dated tight in
+      let made = tree number (omega (arith, early), omega (arith, early)) (λ some. omega arith) in
+      let test : within first (suc count) first ≡ true = grind (arith, nat_tests) in
+      inr (first, omega (arith, range), rw (dates first, test) (omega (arith, same, early, made.0, made.1)))
+
+  -- one with another tree, in which an index has the commit's date
+  pub index_tight : (i : ℕ) → new.date ≡ old.date → dates_to number k change state i ≡ number → i < index_bound → (TreeDatedUpTo number (tree_of old) → TreeDatedUpTo number (tree_of new)) → IsTightDnode number k change state new
+  index_tight i same date less tree =
+      let early = tight_dated number state k (There old) dated tight in
+      let made = tree (omega (arith, early), omega (arith, early)) in
+      inr (i, less, omega (arith, date, same, early, made.0, made.1))

@@ -76,6 +76,10 @@ same_place size i j some = go (cases_order j i)
 abbrev pub write_at : ℕ → List ℕ → Option Object → Change
 write_at i bytes there = Write (i * size_at there) 0 bytes
 
+-- it dates its index
+pub dates_written : (number k i : ℕ) (bytes : List ℕ) (snap : DatedState) → dates_to number k (write_at i bytes (snap.state k)) snap i ≡ number
+dates_written number k i bytes snap = let is : (i * size_at (snap.state k) == i * size_at (snap.state k)) ≡ true = eq-eqb _ _ refl in rw is refl
+
 -- an object with a block
 abbrev pub written_to : ℕ → List ℕ → Object → Object
 written_to i bytes object = record { attr = object.attr; blocks = λ j. if j * object.attr.block_size == i * object.attr.block_size then Data bytes else object.blocks j }
@@ -104,6 +108,10 @@ pub record IsWritable (size i count : ℕ) : Type 0 where
   pub whole : count ≡ size
   pub alone : is_odd_size size ≡ true → i ≡ 0
   pub inside : i < 2 ^ 43
+
+pub index_under : (i : ℕ) → i < 2 ^ 43 → i < index_bound
+unfolding index_bound
+index_under i less = less
 
 pub judged : (size i count : ℕ) → Ok (tt {0}) ≡ write_judged size i count → IsWritable size i count
 unfolding index_bound

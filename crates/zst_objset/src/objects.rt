@@ -35,7 +35,7 @@ pub trait Objects<D: Disk> {
     ghost holds: { Self → Blocks → DatedState → Type 0 };
 
     /// It holds the state tightly: no slot of it tells a later date than its number or one of its
-    /// indices has.
+    /// indices has. Each change keeps it so, of a state that is dated up to the change's number.
     ghost tight: { Self → Blocks → DatedState → Type 0 };
 
     /// The set fits the bytes in which it is named: its levels aren't too many.
@@ -198,6 +198,8 @@ pub trait Objects<D: Disk> {
         requires fits { FitsDisk (D.state io.old.disk.now).size io.old.space }
         ensures changed { (state : DatedState) → (D.state io.new.disk.now).honest → holds self.old (Has (D.state io.old.disk.now).seen io.old.space) state
             → Changes (holds self.new (Has (D.state io.new.disk.now).seen io.new.space)) (block_written number object index bytes.now state) result }
+        ensures tight { (state : DatedState) → (D.state io.new.disk.now).honest → tight self.old (Has (D.state io.old.disk.now).seen io.old.space) state → DatedUpTo number state
+            → Changes (tight self.new (Has (D.state io.new.disk.now).seen io.new.space)) (block_written number object index bytes.now state) result }
         ensures limits { IfErr result (LimitOnly quantities.Block index_bound (index + 1)) }
         ensures damaged { (D.state io.new.disk.now).honest → IfSetDamaged result (tree_damage (SparesTaken io.old.space (D.state io.old.disk.now).seen) (D.state io.old.disk.now).size NamesNode self.old) }
         ensures kept { OnErr result (self.new ≡ self.old) }
@@ -218,6 +220,8 @@ pub trait Objects<D: Disk> {
         requires fits { FitsDisk (D.state io.old.disk.now).size io.old.space }
         ensures changed { (state : DatedState) → (D.state io.new.disk.now).honest → holds self.old (Has (D.state io.old.disk.now).seen io.old.space) state
             → Changes (holds self.new (Has (D.state io.new.disk.now).seen io.new.space)) (holes_made number object first count state) result }
+        ensures tight { (state : DatedState) → (D.state io.new.disk.now).honest → tight self.old (Has (D.state io.old.disk.now).seen io.old.space) state → DatedUpTo number state
+            → Changes (tight self.new (Has (D.state io.new.disk.now).seen io.new.space)) (holes_made number object first count state) result }
         ensures limits { IfErr result (LimitOnly quantities.Block index_bound (first + count)) }
         ensures damaged { (D.state io.new.disk.now).honest → IfSetDamaged result (tree_damage (SparesTaken io.old.space (D.state io.old.disk.now).seen) (D.state io.old.disk.now).size (SumsUp (SparesTaken io.old.space (D.state io.old.disk.now).seen)) self.old) }
         ensures kept { OnErr result (self.new ≡ self.old) }
@@ -238,6 +242,8 @@ pub trait Objects<D: Disk> {
         requires fits { FitsDisk (D.state io.old.disk.now).size io.old.space }
         ensures changed { (state : DatedState) → (D.state io.new.disk.now).honest → holds self.old (Has (D.state io.old.disk.now).seen io.old.space) state
             → Changes (holds self.new (Has (D.state io.new.disk.now).seen io.new.space)) (range_redacted number object first count state) result }
+        ensures tight { (state : DatedState) → (D.state io.new.disk.now).honest → tight self.old (Has (D.state io.old.disk.now).seen io.old.space) state → DatedUpTo number state
+            → Changes (tight self.new (Has (D.state io.new.disk.now).seen io.new.space)) (range_redacted number object first count state) result }
         ensures limits { IfErr result (LimitOnly quantities.Block index_bound (first + count)) }
         ensures damaged { (D.state io.new.disk.now).honest → IfSetDamaged result (tree_damage (SparesTaken io.old.space (D.state io.old.disk.now).seen) (D.state io.old.disk.now).size NamesNode self.old) }
         ensures kept { OnErr result (self.new ≡ self.old) }

@@ -3,7 +3,9 @@ ghost use Rattle.std.specs.Prelude.{◌≡◌, ◌⊎◌, ◌+◌, ◌<◌, ◌�
 ghost use Rattle.zst_block.specs.Blocks.{FitsDisk, Has, SparesTaken};
 ghost use Rattle.zst_block.specs.Working.{Looks, Works, stop_of as block_stop};
 ghost use Rattle.zst_dnode.specs.Dnode.{DnodeFits};
+ghost use Rattle.zst_dnode.specs.declared.slot.Slot.TheVariants.{There};
 ghost use Rattle.zst_model.specs.declared.refusals.faults.Quantity.TheVariants as quantities;
+ghost use Rattle.zst_model.specs.pools.Sound.{DatedUpTo};
 ghost use Rattle.zst_model.specs.states.Apply.{within};
 ghost use Rattle.zst_model.specs.states.Dated.{DatedState};
 ghost use Rattle.zst_model.specs.states.State.{Object, Hole, Redacted, IsState, end_of, index_bound, is_number};
@@ -17,6 +19,7 @@ ghost use Rattle.zst_objset.specs.Dnodes.{IsThere, ObjectIs};
 ghost use Rattle.zst_objset.specs.Putting.{MakesDnode};
 ghost use Rattle.zst_objset.specs.Ranges.{free_of, redact_of, redaction_check, with_range};
 ghost use Rattle.zst_objset.specs.Sets.{SetHolds};
+ghost use Rattle.zst_objset.specs.Tight.{IsTightDnode, IsTightSlot, SetIsTight};
 ghost use Rattle.zst_objset.specs.declared.fault.ObjFault.TheVariants as faults;
 
 use crate::answers::object_there;
@@ -59,14 +62,15 @@ fn check_redaction(dnode: &Dnode, first: u64, count: u64) -> Result<(), ApplyFau
 }
 
 // How many indices of a tree are to be punched. Where the object's end, all that the tree has past
-// them is punched too, so that it needs no nodes for them.
+// them is punched too, so that it needs no nodes for them. An empty range dates nothing.
 #[tactic(auto, unfolding(zst_model::specs::states::State::index_bound))]
 fn count_in_tree(first: u64, count: u64) -> u64
     requires { first + count ≤ index_bound }
     ensures same { (i : ℕ) → i < index_bound → within first result i ≡ within first count i }
+    ensures none { count ≡ 0 → result ≡ 0 }
     ensures range { first + result ≤ 2 ^ 44 }
 {
-    if first + count == INDEX_BOUND {
+    if count > 0 && first + count == INDEX_BOUND {
         zst_tree::INDEX_BOUND - first
     } else {
         count
@@ -128,6 +132,8 @@ fn punched<D: Disk>(
     requires fits { FitsDisk (D.state io.old.disk.now).size io.old.space }
     ensures made { (k : ℕ) (state : DatedState) → (D.state io.new.disk.now).honest → is_number k ≡ true → IsState state.state → IsThere (Has (D.state io.old.disk.now).seen io.old.space) state k dnode
         → Delivers (MakesDnode (Has (D.state io.new.disk.now).seen io.new.space) number k (free_of first count (state.state k)) state) result }
+    ensures tight { (k : ℕ) (state : DatedState) → (D.state io.new.disk.now).honest → is_number k ≡ true → IsState state.state → IsThere (Has (D.state io.old.disk.now).seen io.old.space) state k dnode
+        → DatedUpTo number state → IsTightSlot state k (There dnode) → IfOk result (IsTightDnode number k (free_of first count (state.state k)) state) }
     ensures fits { IfOk result DnodeFits }
     ensures damaged { (D.state io.new.disk.now).honest → NamesDamage (SparesTaken io.old.space (D.state io.old.disk.now).seen) (D.state io.old.disk.now).size (SumsUp (SparesTaken io.old.space (D.state io.old.disk.now).seen)) dnode.levels dnode.root result }
     ensures works { Works 320 16 (D.state io.old.disk.now) io.old.space io.old.failed (D.state io.new.disk.now) io.new.space io.new.failed (block_stop result) }
@@ -154,6 +160,8 @@ fn redacted<D: Disk>(
     requires fits { FitsDisk (D.state io.old.disk.now).size io.old.space }
     ensures made { (k : ℕ) (state : DatedState) → (D.state io.new.disk.now).honest → is_number k ≡ true → IsState state.state → IsThere (Has (D.state io.old.disk.now).seen io.old.space) state k dnode
         → Delivers (MakesDnode (Has (D.state io.new.disk.now).seen io.new.space) number k (redact_of first count (state.state k)) state) result }
+    ensures tight { (k : ℕ) (state : DatedState) → (D.state io.new.disk.now).honest → is_number k ≡ true → IsState state.state → IsThere (Has (D.state io.old.disk.now).seen io.old.space) state k dnode
+        → DatedUpTo number state → IsTightSlot state k (There dnode) → IfOk result (IsTightDnode number k (redact_of first count (state.state k)) state) }
     ensures fits { IfOk result DnodeFits }
     ensures damaged { (D.state io.new.disk.now).honest → NamesDamage (SparesTaken io.old.space (D.state io.old.disk.now).seen) (D.state io.old.disk.now).size NamesNode dnode.levels dnode.root result }
     ensures works { Works 320 16 (D.state io.old.disk.now) io.old.space io.old.failed (D.state io.new.disk.now) io.new.space io.new.failed (block_stop result) }
@@ -177,6 +185,8 @@ pub(crate) fn punch<D: Disk>(
     requires fits { FitsDisk (D.state io.old.disk.now).size io.old.space }
     ensures changed { (state : DatedState) → (D.state io.new.disk.now).honest → SetHolds (Has (D.state io.old.disk.now).seen io.old.space) set.old state
         → Changes (SetHolds (Has (D.state io.new.disk.now).seen io.new.space) set.new) (holes_made number object first count state) result }
+    ensures tight { (state : DatedState) → (D.state io.new.disk.now).honest → SetIsTight (Has (D.state io.old.disk.now).seen io.old.space) set.old state → DatedUpTo number state
+        → Changes (SetIsTight (Has (D.state io.new.disk.now).seen io.new.space) set.new) (holes_made number object first count state) result }
     ensures limits { IfErr result (LimitOnly quantities.Block index_bound (first + count)) }
     ensures damaged { (D.state io.new.disk.now).honest → IfSetDamaged result (IsDamagedObject (SparesTaken io.old.space (D.state io.old.disk.now).seen) (D.state io.old.disk.now).size (SumsUp (SparesTaken io.old.space (D.state io.old.disk.now).seen)) set.old) }
     ensures kept { OnErr result (set.new ≡ set.old) }
@@ -203,6 +213,8 @@ pub(crate) fn redact_range<D: Disk>(
     requires fits { FitsDisk (D.state io.old.disk.now).size io.old.space }
     ensures changed { (state : DatedState) → (D.state io.new.disk.now).honest → SetHolds (Has (D.state io.old.disk.now).seen io.old.space) set.old state
         → Changes (SetHolds (Has (D.state io.new.disk.now).seen io.new.space) set.new) (range_redacted number object first count state) result }
+    ensures tight { (state : DatedState) → (D.state io.new.disk.now).honest → SetIsTight (Has (D.state io.old.disk.now).seen io.old.space) set.old state → DatedUpTo number state
+        → Changes (SetIsTight (Has (D.state io.new.disk.now).seen io.new.space) set.new) (range_redacted number object first count state) result }
     ensures limits { IfErr result (LimitOnly quantities.Block index_bound (first + count)) }
     ensures damaged { (D.state io.new.disk.now).honest → IfSetDamaged result (IsDamagedObject (SparesTaken io.old.space (D.state io.old.disk.now).seen) (D.state io.old.disk.now).size NamesNode set.old) }
     ensures kept { OnErr result (set.new ≡ set.old) }

@@ -3,8 +3,10 @@ ghost use Rattle.std.specs.Prelude.{◌≡◌, ◌+◌, ◌/◌, ◌%◌, ◌<�
 ghost use Rattle.zst_block.specs.Blocks.{FitsDisk, Has, SparesTaken};
 ghost use Rattle.zst_block.specs.Working.{Works, stop_of as block_stop};
 ghost use Rattle.zst_model.specs.declared.refusals.faults.Quantity.TheVariants as quantities;
+ghost use Rattle.zst_model.specs.pools.Sound.{DatedUpTo};
 ghost use Rattle.zst_model.specs.states.Dated.{DatedState};
 ghost use Rattle.zst_model.specs.states.State.{index_bound, is_odd_size};
+ghost use Rattle.zst_tree.specs.Changes.{TreeDatedUpTo};
 ghost use Rattle.zst_tree.specs.Damage.{NamesDamage, NamesNode};
 ghost use Rattle.zst_tree.specs.Indices.{Delivers, Map, TreeIs};
 ghost use Rattle.zst_tree.specs.Sets.{SetFits};
@@ -12,6 +14,7 @@ ghost use Rattle.zst_objset.specs.Answers.{Changes, stop_of, LimitOnly};
 ghost use Rattle.zst_objset.specs.Changes.{block_written};
 ghost use Rattle.zst_objset.specs.Damage.{IfSetDamaged, IsDamagedObject};
 ghost use Rattle.zst_objset.specs.Sets.{SetHolds};
+ghost use Rattle.zst_objset.specs.Tight.{SetIsTight};
 ghost use Rattle.zst_objset.specs.Writing.{PutsData, PutsDataRoot, write_judged};
 
 use crate::answers::object_there;
@@ -71,6 +74,7 @@ fn put_data<D: Disk>(
     requires fits { FitsDisk (D.state io.old.disk.now).size io.old.space }
     ensures puts { (map : Map) → (D.state io.new.disk.now).honest → TreeIs (Has (D.state io.old.disk.now).seen io.old.space) tree map
         → Delivers (PutsData (Has (D.state io.new.disk.now).seen io.new.space) map index bytes.now number) result }
+    ensures dated { (map : Map) → (D.state io.new.disk.now).honest → TreeIs (Has (D.state io.old.disk.now).seen io.old.space) tree map → TreeDatedUpTo number tree → IfOk result (TreeDatedUpTo number) }
     ensures levels { IfOk result (λ made. made.levels ≤ 7) }
     ensures root { IfOk result (PutsDataRoot tree (length bytes.now)) }
     ensures damaged { (D.state io.new.disk.now).honest → NamesDamage (SparesTaken io.old.space (D.state io.old.disk.now).seen) (D.state io.old.disk.now).size NamesNode tree.levels tree.root result }
@@ -96,6 +100,8 @@ pub(crate) fn write_block<D: Disk>(
     requires fits { FitsDisk (D.state io.old.disk.now).size io.old.space }
     ensures changed { (state : DatedState) → (D.state io.new.disk.now).honest → SetHolds (Has (D.state io.old.disk.now).seen io.old.space) set.old state
         → Changes (SetHolds (Has (D.state io.new.disk.now).seen io.new.space) set.new) (block_written number object index bytes.now state) result }
+    ensures tight { (state : DatedState) → (D.state io.new.disk.now).honest → SetIsTight (Has (D.state io.old.disk.now).seen io.old.space) set.old state → DatedUpTo number state
+        → Changes (SetIsTight (Has (D.state io.new.disk.now).seen io.new.space) set.new) (block_written number object index bytes.now state) result }
     ensures limits { IfErr result (LimitOnly quantities.Block index_bound (index + 1)) }
     ensures damaged { (D.state io.new.disk.now).honest → IfSetDamaged result (IsDamagedObject (SparesTaken io.old.space (D.state io.old.disk.now).seen) (D.state io.old.disk.now).size NamesNode set.old) }
     ensures kept { OnErr result (set.new ≡ set.old) }

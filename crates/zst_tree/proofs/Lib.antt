@@ -16,5 +16,6 @@ pub mod Finding
 pub mod Quieter
 pub mod Emptier
 pub mod Damage
+pub mod Dated
 pub mod Told
 pub mod Within

@@ -46,3 +46,7 @@ IsPutRoot level leaf made = ((made ≡ leaf) × ((level ≡ 0) ⊎ (is_flat leaf
 -- a tree has the root and the levels that it had, or such a one
 abbrev pub PutsRoot : Tree → Ptr → Tree → Type 0
 PutsRoot old leaf new = ((new.levels ≡ old.levels) × (new.root ≡ old.root)) ⊎ IsPutRoot new.levels leaf new.root
+
+-- no date of a tree is above a number: neither that past its span, nor its root's, the latest below it
+abbrev pub TreeDatedUpTo : ℕ → Tree → Type 0
+TreeDatedUpTo number tree = (tree.past ≤ number) × (tree.root.number ≤ number)

@@ -7,7 +7,7 @@ ghost use Rattle.zst_block.specs.Working.{Works, stop_of};
 ghost use Rattle.zst_block.specs.declared.ptr.Ptr.{Ptr};
 ghost use Rattle.zst_tree.specs.Damage.{IsWithin, NamesDamage, NamesNode};
 ghost use Rattle.zst_tree.specs.Indices.{Map, span, Subtree, Changed, Delivers, Stands, TreeIs, Puts};
-ghost use Rattle.zst_tree.specs.Changes.{IsPutRoot, PutsRoot, most};
+ghost use Rattle.zst_tree.specs.Changes.{IsPutRoot, PutsRoot, TreeDatedUpTo, most};
 
 use crate::put::{close, fill, put_child, put_in};
 use crate::spans::{INDEX_BOUND, span_of};
@@ -86,6 +86,7 @@ fn put_range<D: Disk>(
     ensures kept { OnErr result (tree.new ≡ tree.old) }
     ensures levels { tree.new.levels ≤ 7 }
     ensures root { PutsRoot tree.old leaf tree.new }
+    ensures dated { (bound : ℕ) (map : Map) → (D.state io.new.disk.now).honest → TreeIs (Has (D.state io.old.disk.now).seen io.old.space) tree.old map → TreeDatedUpTo bound tree.old → leaf.number ≤ bound → OnOk result (TreeDatedUpTo bound tree.new) }
     ensures within { (D.state io.new.disk.now).honest → OnOk result (IsWithin (SparesTaken io.old.space (D.state io.old.disk.now).seen) (D.state io.old.disk.now).size tree.old.levels tree.old.root leaf (SparesTaken io.new.space (D.state io.new.disk.now).seen) tree.new.levels tree.new.root) }
     ensures works { Works 320 16 (D.state io.old.disk.now) io.old.space io.old.failed (D.state io.new.disk.now) io.new.space io.new.failed (stop_of result) }
     ensures one { below ≡ first + 1 → Works 224 16 (D.state io.old.disk.now) io.old.space io.old.failed (D.state io.new.disk.now) io.new.space io.new.failed (stop_of result) }
@@ -112,6 +113,7 @@ fn punch_on<D: Disk>(
     ensures kept { OnErr result (tree.new ≡ tree.old) }
     ensures levels { tree.new.levels ≤ 7 }
     ensures root { PutsRoot tree.old (hole_of number) tree.new }
+    ensures dated { (bound : ℕ) (map : Map) → (D.state io.new.disk.now).honest → TreeIs (Has (D.state io.old.disk.now).seen io.old.space) tree.old map → TreeDatedUpTo bound tree.old → number ≤ bound → OnOk result (TreeDatedUpTo bound tree.new) }
     ensures within { (D.state io.new.disk.now).honest → OnOk result (IsWithin (SparesTaken io.old.space (D.state io.old.disk.now).seen) (D.state io.old.disk.now).size tree.old.levels tree.old.root (hole_of number) (SparesTaken io.new.space (D.state io.new.disk.now).seen) tree.new.levels tree.new.root) }
     ensures works { Works 320 16 (D.state io.old.disk.now) io.old.space io.old.failed (D.state io.new.disk.now) io.new.space io.new.failed (stop_of result) }
     ensures same { io.new.disk.ghost_name ≡ io.old.disk.ghost_name }
@@ -173,6 +175,7 @@ impl Tree {
         ensures kept { OnErr result (self.new ≡ self.old) }
         ensures levels { self.new.levels ≤ 7 }
         ensures root { PutsRoot self.old leaf self.new }
+        ensures dated { (bound : ℕ) (map : Map) → (D.state io.new.disk.now).honest → TreeIs (Has (D.state io.old.disk.now).seen io.old.space) self.old map → TreeDatedUpTo bound self.old → leaf.number ≤ bound → OnOk result (TreeDatedUpTo bound self.new) }
         ensures works { Works 224 16 (D.state io.old.disk.now) io.old.space io.old.failed (D.state io.new.disk.now) io.new.space io.new.failed (stop_of result) }
         ensures same { io.new.disk.ghost_name ≡ io.old.disk.ghost_name }
     {
@@ -200,6 +203,7 @@ impl Tree {
         ensures kept { OnErr result (self.new ≡ self.old) }
         ensures levels { self.new.levels ≤ 7 }
         ensures root { PutsRoot self.old (hole_of number) self.new }
+        ensures dated { (bound : ℕ) (map : Map) → (D.state io.new.disk.now).honest → TreeIs (Has (D.state io.old.disk.now).seen io.old.space) self.old map → TreeDatedUpTo bound self.old → (0 < count → number ≤ bound) → OnOk result (TreeDatedUpTo bound self.new) }
         ensures works { Works 320 16 (D.state io.old.disk.now) io.old.space io.old.failed (D.state io.new.disk.now) io.new.space io.new.failed (stop_of result) }
         ensures same { io.new.disk.ghost_name ≡ io.old.disk.ghost_name }
     {
@@ -233,6 +237,7 @@ impl Tree {
         ensures kept { OnErr result (self.new ≡ self.old) }
         ensures levels { self.new.levels ≤ 7 }
         ensures root { PutsRoot self.old (redacted_of number) self.new }
+        ensures dated { (bound : ℕ) (map : Map) → (D.state io.new.disk.now).honest → TreeIs (Has (D.state io.old.disk.now).seen io.old.space) self.old map → TreeDatedUpTo bound self.old → (0 < count → number ≤ bound) → OnOk result (TreeDatedUpTo bound self.new) }
         ensures works { Works 320 16 (D.state io.old.disk.now) io.old.space io.old.failed (D.state io.new.disk.now) io.new.space io.new.failed (stop_of result) }
         ensures same { io.new.disk.ghost_name ≡ io.old.disk.ghost_name }
     {

@@ -19,6 +19,7 @@ use Rattle.zst_model.specs.states.State.{index_bound}
 use Rattle.zst_model.specs.declared.refusals.faults.Quantity.TheVariants as quantities
 use Rattle.std.proofs.Common.{refl}
 use Rattle.zst_objset.proofs.LimitLaws.{if_no_limit, no_limit}
+use Rattle.zst_objset.proofs.TightLaws.{tight_grows}
 use Rattle.zst_objset.proofs.ranges.punch.Goals as goal
 
 pub returns-in_err-dnode-clause-changed : goal.returns-in_err-dnode-clause-changed
@@ -93,3 +94,35 @@ returns-in_err-check_range-clause-limits g c =
 
 pub returns-clause-limits : goal.returns-clause-limits
 returns-clause-limits g c = if_no_limit quantities.Block index_bound (c.args.first + c.args.count) c.put_dnode.result c.put_dnode.ensures.limits
+
+pub returns-in_err-dnode-clause-tight : goal.returns-in_err-dnode-clause-tight
+returns-in_err-dnode-clause-tight g c = λ state honest tight dated.
+    let p = err_from_is_err_and c.from_residual.result c.from_residual.ensures.1 in
+    let refused = returns-in_err-dnode-clause-changed g c state honest tight.holds in
+    rw (p.1, p.2) (rw (p.1, p.2) at refused)
+
+pub returns-in_err-check_range-clause-tight : goal.returns-in_err-check_range-clause-tight
+returns-in_err-check_range-clause-tight g c = λ state honest tight dated.
+    let p = err_from_is_err_and c.from_residual-in_err-check_range.result c.from_residual-in_err-check_range.ensures.1 in
+    let refused = returns-in_err-check_range-clause-changed g c state honest tight.holds in
+    rw (p.1, p.2) (rw (p.1, p.2) at refused)
+
+pub returns-in_err-made-clause-tight : goal.returns-in_err-made-clause-tight
+returns-in_err-made-clause-tight g c = λ state honest tight dated.
+    let p = err_from_is_err_and c.from_residual-in_err-made.result c.from_residual-in_err-made.ensures.1 in
+    let refused = returns-in_err-made-clause-changed g c state honest tight.holds in
+    rw (p.1, p.2) (rw (p.1, p.2) at refused)
+
+pub returns-clause-tight : goal.returns-clause-tight
+returns-clause-tight g c = λ state honest tight dated.
+    let old = g.D.Disk.state c.args.io.now.disk.now in
+    let new = g.D.Disk.state c.punched.new.io.disk.now in
+    let made = c.in_ok-made.ensures in
+    let was_made = c.put_dnode.ensures.works.fills.honest honest in
+    let there = c.in_ok-dnode.ensures.found state (made.works.fills.honest was_made) tight.holds in
+    let number = is_number_at c.args.object (omega arith) (omega (arith, c.in_ok-dnode.ensures.bound)) in
+    let grown = tight_grows c.args.set.now old.seen c.args.io.now.space new.seen c.punched.new.io.space state (keeps_on _ _ _ _ _ _ _ _ _ c.in_ok-dnode.ensures.looks made.works.fills) tight in
+    let was = c.in_ok-dnode.ensures.tight state (made.works.fills.honest was_made) tight in
+    Changes-indices (c.args.first + c.args.count) _ _ _ c.in_ok-check_range.ensures.inside
+    (c.put_dnode.ensures.tight c.args.number (free_of c.args.first c.args.count (state.state c.args.object)) state honest grown (made.made c.args.object state was_made number tight.holds.lawful there)
+    (made.tight c.args.object state was_made number tight.holds.lawful there dated was))

@@ -22,6 +22,11 @@ use Rattle.zst_tree.specs.Damage.{NamesNode}
 use Rattle.zst_tree.proofs.Damage.{TellsNode-sums}
 use Rattle.zst_objset.proofs.DamageLaws.{told_before, sums_spared}
 use Rattle.zst_objset.proofs.TreeFits.{dnode_root, hole_fits, root_fits, with_tree_fits}
+use Rattle.std.proofs.Common.{⊎_elim, refl}
+use Rattle.std.proofs.lemmas.Bool.{cases_lt}
+use Rattle.zst_objset.specs.Tight.{IsTightDnode}
+use Rattle.zst_objset.proofs.TightLaws.{range_tight}
+use Rattle.zst_objset.proofs.TreeFits.{with_tree}
 use Rattle.zst_objset.proofs.ranges.punched.Goals as goal
 
 pub returns-in_err-end-clause-made : goal.returns-in_err-end-clause-made
@@ -82,3 +87,18 @@ returns-in_err-punch-clause-damaged g c = λ honest.
     rw (p.1, p.2) (TellsNode-sums (SparesTaken c.args.io.now.space old.seen) old.size c.args.dnode.levels c.args.dnode.root _
     (told_before (λ space seen. NamesNode) c.args.dnode.levels c.args.dnode.root _ _ _ _ _ _ _ c.in_ok-end.ensures.looks _
     (rw c.tree_of-tree.ensures at (c.in_err-punch.ensures.damaged honest))))
+
+pub returns-clause-tight : goal.returns-clause-tight
+returns-clause-tight g c = λ k state honest number lawful there dated tight.
+    let old = g.D.Disk.state c.args.io.now.disk.now in
+    let had : TreeIs (Has old.seen c.args.io.now.space) c.tree_of-tree.result there.map = tree_is _ c.args.dnode _ there.map c.tree_of-tree.ensures there.is.tree in
+    let tree = look_on (λ (seen : List ℕ) (space : FreeSectors). TreeIs (Has seen space) c.tree_of-tree.result there.map) _ _ _ _ _ _ _ c.in_ok-end.ensures.looks had in
+    let object = object_of (state.state k) there.object there.there (lawful.objects k) in
+    let fills = Fills-free (Has old.seen c.args.io.now.space) c.args.number k c.args.first c.args.count state there.object there.there object number in
+    subst (IsTightDnode c.args.number k (free_of c.args.first c.args.count (state.state k)) state) (sym c.with_tree.ensures.made)
+    (range_tight c.args.number k (free_of c.args.first c.args.count (state.state k)) state c.args.dnode (with_tree c.args.dnode c.punch.new.self c.in_ok-end.end) dated tight c.args.first c.args.count refl fills.dates c.requires.range
+    (λ bound early some. c.in_ok-punch.ensures.dated bound there.map honest tree (rw c.tree_of-tree.ensures early)
+    (λ any. ⊎_elim some (λ none. absurd (omega (arith, any, c.count_in_tree.ensures.none (omega (arith, none))))) (cases_lt 0 c.args.count))))
+
+pub returns-clause-works : goal.returns-clause-works
+returns-clause-works g c = Works-after c.in_ok-end.ensures.looks c.in_ok-punch.ensures.works

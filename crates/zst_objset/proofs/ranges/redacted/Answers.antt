@@ -16,6 +16,9 @@ use Rattle.std.proofs.Common.{⊎_elim, arith}
 use Rattle.zst_dnode.specs.Dnode.{DnodeFits}
 use Rattle.zst_objset.specs.Dnodes.{tree_of}
 use Rattle.zst_objset.proofs.TreeFits.{dnode_root, redacted_fits, root_fits, with_tree_fits}
+use Rattle.zst_objset.specs.Tight.{IsTightDnode}
+use Rattle.zst_objset.proofs.TightLaws.{range_tight}
+use Rattle.zst_objset.proofs.TreeFits.{with_tree}
 use Rattle.zst_objset.proofs.ranges.redacted.Goals as goal
 
 pub returns-in_err-redact-clause-made : goal.returns-in_err-redact-clause-made
@@ -53,3 +56,13 @@ returns-clause-made g c = λ k state honest number lawful there.
     })
     (c.end_redacted.ensures.end there.object there.is.end_is)
     (subst (λ (dnode : Dnode). DnodeFits dnode) c.with_tree.ensures.made (returns-clause-fits g c)))
+
+pub returns-clause-tight : goal.returns-clause-tight
+returns-clause-tight g c = λ k state honest number lawful there dated tight.
+    let old = g.D.Disk.state c.args.io.now.disk.now in
+    let tree : TreeIs (Has old.seen c.args.io.now.space) c.tree_of-tree.result there.map = tree_is _ c.args.dnode _ there.map c.tree_of-tree.ensures there.is.tree in
+    let object = object_of (state.state k) there.object there.there (lawful.objects k) in
+    let fills = Fills-redact (Has old.seen c.args.io.now.space) c.args.number k c.args.first c.args.count state there.object there.there object number c.args.dnode there.is.type_is there.is.size_is c.requires.range c.requires.checked in
+    subst (IsTightDnode c.args.number k (redact_of c.args.first c.args.count (state.state k)) state) (sym c.with_tree.ensures.made)
+    (range_tight c.args.number k (redact_of c.args.first c.args.count (state.state k)) state c.args.dnode (with_tree c.args.dnode c.redact.new.self c.end_redacted.result) dated tight c.args.first c.args.count refl fills.dates c.requires.range
+    (λ bound early some. c.in_ok-redact.ensures.dated bound there.map honest tree (rw c.tree_of-tree.ensures early) some))

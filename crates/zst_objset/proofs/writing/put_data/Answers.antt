@@ -7,6 +7,7 @@ use Rattle.zst_tree.proofs.IndicesLaws.{TreeIs-grows}
 use Rattle.zst_objset.proofs.SetPuts.{Puts-one, with_one}
 use Rattle.zst_tree.specs.Damage.{NamesNode}
 use Rattle.zst_tree.proofs.Told.{fault_after, same_now}
+use Rattle.std.proofs.Common.{◌≡◌, arith}
 use Rattle.zst_objset.proofs.writing.put_data.Goals as goal
 
 pub returns-in_err-set-clause-puts : goal.returns-in_err-set-clause-puts
@@ -45,3 +46,8 @@ returns-in_err-set-clause-damaged g c = λ honest.
     let p = err_from_is_err_and c.from_residual-in_err-set.result c.from_residual-in_err-set.ensures.1 in
     let fills = c.in_ok-block.ensures.works.fills in
     rw (p.1, p.2) (fault_after _ _ _ _ fills NamesNode c.args.tree.levels c.args.tree.root c.args.tree.levels c.args.tree.root (same_now _ _ _ _ fills NamesNode c.args.tree.levels c.args.tree.root) _ (c.in_err-set.ensures.damaged honest))
+
+pub returns-clause-dated : goal.returns-clause-dated
+returns-clause-dated g c = λ map honest is dated.
+    let date : c.in_ok-block.block.number ≡ c.args.number = ap (λ (ptr : Ptr). ptr.number) c.in_ok-block.ensures.pointer in
+    c.in_ok-set.ensures.dated c.args.number map honest (TreeIs-grows _ _ c.in_ok-block.ensures.kept c.args.tree map is) dated (omega (arith, date))

@@ -13,7 +13,7 @@ use Rattle.zst_objset.specs.Sets.{SetHolds}
 use Rattle.zst_objset.proofs.LeafLaws.{is_number_at, keeps_on}
 use Rattle.zst_objset.proofs.SetGrows.{SetHolds-grows}
 use Rattle.zst_objset.proofs.SpillLaws.{stops}
-use Rattle.zst_objset.proofs.WriteLaws.{block_some, block_whole, is_accepted, is_change, is_refused, judged, write_at, write_not_there, writes_dnode, written_fits}
+use Rattle.zst_objset.proofs.WriteLaws.{block_some, block_whole, dates_written, index_under, is_accepted, is_change, is_refused, judged, write_at, write_not_there, writes_dnode, written_fits}
 use Rattle.zst_dnode.specs.Dnode.{DnodeFits}
 use Rattle.zst_dnode.specs.declared.dnode.Dnode.{Dnode}
 use Rattle.zst_tree.specs.Damage.{NamesNode}
@@ -22,6 +22,9 @@ use Rattle.zst_objset.proofs.DamageLaws.{told_before, object_told, set_after, se
 use Rattle.zst_objset.proofs.TreeFits.{with_tree}
 use Rattle.zst_model.specs.declared.refusals.faults.Quantity.TheVariants as quantities
 use Rattle.zst_objset.proofs.LimitLaws.{if_no_limit, no_limit}
+use Rattle.std.proofs.Common.{max, refl}
+use Rattle.zst_objset.specs.Tight.{IsTightDnode, SetIsTight}
+use Rattle.zst_objset.proofs.TightLaws.{index_tight, tight_grows}
 use Rattle.zst_objset.proofs.writing.write_block.Goals as goal
 
 pub returns-in-Err-clause-changed : goal.returns-in-Err-clause-changed
@@ -103,3 +106,38 @@ returns-in-Err-clause-limits g c = no_limit quantities.Block index_bound (c.args
 
 pub returns-clause-limits : goal.returns-clause-limits
 returns-clause-limits g c = if_no_limit quantities.Block index_bound (c.args.index + 1) c.put_dnode.result c.put_dnode.ensures.limits
+
+pub returns-in-Err-clause-tight : goal.returns-in-Err-clause-tight
+returns-in-Err-clause-tight g c = λ state honest tight dated. returns-in-Err-clause-changed g c state honest tight.holds
+
+pub returns-in-Err-judge_write-clause-tight : goal.returns-in-Err-judge_write-clause-tight
+returns-in-Err-judge_write-clause-tight g c = λ state honest tight dated. returns-in-Err-judge_write-clause-changed g c state honest tight.holds
+
+pub returns-in-Err-put_data-clause-tight : goal.returns-in-Err-put_data-clause-tight
+returns-in-Err-put_data-clause-tight g c = λ state honest tight dated. returns-in-Err-put_data-clause-changed g c state honest tight.holds
+
+pub returns-clause-tight : goal.returns-clause-tight
+returns-clause-tight g c = λ state honest tight dated.
+    let old = g.D.Disk.state c.args.io.now.disk.now in
+    let mid = g.D.Disk.state c.object_there.new.io.disk.now in
+    let new = g.D.Disk.state c.put_data.new.io.disk.now in
+    let was_put = c.put_dnode.ensures.works.fills.honest honest in
+    let there = c.in-Ok.ensures.found state (c.in-Ok-put_data.ensures.works.fills.honest was_put) tight.holds in
+    let may = judged _ _ _ c.in_default.ensures.judged in
+    let put = c.in-Ok-put_data.ensures.puts there.map was_put (subst (λ (tree : Tree). TreeIs (Has mid.seen c.object_there.new.io.space) tree there.map) (sym c.tree_of.ensures) there.is.tree) in
+    let putting : KeepsBlocks mid.seen c.object_there.new.io.space new.seen c.put_data.new.io.space = KeepsBlocks-fills _ _ _ _ c.in-Ok-put_data.ensures.works.fills in
+    let grown = tight_grows c.args.set.now old.seen c.args.io.now.space new.seen c.put_data.new.io.space state (keeps_on _ _ _ _ _ _ _ _ _ c.in-Ok.ensures.looks c.in-Ok-put_data.ensures.works.fills) tight in
+    let change = write_at c.args.index c.args.bytes.now (state.state c.args.object) in
+    let made_is = c.with_tree.ensures.made ∙ ap (with_tree c.in-Ok.dnode c.in-Ok-put_data.tree) c.max-end.ensures in
+    let makes = subst (MakesDnode (Has new.seen c.put_data.new.io.space) c.args.number c.args.object change state) (sym made_is)
+    (writes_dnode mid.seen c.object_there.new.io.space new.seen c.put_data.new.io.space putting c.args.number c.args.object c.args.index c.args.bytes.now state c.in-Ok.dnode there tight.holds.lawful may c.in-Ok-put_data.tree put
+    (is_number_at c.args.object c.requires.object c.in-Ok.ensures.bound) (written_fits c.in-Ok.dnode c.in-Ok-put_data.tree c.args.index _ c.in-Ok.ensures.ranges may (rw c.tree_of.ensures at c.in-Ok-put_data.ensures.root) c.in-Ok-put_data.ensures.levels c.with_tree.ensures.root c.with_tree.ensures.past)) in
+    let had : TreeIs (Has mid.seen c.object_there.new.io.space) c.tree_of.result there.map = subst (λ (tree : Tree). TreeIs (Has mid.seen c.object_there.new.io.space) tree there.map) (sym c.tree_of.ensures) there.is.tree in
+    let was = c.in-Ok.ensures.tight state (c.in-Ok-put_data.ensures.works.fills.honest was_put) tight in
+    let dnode_tight = subst (IsTightDnode c.args.number c.args.object change state) (sym made_is)
+    (index_tight c.args.number c.args.object change state c.in-Ok.dnode (with_tree c.in-Ok.dnode c.in-Ok-put_data.tree (max c.in-Ok.dnode.end (c.args.index + 1))) dated was c.args.index refl (dates_written c.args.number c.args.object c.args.index c.args.bytes.now state) (index_under c.args.index may.inside)
+    (λ early. c.in-Ok-put_data.ensures.dated there.map was_put had (rw c.tree_of.ensures early))) in
+    let last = g.D.Disk.state c.put_dnode.new.io.disk.now in
+    subst (λ (definition : Result DatedState Refusal). Changes (SetIsTight (Has last.seen c.put_dnode.new.io.space) c.put_dnode.new.set) definition c.put_dnode.result)
+    (sym (is_change (Has mid.seen c.object_there.new.io.space) c.args.number c.args.object c.args.index c.args.bytes.now state c.in-Ok.dnode there tight.holds.lawful may))
+    (c.put_dnode.ensures.tight c.args.number change state honest grown makes dnode_tight)

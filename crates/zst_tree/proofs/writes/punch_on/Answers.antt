@@ -8,6 +8,7 @@ use Rattle.zst_tree.proofs.Most.{most_two}
 use Rattle.zst_tree.proofs.Told.{NamesDamage-never, fault_after}
 use Rattle.zst_tree.proofs.Whole.{over_on, over_on-changed, tail_holds}
 use Rattle.zst_tree.proofs.Within.{IsWithin-size, IsWithin-then}
+use Rattle.zst_tree.proofs.Dated.{all_dated, below_dated, over_on-dated}
 use Rattle.zst_tree.proofs.writes.punch_on.Goals as goal
 
 pub returns-in_err-root-clause-puts : goal.returns-in_err-root-clause-puts
@@ -45,3 +46,12 @@ returns-in_err-root-clause-damaged g c = λ honest.
 
 pub returns-clause-within : goal.returns-clause-within
 returns-clause-within g c = λ honest. IsWithin-then _ _ _ _ _ _ _ _ (c.in_ok-grown.ensures.within (hole_of c.args.number)) _ _ _ (IsWithin-size _ _ _ _ _ _ c.in_ok-grown.ensures.works.fills.size _ _ _ (c.in_ok-root.ensures.within honest))
+
+pub returns-clause-dated : goal.returns-clause-dated
+returns-clause-dated g c = λ bound map honest holds dated early.
+    let stands = c.in_ok-grown.ensures.grown holds.whole holds.stands in
+    let hole = hole_of c.args.number in (
+      early,
+      below_dated _ bound _ c.in_ok-root.root 0 (over_on holds.whole c.args.first hole) (over_on-dated bound holds.whole c.args.first hole early (all_dated _ bound c.args.tree.now holds.whole holds.stands dated))
+          (c.in_ok-root.ensures.puts holds.whole (over_on holds.whole c.args.first hole) honest stands.below (over_on-changed holds.whole 0 c.args.first (span c.in_ok-grown.grown.levels) hole)),
+    )

@@ -7,6 +7,7 @@ use Rattle.zst_tree.proofs.Most.{most_two, most-single}
 use Rattle.zst_tree.proofs.Told.{NamesDamage-never, fault_after}
 use Rattle.zst_tree.proofs.Whole.{over, over_changed, range_holds}
 use Rattle.zst_tree.proofs.Within.{IsWithin-size, IsWithin-then}
+use Rattle.zst_tree.proofs.Dated.{all_dated, below_dated, over_dated, past_dated}
 use Rattle.zst_tree.proofs.writes.put_range.Goals as goal
 
 pub returns-in_err-root-clause-puts : goal.returns-in_err-root-clause-puts
@@ -57,3 +58,13 @@ returns-in_err-root-clause-damaged g c = λ honest.
 
 pub returns-clause-within : goal.returns-clause-within
 returns-clause-within g c = λ honest. IsWithin-then _ _ _ _ _ _ _ _ (c.in_ok-grown.ensures.within c.args.leaf) _ _ _ (IsWithin-size _ _ _ _ _ _ c.in_ok-grown.ensures.works.fills.size _ _ _ (c.in_ok-root.ensures.within honest))
+
+pub returns-clause-dated : goal.returns-clause-dated
+returns-clause-dated g c = λ bound map honest holds dated early.
+    let stands = c.in_ok-grown.ensures.grown holds.whole holds.stands in
+    let all = all_dated _ bound c.args.tree.now holds.whole holds.stands dated in (
+      past_dated _ bound c.in_ok-grown.grown holds.whole stands all,
+      below_dated _ bound _ c.in_ok-root.root 0 (over holds.whole c.args.first c.args.below c.args.leaf) (over_dated bound holds.whole c.args.first c.args.below c.args.leaf early all)
+          (c.in_ok-root.ensures.put 0 holds.whole (over holds.whole c.args.first c.args.below c.args.leaf) honest stands.below
+          (simp zero-add (over_changed holds.whole 0 c.args.first c.args.below (span c.in_ok-grown.grown.levels) c.args.leaf))),
+    )

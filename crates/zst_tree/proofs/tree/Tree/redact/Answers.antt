@@ -1,0 +1,7 @@
+use Rattle.std.proofs.Common.{◌≤◌, arith, subst, sym}
+use Rattle.zst_block.specs.declared.ptr.Ptr.{Ptr}
+use Rattle.zst_tree.proofs.tree.Tree.redact.Goals as goal
+
+pub returns-clause-dated : goal.returns-clause-dated
+returns-clause-dated g c = λ bound map honest holds dated early.
+    c.put_range.ensures.dated bound map honest holds dated (subst (λ (leaf : Ptr). leaf.number ≤ bound) (sym c.redacted.ensures) (early (omega arith)))
