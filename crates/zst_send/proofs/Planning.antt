@@ -24,10 +24,10 @@ use Rattle.zst_plan.specs.Places.{AnswerAlike, FindAlike, StandsAt}
 use Rattle.zst_plan.specs.Plans.{IsPlanOf, bookmark_source}
 use Rattle.zst_plan.specs.declared.plan.SendPlan.{SendPlan}
 use Rattle.zst_pool.specs.declared.fault.PoolFault.{PoolFault}
-use Rattle.zst_pool.specs.declared.fault.PoolFault.TheVariants.{Plan}
+use Rattle.zst_pool.specs.declared.fault.PoolFault.TheVariants.{OutOfMemory, Plan}
 use Rattle.zst_traverse.specs.Cells.{choice_after}
 use Rattle.zst_tree.specs.Indices.{Blocks}
-use Rattle.zst_send.specs.Opening.{Opens, built, is_plain, opening}
+use Rattle.zst_send.specs.Opening.{IsPlanned, Opens, built, is_plain, opening}
 use Rattle.zst_send.specs.declared.send.Send.{Send}
 
 -- what a place has stands for what stands there in the other list
@@ -96,11 +96,19 @@ module _ (has : Blocks) (rows : Rows) (running : Pool) (runs : RunsBy has rows r
 
 -- ---- what opening refuses
 
-module _ (has : Blocks) (ask : SendAsk) (pool : Pool) where
-  -- the fault of the plan is the refusal
-  pub refuses : (result : Result Send PoolFault) (fault : PlanFault) → result ≡ Err (Plan fault) → opening ask pool ≡ Err fault → Opens has ask pool result
-  refuses result fault same is = subst (λ (r : Result Send PoolFault). Opens has ask pool r) (sym same) is
+-- the fault of the plan is the refusal
+pub refuses : (has : Blocks) (ask : SendAsk) (pool : Pool) (result : Result Send PoolFault) (fault : PlanFault) → result ≡ Err (Plan fault) → opening ask pool ≡ Err fault → Opens has ask pool result
+refuses has ask pool result fault same is = subst (λ (r : Result Send PoolFault). Opens has ask pool r) (sym same) is
 
+-- so it is for the plan alone, and where it passes memory may be wanting
+module _ (plan : Result Sent PlanFault) (result : Result Send PoolFault) where
+  pub plan_refuses : (fault : PlanFault) → result ≡ Err (Plan fault) → plan ≡ Err fault → IsPlanned plan result
+  plan_refuses fault same is = subst (λ (r : Result Send PoolFault). IsPlanned plan r) (sym same) is
+
+  pub plan_lacks : (sent : Sent) → result ≡ Err OutOfMemory → plan ≡ Ok sent → IsPlanned plan result
+  plan_lacks sent same is = subst (λ (r : Result Send PoolFault). IsPlanned plan r) (sym same) (sent, is)
+
+module _ (ask : SendAsk) (pool : Pool) where
   -- what isn't planned isn't opened
   pub unplanned : (fault : PlanFault) → send_plan ask pool ≡ Err fault → opening ask pool ≡ Err fault
   unplanned fault none = ap (λ (planned : Result Sent PlanFault). planned >>= built) none

@@ -37,3 +37,15 @@ Opens has ask pool (Err (Damaged sector stated found)) = ⊥
 Opens has ask pool (Err DiskFault) = ⊥
 Opens has ask pool (Err Failed) = ⊥
 Opens has ask pool (Err OutOfMemory) = Unit {0}
+
+-- whether a send is opened is for its plan alone to say: it is opened where the plan passes, unless no memory was left then, and its refusals are the plan's
+abbrev pub IsPlanned : Result Sent PlanFault → Result Send PoolFault → Type 0
+IsPlanned plan (Ok send) = (sent : Sent) × (plan ≡ Ok sent)
+IsPlanned plan (Err (Plan fault)) = plan ≡ Err fault
+IsPlanned plan (Err (CannotApply fault)) = ⊥
+IsPlanned plan (Err (Redacted object block)) = ⊥
+IsPlanned plan (Err (Full need largest)) = ⊥
+IsPlanned plan (Err (Damaged sector stated found)) = ⊥
+IsPlanned plan (Err DiskFault) = ⊥
+IsPlanned plan (Err Failed) = ⊥
+IsPlanned plan (Err OutOfMemory) = (sent : Sent) × (plan ≡ Ok sent)

@@ -21,12 +21,13 @@ impl Send {
     ghost use Rattle.zst_space.specs.FreeSectors.{FreeSectors};
     ghost use Rattle.zst_block.specs.Blocks.{FitsDisk, Has};
     ghost use Rattle.zst_block.specs.Working.{Looks};
+    ghost use Rattle.zst_dir.specs.Named.{AreNamed};
     ghost use Rattle.zst_image.specs.Reads.{RunsBy};
     ghost use Rattle.zst_model.specs.pools.Pool.{Pool as Plain};
     ghost use Rattle.zst_model.specs.sends.Headers.{Sent};
     ghost use Rattle.zst_plan.specs.Plans.{IsInside, IsPlanOf};
     ghost use Rattle.zst_pool.specs.Telling.{stop_of};
-    ghost use Rattle.zst_send.specs.Opening.{Opens, is_plain};
+    ghost use Rattle.zst_send.specs.Opening.{IsPlanned, Opens, is_plain, opening};
     ghost use Rattle.zst_send.specs.Sends.{SendFits, Sends, Takes, sent_text};
     ghost use Rattle.zst_send.specs.Working.{RoomFits};
 
@@ -38,6 +39,8 @@ impl Send {
     ) -> Result<Send, PoolFault>
         // By its plan it has given nothing, and all of its text is left.
         ensures opens { (image : List ℕ) (space : FreeSectors) (running : Plain) → pool.old.io.failed ≡ false → RunsBy (Has image space) pool.old.kept.dir running → Opens (Has image space) ask.now running result }
+        // Its refusals are those of the rows alone, whatever the object sets and the lists hold.
+        ensures planned { (running : Plain) → pool.old.io.failed ≡ false → AreNamed pool.old.kept.dir running → IsPlanned (opening ask.now running) result }
         ensures fits { IfOk result SendFits }
         // A pool that has failed answers nothing else.
         ensures failed_pool { pool.old.io.failed ≡ true → result ≡ Err PoolFault.Failed }

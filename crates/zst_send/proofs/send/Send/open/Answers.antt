@@ -2,9 +2,10 @@ use Rattle.std.proofs.Common.{◌∙◌}
 use Rattle.zst_block.specs.Blocks.{Has}
 use Rattle.zst_model.specs.sends.SendPlan.{send_plan}
 use Rattle.zst_plan.specs.Plans.{IsPlanOf}
-use Rattle.zst_pool.specs.declared.fault.PoolFault.TheVariants.{Plan}
+use Rattle.zst_pool.specs.declared.fault.PoolFault.TheVariants.{OutOfMemory, Plan}
+use Rattle.zst_send.specs.Opening.{opening}
 use Rattle.zst_pool.proofs.Naming.{rows_named}
-use Rattle.zst_send.proofs.Planning.{err_alike, err_is, ok_alike, passed, planned_is, refuses, unplanned}
+use Rattle.zst_send.proofs.Planning.{err_alike, err_is, ok_alike, passed, plan_lacks, plan_refuses, planned_is, refuses, unplanned}
 use Rattle.zst_send.proofs.send.Send.open.Goals as goal
 
 pub returns-in_err-plan-clause-opens : goal.returns-in_err-plan-clause-opens
@@ -14,7 +15,7 @@ returns-in_err-plan-clause-opens g c = λ image space running live runs.
     let ask = c.args.ask.now in
     let fault = c.in_err-plan.field-0.0 in
     refuses has ask running c.from_residual.result fault (err_is c.from_residual.result (Plan fault) c.from_residual.ensures.1)
-    (unplanned has ask running fault (err_alike (IsPlanOf rows running) fault (send_plan ask running) (c.in_err-plan.ensures.exact running (rows_named has rows running runs))))
+    (unplanned ask running fault (err_alike (IsPlanOf rows running) fault (send_plan ask running) (c.in_err-plan.ensures.exact running (rows_named has rows running runs))))
 
 pub returns-in_err-check_built-clause-opens : goal.returns-in_err-check_built-clause-opens
 returns-in_err-check_built-clause-opens g c = λ image space running live runs.
@@ -25,7 +26,7 @@ returns-in_err-check_built-clause-opens g c = λ image space running live runs.
     let s = ok_alike (IsPlanOf rows running) c.in_ok-plan.plan (send_plan ask running) (c.in_ok-plan.ensures.exact running named) in
     let fault = c.in_err-check_built.field-0.0 in
     refuses has ask running c.from_residual-in_err-check_built.result fault (err_is c.from_residual-in_err-check_built.result (Plan fault) c.from_residual-in_err-check_built.ensures.1)
-    (planned_is has ask running s.0 s.1 ∙ c.in_err-check_built.ensures.judges running s.0 named s.2)
+    (planned_is ask running s.0 s.1 ∙ c.in_err-check_built.ensures.judges running s.0 named s.2)
 
 pub returns-clause-opens : goal.returns-clause-opens
 returns-clause-opens g c = λ image space running live runs.
@@ -35,4 +36,36 @@ returns-clause-opens g c = λ image space running live runs.
     let named = rows_named has rows running runs in
     let s = ok_alike (IsPlanOf rows running) c.in_ok-plan.plan (send_plan ask running) (c.in_ok-plan.ensures.exact running named) in
     let judged = c.in_ok-check_built.ensures.judges running s.0 named s.2 in
-    (s.0, planned_is has ask running s.0 s.1 ∙ judged, c.planned.ensures.sends image space running s.0 runs s.2 (passed s.0 judged))
+    (s.0, planned_is ask running s.0 s.1 ∙ judged, c.planned.ensures.sends image space running s.0 runs s.2 (passed s.0 judged))
+
+pub returns-in_err-plan-clause-planned : goal.returns-in_err-plan-clause-planned
+returns-in_err-plan-clause-planned g c = λ running live named.
+    let rows = c.args.pool.now.kept.dir in
+    let ask = c.args.ask.now in
+    let fault = c.in_err-plan.field-0.0 in
+    plan_refuses (opening ask running) c.from_residual.result fault (err_is c.from_residual.result (Plan fault) c.from_residual.ensures.1)
+    (unplanned ask running fault (err_alike (IsPlanOf rows running) fault (send_plan ask running) (c.in_err-plan.ensures.exact running named)))
+
+pub returns-in_err-check_built-clause-planned : goal.returns-in_err-check_built-clause-planned
+returns-in_err-check_built-clause-planned g c = λ running live named.
+    let rows = c.args.pool.now.kept.dir in
+    let ask = c.args.ask.now in
+    let s = ok_alike (IsPlanOf rows running) c.in_ok-plan.plan (send_plan ask running) (c.in_ok-plan.ensures.exact running named) in
+    let fault = c.in_err-check_built.field-0.0 in
+    plan_refuses (opening ask running) c.from_residual-in_err-check_built.result fault (err_is c.from_residual-in_err-check_built.result (Plan fault) c.from_residual-in_err-check_built.ensures.1)
+    (planned_is ask running s.0 s.1 ∙ c.in_err-check_built.ensures.judges running s.0 named s.2)
+
+pub returns-in_err-room-clause-planned : goal.returns-in_err-room-clause-planned
+returns-in_err-room-clause-planned g c = λ running live named.
+    let rows = c.args.pool.now.kept.dir in
+    let ask = c.args.ask.now in
+    let s = ok_alike (IsPlanOf rows running) c.in_ok-plan.plan (send_plan ask running) (c.in_ok-plan.ensures.exact running named) in
+    plan_lacks (opening ask running) c.from_residual-in_err-room.result s.0 (err_is c.from_residual-in_err-room.result OutOfMemory c.from_residual-in_err-room.ensures.1)
+    (planned_is ask running s.0 s.1 ∙ c.in_ok-check_built.ensures.judges running s.0 named s.2)
+
+pub returns-clause-planned : goal.returns-clause-planned
+returns-clause-planned g c = λ running live named.
+    let rows = c.args.pool.now.kept.dir in
+    let ask = c.args.ask.now in
+    let s = ok_alike (IsPlanOf rows running) c.in_ok-plan.plan (send_plan ask running) (c.in_ok-plan.ensures.exact running named) in
+    (s.0, planned_is ask running s.0 s.1 ∙ c.in_ok-check_built.ensures.judges running s.0 named s.2)
