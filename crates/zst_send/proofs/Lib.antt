@@ -1,3 +1,4 @@
+mod Damaging
 mod Filling
 mod Giving
 mod Joining

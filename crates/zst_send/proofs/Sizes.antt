@@ -1,10 +1,11 @@
 -- Sizes of blocks.
-use Rattle.std.proofs.Common.{◌≡◌, ℕ, ◌*◌, ◌^◌, ◌<◌, ◌≤◌, ◌%◌, ◌==◌, ◌&&◌, true, nat_le, arith, mul-le-mul_right, subst}
-use Rattle.std.proofs.lemmas.Bool.{and_parts, leb-true}
-use Rattle.zst_dnode.specs.Dnode.{DnodeFits}
+use Rattle.std.proofs.Common.{◌≡◌, ◌≢◌, Bool, ◌||◌, ℕ, ◌*◌, ◌^◌, ◌<◌, ◌≤◌, ◌%◌, ◌==◌, ◌&&◌, true, nat_le, arith, mul-le-mul_right, subst}
+use Rattle.std.proofs.lemmas.Bool.{and_parts, eqb-true, leb-true, ne_eqb}
+use Rattle.zst_block.specs.declared.ptr.Ptr.{Ptr}
+use Rattle.zst_dnode.specs.Dnode.{DnodeFits, is_spill}
 use Rattle.zst_dnode.specs.declared.dnode.Dnode.{Dnode}
-use Rattle.zst_model.specs.states.State.{BlockFits, Data, IsObject, IsObjectOrNone, IsSpill, IsState, Object, index_bound, is_block_size, largest_block}
-use Rattle.std.specs.Prelude.{List, length, Option, Some, None, IfSome}
+use Rattle.zst_model.specs.states.State.{BlockFits, Data, IsObject, IsObjectOrNone, IsSpill, IsState, Object, index_bound, is_block_size, is_spill_size, largest_block}
+use Rattle.std.specs.Prelude.{IsTrue, List, length, Option, Some, None, IfSome}
 use Rattle.zst_model.proofs.Sizes.{block_size_over_none, spill_is_block}
 use Rattle.zst_model.specs.states.Dated.{DatedState}
 use Rattle.zst_send.specs.Places.{PlaceFits}
@@ -37,16 +38,23 @@ tail_most dnode fits =
 pub object_lawful : (snap : DatedState) (k : ℕ) (object : Object) → IsState snap.state → snap.state k ≡ Some object → IsObject object
 object_lawful snap k object lawful there = subst IsObjectOrNone there (lawful.objects k)
 
--- the bytes of a block of a lawful object, and of its spill block, are no more than the most
-pub data_most : (object : Object) (i : ℕ) (bytes : List ℕ) → IsObject object → object.blocks i ≡ Data bytes → length bytes ≤ 131072
-data_most object i bytes lawful is =
-    let long : length bytes ≡ object.attr.block_size = subst (BlockFits object.attr.block_size) is (lawful.fits i) in
-    let most : object.attr.block_size ≤ 131072 = size_most object.attr.block_size lawful.attr.head.size in
-    omega (arith, long, most)
+-- a block of a lawful object is as long as the object says
+pub data_size : (object : Object) (i : ℕ) (bytes : List ℕ) → IsObject object → object.blocks i ≡ Data bytes → length bytes ≡ object.attr.block_size
+data_size object i bytes lawful is = subst (BlockFits object.attr.block_size) is (lawful.fits i)
 
+-- the bytes of its spill block are no more than the most
 spills_most : (spill : Option (List ℕ)) → IfSome spill IsSpill → IfSome spill (λ bytes. length bytes ≤ 131072)
 spills_most None is = tt
 spills_most (Some bytes) is = size_most (length bytes) (spill_is_block (length bytes) is)
 
 pub spill_most : (object : Object) → IsObject object → IfSome object.attr.spill (λ bytes. length bytes ≤ 131072)
 spill_most object lawful = spills_most object.attr.spill lawful.attr.spill
+
+pub spill_size_most : (size : ℕ) → is_spill_size size ≡ true → size ≤ 131072
+spill_size_most size is = size_most size (spill_is_block size is)
+
+-- a spill pointer that is no hole names data of a spill size
+pub spill_named : (spill : Ptr) → IsTrue (is_spill spill) → spill.kind ≢ 0 → (spill.kind ≡ 1) × (is_spill_size spill.length ≡ true)
+spill_named spill is some =
+    let named = and_parts (spill.kind == 1) (is_spill_size spill.length) (subst (λ (hole : Bool). (hole || (spill.kind == 1 && is_spill_size spill.length)) ≡ true) (ne_eqb spill.kind 0 some) is) in
+    (eqb-true spill.kind 1 named.0, named.1)

@@ -38,7 +38,7 @@ module _ (old new : Blocks) (keeps : (ptr : Ptr) (bytes : List ℕ) → old ptr 
   first_stays (Tail k offset) item is = is
   first_stays (Holes k offset length) item is = is
   first_stays (Redacted k offset length) item is = is
-  first_stays (Block k type offset ptr) item is = (is.0, keeps ptr is.0 is.1, is.2, is.3)
+  first_stays (Block k type size offset ptr) item is = (is.0, keeps ptr is.0 is.1, is.2, is.3)
 
   spill_stays : (ptr : Ptr) (spill : Option (List ℕ)) → SpillIs old ptr spill → SpillIs new ptr spill
   spill_stays ptr None is = is
@@ -51,7 +51,7 @@ module _ (old new : Blocks) (keeps : (ptr : Ptr) (bytes : List ℕ) → old ptr 
   behind_stays (Tail k offset) items are = are
   behind_stays (Holes k offset length) items are = are
   behind_stays (Redacted k offset length) items are = are
-  behind_stays (Block k type offset ptr) items are = are
+  behind_stays (Block k type size offset ptr) items are = are
 
   held_stay : (held : Option Due) (items : List Item) → AreHeld old held items → AreHeld new held items
   held_stay None items are = are

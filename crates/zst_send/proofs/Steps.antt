@@ -30,7 +30,7 @@ use Rattle.zst_send.specs.Places.{GoesTo, IsPassed, IsPlaceOf, left_behind, plac
 use Rattle.zst_send.specs.declared.due.Due.{Due}
 use Rattle.zst_send.specs.declared.due.Due.TheVariants as dues
 use Rattle.zst_send.specs.declared.place.Place.{Place}
-use Rattle.zst_send.proofs.Sizes.{data_most, object_lawful, spill_most}
+use Rattle.zst_send.proofs.Sizes.{data_size, object_lawful, spill_most}
 use Rattle.zst_send.proofs.Passing.{counts_by_pair, is_counted, nothing_behind, nothing_below, number_there, shown_gone, shown_there, some_number}
 
 -- the four laws of walks that a step cites
@@ -132,7 +132,7 @@ module _ (has : Blocks) (header : Header) (snap : DatedState) (source : Option �
         states.Data told.0,
         (λ i from below. let same : i ≡ first = omega (arith, single) in ap object.blocks same ∙ told.1),
         (λ bytes e. single),
-        alone (dues.Block k object.attr.type_ (first * object.attr.block_size) ptr) (At k (changes.Write (first * object.attr.block_size) object.attr.type_ told.0)) (told.0, told.3, data_most object first told.0 lawful told.1, refl) refl,
+        alone (dues.Block k object.attr.type_ object.attr.block_size (first * object.attr.block_size) ptr) (At k (changes.Write (first * object.attr.block_size) object.attr.type_ told.0)) (told.0, told.3, data_size object first told.0 lawful told.1, refl) refl,
       )
 
   -- an object's size is that of what stands at its number

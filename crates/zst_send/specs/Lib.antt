@@ -1,3 +1,4 @@
+pub mod Damage
 pub mod Due
 pub mod Opening
 pub mod Places

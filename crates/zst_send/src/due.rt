@@ -45,10 +45,11 @@ pub(crate) enum Due {
         offset: u64,
         length: u64,
     },
-    /// A block of an object of this type.
+    /// A block of an object of this type, whose blocks have this size.
     Block {
         object: u64,
         type_: u32,
+        size: u32,
         offset: u64,
         ptr: Ptr,
     },
@@ -90,6 +91,7 @@ pub(crate) fn due_of(found: Found, type_: u32, block_size: u32) -> Due
                 Cell::Data => Due::Block {
                     object,
                     type_,
+                    size: block_size,
                     offset,
                     ptr,
                 },

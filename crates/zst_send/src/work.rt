@@ -1,4 +1,4 @@
-ghost use Rattle.std.specs.Prelude.{◌≡◌, ◌==◌, ◌+◌, ◌-◌, ◌%◌, ◌<◌, ◌≤◌, ◌++◌, false, List, [], ℕ, IfOk, OnErr, drop, length, min, pred, take};
+ghost use Rattle.std.specs.Prelude.{◌≡◌, ◌==◌, ◌+◌, ◌-◌, ◌%◌, ◌<◌, ◌≤◌, ◌++◌, false, List, [], ℕ, IfOk, OnErr, OnOk, drop, length, min, pred, take};
 ghost use Rattle.zst_block.specs.Blocks.{FitsDisk, Has};
 ghost use Rattle.zst_block.specs.Working.{Looks, stop_of};
 ghost use Rattle.zst_dnode.specs.Dnode.{DnodeFits};
@@ -7,11 +7,14 @@ ghost use Rattle.zst_model.specs.declared.states.item.Item.{Item};
 ghost use Rattle.zst_model.specs.declared.states.item.Item.TheVariants.{At};
 ghost use Rattle.zst_record.specs.Formats.{record_len};
 ghost use Rattle.zst_record.specs.Heads.{payload_len};
-ghost use Rattle.zst_send.specs.Due.{DueFits, IsFirst, head_in};
+ghost use Rattle.zst_objset.specs.Damage.{IfDamaged};
+ghost use Rattle.zst_send.specs.Damage.{IsDamagedDue, IsDamagedPayload};
+ghost use Rattle.zst_send.specs.Due.{DueFits, IsFirst, IsSized, head_in};
 ghost use Rattle.zst_send.specs.Working.{IsLoaded, IsPut, IsWork, RoomFits, WorkFits, payload_size};
 ghost use Rattle.zst_stream.specs.Found.{HasBonus, found_item};
 ghost use Rattle.zst_stream.specs.Image.{piece_after};
 ghost use Rattle.zst_stream.specs.Records.{item_head, item_payload, padded_bonus, piece_for};
+ghost use Rattle.zst_tree.specs.Damage.{IsSeen};
 ghost use Rattle.zst_tree.specs.Indices.{Delivers};
 ghost use Rattle.zst_writer.specs.Writes.{HasWritten, bytes_after};
 
@@ -93,6 +96,9 @@ impl Work {
         ensures loaded { (item : Item) → (D.state io.new.disk.now).honest → IsLoaded (Has (D.state io.old.disk.now).seen io.old.space) room.old
             → IsFirst (Has (D.state io.old.disk.now).seen io.old.space) due.now item → IsLoaded (Has (D.state io.new.disk.now).seen io.new.space) room.new }
 
+        // Whatever the image, a block of data is as long as its object says, and damage is told of the block that is due.
+        ensures sized { OnOk result (IsSized due.now) }
+        ensures damaged { (D.state io.new.disk.now).honest → IfDamaged result (IsDamagedDue (IsSeen (D.state io.old.disk.now).seen) (D.state io.old.disk.now).size due.now) }
         ensures work { IfOk result WorkFits }
         ensures fresh { IfOk result (λ work. work.given ≡ 0) }
         ensures room { RoomFits room.new }
@@ -146,10 +152,11 @@ impl Work {
             Due::Block {
                 object,
                 type_,
+                size,
                 offset,
                 ptr,
             } => {
-                room.load(io, &ptr)?;
+                room.load_data(io, &ptr, size)?;
                 let bytes = room.block(ptr.length);
                 let item = ItemRef::Block {
                     object,
@@ -190,7 +197,10 @@ impl Work {
         ensures loaded { (left : List ℕ) → (D.state io.new.disk.now).honest → IsLoaded (Has (D.state io.old.disk.now).seen io.old.space) room.old
             → IsWork (Has (D.state io.old.disk.now).seen io.old.space) self.old left → IsLoaded (Has (D.state io.new.disk.now).seen io.new.space) room.new }
 
+        // Whatever the image, damage is told of the block that follows the record.
+        ensures damaged { (D.state io.new.disk.now).honest → IfDamaged result (IsDamagedPayload (IsSeen (D.state io.old.disk.now).seen) (D.state io.old.disk.now).size self.old.payload) }
         ensures count { IfOk result (λ count. (0 < count) × (count ≤ length into.old)) }
+        ensures payload { self.new.payload ≡ self.old.payload }
         ensures into { length into.new ≡ length into.old }
         ensures work { WorkFits self.new }
         ensures room { RoomFits room.new }
@@ -221,6 +231,7 @@ impl Work {
             → Delivers (λ count. (take count into.new ≡ take count left) × (count ≤ length left)) result }
         ensures loaded { (left : List ℕ) → (D.state io.new.disk.now).honest → IsLoaded (Has (D.state io.old.disk.now).seen io.old.space) room.old
             → IsWork (Has (D.state io.old.disk.now).seen io.old.space) self.now left → IsLoaded (Has (D.state io.new.disk.now).seen io.new.space) room.new }
+        ensures damaged { (D.state io.new.disk.now).honest → IfDamaged result (IsDamagedPayload (IsSeen (D.state io.old.disk.now).seen) (D.state io.old.disk.now).size self.now.payload) }
         ensures count { IfOk result (λ count. (0 < count) × (count ≤ length into.old) × (self.now.given + count ≤ record_len + payload_size self.now.payload)) }
         ensures into { length into.new ≡ length into.old }
         ensures room { RoomFits room.new }

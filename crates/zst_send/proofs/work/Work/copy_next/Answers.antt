@@ -3,6 +3,9 @@ use Rattle.zst_block.specs.Blocks.{Has}
 use Rattle.zst_send.specs.Working.{IsPayload, PayloadFits}
 use Rattle.zst_send.specs.declared.work.Payload.{Payload}
 use Rattle.zst_send.proofs.Giving.{payload_given}
+use Rattle.std.proofs.lemmas.Result.{err_from_is_err_and}
+use Rattle.zst_tree.specs.Damage.{IsSeen}
+use Rattle.zst_send.proofs.Damaging.{short_told}
 use Rattle.zst_send.proofs.work.Work.copy_next.Goals as goal
 
 pub returns-in-Bonus-clause-gives : goal.returns-in-Bonus-clause-gives
@@ -30,3 +33,9 @@ returns-in_ok-load-in-Block-clause-gives g c = λ left honest loaded work.
     (subst (λ (p : List ℕ). copied.result ≡ min (length p - (given - 312)) (length c.args.into.now)) (sym payload) copied.ensures.count)
     (subst (λ (p : List ℕ). take copied.result copied.new.into ≡ take copied.result (drop (given - 312) p)) (sym payload) copied.ensures.copied) in
     (all.same, all.less)
+
+pub returns-in_err-load-in-Block-clause-damaged : goal.returns-in_err-load-in-Block-clause-damaged
+returns-in_err-load-in-Block-clause-damaged g c = λ honest.
+    let p = err_from_is_err_and c.from_residual.result c.from_residual.ensures.1 in
+    let most : c.in-Block.ptr.length ≤ 131072 = subst PayloadFits c.in-Block.is c.requires.work.payload in
+    rw (p.1, p.2, c.in-Block.is) (short_told (IsSeen (g.D.Disk.state c.args.io.now.disk.now).seen) (g.D.Disk.state c.args.io.now.disk.now).size c.in-Block.ptr most _ (c.in_err-load-in-Block.ensures.damaged honest))

@@ -8,6 +8,10 @@ use Rattle.zst_send.specs.Due.{IsFirst}
 use Rattle.zst_send.specs.Working.{IsPayload}
 use Rattle.zst_send.specs.declared.work.Payload.{Payload}
 use Rattle.zst_send.specs.declared.due.Due.{Due}
+use Rattle.zst_tree.specs.Damage.{IsSeen}
+use Rattle.zst_send.specs.Due.{DueFits}
+use Rattle.zst_send.proofs.Damaging.{short_told}
+use Rattle.zst_send.proofs.Sizes.{spill_size_most}
 use Rattle.zst_send.proofs.work.Work.put.Goals as goal
 
 pub returns-in_err-load-in-Spill-clause-put : goal.returns-in_err-load-in-Spill-clause-put
@@ -16,11 +20,11 @@ returns-in_err-load-in-Spill-clause-put g c = λ text item honest loaded written
     let named = subst (λ (d : Due). IsFirst (Has (g.D.Disk.state c.args.io.now.disk.now).seen c.args.io.now.space) d item) c.in-Spill.is first in
     rw (p.1, p.2) (c.in_err-load-in-Spill.ensures.there named.0 honest loaded named.1 named.2)
 
-pub returns-in_err-load-in-Block-clause-put : goal.returns-in_err-load-in-Block-clause-put
-returns-in_err-load-in-Block-clause-put g c = λ text item honest loaded written first.
-    let p = err_from_is_err_and c.from_residual-in_err-load-in-Block.result c.from_residual-in_err-load-in-Block.ensures.1 in
+pub returns-in_err-load_data-in-Block-clause-put : goal.returns-in_err-load_data-in-Block-clause-put
+returns-in_err-load_data-in-Block-clause-put g c = λ text item honest loaded written first.
+    let p = err_from_is_err_and c.from_residual-in_err-load_data-in-Block.result c.from_residual-in_err-load_data-in-Block.ensures.1 in
     let named = subst (λ (d : Due). IsFirst (Has (g.D.Disk.state c.args.io.now.disk.now).seen c.args.io.now.space) d item) c.in-Block.is first in
-    rw (p.1, p.2) (c.in_err-load-in-Block.ensures.there named.0 honest loaded named.1 named.2)
+    rw (p.1, p.2) (c.in_err-load_data-in-Block.ensures.there named.0 honest loaded named.1 named.2)
 
 pub returns-in-Object-clause-put : goal.returns-in-Object-clause-put
 returns-in-Object-clause-put g c = λ text item honest loaded written first.
@@ -36,3 +40,17 @@ returns-in-Object-clause-put g c = λ text item honest loaded written first.
         left_are = sym put.1 ∙ ap (λ (n : ℕ). drop n (c.of_object.result.head ++ item_payload item)) (sym c.of_object.ensures.given);
       };
     }
+
+pub load_data-requires-clause-size : goal.load_data-requires-clause-size
+load_data-requires-clause-size g c = subst DueFits c.in-Block.is c.requires.due
+
+pub returns-in_err-load-in-Spill-clause-damaged : goal.returns-in_err-load-in-Spill-clause-damaged
+returns-in_err-load-in-Spill-clause-damaged g c = λ honest.
+    let p = err_from_is_err_and c.from_residual.result c.from_residual.ensures.1 in
+    let fits = subst DueFits c.in-Spill.is c.requires.due in
+    rw (p.1, p.2, c.in-Spill.is) (short_told (IsSeen (g.D.Disk.state c.args.io.now.disk.now).seen) (g.D.Disk.state c.args.io.now.disk.now).size c.in-Spill.ptr (spill_size_most c.in-Spill.ptr.length fits.1) _ (c.in_err-load-in-Spill.ensures.damaged honest))
+
+pub returns-in_err-load_data-in-Block-clause-damaged : goal.returns-in_err-load_data-in-Block-clause-damaged
+returns-in_err-load_data-in-Block-clause-damaged g c = λ honest.
+    let p = err_from_is_err_and c.from_residual-in_err-load_data-in-Block.result c.from_residual-in_err-load_data-in-Block.ensures.1 in
+    rw (p.1, p.2, c.in-Block.is) (c.in_err-load_data-in-Block.ensures.damaged honest)
