@@ -1,4 +1,4 @@
-ghost use Rattle.std.specs.Prelude.{◌≡◌, ◌<◌, ◌≤◌, true, IfOk, IfSome};
+ghost use Rattle.std.specs.Prelude.{◌≡◌, ◌+◌, ◌<◌, ◌≤◌, true, IfOk, IfSome};
 ghost use Rattle.zst_block.specs.Blocks.{FitsDisk, Has};
 ghost use Rattle.zst_block.specs.Working.{Looks, stop_of};
 ghost use Rattle.zst_model.specs.declared.sends.header.Header.{Header};
@@ -12,6 +12,7 @@ ghost use Rattle.zst_send.specs.Due.{DueFits};
 ghost use Rattle.zst_send.specs.Places.{GoesTo, IsPlaceOf, PlaceFits, place_after};
 ghost use Rattle.zst_traverse.specs.Cells.{FoundFits, IsNextCell, choice_after};
 ghost use Rattle.zst_traverse.specs.Telling.{IsDamagedCell};
+ghost use Rattle.zst_objset.specs.Tight.{SetIsTight};
 ghost use Rattle.zst_tree.specs.Damage.{IsSeen};
 ghost use Rattle.zst_tree.specs.Indices.{Delivers};
 
@@ -137,6 +138,8 @@ impl Place {
         ensures ranges { IfOk result (λ found. IfSome found DueFits) }
         ensures damaged { (D.state io.new.disk.now).honest → IfDamaged result (IsDamagedCell (IsSeen (D.state io.old.disk.now).seen) (D.state io.old.disk.now).size set.now) }
         ensures looks { Looks (D.state io.old.disk.now) io.old.space io.old.failed (D.state io.new.disk.now) io.new.space io.new.failed (stop_of result) }
+        // Of a set whose slots are tight it reads at most 64 blocks.
+        ensures few { (snap : DatedState) → (D.state io.new.disk.now).honest → SetIsTight (Has (D.state io.old.disk.now).seen io.old.space) set.now snap → (D.state io.new.disk.now).calls ≤ (D.state io.old.disk.now).calls + 64 }
         ensures kept_fit { FitsDisk (D.state io.new.disk.now).size io.new.space }
         ensures same { io.new.disk.ghost_name ≡ io.old.disk.ghost_name }
     {
@@ -169,6 +172,7 @@ fn next_found<D: Disk>(
     ensures ranges { IfOk result (λ found. IfSome found (FoundFits place.now.point)) }
     ensures damaged { (D.state io.new.disk.now).honest → IfDamaged result (IsDamagedCell (IsSeen (D.state io.old.disk.now).seen) (D.state io.old.disk.now).size set.now) }
     ensures looks { Looks (D.state io.old.disk.now) io.old.space io.old.failed (D.state io.new.disk.now) io.new.space io.new.failed (stop_of result) }
+    ensures few { (snap : DatedState) → (D.state io.new.disk.now).honest → SetIsTight (Has (D.state io.old.disk.now).seen io.old.space) set.now snap → (D.state io.new.disk.now).calls ≤ (D.state io.old.disk.now).calls + 64 }
     ensures kept_fit { FitsDisk (D.state io.new.disk.now).size io.new.space }
     ensures same { io.new.disk.ghost_name ≡ io.old.disk.ghost_name }
 {
@@ -192,6 +196,7 @@ fn counted<D: Disk, L: Ledger>(
     ensures ranges { IfOk result (λ found. IfSome found (FoundFits place.now.point)) }
     ensures damaged { (D.state io.new.disk.now).honest → IfDamaged result (IsDamagedCell (IsSeen (D.state io.old.disk.now).seen) (D.state io.old.disk.now).size set.now) }
     ensures looks { Looks (D.state io.old.disk.now) io.old.space io.old.failed (D.state io.new.disk.now) io.new.space io.new.failed (stop_of result) }
+    ensures few { (snap : DatedState) → (D.state io.new.disk.now).honest → SetIsTight (Has (D.state io.old.disk.now).seen io.old.space) set.now snap → (D.state io.new.disk.now).calls ≤ (D.state io.old.disk.now).calls + 64 }
     ensures kept_fit { FitsDisk (D.state io.new.disk.now).size io.new.space }
     ensures same { io.new.disk.ghost_name ≡ io.old.disk.ghost_name }
 {
