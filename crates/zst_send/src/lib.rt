@@ -8,6 +8,8 @@ mod place;
 mod room;
 mod send;
 mod stand;
+#[cfg(test)]
+mod tests;
 mod walk;
 mod work;
 
