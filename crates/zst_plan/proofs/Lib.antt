@@ -4,3 +4,7 @@ mod Origins
 mod Chain
 mod Begun
 mod Planned
+mod Components
+mod Latest
+mod Marked
+mod Receiving

@@ -1,3 +1,5 @@
 pub mod Places
 pub mod Plans
+pub mod Receipts
+pub mod RecvPlan
 pub mod Sources

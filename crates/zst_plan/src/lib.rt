@@ -1,4 +1,4 @@
-//! What a send is to give, looked up in a pool's directory, or why it can't (zfs-send(8)).
+//! What a send is to give and what a receive begins with, looked up in a pool's directory, or why it can't (zfs-send(8), zfs-receive(8)).
 #![tactic(auto)]
 
 mod before;
@@ -6,11 +6,13 @@ mod checks;
 mod finding;
 mod flags;
 mod plan;
+mod receive;
 mod send;
 mod source;
 #[cfg(test)]
 mod tests;
 
 pub use plan::SendPlan;
+pub use receive::{RecvAsk, RecvPlan, recv_plan};
 pub use send::send_plan;
 pub use zst_model::{FromName, SendAsk};

@@ -49,8 +49,8 @@ pub fn flags_of(snapshot: &Snapshot, source: &Option<Source<'_>>) -> u32
     }
 }
 
-// The kind of the snapshot's dataset, which is there in each lawful pool.
-fn kind_of(dir: &Dir, snapshot: &Snapshot) -> u32
+/// The kind of the snapshot's dataset, which is there in each lawful pool.
+pub fn kind_of(dir: &Dir, snapshot: &Snapshot) -> u32
     ensures { (pool : Pool) (to : PlainSnapshot) → AreNamed dir.now pool → NamesSnapshot snapshot.now to → result ≡ kind_of pool to }
 {
     match dataset_of(dir, snapshot) {
