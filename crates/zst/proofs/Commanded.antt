@@ -160,14 +160,14 @@ refused_step here mid here' fault later cause alive = record {
 }
 
 -- a fault of opening is the disk's only as that, and never that it had failed
-open_disk : (fault : OpenFault) → open_refusal fault ≡ refusals.DiskFault → fault ≡ opens.DiskFault
+pub open_disk : (fault : OpenFault) → open_refusal fault ≡ refusals.DiskFault → fault ≡ opens.DiskFault
 open_disk (opens.Damaged sector stated found) is = absurd (cc is)
 open_disk opens.NoPool is = absurd (cc is)
 open_disk (opens.BadVersion version) is = absurd (cc is)
 open_disk opens.DiskFault is = refl
 open_disk opens.OutOfMemory is = absurd (cc is)
 
-open_alive : (fault : OpenFault) → open_refusal fault ≢ refusals.Failed
+pub open_alive : (fault : OpenFault) → open_refusal fault ≢ refusals.Failed
 open_alive (opens.Damaged sector stated found) is = absurd (cc is)
 open_alive opens.NoPool is = absurd (cc is)
 open_alive (opens.BadVersion version) is = absurd (cc is)

@@ -21,7 +21,8 @@ use Rattle.zst_dump.specs.Lines.{line_text, lines_of}
 use Rattle.zst_dump.specs.Summary.{counts_of, summary_text}
 use Rattle.zst_dump.specs.declared.counts.Counts.{Counts}
 use Rattle.zst.specs.Dumps.{Dumps, Ends, WroteAll, NoFault, IsWithin, dump_text, ending_of}
-use Rattle.zst.specs.Dumping.{Dumping, HandsOn, IsAtEnd, IsFailed, IsLast, IsTooLong, TookMore, progress_of}
+use Rattle.zst.specs.Dumping.{Dumping, IsAtEnd, IsFailed, IsLast, IsTooLong, TookMore, progress_of}
+use Rattle.zst.specs.Replies.{HandsOn}
 
 -- ---- readings
 

@@ -5,3 +5,7 @@ pub mod Commanded
 pub mod InRange
 pub mod Made
 pub mod Replying
+pub mod SendLemmas
+pub mod SentFrom
+pub mod SentAlike
+pub mod AskedLines

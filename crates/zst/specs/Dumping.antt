@@ -1,7 +1,7 @@
 -- A dump that is under way.
 use Rattle.std.specs.Prelude.{ℕ, ◌≡◌, ◌⊎◌, ◌+◌, ◌<◌, ◌≤◌, List, [], ◌∷◌, length, IsTrue, Option, None, Some, Result, Ok, Err}
 use Rattle.zst_outside.specs.Causes.{Rose}
-use Rattle.zst_outside.specs.States.{SourceState, SinkState, Gave, HandedOn}
+use Rattle.zst_outside.specs.States.{SourceState, SinkState, Gave}
 use Rattle.zst_outside.specs.Printing.{Printed}
 use Rattle.zst_model.specs.declared.refusals.faults.Quantity.TheVariants.{Stream}
 use Rattle.zst_model.specs.declared.refusals.refusal.Refusal.{Refusal}
@@ -34,12 +34,6 @@ progress_of r = pushed_of r + handed_of r
 abbrev pub Turned : (input input' : SourceState) → (out out' : SinkState) → (old new : Reader) → Counts → Option (Result (Unit {0}) Refusal) → Type 0
 Turned input input' out out' old new c None = Dumping input input' out out' new c × (progress_of old < progress_of new)
 Turned input input' out out' old new c (Some result) = Dumps input input' out out' result
-
--- What waited was handed on and the answer stands, or that failed and is the answer (E30).
-pub record HandsOn (out out' : SinkState) (answer result : Result (Unit {0}) Refusal) : Type 0 where
-  pub written : out'.written ≡ out.written
-  pub later : out.faults ≤ out'.faults
-  pub outcome : ((result ≡ answer) × (out'.faults ≡ out.faults) × HandedOn out') ⊎ ((result ≡ Err refusals.SinkFault) × Rose out.faults out'.faults)
 
 -- ---- more of the input
 

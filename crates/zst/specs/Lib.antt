@@ -6,3 +6,5 @@ pub mod Lines
 pub mod Openings
 pub mod Runs
 pub mod Dumping
+pub mod Sends
+pub mod Sending

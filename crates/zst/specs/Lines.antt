@@ -1,32 +1,38 @@
 -- What a line does.
-use Rattle.std.specs.Prelude.{ℕ, ◌≡◌, Result, Ok, Err}
+use Rattle.std.specs.Prelude.{ℕ, ◌≡◌, IfSome, Option, None, Some, Result, Ok, Err}
 use Rattle.zst_outside.specs.Images.{DiskState}
-use Rattle.zst_outside.specs.States.{SinkState}
 use Rattle.zst_model.specs.pools.Step.{IsCommand}
-use Rattle.zst_model.specs.declared.pools.command.Command.{Command}
 use Rattle.zst_model.specs.declared.refusals.faults.Lack.TheVariants as lacks
 use Rattle.zst_model.specs.declared.refusals.plan_fault.PlanFault.TheVariants as plans
 use Rattle.zst_model.specs.declared.refusals.refusal.Refusal.{Refusal}
 use Rattle.zst_model.specs.declared.refusals.refusal.Refusal.TheVariants as refusals
+use Rattle.zst_model.specs.declared.sends.ask.SendAsk.{SendAsk}
 use Rattle.zst_line.specs.Lines.{IsCreate, refusal_of}
 use Rattle.zst_line.specs.declared.line.Line.{Line}
-use Rattle.zst_line.specs.declared.line.Line.TheVariants.{Dump, Create, Step}
+use Rattle.zst_line.specs.declared.line.Line.TheVariants.{Dump, Create, Step, Send}
 use Rattle.zst_line.specs.declared.line.LineFault.{LineFault}
 use Rattle.zst.specs.Commands.{Creates, Steps}
 use Rattle.zst.specs.Devices.{Devices}
 use Rattle.zst.specs.Dumps.{Dumps}
+use Rattle.zst.specs.Sends.{IsSource, Sends, ask_of}
 
 -- a line whose values are in their ranges
 abbrev pub IsInRange : Line → Type 0
 IsInRange (Create image sectors id) = IsCreate sectors id
 IsInRange (Step image command) = IsCommand command
+IsInRange (Send image from redacts snapshot) = IfSome from IsSource
 IsInRange line = Unit {0}
+
+-- what a line asks to be sent
+abbrev pub asked : Line → Option SendAsk
+asked (Send image from redacts snapshot) = Some (ask_of from redacts snapshot)
+asked line = None
 
 -- E19: what the line asks for isn't built yet
 abbrev pub not_built : Refusal
 not_built = refusals.Plan (plans.Unsupported lacks.NotBuilt)
 
--- What a line does: `dump` reads the input and leaves the image alone, and all others leave the input alone. Those that send,
+-- What a line does: `dump` reads the input and leaves the image alone, and all others leave the input alone. Those that resume,
 -- receive, redact, check, make room or run scripts aren't built yet: they are refused, and nothing is done.
 abbrev pub DoesLine : {D : Type 0} → (D → DiskState) → ℕ → Line → Devices D → Devices D → Result (Unit {0}) Refusal → Type 0
 DoesLine state now Dump old new result = Dumps old.input new.input old.out new.out result × (new.here ≡ old.here)
@@ -34,6 +40,8 @@ DoesLine state now (Create image sectors id) old new result =
     Creates sectors id (state old.here) (state new.here) old.out new.out result × (new.input ≡ old.input)
 DoesLine state now (Step image command) old new result =
     Steps now command (state old.here) (state new.here) old.out new.out result × (new.input ≡ old.input)
+DoesLine state now (Send image from redacts snapshot) old new result =
+    Sends (ask_of from redacts snapshot) (state old.here) (state new.here) old.out new.out result × (new.input ≡ old.input)
 DoesLine state now line old new result = (result ≡ Err not_built) × (new ≡ old)
 
 -- What words do: those that are no line are refused, and nothing is done.

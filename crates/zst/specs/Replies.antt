@@ -1,5 +1,6 @@
--- How the reply of a command is written.
-use Rattle.std.specs.Prelude.{ℕ, ◌≡◌, List, ◌++◌, flat_map, codes, IfErr, OnOk, Result, Ok, Err}
+-- How the reply of a command is written, and how what waits is handed on.
+use Rattle.std.specs.Prelude.{ℕ, ◌≡◌, ◌⊎◌, ◌≤◌, List, ◌++◌, flat_map, codes, IfErr, OnOk, Result, Ok, Err}
+use Rattle.zst_outside.specs.Causes.{Rose}
 use Rattle.zst_outside.specs.States.{SinkState, HandedOn}
 use Rattle.zst_outside.specs.Printing.{Prints}
 use Rattle.zst_model.specs.declared.refusals.refusal.Refusal.{Refusal}
@@ -13,3 +14,9 @@ reply_text lines = flat_map (λ line. line ++ codes "\n") lines
 abbrev pub Replied : SinkState → SinkState → Result (List (List ℕ)) Refusal → Result (Unit {0}) Refusal → Type 0
 Replied out out' (Ok lines) result = Prints out out' (reply_text lines) result × OnOk result (HandedOn out') × IfErr result (λ refusal. refusal ≡ refusals.SinkFault)
 Replied out out' (Err refusal) result = (result ≡ Err refusal) × (out' ≡ out)
+
+-- What waited was handed on and the answer stands, or that failed and is the answer (E30).
+pub record HandsOn (out out' : SinkState) (answer result : Result (Unit {0}) Refusal) : Type 0 where
+  pub written : out'.written ≡ out.written
+  pub later : out.faults ≤ out'.faults
+  pub outcome : ((result ≡ answer) × (out'.faults ≡ out.faults) × HandedOn out') ⊎ ((result ≡ Err refusals.SinkFault) × Rose out.faults out'.faults)

@@ -54,6 +54,10 @@ abbrev pub Told : SinkState → SinkState → ℕ → Result (Unit {0}) Refusal 
 Told note note' status (Ok done) = (status ≡ 0) × (note' ≡ note)
 Told note note' status (Err refusal) = (status ≡ status_of refusal) × Noted note note' (note_of refusal)
 
+-- What words do: the line that they are, or why they are none, and what it does.
+abbrev pub DoesWords : {D : Type 0} → (D → DiskState) → ℕ → List (List ℕ) → Devices D → Devices D → Result (Unit {0}) Refusal → Type 0
+DoesWords state now words old new result = (line : Result Line LineFault) × LineAnswers words line × Does state now line old new result
+
 -- A run of the program on these words, at this time: the line that they are, or why they are none, then what it does,
 -- and what is told of that.
 pub record Runs {D : Type 0} (state : D → DiskState) (now : ℕ) (words : List (List ℕ)) (old new : Devices D) (note note' : SinkState) (status : ℕ) : Type 0 where

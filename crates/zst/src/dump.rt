@@ -3,23 +3,14 @@ ghost use Rattle.zst_outside.specs.States.{SourceState, SinkState};
 ghost use Rattle.zst_reader.specs.Filling.{stream_limit};
 ghost use Rattle.zst_reader.specs.StandsFor.{pushed_of, room_of};
 ghost use Rattle.zst.specs.Dumps.{Dumps, HasOneAnswer};
-ghost use Rattle.zst.specs.Dumping.{Dumping, HandsOn, IsLast, TakesMore, Turned};
+ghost use Rattle.zst.specs.Dumping.{Dumping, IsLast, TakesMore, Turned};
 
+use crate::reply::hand_on;
 use std::alloc::Global;
 use zst_dump::{Counts, line_of, summary};
 use zst_model::{Quantity, Refusal, StreamFault};
 use zst_outside::{Sink, Source};
 use zst_reader::{Reader, STREAM_LIMIT, Step};
-
-// Hands on what waits. A fault there takes the place of the answer.
-fn hand_on<K: Sink>(answer: Result<(), Refusal>, out: &mut K) -> Result<(), Refusal>
-    ensures { HandsOn (K.state out.old) (K.state out.new) answer result }
-{
-    match out.flush() {
-        Ok(()) => answer,
-        Err(_) => Err(Refusal::SinkFault),
-    }
-}
 
 // After as many bytes as a stream may have: the input has to end there.
 fn refusal_at_limit<S: Source>(input: &mut S) -> Refusal

@@ -1,8 +1,8 @@
 // How the program opens the image that a line names.
-ghost use Rattle.std.specs.Prelude.{◌≡◌, IfOk, [], not};
+ghost use Rattle.std.specs.Prelude.{◌≡◌, IfOk, [], option_map};
 ghost use Rattle.zst_file.specs.FileDisk.{history_of};
-ghost use Rattle.zst_model.specs.pools.Step.{commits};
-ghost use Rattle.zst.specs.Openings.{is_shared};
+ghost use Rattle.zst.specs.Lines.{IsInRange};
+ghost use Rattle.zst.specs.Openings.{is_shared, shares};
 
 use std::alloc::{AllocError, Global};
 use std::fs::{self, File};
@@ -10,7 +10,6 @@ use std::io::{self, ErrorKind};
 use std::path::Path;
 use zst_file::{FileDisk, Start};
 use zst_line::{Line, LineFault, Text, parse};
-use zst_model::Command;
 
 /// The bytes of a sector.
 const SECTOR: u64 = 512;
@@ -26,14 +25,30 @@ pub(crate) enum Opening {
     Made { bytes: u64 },
 }
 
-/// How a command on a pool opens its image: one that commits nothing needs no leave to write.
-fn opening_for(command: &Command) -> Opening
-    ensures { is_shared result ≡ not (commits command.now) }
+/// How a line opens its image: one that commits nothing needs no leave to write. None where it names no image, or asks
+/// for what isn't built.
+fn opening_for(line: &Line) -> Option<Opening>
+    requires { IsInRange line.now }
+    ensures { option_map is_shared result ≡ shares line.now }
 {
-    if command.commits() {
-        Opening::Alone
-    } else {
-        Opening::Shared
+    match line {
+        Line::Create { sectors, .. } => {
+            let bytes = *sectors * SECTOR;
+            Some(Opening::Made { bytes })
+        }
+        Line::Step { command, .. } if command.commits() => Some(Opening::Alone),
+        Line::Step { .. } | Line::Send { .. } => Some(Opening::Shared),
+        _ => None,
+    }
+}
+
+/// The image that a line names, where it is built.
+fn image_of(line: Line) -> Option<Text> {
+    match line {
+        Line::Create { image, .. } => Some(image),
+        Line::Step { image, .. } => Some(image),
+        Line::Send { image, .. } => Some(image),
+        _ => None,
     }
 }
 
@@ -43,18 +58,15 @@ pub(crate) fn opening_of(
     alloc: Global,
     words: &[String],
 ) -> Result<Option<(Text, Opening)>, AllocError> {
-    match parse(alloc, words) {
-        Ok(Line::Create { image, sectors, .. }) => {
-            let bytes = sectors * SECTOR;
-            Ok(Some((image, Opening::Made { bytes })))
-        }
-        Ok(Line::Step { image, command }) => {
-            let opening = opening_for(&command);
-            Ok(Some((image, opening)))
-        }
-        Ok(_) => Ok(None),
-        Err(LineFault::Memory) => Err(AllocError),
-        Err(_) => Ok(None),
+    let line = match parse(alloc, words) {
+        Ok(line) => line,
+        Err(LineFault::Memory) => return Err(AllocError),
+        Err(_) => return Ok(None),
+    };
+    let opening = opening_for(&line);
+    match (image_of(line), opening) {
+        (Some(image), Some(opening)) => Ok(Some((image, opening))),
+        _ => Ok(None),
     }
 }
 

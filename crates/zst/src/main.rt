@@ -13,6 +13,7 @@ mod reply;
 #[cfg(test)]
 mod round_trip;
 mod run;
+mod send;
 #[cfg(test)]
 mod tests;
 

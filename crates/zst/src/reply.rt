@@ -1,9 +1,9 @@
 ghost use Rattle.std.specs.Prelude.{◌++◌, OnOk, codes};
 ghost use Rattle.zst_outside.specs.Printing.{Prints};
 ghost use Rattle.zst_outside.specs.States.{HandedOn};
-ghost use Rattle.zst.specs.Replies.{reply_text};
+ghost use Rattle.zst.specs.Replies.{HandsOn, reply_text};
 
-use zst_model::Reply;
+use zst_model::{Refusal, Reply};
 use zst_outside::{Fault, Sink, write_all};
 
 // Writes a line, and its line feed.
@@ -32,4 +32,14 @@ pub(crate) fn print_reply<K: Sink>(reply: &Reply, out: &mut K) -> Result<(), Fau
         write_line(line.as_slice(), out)?;
     }
     out.flush()
+}
+
+/// Hands on what waits. A fault there takes the place of the answer.
+pub(crate) fn hand_on<K: Sink>(answer: Result<(), Refusal>, out: &mut K) -> Result<(), Refusal>
+    ensures { HandsOn (K.state out.old) (K.state out.new) answer result }
+{
+    match out.flush() {
+        Ok(()) => answer,
+        Err(_) => Err(Refusal::SinkFault),
+    }
 }

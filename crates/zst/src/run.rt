@@ -1,15 +1,17 @@
-ghost use Rattle.std.specs.Prelude.{◌≡◌, map, string_bytes};
+ghost use Rattle.std.specs.Prelude.{◌≡◌, None, map, string_bytes};
 ghost use Rattle.zst.specs.Devices.{devices};
-ghost use Rattle.zst.specs.Lines.{DoesLine, IsInRange};
-ghost use Rattle.zst.specs.Runs.{Runs};
+ghost use Rattle.zst.specs.Lines.{DoesLine, IsInRange, asked};
+ghost use Rattle.zst.specs.Runs.{DoesWords, Runs};
 
 use crate::dump::dump;
 use crate::note::{note_refusal, status_of};
 use crate::pools::{create_pool, step_pool};
+use crate::send::{ask_of, send};
 use std::alloc::Global;
 use zst_line::{Line, parse};
 use zst_model::{Lack, PlanFault, Refusal};
 use zst_outside::{Disk, Sink, Source};
+use zst_send::SendAsk;
 
 /// Does what the words after the program's name ask for, and answers the program's status. A refusal goes to `note`.
 ///
@@ -29,11 +31,7 @@ pub fn run<D: Disk, E: Disk, S: Source, K: Sink, N: Sink>(
         (N.state note.old) (N.state note.new) result }
     ensures there { there.new ≡ there.old }
 {
-    let result = match parse(alloc, words) {
-        Ok(line) => run_line(alloc, line, now, here, input, out),
-        Err(fault) => Err(Refusal::from(fault)),
-    };
-    match result {
+    match run_words(alloc, words, now, here, input, out) {
         Ok(()) => 0,
         Err(refusal) => {
             note_refusal(&refusal, note);
@@ -42,7 +40,42 @@ pub fn run<D: Disk, E: Disk, S: Source, K: Sink, N: Sink>(
     }
 }
 
-/// Does what a line asks for, where it is built.
+/// Does what words ask for that are a line.
+fn run_words<D: Disk, S: Source, K: Sink>(
+    alloc: Global,
+    words: &[String],
+    now: u64,
+    here: &mut D,
+    input: &mut S,
+    out: &mut K,
+) -> Result<(), Refusal>
+    ensures { DoesWords D.state now (map string_bytes words.now)
+        (devices here.old (S.state input.old) (K.state out.old)) (devices here.new (S.state input.new) (K.state out.new)) result }
+{
+    let line = parse(alloc, words)?;
+    match asked(&line) {
+        Some(ask) => send(alloc, here, &ask, out),
+        None => run_line(alloc, line, now, here, input, out),
+    }
+}
+
+/// What a line asks to be sent.
+fn asked(line: &Line) -> Option<SendAsk>
+    requires { IsInRange line.now }
+    ensures { result ≡ asked line.now }
+{
+    match line {
+        Line::Send {
+            from,
+            redacts,
+            snapshot,
+            ..
+        } => Some(ask_of(from, redacts, snapshot)),
+        _ => None,
+    }
+}
+
+/// Does what a line asks for that sends nothing, where it is built.
 fn run_line<D: Disk, S: Source, K: Sink>(
     alloc: Global,
     line: Line,
@@ -51,7 +84,8 @@ fn run_line<D: Disk, S: Source, K: Sink>(
     input: &mut S,
     out: &mut K,
 ) -> Result<(), Refusal>
-    requires { IsInRange line }
+    requires range { IsInRange line }
+    requires other { asked line ≡ None }
     ensures { DoesLine D.state now line
         (devices here.old (S.state input.old) (K.state out.old)) (devices here.new (S.state input.new) (K.state out.new)) result }
 {

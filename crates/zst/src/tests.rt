@@ -5,6 +5,7 @@ mod flushes;
 mod images;
 mod pools;
 mod runs;
+mod sends;
 mod sessions;
 mod spills;
 mod stops;

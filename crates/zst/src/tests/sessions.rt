@@ -111,7 +111,7 @@ pub(super) const EACH_KIND: [Accepted; 12] = [
 ];
 
 /// Lines that this pool refuses.
-const REFUSED: [Refused; 22] = [
+const REFUSED: [Refused; 21] = [
     ("clone I tank/a@x tank/y", 3, "E3 no such tank/a@x"),
     ("clone I tank/a@z tank/ab", 3, "E4 exists: tank/ab"),
     ("bookmark I tank/a@x tank/a#x", 3, "E3 no such tank/a@x"),
@@ -130,12 +130,7 @@ const REFUSED: [Refused; 22] = [
     ("destroy I tank/a@z", 3, "E5 busy: clone tank/ab"),
     ("destroy I tank/v", 3, "E5 busy: clone tank/a/w"),
     // What isn't built yet is told once the words are a line.
-    ("send I tank/a@z", 3, "E19 unsupported: not built"),
-    (
-        "send -i tank/a#m I tank/a@b",
-        3,
-        "E19 unsupported: not built",
-    ),
+    ("send -t zst1 I", 3, "E19 unsupported: not built"),
     ("receive -s -F I tank/y", 3, "E19 unsupported: not built"),
     (
         "redact I tank/a@z tank/a#r tank/ab@s",

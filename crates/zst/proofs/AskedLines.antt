@@ -1,0 +1,28 @@
+-- What a line does that sends, and one that doesn't.
+use Rattle.std.proofs.Common.{◌≡◌, ℕ, Some, Result, sym, subst}
+use Rattle.zst_outside.specs.Images.{DiskState}
+use Rattle.zst_model.specs.declared.refusals.refusal.Refusal.{Refusal}
+use Rattle.zst_model.specs.declared.sends.ask.SendAsk.{SendAsk}
+use Rattle.zst_line.specs.declared.line.Line.{Line}
+use Rattle.zst_line.specs.declared.line.Line.TheVariants.{Dump, Create, Step, Redact, Send, Resume, Receive, Abort, Token, Check, Gen, Reclaim, Replay}
+use Rattle.zst.specs.Devices.{Devices}
+use Rattle.zst.specs.Lines.{DoesLine, asked}
+use Rattle.zst.specs.Sends.{Sends, ask_of}
+
+pub does_send : {D : Type 0} → (state : D → DiskState) (now : ℕ) (line : Line) (ask : SendAsk) (old new : Devices D) (result : Result (Unit {0}) Refusal) → asked line ≡ Some ask
+    → Sends ask (state old.here) (state new.here) old.out new.out result → new.input ≡ old.input → DoesLine state now line old new result
+does_send state now (Send image from redacts snapshot) ask old new result is sends input =
+    let same : ask_of from redacts snapshot ≡ ask = cc is in
+    (subst (λ (a : SendAsk). Sends a (state old.here) (state new.here) old.out new.out result) (sym same) sends, input)
+does_send state now Dump ask old new result is sends input = absurd (cc is)
+does_send state now (Create image sectors id) ask old new result is sends input = absurd (cc is)
+does_send state now (Step image command) ask old new result is sends input = absurd (cc is)
+does_send state now (Redact image snapshot bookmark kept) ask old new result is sends input = absurd (cc is)
+does_send state now (Resume image token) ask old new result is sends input = absurd (cc is)
+does_send state now (Receive image keeps forces origin target) ask old new result is sends input = absurd (cc is)
+does_send state now (Abort image dataset) ask old new result is sends input = absurd (cc is)
+does_send state now (Token image dataset) ask old new result is sends input = absurd (cc is)
+does_send state now (Check image) ask old new result is sends input = absurd (cc is)
+does_send state now (Gen image steps) ask old new result is sends input = absurd (cc is)
+does_send state now (Reclaim image) ask old new result is sends input = absurd (cc is)
+does_send state now (Replay here there) ask old new result is sends input = absurd (cc is)

@@ -1,0 +1,175 @@
+-- What each piece of a send leaves, and how a send ends.
+use Rattle.std.proofs.Common.{◌≡◌, ◌≢◌, inl, inr, ⊎_elim, ℕ, ◌+◌, ◌<◌, ◌≤◌, Bool, true, Option, Some, None, Result, List, [], ◌++◌, length, take, drop, Ok, Err, IfErr, refl, sym, ap, ◌∙◌, subst, arith, length-append}
+use Rattle.std.proofs.lemmas.List.{append-nil, drop_all}
+use Rattle.zst_outside.specs.Causes.{Rose-earlier}
+use Rattle.zst_outside.specs.Images.{DiskState}
+use Rattle.zst_outside.specs.States.{SinkState}
+use Rattle.zst_outside.specs.Printing.{Wrote, Printed, Wrote-kept, Wrote-then, Wrote-longer, Wrote-start, Printed-start, Printed-then}
+use Rattle.zst_model.specs.declared.refusals.faults.Quantity.TheVariants.{Stream}
+use Rattle.zst_model.specs.declared.refusals.plan_fault.PlanFault.{PlanFault}
+use Rattle.zst_model.specs.declared.refusals.refusal.Refusal.{Refusal}
+use Rattle.zst_model.specs.declared.refusals.refusal.Refusal.TheVariants as refusals
+use Rattle.zst_model.specs.refusals.Refusal.{refusal_of}
+use Rattle.zst_model.specs.sends.Headers.{Sent}
+use Rattle.zst_pool.specs.Faults.{pool_refusal}
+use Rattle.zst_pool.specs.declared.fault.PoolFault.{PoolFault}
+use Rattle.zst_pool.specs.declared.fault.PoolFault.TheVariants as faults
+use Rattle.zst_reader.specs.Filling.{stream_limit}
+use Rattle.zst_send.specs.Sends as given
+use Rattle.zst_send.specs.Sends.{sent_text}
+use Rattle.zst_send.specs.declared.send.Send.{Send}
+use Rattle.zst_tree.specs.Indices.{Blocks}
+use Rattle.zst.specs.Replies.{HandsOn}
+use Rattle.zst.specs.Sends.{IsSendRefusal, OfGiving, RefusalEnds, SendsBy, TextEnds}
+use Rattle.zst.specs.Sending.{IsOpenRefusal, OpensBy, Passed, PieceWritten, Sending, WritesPiece}
+use Rattle.zst.proofs.Commanded.{disk_fault, failed_before, full_only, of_plan}
+
+-- ---- refusals
+
+-- a pool's fault is never the output's
+no_sink : (fault : PoolFault) → pool_refusal fault ≢ refusals.SinkFault
+no_sink (faults.Plan fault) is = absurd (of_plan (λ r. r ≡ refusals.SinkFault → ⊥) (λ f e. absurd (cc e)) (λ w n e. absurd (cc e)) fault is)
+no_sink (faults.CannotApply fault) is = absurd (cc is)
+no_sink (faults.Redacted object block) is = absurd (cc is)
+no_sink (faults.Full need largest) is = absurd (cc is)
+no_sink (faults.Damaged sector stated found) is = absurd (cc is)
+no_sink faults.DiskFault is = absurd (cc is)
+no_sink faults.Failed is = absurd (cc is)
+no_sink faults.OutOfMemory is = absurd (cc is)
+
+-- a refusal of a later part is one of the whole
+refusal_earlier : (here mid here' : DiskState) (out between out' : SinkState) (refusal : Refusal) → here.faults ≤ mid.faults → out.faults ≤ between.faults
+    → IsSendRefusal OfGiving mid here' between out' refusal → IsSendRefusal OfGiving here here' out out' refusal
+refusal_earlier here mid here' out between out' refusal disk sink is = record {
+  pool = record { one = is.pool.one; alive = is.pool.alive; cause = λ e. Rose-earlier here.faults mid.faults here'.faults disk (is.pool.cause e) };
+  never_full = is.never_full;
+  cause = λ e. Rose-earlier out.faults between.faults out'.faults sink (is.cause e);
+}
+
+pub refused_earlier : (here mid here' : DiskState) (out between out' : SinkState) (result : Result (Unit {0}) Refusal) → here.faults ≤ mid.faults → out.faults ≤ between.faults
+    → IfErr result (IsSendRefusal OfGiving mid here' between out') → IfErr result (IsSendRefusal OfGiving here here' out out')
+refused_earlier here mid here' out between out' (Ok done) disk sink is = tt
+refused_earlier here mid here' out between out' (Err refusal) disk sink is = refusal_earlier here mid here' out between out' refusal disk sink is
+
+-- ---- pieces
+
+-- a piece that would go past a stream's bytes
+pub piece_too_long : (piece : List ℕ) (is_last : Bool) (old new : ℕ) (out out' : SinkState) (result : Result (Unit {0}) Refusal) → stream_limit < old + length piece
+    → HandsOn out out' (Err (refusals.Limit Stream stream_limit)) result → WritesPiece piece is_last old new out out' (Some result)
+piece_too_long piece is_last old new out out' result longer hands =
+    ⊎_elim (λ done. rw done.0 (refl, refl, record { longer = longer; kept = hands.written; later = hands.later; is_out = (done.1, done.2) }))
+    (λ lost. rw lost.0 (record { front = (piece, Wrote-kept out out out' piece piece (Wrote-start out piece) hands.written hands.later); rose = lost.1 }))
+    hands.outcome
+
+-- a text that is written is a front of a longer one
+front_of : (out out' : SinkState) (text left whole : List ℕ) → text ++ left ≡ whole → Wrote out out' text [] → (rest : List ℕ) × Wrote out out' whole rest
+front_of out out' text left whole is wrote = (left, subst (λ (t : List ℕ). Wrote out out' t left) is (Wrote-longer out out' text [] left wrote))
+
+-- a piece was taken behind a text of which so much was left
+module _ (has : Blocks) (sent : Sent) (send : Send) (before after : ℕ) (begun out out' : SinkState) (into text left : List ℕ) (taken old new : ℕ) (is_last : Bool)
+    (takes : given.Takes has send sent text left into (Ok taken)) (whole : text ++ left ≡ sent_text sent) (counted : old ≡ length text) (printed : Printed begun out text) where
+  longer : length (text ++ take taken left) ≡ old + length (take taken into)
+  longer = omega (arith, length-append text (take taken left), ap length takes.1, counted)
+
+  all : (count : ℕ) → PieceWritten (take taken into) old count out out' → Printed begun out' (text ++ take taken left)
+  all count w = Printed-then begun out out' text (take taken left) printed (subst (λ (t : List ℕ). Printed out out' t) takes.1 w.printed)
+
+  -- what a piece that wasn't filled leaves
+  last_is : taken < length into → text ++ take taken left ≡ sent_text sent
+  last_is short =
+      let none = drop_all taken left (omega (arith, takes.0, short)) in
+      sym (append-nil (text ++ take taken left)) ∙ ap (λ (rest : List ℕ). (text ++ take taken left) ++ rest) (sym none) ∙ takes.2.text
+
+  pub passed : (result : Option (Result (Unit {0}) Refusal)) → (is_last ≡ true → taken < length into) → WritesPiece (take taken into) is_last old new out out' result
+      → Passed has sent send before after begun out' new result
+  passed None last w = record { text = text ++ take taken left; left = drop taken left; stands = takes.2; counted = w.1.counted ∙ sym longer; printed = all new w.1 }
+  passed (Some (Ok done)) last w =
+      let is = last_is (last w.0) in
+      let printed_all = subst (λ (t : List ℕ). Printed begun out' t) is (all (old + length (take taken into)) w.1) in
+      record {
+        front = ([], printed_all.wrote);
+        ends = record { within = omega (arith, w.1.within, longer, ap length is); printed = printed_all; handed_on = w.2 };
+      }
+  passed (Some (Err (refusals.Limit which number))) last w = record {
+    front = front_of begun out' text left (sent_text sent) whole (Wrote-kept begun out out' text [] printed.wrote w.2.kept w.2.later);
+    ends = (
+      w.0,
+      w.1,
+      record {
+        longer = omega (arith, w.2.longer, longer, ap length takes.2.text, length-append (text ++ take taken left) (drop taken left));
+        is_out = (w.2.is_out.0 ∙ printed.stays, w.2.is_out.1);
+      },
+    );
+  }
+  passed (Some (Err refusals.SinkFault)) last w =
+      let front = Wrote-then begun out out' text (take taken left) w.front.0 printed.wrote (subst (λ (t : List ℕ). Wrote out out' t w.front.0) takes.1 w.front.1) in
+      record {
+        front = (
+          w.front.0 ++ drop taken left,
+          subst (λ (t : List ℕ). Wrote begun out' t (w.front.0 ++ drop taken left)) takes.2.text
+              (Wrote-longer begun out' (text ++ take taken left) w.front.0 (drop taken left) front),
+        );
+        ends = Rose-earlier begun.faults out.faults out'.faults printed.wrote.later w.rose;
+      }
+  passed (Some (Err other)) last w = absurd w
+
+-- ---- the whole
+
+text_earlier : (text : List ℕ) (before mid after : ℕ) (out out' : SinkState) (result : Result (Unit {0}) Refusal) → before ≤ mid → TextEnds text mid after out out' result
+    → TextEnds text before after out out' result
+text_earlier text before mid after out out' (Ok done) later e = e
+text_earlier text before mid after out out' (Err (refusals.Limit which number)) later e = e
+text_earlier text before mid after out out' (Err refusals.DiskFault) later e = (Rose-earlier before mid after later e.0, e.1)
+text_earlier text before mid after out out' (Err refusals.SinkFault) later e = e
+text_earlier text before mid after out out' (Err refusals.OutOfMemory) later e = e
+text_earlier text before mid after out out' (Err other) later e = absurd e
+
+-- how a later part of a send ends, the whole does
+pub sent_earlier : (sent : Sent) (before mid after : ℕ) (out out' : SinkState) (result : Result (Unit {0}) Refusal) → before ≤ mid → SendsBy (Ok sent) mid after out out' result
+    → SendsBy (Ok sent) before after out out' result
+sent_earlier sent before mid after out out' result later s = record { front = s.front; ends = text_earlier (sent_text sent) before mid after out out' result later s.ends }
+
+-- ---- opening
+
+-- a send that was opened has all of its text left
+pub sends_from : (has : Blocks) (planned : Result Sent PlanFault) (send : Send) (before after : ℕ) (out out' : SinkState) (result : Result (Unit {0}) Refusal) → OpensBy has planned (Ok send)
+    → ((sent : Sent) → Sending has sent send out out 0 → SendsBy (Ok sent) before after out out' result) → SendsBy planned before after out out' result
+sends_from has (Ok sent) send before after out out' result opens gives =
+    gives sent (record { text = []; left = sent_text sent; stands = opens; counted = refl; printed = Printed-start out })
+sends_from has (Err fault) send before after out out' result opens gives = absurd opens
+
+pub wants_memory : (has : Blocks) (planned : Result Sent PlanFault) → OpensBy has planned (Err refusals.OutOfMemory)
+wants_memory has (Ok sent) = refl
+wants_memory has (Err fault) = inr refl
+
+-- a plan's refusal is how its send ends
+by_plan : (fault : PlanFault) (before after : ℕ) → RefusalEnds fault before after (Err (refusal_of fault))
+by_plan fault before after = of_plan (λ r. r ≡ refusal_of fault → RefusalEnds fault before after (Err r)) (λ f is. is) (λ which number is. is) fault refl
+
+-- a send that isn't opened writes nothing
+pub unopened_by : (has : Blocks) (planned : Result Sent PlanFault) (before after : ℕ) (out : SinkState) (refusal : Refusal) → OpensBy has planned (Err refusal)
+    → SendsBy planned before after out out (Err refusal)
+unopened_by has (Ok sent) before after out refusal is = rw is (record { front = (sent_text sent, Wrote-start out (sent_text sent)); ends = refl })
+unopened_by has (Err fault) before after out refusal is =
+    ⊎_elim (λ plan. rw plan (record { front = ([], Wrote-start out []); ends = (by_plan fault before after, refl) }))
+    (λ memory. rw memory (record { front = ([], Wrote-start out []); ends = (tt, refl) }))
+    is
+
+pub memory_refused : (here here' : DiskState) (out out' : SinkState) → IsSendRefusal OfGiving here here' out out' refusals.OutOfMemory
+memory_refused here here' out out' = record {
+  pool = record { one = inl (faults.OutOfMemory, refl); alive = λ is. absurd (cc is); cause = λ is. absurd (cc is) };
+  never_full = λ need largest is. absurd (cc is);
+  cause = λ is. absurd (cc is);
+}
+
+pub open_refused : (here here' : DiskState) (out out' : SinkState) (refusal : Refusal) → IsOpenRefusal refusal → IsSendRefusal OfGiving here here' out out' refusal
+open_refused here here' out out' refusal (inl plan) = rw plan.1 (record {
+  pool = record {
+    one = inl (faults.Plan plan.0, refl);
+    alive = λ is. let same = failed_before (faults.Plan plan.0) is in absurd (cc same);
+    cause = λ is. let same = disk_fault (faults.Plan plan.0) is in absurd (cc same);
+  };
+  never_full = λ need largest is. let same = full_only (faults.Plan plan.0) need largest is in absurd (cc same);
+  cause = λ is. absurd (no_sink (faults.Plan plan.0) is);
+})
+open_refused here here' out out' refusal (inr memory) = rw memory (memory_refused here here' out out')

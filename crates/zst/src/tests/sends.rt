@@ -1,0 +1,242 @@
+// Streams that are sent, byte for byte, and sends that are refused or fail.
+
+use super::images::{SMALL, bytes_of, disk_of, image_of, refused, run_into, run_on, turned, zeros};
+use super::runs::{check, dump_of, sink, text_of};
+use super::sessions::{EACH_KIND, Refused, accept, refuse};
+use super::streams::{Field, GUID, Stream, sums_before};
+use std::alloc::Global;
+use std::process::Abort;
+use std::test::Fail;
+use zst_outside::{MemDisk, MemSink};
+
+/// The names `tank/a@s` and `tank/a@t` in BEGIN.
+const NAME_S: Field = (56, 8, 0x7340_612f_6b6e_6174);
+
+const NAME_T: Field = (56, 8, 0x7440_612f_6b6e_6174);
+
+/// The guid of the second snapshot.
+const NEXT: u64 = 0x1_0000_0002;
+
+/// FREEOBJECTS of every number from one on.
+fn free_from(first: u64, to: u64) -> [Field; 4] {
+    let count = (1u64 << 48).saturating_sub(first);
+    [(0, 4, 2), (8, 8, first), (16, 8, count), (24, 8, to)]
+}
+
+/// The records of an object of one block: OBJECT, the FREE behind its end, and WRITE.
+fn put_object(rt: &impl Abort, stream: &mut Stream, to: u64) -> Result<(), Fail> {
+    let object = [
+        (0, 4, 1),
+        (8, 8, 1),
+        (16, 4, 19),
+        (24, 4, 512),
+        (34, 1, 1),
+        (40, 8, to),
+    ];
+    stream.put(rt, &object)?;
+    let free = [
+        (0, 4, 4),
+        (8, 8, 1),
+        (16, 8, 512),
+        (24, 8, u64::MAX),
+        (32, 8, to),
+    ];
+    stream.put(rt, &free)?;
+    let write = [(0, 4, 3), (8, 8, 1), (16, 4, 19), (32, 8, 512), (40, 8, to)];
+    stream.put(rt, &write)?;
+    let mut block = [0; 512];
+    block[0] = 0xaa;
+    stream.add(&block)
+}
+
+/// The stream of an empty file system.
+fn empty_stream(rt: &impl Abort, alloc: Global) -> Result<Vec<u8>, Fail> {
+    let mut stream = Stream::begin(rt, alloc, &[NAME_S])?;
+    stream.put(rt, &free_from(1, GUID))?;
+    stream.end(rt)?;
+    Ok(stream.bytes)
+}
+
+/// The stream of a small pool's snapshot.
+fn small_stream(rt: &impl Abort, alloc: Global) -> Result<Vec<u8>, Fail> {
+    let mut stream = Stream::begin(rt, alloc, &[NAME_S])?;
+    put_object(rt, &mut stream, GUID)?;
+    stream.put(rt, &free_from(2, GUID))?;
+    stream.end(rt)?;
+    Ok(stream.bytes)
+}
+
+/// The stream of its next snapshot, from that one or its bookmark: the block was written again.
+fn next_stream(rt: &impl Abort, alloc: Global) -> Result<Vec<u8>, Fail> {
+    let mut stream = Stream::begin(rt, alloc, &[NAME_T, (40, 8, NEXT), (48, 8, GUID)])?;
+    put_object(rt, &mut stream, NEXT)?;
+    stream.end_with(rt, (40, 8, NEXT))?;
+    Ok(stream.bytes)
+}
+
+/// Checks that a line sends this stream, and leaves each byte of the image.
+fn check_sent(
+    rt: &impl Abort,
+    alloc: Global,
+    disk: &mut MemDisk,
+    line: &str,
+    stream: &[u8],
+) -> Result<(), Fail> {
+    let image = bytes_of(alloc, disk)?;
+    let ran = run_on(alloc, disk, line)?;
+    assert_eq!(rt; text_of(&ran.note), "", "{line}");
+    assert!(rt; ran.out.bytes() == stream, "{line}");
+    assert_eq!(rt; ran.status, 0, "{line}");
+    assert!(rt; bytes_of(alloc, disk)? == image, "{line}");
+    Ok(())
+}
+
+#[test]
+fn an_empty_file_system_is_sent_and_dumped(rt: HostRuntime) -> Result<(), Fail> {
+    let alloc = rt.alloc();
+    let lines = ["create I 256 1", "fs I tank/a", "snapshot I tank/a@s"];
+    let mut disk = disk_of(alloc, &image_of(&rt, alloc, 256, &lines)?)?;
+    let stream = empty_stream(&rt, alloc)?;
+    assert_eq!(rt; stream.len(), 936);
+    check_sent(&rt, alloc, &mut disk, "send I tank/a@s", &stream)?;
+    let [a, b, c, d] = sums_before(&stream, 624);
+    let text = format!(in alloc;
+        "0 BEGIN features 4 kind 2 flags 12 time 1700000000 toguid 0000000100000001 fromguid 0000000000000000 payload 0 name tank/a@s
+312 FREEOBJECTS first 1 count 281474976710655
+624 END sums {a} {b} {c} {d}
+counts begin 1 object 0 freeobjects 1 write 0 free 0 end 1 spill 0 redact 0
+records 3 payload 0 stream 936
+"
+    )?;
+    check(&rt, "its dump", &dump_of(alloc, &stream)?, 0, &text, "");
+    Ok(())
+}
+
+#[test]
+fn a_snapshot_is_sent_whole_and_from_another(rt: HostRuntime) -> Result<(), Fail> {
+    let alloc = rt.alloc();
+    let mut lines = SMALL;
+    lines[0] = "create I 1024 1";
+    let mut disk = disk_of(alloc, &image_of(&rt, alloc, 1_024, &lines)?)?;
+    let more = [
+        ("write I tank/a 1 0 aa", "ok 6\n"),
+        ("snapshot I tank/a@t", "ok 7\n"),
+        ("bookmark I tank/a@s tank/a#m", "ok 8\n"),
+    ];
+    accept(&rt, alloc, &mut disk, &more)?;
+    let whole = small_stream(&rt, alloc)?;
+    assert_eq!(rt; whole.len(), 2_384);
+    check_sent(&rt, alloc, &mut disk, "send I tank/a@s", &whole)?;
+    let next = next_stream(&rt, alloc)?;
+    assert_eq!(rt; next.len(), 2_072);
+    for line in ["send -i tank/a@s I tank/a@t", "send -i tank/a#m I tank/a@t"] {
+        check_sent(&rt, alloc, &mut disk, line, &next)?;
+    }
+    Ok(())
+}
+
+/// Sends that a pool with datasets of each kind refuses, each for the first of its causes.
+const REFUSED: [Refused; 9] = [
+    ("send I tank/a@x", 3, "E3 no such tank/a@x"),
+    ("send -i tank/a@x I tank/a@b", 3, "E3 no such tank/a@x"),
+    ("send -i tank/a#x I tank/a@b", 3, "E3 no such tank/a#x"),
+    (
+        "send --redact tank/a#x I tank/a@z",
+        3,
+        "E3 no such tank/a#x",
+    ),
+    (
+        "send -i tank/a@b I tank/a@z",
+        3,
+        "E6 not an ancestor of tank/a@z: tank/a@b",
+    ),
+    (
+        "send -i tank/a#m I tank/a@b",
+        3,
+        "E6 not an ancestor of tank/a@b: tank/a#m",
+    ),
+    (
+        "send -i tank/a@b --redact tank/a#n I tank/a@z",
+        3,
+        "E6 not an ancestor of tank/a@z: tank/a@b",
+    ),
+    (
+        "send --redact tank/a#n I tank/a@z",
+        3,
+        "E7 not a redaction of tank/a@z: tank/a#n",
+    ),
+    ("send -i tank/a I tank/a@z", 2, "E1 usage: 2"),
+];
+
+#[test]
+fn refused_sends_say_why(rt: HostRuntime) -> Result<(), Fail> {
+    let alloc = rt.alloc();
+    let mut disk = disk_of(alloc, &zeros(alloc, 4_096)?)?;
+    accept(&rt, alloc, &mut disk, &EACH_KIND)?;
+    refuse(&rt, alloc, &mut disk, &REFUSED)
+}
+
+#[test]
+fn a_send_whose_output_fails_is_a_front(rt: HostRuntime) -> Result<(), Fail> {
+    let alloc = rt.alloc();
+    let small = image_of(&rt, alloc, 256, &SMALL)?;
+    let stream = small_stream(&rt, alloc)?;
+
+    // Eight writes of 300 bytes take the whole stream.
+    for call in 0..9usize {
+        let mut disk = disk_of(alloc, &small)?;
+        let out = MemSink::new(vec![in alloc; call as u64]?).in_pieces_of(300);
+        let ran = run_into(alloc, &mut disk, "send I tank/a@s", out, sink(alloc))?;
+        if call < 8 {
+            let front = stream.get(..300 * call).ok_or("a front")?;
+            assert!(rt; ran.out.bytes() == front, "write {call} fails");
+            assert_eq!(rt; text_of(&ran.note), "zst: E30 sink fault\n");
+            assert_eq!(rt; ran.status, 6);
+        } else {
+            assert!(rt; ran.out.bytes() == stream.as_slice());
+            assert_eq!(rt; ran.status, 0);
+        }
+    }
+    Ok(())
+}
+
+#[test]
+fn a_send_whose_disk_fails_is_told_so(rt: HostRuntime) -> Result<(), Fail> {
+    let alloc = rt.alloc();
+    let small = image_of(&rt, alloc, 256, &SMALL)?;
+    let stream = small_stream(&rt, alloc)?;
+    for call in 0..100u64 {
+        let mut disk = MemDisk::new(small.clone()?, vec![in alloc; call]?, None);
+        let ran = run_on(alloc, &mut disk, "send I tank/a@s")?;
+        if ran.status == 0 {
+            assert!(rt;
+                call > 6,
+                "a sync, and reads of slots, directory, dnodes and a block"
+            );
+            assert!(rt; ran.out.bytes() == stream.as_slice());
+            return Ok(());
+        }
+        check(&rt, "a call fails", &ran, 7, "", "zst: E28 disk fault\n");
+    }
+    assert!(rt; false, "a send has fewer calls");
+    Ok(())
+}
+
+/// Where the block of a small pool stands: behind the directories of three commits and a head.
+const BLOCK: usize = 72 * 512;
+
+#[test]
+fn a_damaged_block_is_not_sent(rt: HostRuntime) -> Result<(), Fail> {
+    let alloc = rt.alloc();
+    let small = image_of(&rt, alloc, 256, &SMALL)?;
+    let block = small.get(BLOCK..BLOCK + 512).ok_or("a block")?;
+    let [a, b, c, d] = sums_before(block, 512);
+    let image = turned(alloc, &small, BLOCK + 511, 1)?;
+    let block = image.get(BLOCK..BLOCK + 512).ok_or("a block")?;
+    let [e, f, g, h] = sums_before(block, 512);
+    let text = format!(in alloc;
+        "E25 damaged at sector 72: stated {a} {b} {c} {d}, found {e} {f} {g} {h}"
+    )?;
+    refused(&rt, alloc, &image, "send I tank/a@s", 8, &text)?;
+    Ok(())
+}
