@@ -1,6 +1,5 @@
 -- What may be told as damaged of a walk.
-use Rattle.std.proofs.Common.{◌≡◌, ◌≢◌, ◌⊎◌, inl, inr, ⊎_elim, ℕ, ◌<◌, List, refl, sym, ap}
-use Rattle.std.specs.Prelude.{Result, Ok, Err}
+use Rattle.std.proofs.Common.{◌≢◌, inl, inr, ℕ, ◌<◌, List, refl, ap}
 use Rattle.zst_fletcher.specs.WeightSum.{parts_of}
 use Rattle.zst_block.specs.declared.fault.BlockFault.{BlockFault}
 use Rattle.zst_block.specs.declared.fault.BlockFault.TheVariants.{Full, Damaged, DiskFault}
@@ -11,7 +10,7 @@ use Rattle.zst_tree.specs.Damage.{HangsIn, MayHave, NamesNode, SumsUp, TellsNode
 use Rattle.zst_tree.specs.declared.tree.ObjSet.{ObjSet}
 use Rattle.zst_dnode.specs.declared.slot.Slot.TheVariants as slots
 use Rattle.zst_objset.proofs.DamageLaws.{lacking_told}
-use Rattle.zst_objset.specs.Damage.{IfDamage, IsDamagedLeaf, HasSlot, IsLoaded, LacksSlot, StandsIn}
+use Rattle.zst_objset.specs.Damage.{IfDamage, IsDamagedLeaf, HasSlot, IsLoaded, IsNoData, LacksSlot, StandsIn}
 use Rattle.zst_objset.specs.Dnodes.{tree_of}
 use Rattle.zst_traverse.specs.Telling.{IsDamagedCell}
 
@@ -49,8 +48,8 @@ module _ (images : List ℕ → Type 0) (size : ℕ) (set : ObjSet) where
   lacking_cell leaf bytes hangs loaded lacks = inl (inl (lacking_told images size set leaf bytes hangs loaded lacks))
 
   -- a pointer of no cell
-  pub no_cell_told : (dnode : Dnode) → StandsIn images set dnode → (ptr : Ptr) → HangsIn (MayHave images) (tree_of dnode) ptr → ptr.kind ≢ 0 → ptr.kind ≢ 1 → ptr.kind ≢ 2 → IsDamagedCell images size set ptr.sector (parts_of ptr.sum) (parts_of ptr.sum)
-  no_cell_told dnode stands ptr (inl hangs) no_hole no_data unredacted = inr (inr (record {
+  pub no_cell_told : (dnode : Dnode) → StandsIn images set dnode → (ptr : Ptr) → HangsIn (MayHave images) (tree_of dnode) ptr → (ptr.kind ≢ 0) × IsNoData dnode.block_size ptr × (ptr.kind ≢ 2) → IsDamagedCell images size set ptr.sector (parts_of ptr.sum) (parts_of ptr.sum)
+  no_cell_told dnode stands ptr (inl hangs) (no_hole, no_data, unredacted) = inr (inr (record {
     dnode = dnode;
     stands = stands;
     ptr = ptr;
@@ -62,7 +61,7 @@ module _ (images : List ℕ → Type 0) (size : ℕ) (set : ObjSet) where
     stated_is = refl;
     found_is = refl;
   }))
-  no_cell_told dnode stands ptr (inr past) no_hole no_data unredacted = absurd (no_hole (ap (λ (p : Ptr). p.kind) past))
+  no_cell_told dnode stands ptr (inr past) (no_hole, no_data, unredacted) = absurd (no_hole (ap (λ (p : Ptr). p.kind) past))
 
 -- a dnode that is read in a leaf of the set stands in it
 pub dnode_stands : (images : List ℕ → Type 0) (set : ObjSet) (leaf : Ptr) (bytes : List ℕ) (place : ℕ) (dnode : Dnode) → HangsIn (MayHave images) set.tree leaf → IsLoaded images leaf bytes → leaf.kind ≢ 0 → place < 16 → HasSlot bytes place (slots.There dnode) → StandsIn images set dnode

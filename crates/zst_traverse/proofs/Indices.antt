@@ -1,7 +1,10 @@
 -- Which indices of an object are next.
-use Rattle.std.proofs.Common.{◌≡◌, ◌≢◌, ◌⊎◌, inl, inr, ⊎_elim, ℕ, ◌+◌, ◌*◌, ◌%◌, ◌^◌, ◌<◌, ◌≤◌, ◌==◌, ◌&&◌, leb, ◌↔◌, true, false, List, refl, sym, ◌∙◌, ap, subst, arith}
+use Rattle.std.proofs.Common.{◌≡◌, ◌≢◌, inl, inr, ⊎_elim, if◌then◌else◌, Bool, ℕ, ◌+◌, ◌*◌, ◌%◌, ◌<◌, ◌≤◌, ◌==◌, ◌&&◌, leb, ◌↔◌, true, false, List, refl, sym, ◌∙◌, ap, subst, arith}
 use Rattle.std.specs.Prelude.{Option, Some, None}
-use Rattle.std.proofs.lemmas.Bool.{and_parts, cases_lt, leb-true}
+use Rattle.std.proofs.lemmas.Bool.{and_parts, cases_lt, eq-eqb, eqb-false, eqb-true, leb-true}
+use Rattle.zst_space.specs.FreeSectors.{FreeSectors}
+use Rattle.zst_block.proofs.BlocksLaws.{IsBlock-length}
+use Rattle.zst_block.specs.Blocks.{Has}
 use Rattle.zst_block.specs.declared.ptr.Ptr.{Ptr}
 use Rattle.zst_dnode.specs.declared.dnode.Dnode.{Dnode}
 use Rattle.zst_model.specs.declared.sends.header.Point.{Point}
@@ -9,38 +12,80 @@ use Rattle.zst_model.specs.declared.states.cell.Cell.{Cell}
 use Rattle.zst_model.specs.declared.states.cell.Cell.TheVariants as cells
 use Rattle.zst_model.specs.sends.Included.{includes_pair, is_after}
 use Rattle.zst_model.specs.states.Dated.{DatedState, size_at}
-use Rattle.zst_model.specs.states.State.{Block, Hole, Redacted, Data, Object, end_at, end_of, index_bound, is_block_size, largest_block}
+use Rattle.zst_model.specs.states.State.{Block, BlockFits, Hole, IsObject, Redacted, Data, Object, end_at, index_bound, is_block_size, largest_block}
 use Rattle.zst_tree.specs.Finding.{Shows}
 use Rattle.zst_tree.specs.Indices.{Blocks, Map}
-use Rattle.zst_objset.specs.Dnodes.{BlockIs, IsThere, ObjectIs}
+use Rattle.zst_tree.specs.Damage.{HangsIn, MayHave}
+use Rattle.zst_tree.specs.declared.tree.ObjSet.{ObjSet}
+use Rattle.zst_objset.specs.Damage.{IsNoData, StandsIn}
+use Rattle.zst_objset.specs.Dnodes.{BlockIs, IsThere, ObjectIs, tree_of}
 use Rattle.zst_traverse.specs.Cells.{CellIs, choice_after, IsNextPairs}
 use Rattle.zst_traverse.specs.Dates.{IsFirstLate, NoneLate}
 use Rattle.zst_traverse.specs.Runs.{cell_of, IsRun}
+use Rattle.zst_traverse.specs.Standing.{CellStands}
 use Rattle.zst_traverse.specs.declared.pairs.Run.{Run}
 use Rattle.zst_traverse.proofs.Including.{pair_early, pair_included, pair_past}
 
 -- what a pointer of a kind stands for is told
-hole_cell : (ptr : Ptr) (what : Cell) → cell_of ptr ≡ Some what → ptr.kind ≡ 0 → what ≡ cells.Hole
-hole_cell ptr what is kind = let e : cell_of ptr ≡ Some cells.Hole = rw kind refl in cc
+hole_cell : (ptr : Ptr) (size : ℕ) (what : Cell) → cell_of ptr size ≡ Some what → ptr.kind ≡ 0 → what ≡ cells.Hole
+hole_cell ptr size what is kind = let e : cell_of ptr size ≡ Some cells.Hole = rw kind refl in cc
 
-redacted_cell : (ptr : Ptr) (what : Cell) → cell_of ptr ≡ Some what → ptr.kind ≡ 2 → what ≡ cells.Redacted
-redacted_cell ptr what is kind = let e : cell_of ptr ≡ Some cells.Redacted = rw kind refl in cc
+redacted_cell : (ptr : Ptr) (size : ℕ) (what : Cell) → cell_of ptr size ≡ Some what → ptr.kind ≡ 2 → what ≡ cells.Redacted
+redacted_cell ptr size what is kind = let e : cell_of ptr size ≡ Some cells.Redacted = rw kind refl in cc
 
-data_cell : (ptr : Ptr) (what : Cell) → cell_of ptr ≡ Some what → ptr.kind ≡ 1 → what ≡ cells.Data
-data_cell ptr what is kind = let e : cell_of ptr ≡ Some cells.Data = rw kind refl in cc
+-- data, where the length is right
+if_data : (right : Bool) (what : Cell) → (if right then Some cells.Data else None) ≡ Some what → what ≡ cells.Data
+if_data true what is = cc
+if_data false what is = absurd (cc)
 
-cell_is : (has : Blocks) (ptr : Ptr) (block : Block) (what : Cell) → cell_of ptr ≡ Some what → BlockIs has ptr block → CellIs has what ptr block
-cell_is has ptr Hole what is kind = subst (λ (w : Cell). CellIs has w ptr Hole) (sym (hole_cell ptr what is kind)) refl
-cell_is has ptr Redacted what is kind = subst (λ (w : Cell). CellIs has w ptr Redacted) (sym (redacted_cell ptr what is kind)) refl
-cell_is has ptr (Data bytes) what is (kind, there) = subst (λ (w : Cell). CellIs has w ptr (Data bytes)) (sym (data_cell ptr what is kind)) (bytes, refl, kind, there)
+data_cell : (ptr : Ptr) (size : ℕ) (what : Cell) → cell_of ptr size ≡ Some what → ptr.kind ≡ 1 → what ≡ cells.Data
+data_cell ptr size what is kind =
+    let e : cell_of ptr size ≡ (if ptr.length == size then Some cells.Data else None) = rw kind refl in
+    if_data (ptr.length == size) what (sym e ∙ is)
 
--- a pointer that has none is of no kind that has one
-pub no_cell : (ptr : Ptr) → cell_of ptr ≡ None → (ptr.kind ≢ 0) × (ptr.kind ≢ 1) × (ptr.kind ≢ 2)
-no_cell ptr none = (
-  λ kind. let e : cell_of ptr ≡ Some cells.Hole = rw kind refl in absurd (cc),
-  λ kind. let e : cell_of ptr ≡ Some cells.Data = rw kind refl in absurd (cc),
-  λ kind. let e : cell_of ptr ≡ Some cells.Redacted = rw kind refl in absurd (cc),
+cell_is : (has : Blocks) (ptr : Ptr) (size : ℕ) (block : Block) (what : Cell) → cell_of ptr size ≡ Some what → BlockIs has ptr block → CellIs has what ptr block
+cell_is has ptr size Hole what is kind = subst (λ (w : Cell). CellIs has w ptr Hole) (sym (hole_cell ptr size what is kind)) refl
+cell_is has ptr size Redacted what is kind = subst (λ (w : Cell). CellIs has w ptr Redacted) (sym (redacted_cell ptr size what is kind)) refl
+cell_is has ptr size (Data bytes) what is (kind, there) = subst (λ (w : Cell). CellIs has w ptr (Data bytes)) (sym (data_cell ptr size what is kind)) (bytes, refl, kind, there)
+
+-- data of the right length is told
+named_data : (ptr : Ptr) (size : ℕ) → ptr.kind ≡ 1 → ptr.length ≡ size → cell_of ptr size ≡ Some cells.Data
+named_data ptr size kind same = rw (kind, eq-eqb ptr.length size same) refl
+
+-- a pointer that has none is of no kind that has one, or is no data of this length
+pub no_cell : (ptr : Ptr) (size : ℕ) → cell_of ptr size ≡ None → (ptr.kind ≢ 0) × IsNoData size ptr × (ptr.kind ≢ 2)
+no_cell ptr size none = (
+  λ kind. let e : cell_of ptr size ≡ Some cells.Hole = rw kind refl in absurd (cc),
+  go (ptr.length == size) refl,
+  λ kind. let e : cell_of ptr size ≡ Some cells.Redacted = rw kind refl in absurd (cc),
 )
+  where
+    go : (right : Bool) → (ptr.length == size) ≡ right → IsNoData size ptr
+    go true is = inl (λ kind. let e : cell_of ptr size ≡ Some cells.Data = named_data ptr size kind (eqb-true ptr.length size is) in absurd (cc))
+    go false is = inr (eqb-false ptr.length size is)
+
+-- what is told as data is of the right length
+data_told : (hole other redacted right : Bool) → (if hole then Some cells.Hole else (if other then (if right then Some cells.Data else None) else (if redacted then Some cells.Redacted else None))) ≡ Some cells.Data → (other ≡ true) × (right ≡ true)
+data_told true other redacted right is = absurd (cc)
+data_told false true redacted true is = (refl, refl)
+data_told false true redacted false is = absurd (cc)
+data_told false false true right is = absurd (cc)
+data_told false false false right is = absurd (cc)
+
+-- what a look-up in the tree of an object that may stand in the set is told as may stand there
+pub cell_stands : (images : List ℕ → Type 0) (set : ObjSet) (dnode : Dnode) → StandsIn images set dnode → (ptr : Ptr) → HangsIn (MayHave images) (tree_of dnode) ptr → (what : Cell) → cell_of ptr dnode.block_size ≡ Some what → CellStands images set what ptr
+cell_stands images set dnode stands ptr hangs cells.Hole is = tt
+cell_stands images set dnode stands ptr hangs cells.Redacted is = tt
+cell_stands images set dnode stands ptr hangs cells.Data is =
+    let told = data_told (ptr.kind == 0) (ptr.kind == 1) (ptr.kind == 2) (ptr.length == dnode.block_size) is in
+    let kind : ptr.kind ≡ 1 = eqb-true ptr.kind 1 told.0 in
+    record {
+      dnode = dnode;
+      stands = stands;
+      hangs = ⊎_elim (λ below. below) (λ past. let none : ptr.kind ≡ 0 = ap (λ (p : Ptr). p.kind) past in absurd (omega (arith, none, kind))) hangs;
+      is_data = kind;
+      length_is = eqb-true ptr.length dnode.block_size told.1;
+    }
 
 module _ (has : Blocks) (snap : DatedState) (source : Option ℕ) (point : Point) (dnode : Dnode) (is : IsThere has snap point.object dnode) where
   size_is : size_at (snap.state point.object) ≡ dnode.block_size
@@ -86,29 +131,31 @@ module _ (has : Blocks) (snap : DatedState) (source : Option ℕ) (point : Point
 
 -- what a look-up in an object's tree shows is a run
 pub is_run : (has : Blocks) (dnode : Dnode) (object : Object) (date : ℕ) (dates : ℕ → ℕ) (map : Map) → ObjectIs has dnode object date dates map → (index : ℕ) → index < dnode.end → dnode.end ≤ index_bound → (run : Run) (alike : ℕ)
-    → Shows map index (run.ptr, alike) → run.first ≡ index → 0 < run.count → run.count ≤ alike → index + run.count ≤ dnode.end → cell_of run.ptr ≡ Some run.what → (run.what ≡ cells.Data → run.count ≡ 1) → IsRun has object dates index run
+    → Shows map index (run.ptr, alike) → run.first ≡ index → 0 < run.count → run.count ≤ alike → index + run.count ≤ dnode.end → cell_of run.ptr dnode.block_size ≡ Some run.what → (run.what ≡ cells.Data → run.count ≡ 1) → IsRun has object dates index run
 unfolding index_bound
 is_run has dnode object date dates map is index below end run alike shows first some most under what one = record {
   first = first;
   some = some;
   under = let e = is.end_is in omega arith;
   same = λ i u l. sym (is.index_dates i (omega arith)) ∙ ap (λ (p : Ptr). p.number) (shows.same i u (omega arith) (omega arith) ∙ sym (shows.same index (omega arith) (omega (arith, shows.some)) (omega arith))) ∙ is.index_dates index (omega arith);
-  blocks = λ i u l. cell_is has run.ptr (object.blocks i) run.what what (subst (λ (p : Ptr). BlockIs has p (object.blocks i)) (shows.same i u (omega arith) (omega arith)) (is.blocks i (omega arith)));
+  blocks = λ i u l. cell_is has run.ptr dnode.block_size (object.blocks i) run.what what (subst (λ (p : Ptr). BlockIs has p (object.blocks i)) (shows.same i u (omega arith) (omega arith)) (is.blocks i (omega arith)));
   one = one;
 }
 
 -- a pointer of an object's map is of a kind that has a cell
-cell_there : (has : Blocks) (ptr : Ptr) (block : Block) → BlockIs has ptr block → cell_of ptr ≡ None → ⊥
-cell_there has ptr Hole kind none = (no_cell ptr none).0 kind
-cell_there has ptr Redacted kind none = (no_cell ptr none).2 kind
-cell_there has ptr (Data bytes) (kind, there) none = (no_cell ptr none).1 kind
+cell_there : (image : List ℕ) (space : FreeSectors) (ptr : Ptr) (size : ℕ) (block : Block) → BlockFits size block → BlockIs (Has image space) ptr block → cell_of ptr size ≡ None → ⊥
+cell_there image space ptr size Hole fits kind none = (no_cell ptr size none).0 kind
+cell_there image space ptr size Redacted fits kind none = (no_cell ptr size none).2 kind
+cell_there image space ptr size (Data bytes) fits (kind, there) none =
+    let e : cell_of ptr size ≡ Some cells.Data = named_data ptr size kind (sym (IsBlock-length image ptr bytes there.block) ∙ fits) in absurd (cc)
 
-pub run_has_cell : (has : Blocks) (dnode : Dnode) (object : Object) (date : ℕ) (dates : ℕ → ℕ) (map : Map) → ObjectIs has dnode object date dates map → (index : ℕ) → index < dnode.end → dnode.end ≤ index_bound → (ptr : Ptr) (alike : ℕ)
-    → Shows map index (ptr, alike) → cell_of ptr ≡ None → ⊥
+pub run_has_cell : (image : List ℕ) (space : FreeSectors) (dnode : Dnode) (object : Object) (date : ℕ) (dates : ℕ → ℕ) (map : Map) → IsObject object → ObjectIs (Has image space) dnode object date dates map → (index : ℕ) → index < dnode.end → dnode.end ≤ index_bound → (ptr : Ptr) (alike : ℕ)
+    → Shows map index (ptr, alike) → cell_of ptr dnode.block_size ≡ None → ⊥
 unfolding index_bound
-run_has_cell has dnode object date dates map is index below end ptr alike shows none =
+run_has_cell image space dnode object date dates map lawful is index below end ptr alike shows none =
+    let has = Has image space in
     let some = shows.some in
-    cell_there has ptr (object.blocks index) (subst (λ (p : Ptr). BlockIs has p (object.blocks index)) (shows.same index (omega arith) (omega arith) (omega arith)) (is.blocks index (omega arith))) none
+    cell_there image space ptr dnode.block_size (object.blocks index) (subst (λ (n : ℕ). BlockFits n (object.blocks index)) (sym is.size_is) (lawful.fits index)) (subst (λ (p : Ptr). BlockIs has p (object.blocks index)) (shows.same index (omega arith) (omega arith) (omega arith)) (is.blocks index (omega arith))) none
 
 pub size_some : (size : ℕ) → is_block_size size ≡ true → 0 < size
 unfolding is_block_size largest_block

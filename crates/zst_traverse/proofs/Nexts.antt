@@ -1,17 +1,17 @@
 -- What is next at a point, from what is found of its object and of the numbers behind it.
-use Rattle.std.proofs.Common.{◌≡◌, ◌⊎◌, inl, inr, ⊎_elim, ℕ, ◌+◌, ◌*◌, ◌^◌, ◌<◌, ◌≤◌, max, Bool, true, false, refl, sym, ◌∙◌, ap, subst, arith}
+use Rattle.std.proofs.Common.{◌≡◌, ◌⊎◌, inl, inr, ℕ, ◌+◌, ◌^◌, ◌≤◌, max, Bool, true, false, refl, sym, ◌∙◌, ap, subst, arith}
 use Rattle.std.specs.Prelude.{Option, Some, None, Result, Ok, Err, IfOk, IfSome}
-use Rattle.std.proofs.lemmas.Bool.{cases_lt, false≢true}
+use Rattle.std.proofs.lemmas.Bool.{false≢true}
 use Rattle.zst_block.specs.declared.fault.BlockFault.{BlockFault}
 use Rattle.zst_dnode.specs.declared.dnode.Dnode.{Dnode}
 use Rattle.zst_model.specs.declared.sends.header.Point.{Point}
-use Rattle.zst_model.specs.sends.Included.{includes_number, includes_pair}
+use Rattle.zst_model.specs.sends.Included.{includes_number}
 use Rattle.zst_model.specs.states.Dated.{DatedState}
 use Rattle.zst_model.specs.states.State.{IsState, Object, end_at, number_bound}
 use Rattle.zst_tree.specs.Indices.{Blocks}
 use Rattle.zst_objset.specs.Dnodes.{DnodeAt, DnodeIs, IsThere}
-use Rattle.zst_traverse.specs.Cells.{choice_after, first_number, IsNextCell, IsNextNumber, NoneLeft, NoNumber}
-use Rattle.zst_traverse.specs.Leaves.{FindsNumber, ShowsAhead}
+use Rattle.zst_traverse.specs.Cells.{choice_after, first_number, IsNextCell, NoneLeft, NoNumber}
+use Rattle.zst_traverse.specs.Leaves.{FindsNumber}
 use Rattle.zst_traverse.specs.Runs.{RunFits}
 use Rattle.zst_traverse.specs.declared.found.Found.{Found}
 use Rattle.zst_traverse.specs.declared.found.Found.TheVariants as found

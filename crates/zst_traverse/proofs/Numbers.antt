@@ -1,7 +1,7 @@
 -- What leaves show of the numbers in them.
-use Rattle.std.proofs.Common.{◌≡◌, ◌⊎◌, inl, inr, ⊎_elim, ℕ, ◌+◌, ◌-◌, ◌*◌, ◌/◌, ◌%◌, ◌^◌, ◌<◌, ◌≤◌, true, false, List, refl, sym, ◌∙◌, ap, subst, arith}
-use Rattle.std.specs.Prelude.{Option, Some, None}
-use Rattle.std.proofs.lemmas.Bool.{cases_lt, false≢true}
+use Rattle.std.proofs.Common.{◌≡◌, inl, inr, ⊎_elim, ℕ, ◌+◌, ◌-◌, ◌*◌, ◌/◌, ◌%◌, ◌^◌, ◌<◌, ◌≤◌, true, false, refl, sym, subst, arith}
+use Rattle.std.specs.Prelude.{Option, None}
+use Rattle.std.proofs.lemmas.Bool.{cases_lt}
 use Rattle.std.proofs.lemmas.Bool.Decides.{nat_tests}
 use Rattle.zst_block.specs.declared.ptr.Ptr.{Ptr}
 use Rattle.zst_dnode.specs.declared.dnode.Dnode.{Dnode}
@@ -9,18 +9,17 @@ use Rattle.zst_dnode.specs.declared.slot.Slot.{Slot}
 use Rattle.zst_dnode.specs.declared.slot.Slot.TheVariants as slots
 use Rattle.zst_model.specs.sends.Included.{includes_number, is_after}
 use Rattle.zst_model.specs.states.Dated.{DatedState}
-use Rattle.zst_model.specs.states.State.{is_number, number_bound}
+use Rattle.zst_model.specs.states.State.{number_bound}
 use Rattle.zst_tree.specs.Finding.{Shows}
 use Rattle.zst_tree.specs.Indices.{Blocks}
 use Rattle.zst_tree.specs.declared.tree.ObjSet.{ObjSet}
-use Rattle.zst_objset.proofs.LeafLaws.{hole_of_leaf, is_number_at, leaf_of}
+use Rattle.zst_objset.proofs.LeafLaws.{hole_of_leaf, is_number_at}
 use Rattle.zst_objset.specs.Dnodes.{IsAbsent, IsThere, SlotIs}
-use Rattle.zst_objset.specs.Sets.{AreSlots, HasSlots, IsHole, IsLeaf, LeafIs, SetHolds}
+use Rattle.zst_objset.specs.Sets.{AreSlots, IsLeaf, LeafIs, SetHolds}
 use Rattle.zst_traverse.specs.Cells.{choice_after, IsNextGone, NoNumber}
 use Rattle.zst_traverse.specs.Dates.{NoneLate}
 use Rattle.zst_traverse.specs.Leaves.{ShowsAhead, StandsFor}
 use Rattle.zst_traverse.specs.Slots.{AreEarly, AreGone, IsFirstSlot, ShowsAbsent}
-use Rattle.zst_traverse.specs.declared.found.Found.{Found}
 use Rattle.zst_traverse.specs.declared.found.Found.TheVariants as found
 use Rattle.zst_traverse.specs.declared.leaves.Ahead.{Ahead}
 use Rattle.zst_traverse.specs.declared.leaves.Ahead.TheVariants as ahead

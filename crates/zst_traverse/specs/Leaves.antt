@@ -1,5 +1,5 @@
 -- What a look at a leaf of a set, and at those behind it, shows of the included numbers.
-use Rattle.std.specs.Prelude.{◌≡◌, ℕ, ◌+◌, ◌*◌, ◌%◌, ◌^◌, ◌<◌, ◌≤◌, true, Option, Some, None}
+use Rattle.std.specs.Prelude.{◌≡◌, ℕ, ◌+◌, ◌%◌, ◌^◌, ◌<◌, ◌≤◌, Option, Some, None}
 use Rattle.zst_dnode.specs.Dnode.{DnodeFits}
 use Rattle.zst_model.specs.sends.Included.{Choice}
 use Rattle.zst_model.specs.states.Dated.{DatedState}

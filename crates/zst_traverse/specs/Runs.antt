@@ -11,9 +11,12 @@ use Rattle.zst_tree.specs.Indices.{Blocks}
 use Rattle.zst_traverse.specs.Cells.{CellIs, IsNextPairs}
 use Rattle.zst_traverse.specs.declared.pairs.Run.{Run}
 
--- what a pointer in the tree of an object stands for, by its kind
-abbrev pub cell_of : Ptr → Option Cell
-cell_of ptr = if ptr.kind == 0 then Some cells.Hole else (if ptr.kind == 1 then Some cells.Data else (if ptr.kind == 2 then Some cells.Redacted else None))
+-- what a pointer in the tree of an object whose blocks have this size stands for, by its kind; data has that length
+abbrev pub cell_of : Ptr → ℕ → Option Cell
+cell_of ptr size =
+    if ptr.kind == 0 then Some cells.Hole
+    else (if ptr.kind == 1 then (if ptr.length == size then Some cells.Data else None)
+    else (if ptr.kind == 2 then Some cells.Redacted else None))
 
 -- so many indices from one on, below the end of an object, have the same date and are what is told
 pub record IsRun (has : Blocks) (object : Object) (dates : ℕ → ℕ) (index : ℕ) (run : Run) : Type 0 where

@@ -5,16 +5,16 @@ use Rattle.zst_block.specs.declared.ptr.Ptr.{Ptr}
 use Rattle.zst_dnode.specs.declared.dnode.Dnode.{Dnode}
 use Rattle.zst_tree.specs.Damage.{HangsBelow, IsDamagedNode, MayHave, SumsUp}
 use Rattle.zst_tree.specs.declared.tree.ObjSet.{ObjSet}
-use Rattle.zst_objset.specs.Damage.{DamageFact, IsDamagedObject, StandsIn}
+use Rattle.zst_objset.specs.Damage.{DamageFact, IsDamagedObject, IsNoData, StandsIn}
 
--- a pointer stands for an index of an object that may stand in the set, and is neither a hole nor redacted nor data: both sums of it are told alike
+-- a pointer stands for an index of an object that may stand in the set, and is neither a hole nor redacted nor data as long as the object's blocks: both sums of it are told alike
 pub record HasNoCell (images : List ℕ → Type 0) (set : ObjSet) (sector : ℕ) (stated found : List ℕ) : Type 0 where
   pub dnode : Dnode
   pub stands : StandsIn images set dnode
   pub ptr : Ptr
   pub hangs : HangsBelow (MayHave images) dnode.levels dnode.root ptr
   pub no_hole : ptr.kind ≢ 0
-  pub no_data : ptr.kind ≢ 1
+  pub no_data : IsNoData dnode.block_size ptr
   pub unredacted : ptr.kind ≢ 2
   pub sector_is : sector ≡ ptr.sector
   pub stated_is : stated ≡ parts_of ptr.sum

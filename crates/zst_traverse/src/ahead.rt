@@ -9,6 +9,7 @@ ghost use Rattle.zst_objset.specs.Damage.{IfDamaged};
 ghost use Rattle.zst_objset.specs.Sets.{SetHolds};
 ghost use Rattle.zst_traverse.specs.Cells.{choice_after};
 ghost use Rattle.zst_traverse.specs.Leaves.{AheadFits, EndsAll, FindsNumber, GoesOn, NumberFits, ShowsAhead, StandsFor};
+ghost use Rattle.zst_traverse.specs.Standing.{AheadStands, NumberStands};
 ghost use Rattle.zst_traverse.specs.Telling.{IsDamagedCell};
 ghost use Rattle.zst_objset.specs.Tight.{IsTightLeaf, SetIsTight};
 
@@ -39,6 +40,7 @@ fn look_on<D: Disk, L: Ledger>(
         → Delivers (ShowsAhead (Has (D.state io.old.disk.now).seen io.old.space) snap (choice_after source) from) result }
     ensures ranges { IfOk result (AheadFits from) }
     ensures goes_on { IfOk result (GoesOn from) }
+    ensures stands { (D.state io.new.disk.now).honest → IfOk result (AheadStands (IsSeen (D.state io.old.disk.now).seen) set.now) }
     ensures damaged { (D.state io.new.disk.now).honest → IfDamaged result (IsDamagedCell (IsSeen (D.state io.old.disk.now).seen) (D.state io.old.disk.now).size set.now) }
     ensures ends { (snap : DatedState) → (D.state io.new.disk.now).honest → SetIsTight (Has (D.state io.old.disk.now).seen io.old.space) set.now snap → from % 16 ≡ 0 → IfOk result EndsAll }
     ensures looks { Looks (D.state io.old.disk.now) io.old.space io.old.failed (D.state io.new.disk.now) io.new.space io.new.failed (stop_of result) }
@@ -75,6 +77,7 @@ pub(crate) fn next_number<D: Disk, L: Ledger>(
     ensures found { (snap : DatedState) → (D.state io.new.disk.now).honest → SetHolds (Has (D.state io.old.disk.now).seen io.old.space) set.now snap
         → StandsFor (Has (D.state io.old.disk.now).seen io.old.space) snap leaf.now → Delivers (FindsNumber (Has (D.state io.old.disk.now).seen io.old.space) snap (choice_after source) from) result }
     ensures ranges { IfOk result (λ found. IfSome found (NumberFits from)) }
+    ensures stands { (D.state io.new.disk.now).honest → HangsIn (MayHave (IsSeen (D.state io.old.disk.now).seen)) set.now.tree leaf.now.ptr → IfOk result (λ found. IfSome found (NumberStands (IsSeen (D.state io.old.disk.now).seen) set.now)) }
     ensures damaged { (D.state io.new.disk.now).honest → HangsIn (MayHave (IsSeen (D.state io.old.disk.now).seen)) set.now.tree leaf.now.ptr → IfDamaged result (IsDamagedCell (IsSeen (D.state io.old.disk.now).seen) (D.state io.old.disk.now).size set.now) }
     ensures looks { Looks (D.state io.old.disk.now) io.old.space io.old.failed (D.state io.new.disk.now) io.new.space io.new.failed (stop_of result) }
     ensures steps { steps.old ≤ steps.new }

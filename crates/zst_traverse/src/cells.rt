@@ -4,6 +4,7 @@ ghost use Rattle.zst_block.specs.Blocks.{FitsDisk, Has};
 ghost use Rattle.zst_block.specs.Working.{Looks, stop_of};
 ghost use Rattle.zst_dnode.specs.Dnode.{DnodeFits};
 ghost use Rattle.zst_model.specs.states.Dated.{DatedState};
+ghost use Rattle.zst_model.specs.states.State.{IsState};
 ghost use Rattle.zst_tree.specs.Damage.{HangsIn, IsSeen, MayHave};
 ghost use Rattle.zst_tree.specs.Indices.{Delivers};
 ghost use Rattle.zst_tree.specs.declared.tree.ObjSet.{ObjSet};
@@ -13,6 +14,7 @@ ghost use Rattle.zst_objset.specs.Sets.{LeafIs, SetHolds};
 ghost use Rattle.zst_traverse.specs.Cells.{choice_after, FoundFits, IsNextCell};
 ghost use Rattle.zst_traverse.specs.Leaves.{StandsFor};
 ghost use Rattle.zst_traverse.specs.Runs.{FindsPairs, RunFits};
+ghost use Rattle.zst_traverse.specs.Standing.{FoundStands, RunStands};
 ghost use Rattle.zst_traverse.specs.Telling.{IsDamagedCell};
 ghost use Rattle.zst_objset.specs.Tight.{IsTightLeaf, SetIsTight};
 
@@ -70,9 +72,10 @@ fn own_pairs<D: Disk, L: Ledger>(
 ) -> Result<Option<Run>, BlockFault>
     requires object { (0 < point.object) × (point.object < 2 ^ 48) × (leaf.now.index ≡ point.object / 16) }
     requires fits { FitsDisk (D.state io.old.disk.now).size io.old.space }
-    ensures found { (snap : DatedState) → (D.state io.new.disk.now).honest → LeafIs (Has (D.state io.old.disk.now).seen io.old.space) snap leaf.now.index leaf.now.ptr
+    ensures found { (snap : DatedState) → (D.state io.new.disk.now).honest → IsState snap.state → LeafIs (Has (D.state io.old.disk.now).seen io.old.space) snap leaf.now.index leaf.now.ptr
         → Delivers (FindsPairs (Has (D.state io.old.disk.now).seen io.old.space) snap (choice_after source) point) result }
     ensures ranges { IfOk result (λ found. IfSome found (RunFits 0 (2 ^ 43))) }
+    ensures stands { (set : ObjSet) → (D.state io.new.disk.now).honest → HangsIn (MayHave (IsSeen (D.state io.old.disk.now).seen)) set.tree leaf.now.ptr → IfOk result (λ found. IfSome found (RunStands (IsSeen (D.state io.old.disk.now).seen) set)) }
     ensures damaged { (set : ObjSet) → (D.state io.new.disk.now).honest → HangsIn (MayHave (IsSeen (D.state io.old.disk.now).seen)) set.tree leaf.now.ptr → IfDamaged result (IsDamagedCell (IsSeen (D.state io.old.disk.now).seen) (D.state io.old.disk.now).size set) }
     ensures looks { Looks (D.state io.old.disk.now) io.old.space io.old.failed (D.state io.new.disk.now) io.new.space io.new.failed (stop_of result) }
     ensures steps { (steps.old ≤ steps.new) × (steps.new ≤ steps.old + 21) }
@@ -116,6 +119,7 @@ fn behind_slot<D: Disk, L: Ledger>(
     ensures found { (snap : DatedState) → (D.state io.new.disk.now).honest → SetHolds (Has (D.state io.old.disk.now).seen io.old.space) set.now snap
         → StandsFor (Has (D.state io.old.disk.now).seen io.old.space) snap leaf.now → Delivers (IsNextCell (Has (D.state io.old.disk.now).seen io.old.space) snap (choice_after source) point false) result }
     ensures ranges { IfOk result (λ found. IfSome found (FoundFits point)) }
+    ensures stands { (D.state io.new.disk.now).honest → HangsIn (MayHave (IsSeen (D.state io.old.disk.now).seen)) set.now.tree leaf.now.ptr → IfOk result (λ found. IfSome found (FoundStands (IsSeen (D.state io.old.disk.now).seen) set.now)) }
     ensures damaged { (D.state io.new.disk.now).honest → HangsIn (MayHave (IsSeen (D.state io.old.disk.now).seen)) set.now.tree leaf.now.ptr → IfDamaged result (IsDamagedCell (IsSeen (D.state io.old.disk.now).seen) (D.state io.old.disk.now).size set.now) }
     ensures looks { Looks (D.state io.old.disk.now) io.old.space io.old.failed (D.state io.new.disk.now) io.new.space io.new.failed (stop_of result) }
     ensures steps { steps.old ≤ steps.new }
@@ -156,8 +160,9 @@ pub fn next_cell<D: Disk, L: Ledger>(
     ensures found { (snap : DatedState) → (D.state io.new.disk.now).honest → SetHolds (Has (D.state io.old.disk.now).seen io.old.space) set.now snap
         → Delivers (IsNextCell (Has (D.state io.new.disk.now).seen io.new.space) snap (choice_after from) point slot) result }
 
-    // Whatever the image, what is found is in its range, and damage is told of a block of the walk.
+    // Whatever the image, what is found is in its range and stands in the set, and damage is told of a block of the walk.
     ensures ranges { IfOk result (λ found. IfSome found (FoundFits point)) }
+    ensures stands { (D.state io.new.disk.now).honest → IfOk result (λ found. IfSome found (FoundStands (IsSeen (D.state io.old.disk.now).seen) set.now)) }
     ensures damaged { (D.state io.new.disk.now).honest → IfDamaged result (IsDamagedCell (IsSeen (D.state io.old.disk.now).seen) (D.state io.old.disk.now).size set.now) }
 
     // It only reads, a block each step, and of a set whose slots are tight at most 64.

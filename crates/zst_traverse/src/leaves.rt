@@ -13,6 +13,7 @@ ghost use Rattle.zst_objset.specs.Damage.{IfDamaged, IsDamagedLeaf, IsLoaded};
 ghost use Rattle.zst_objset.specs.Sets.{HasSlots, LeafIs};
 ghost use Rattle.zst_traverse.specs.Cells.{choice_after};
 ghost use Rattle.zst_traverse.specs.Leaves.{AheadFits, EndsLeaf, GoesOn, IfNothing, IsNext, ShowsAhead, StandsFor};
+ghost use Rattle.zst_traverse.specs.Standing.{AheadStands};
 ghost use Rattle.zst_traverse.specs.Telling.{IsDamagedCell};
 ghost use Rattle.zst_objset.specs.Tight.{IsTightLeaf};
 
@@ -99,6 +100,7 @@ fn in_hole(leaf: &Leaf, source: Option<u64>, from: u64) -> Ahead
     ensures shows { (snap : DatedState) (image : List ℕ) (space : FreeSectors) → leaf.now.ptr.kind ≡ 0 → StandsFor (Has image space) snap leaf.now → ShowsAhead (Has image space) snap (choice_after source) from result }
     ensures ranges { AheadFits from result }
     ensures goes_on { from < 2 ^ 48 → from < 16 * (leaf.now.index + leaf.now.count) → GoesOn from result }
+    ensures stands { (seen : List ℕ) (set : ObjSet) → AheadStands (IsSeen seen) set result }
     ensures ends { EndsLeaf result }
     ensures late { is_after source leaf.now.ptr.number ≡ true → from < 2 ^ 48 → from < 16 * (leaf.now.index + leaf.now.count) → IsNext result }
 {
@@ -127,6 +129,7 @@ pub(crate) fn look<D: Disk, L: Ledger>(
         → Delivers (ShowsAhead (Has (D.state io.old.disk.now).seen io.old.space) snap (choice_after source) from) result }
     ensures ranges { IfOk result (AheadFits from) }
     ensures goes_on { from < 16 * leaf.now.index + 16 → IfOk result (GoesOn from) }
+    ensures stands { (set : ObjSet) → (D.state io.new.disk.now).honest → HangsIn (MayHave (IsSeen (D.state io.old.disk.now).seen)) set.tree leaf.now.ptr → IfOk result (AheadStands (IsSeen (D.state io.old.disk.now).seen) set) }
     ensures damaged { (set : ObjSet) → (D.state io.new.disk.now).honest → HangsIn (MayHave (IsSeen (D.state io.old.disk.now).seen)) set.tree leaf.now.ptr → IfDamaged result (IsDamagedCell (IsSeen (D.state io.old.disk.now).seen) (D.state io.old.disk.now).size set) }
 
     // In a tight leaf an object that may be included is.

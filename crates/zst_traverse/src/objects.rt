@@ -14,6 +14,7 @@ ghost use Rattle.zst_objset.specs.Dnodes.{IsThere};
 ghost use Rattle.zst_objset.specs.Sets.{date_in};
 ghost use Rattle.zst_traverse.specs.Cells.{choice_after};
 ghost use Rattle.zst_traverse.specs.Leaves.{AheadFits, GoesOn, IsNext, ShowsAhead};
+ghost use Rattle.zst_traverse.specs.Standing.{AheadStands};
 ghost use Rattle.zst_traverse.specs.Telling.{IsDamagedCell};
 ghost use Rattle.zst_objset.specs.Tight.{IsTightSlot};
 
@@ -45,6 +46,7 @@ pub(crate) fn judged<D: Disk, L: Ledger>(
         → Delivers (ShowsAhead (Has (D.state io.old.disk.now).seen io.old.space) snap (choice_after source) number) result }
     ensures ranges { IfOk result (AheadFits number) }
     ensures goes_on { IfOk result (GoesOn number) }
+    ensures stands { (set : ObjSet) → (D.state io.new.disk.now).honest → StandsIn (IsSeen (D.state io.old.disk.now).seen) set dnode → IfOk result (AheadStands (IsSeen (D.state io.old.disk.now).seen) set) }
     ensures damaged { (set : ObjSet) → (D.state io.new.disk.now).honest → StandsIn (IsSeen (D.state io.old.disk.now).seen) set dnode → IfDamaged result (IsDamagedCell (IsSeen (D.state io.old.disk.now).seen) (D.state io.old.disk.now).size set) }
     ensures next { (snap : DatedState) → (D.state io.new.disk.now).honest → IsThere (Has (D.state io.old.disk.now).seen io.old.space) snap number dnode
         → IsTightSlot snap number (slots.There dnode) → is_after source (date_in (slots.There dnode)) ≡ true → IfOk result IsNext }

@@ -10,9 +10,10 @@ ghost use Rattle.zst_tree.specs.Indices.{Delivers, Map};
 ghost use Rattle.zst_tree.specs.declared.tree.ObjSet.{ObjSet};
 ghost use Rattle.zst_objset.specs.Damage.{IfDamaged, StandsIn};
 ghost use Rattle.zst_objset.specs.Dnodes.{IsThere, ObjectIs};
-ghost use Rattle.zst_model.specs.states.State.{Object};
+ghost use Rattle.zst_model.specs.states.State.{IsObject, IsState, Object};
 ghost use Rattle.zst_traverse.specs.Cells.{choice_after};
 ghost use Rattle.zst_traverse.specs.Runs.{cell_of, FindsPairs, IsRun, RunFits};
+ghost use Rattle.zst_traverse.specs.Standing.{RunStands};
 ghost use Rattle.zst_traverse.specs.Telling.{IsDamagedCell};
 
 use crate::dates::next_late;
@@ -41,13 +42,14 @@ fn first_index(offset: u64, block_size: u32) -> u64
     offset.div_ceil(u64::from(block_size))
 }
 
-// What a pointer in the tree of an object stands for; none of the layout where there is no such.
-fn cell_of(ptr: &Ptr) -> Option<Cell>
-    ensures { result ≡ cell_of ptr.now }
+// What a pointer in the tree of an object whose blocks have this size stands for; none of the
+// layout where there is no such.
+fn cell_of(ptr: &Ptr, size: u32) -> Option<Cell>
+    ensures { result ≡ cell_of ptr.now size }
 {
     match ptr.kind {
         0 => Some(Cell::Hole),
-        1 => Some(Cell::Data),
+        1 if ptr.length == size => Some(Cell::Data),
         2 => Some(Cell::Redacted),
         _ => None,
     }
@@ -78,9 +80,10 @@ fn run_at<D: Disk, L: Ledger>(
     requires dnode { DnodeFits dnode.now }
     requires index { index < dnode.now.end }
     requires fits { FitsDisk (D.state io.old.disk.now).size io.old.space }
-    ensures run { (object : Object) (date : ℕ) (dates : ℕ → ℕ) (map : Map) → (D.state io.new.disk.now).honest → ObjectIs (Has (D.state io.old.disk.now).seen io.old.space) dnode.now object date dates map
+    ensures run { (object : Object) (date : ℕ) (dates : ℕ → ℕ) (map : Map) → (D.state io.new.disk.now).honest → IsObject object → ObjectIs (Has (D.state io.old.disk.now).seen io.old.space) dnode.now object date dates map
         → Delivers (IsRun (Has (D.state io.old.disk.now).seen io.old.space) object dates index) result }
     ensures ranges { IfOk result (RunFits index dnode.now.end) }
+    ensures stands { (set : ObjSet) → (D.state io.new.disk.now).honest → StandsIn (IsSeen (D.state io.old.disk.now).seen) set dnode.now → IfOk result (RunStands (IsSeen (D.state io.old.disk.now).seen) set) }
     ensures damaged { (set : ObjSet) → (D.state io.new.disk.now).honest → StandsIn (IsSeen (D.state io.old.disk.now).seen) set dnode.now → IfDamaged result (IsDamagedCell (IsSeen (D.state io.old.disk.now).seen) (D.state io.old.disk.now).size set) }
     ensures looks { Looks (D.state io.old.disk.now) io.old.space io.old.failed (D.state io.new.disk.now) io.new.space io.new.failed (stop_of result) }
     ensures steps { (steps.old ≤ steps.new) × (steps.new ≤ steps.old + 7) }
@@ -89,7 +92,7 @@ fn run_at<D: Disk, L: Ledger>(
     ensures same { io.new.disk.ghost_name ≡ io.old.disk.ghost_name }
 {
     let (ptr, alike) = tree_of(dnode).get(io, index, steps)?;
-    let Some(what) = cell_of(&ptr) else {
+    let Some(what) = cell_of(&ptr, dnode.block_size) else {
         return Err(BlockFault::of_layout(&ptr));
     };
     let count = count_of(what, alike, dnode.end - index);
@@ -112,9 +115,10 @@ pub(crate) fn next_pairs<D: Disk, L: Ledger>(
 ) -> Result<Option<Run>, BlockFault>
     requires dnode { DnodeFits dnode.now }
     requires fits { FitsDisk (D.state io.old.disk.now).size io.old.space }
-    ensures found { (snap : DatedState) → (D.state io.new.disk.now).honest → IsThere (Has (D.state io.old.disk.now).seen io.old.space) snap point.object dnode.now
+    ensures found { (snap : DatedState) → (D.state io.new.disk.now).honest → IsState snap.state → IsThere (Has (D.state io.old.disk.now).seen io.old.space) snap point.object dnode.now
         → Delivers (FindsPairs (Has (D.state io.old.disk.now).seen io.old.space) snap (choice_after source) point) result }
     ensures ranges { IfOk result (λ found. IfSome found (RunFits 0 dnode.now.end)) }
+    ensures stands { (set : ObjSet) → (D.state io.new.disk.now).honest → StandsIn (IsSeen (D.state io.old.disk.now).seen) set dnode.now → IfOk result (λ found. IfSome found (RunStands (IsSeen (D.state io.old.disk.now).seen) set)) }
     ensures damaged { (set : ObjSet) → (D.state io.new.disk.now).honest → StandsIn (IsSeen (D.state io.old.disk.now).seen) set dnode.now → IfDamaged result (IsDamagedCell (IsSeen (D.state io.old.disk.now).seen) (D.state io.old.disk.now).size set) }
     ensures looks { Looks (D.state io.old.disk.now) io.old.space io.old.failed (D.state io.new.disk.now) io.new.space io.new.failed (stop_of result) }
     ensures steps { (steps.old ≤ steps.new) × (steps.new ≤ steps.old + 20) }

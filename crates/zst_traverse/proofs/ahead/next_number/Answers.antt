@@ -1,19 +1,25 @@
-use Rattle.std.proofs.Common.{◌≡◌, ◌⊎◌, inl, inr, ⊎_elim, ℕ, ◌+◌, ◌-◌, ◌*◌, ◌%◌, ◌^◌, ◌<◌, ◌≤◌, List, sym, ◌∙◌, subst, rules, arith}
+use Rattle.std.proofs.Common.{inr, ⊎_elim, ℕ, List, ◌∙◌, subst, arith}
 use Rattle.std.proofs.lemmas.Bool.{cases_lt}
 use Rattle.std.proofs.lemmas.Result.{err_from_is_err_and}
 use Rattle.zst_space.specs.FreeSectors.{FreeSectors}
 use Rattle.zst_block.specs.Blocks.{Has}
 use Rattle.zst_block.proofs.Working.{Looks-then}
 use Rattle.zst_model.specs.states.State.{number_bound}
+use Rattle.zst_tree.specs.Damage.{IsSeen}
 use Rattle.zst_objset.proofs.LeafLaws.{look_back, look_on}
 use Rattle.zst_objset.specs.Sets.{SetHolds}
 use Rattle.zst_traverse.specs.Cells.{choice_after, IsNextNumber}
 use Rattle.zst_traverse.specs.Leaves.{AheadFits, EndsAll, ShowsAhead}
+use Rattle.zst_traverse.specs.Standing.{AheadStands}
 use Rattle.zst_objset.specs.Tight.{SetIsTight}
 use Rattle.zst_traverse.specs.declared.leaves.Ahead.{Ahead}
 use Rattle.zst_traverse.specs.declared.leaves.Ahead.TheVariants as ahead
 use Rattle.zst_traverse.proofs.Numbers.{ahead_behind}
 use Rattle.zst_traverse.proofs.ahead.next_number.Goals as goal
+
+pub returns-in-Next-clause-stands : goal.returns-in-Next-clause-stands
+returns-in-Next-clause-stands g c = λ honest hangs.
+    subst (λ (shown : Ahead). AheadStands (IsSeen (g.D.Disk.state c.args.io.now.disk.now).seen) c.args.set.now shown) c.in-Next.is (c.in_ok-found.ensures.stands c.args.set.now honest hangs)
 
 pub returns-in_err-found-2-clause-found : goal.returns-in_err-found-2-clause-found
 returns-in_err-found-2-clause-found g c = λ snap honest holds stands.

@@ -1,7 +1,7 @@
-use Rattle.std.proofs.Common.{◌≡◌, ℕ, ◌/◌, ◌%◌, List, refl, sym, subst, arith}
+use Rattle.std.proofs.Common.{ℕ, ◌%◌, refl, subst, arith}
 use Rattle.std.proofs.lemmas.Result.{err_from_is_err_and}
 use Rattle.zst_block.specs.Blocks.{Has}
-use Rattle.zst_objset.specs.Sets.{HasSlots, LeafIs}
+use Rattle.zst_objset.specs.Sets.{HasSlots}
 use Rattle.zst_objset.proofs.LeafLaws.{absent_found, none_found, slot_found, slot_there}
 use Rattle.zst_traverse.proofs.Damage.{lacking_cell}
 use Rattle.zst_traverse.proofs.Numbers.{hole_none}

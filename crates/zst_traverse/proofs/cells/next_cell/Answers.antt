@@ -1,10 +1,8 @@
-use Rattle.std.proofs.Common.{◌≡◌, ℕ, ◌+◌, ◌/◌, ◌^◌, ◌<◌, ◌≤◌, max, false, Bool, List, sym, subst, arith}
-use Rattle.std.specs.Prelude.{Option}
+use Rattle.std.proofs.Common.{◌≡◌, ℕ, ◌/◌, ◌^◌, ◌<◌, false, Bool, List, sym, subst, arith}
 use Rattle.std.proofs.lemmas.Result.{err_from_is_err_and}
 use Rattle.zst_space.specs.FreeSectors.{FreeSectors}
 use Rattle.zst_block.specs.Blocks.{Has}
 use Rattle.zst_block.specs.declared.ptr.Ptr.{Ptr}
-use Rattle.zst_block.proofs.Working.{Looks-then}
 use Rattle.zst_tree.proofs.Results.{delivers_if}
 use Rattle.zst_tree.specs.Finding.{Shows}
 use Rattle.zst_tree.specs.Indices.{Delivers}

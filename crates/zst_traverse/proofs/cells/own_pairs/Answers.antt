@@ -1,5 +1,5 @@
-use Rattle.std.proofs.Common.{◌≡◌, ℕ, ◌^◌, ◌≤◌, List, sym, subst, arith}
-use Rattle.std.specs.Prelude.{Option, IfSome}
+use Rattle.std.proofs.Common.{ℕ, ◌^◌, List, subst}
+use Rattle.std.specs.Prelude.{Option, IfOk, IfSome}
 use Rattle.std.proofs.lemmas.Result.{err_from_is_err_and}
 use Rattle.zst_space.specs.FreeSectors.{FreeSectors}
 use Rattle.zst_block.specs.Blocks.{Has}
@@ -14,28 +14,37 @@ use Rattle.zst_objset.specs.Damage.{IfDamaged, StandsIn}
 use Rattle.zst_objset.specs.Dnodes.{DnodeIs, IsThere}
 use Rattle.zst_traverse.specs.Cells.{choice_after}
 use Rattle.zst_traverse.specs.Runs.{FindsPairs}
+use Rattle.zst_traverse.specs.Standing.{RunStands}
 use Rattle.zst_traverse.specs.Telling.{IsDamagedCell}
 use Rattle.zst_traverse.proofs.Nexts.{runs_fit, there_of}
 use Rattle.zst_traverse.proofs.cells.own_pairs.Goals as goal
 
 pub returns-in_err-dnode_in-clause-found : goal.returns-in_err-dnode_in-clause-found
-returns-in_err-dnode_in-clause-found g c = λ snap honest is.
+returns-in_err-dnode_in-clause-found g c = λ snap honest lawful is.
     let p = err_from_is_err_and c.from_residual.result c.from_residual.ensures.1 in
     rw (p.1, p.2) (c.in_err-dnode_in.ensures.found snap honest is)
 
 pub returns-in-Some-clause-found : goal.returns-in-Some-clause-found
-returns-in-Some-clause-found g c = λ snap honest is.
+returns-in-Some-clause-found g c = λ snap honest lawful is.
     let was = c.next_pairs.ensures.looks.reads.honest honest in
     let looks = c.in_ok-dnode_in.ensures.looks in
     let found = subst (λ (found : Option Dnode). DnodeIs (Has (g.D.Disk.state c.args.io.now.disk.now).seen c.args.io.now.space) snap c.args.point.object found) c.in-Some.is (c.in_ok-dnode_in.ensures.found snap was is) in
     let on = look_on (λ (seen : List ℕ) (space : FreeSectors). IsThere (Has seen space) snap c.args.point.object c.in-Some.dnode) _ _ _ _ _ _ _ looks (there_of _ snap c.args.point.object c.in-Some.dnode found) in
-    look_back (λ (seen : List ℕ) (space : FreeSectors). Delivers (FindsPairs (Has seen space) snap (choice_after c.args.source) c.args.point) c.next_pairs.result) _ _ _ _ _ _ _ looks (c.next_pairs.ensures.found snap honest on)
+    look_back (λ (seen : List ℕ) (space : FreeSectors). Delivers (FindsPairs (Has seen space) snap (choice_after c.args.source) c.args.point) c.next_pairs.result) _ _ _ _ _ _ _ looks (c.next_pairs.ensures.found snap honest lawful on)
 
 pub returns-in-Some-clause-ranges : goal.returns-in-Some-clause-ranges
 unfolding index_bound
 returns-in-Some-clause-ranges g c =
     let fits : DnodeFits c.in-Some.dnode = subst (λ (found : Option Dnode). IfSome found DnodeFits) c.in-Some.is c.in_ok-dnode_in.ensures.ranges in
     runs_fit c.in-Some.dnode.end (2 ^ 43) fits.end c.next_pairs.result c.next_pairs.ensures.ranges
+
+pub returns-in-Some-clause-stands : goal.returns-in-Some-clause-stands
+returns-in-Some-clause-stands g c = λ set honest hangs.
+    let was = c.next_pairs.ensures.looks.reads.honest honest in
+    let looks = c.in_ok-dnode_in.ensures.looks in
+    let stands = subst (λ (found : Option Dnode). IfSome found (StandsIn (IsSeen (g.D.Disk.state c.args.io.now.disk.now).seen) set)) c.in-Some.is (c.in_ok-dnode_in.ensures.stands set was hangs) in
+    let on = look_on (λ (seen : List ℕ) (space : FreeSectors). StandsIn (IsSeen seen) set c.in-Some.dnode) _ _ _ _ _ _ _ looks stands in
+    seen_before _ _ _ _ _ _ _ looks (λ (seen : List ℕ) (size : ℕ). IfOk c.next_pairs.result (λ found. IfSome found (RunStands (IsSeen seen) set))) (c.next_pairs.ensures.stands set honest on)
 
 pub returns-in-Some-clause-damaged : goal.returns-in-Some-clause-damaged
 returns-in-Some-clause-damaged g c = λ set honest hangs.

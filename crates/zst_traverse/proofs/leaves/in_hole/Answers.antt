@@ -1,4 +1,4 @@
-use Rattle.std.proofs.Common.{◌≡◌, ◌+◌, ◌*◌, ◌^◌, ◌<◌, ◌≤◌, ◌⊎◌, inl, inr, ⊎_elim, refl, sym, ◌∙◌, arith}
+use Rattle.std.proofs.Common.{refl, sym, ◌∙◌, arith}
 use Rattle.zst_block.specs.Blocks.{Has}
 use Rattle.zst_traverse.proofs.Numbers.{hole_early, hole_late}
 use Rattle.zst_traverse.proofs.leaves.in_hole.Goals as goal

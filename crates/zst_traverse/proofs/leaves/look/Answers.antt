@@ -1,11 +1,12 @@
-use Rattle.std.proofs.Common.{◌≡◌, ℕ, ◌+◌, ◌-◌, ◌*◌, ◌<◌, List, sym, subst, arith}
+use Rattle.std.proofs.Common.{ℕ, ◌+◌, ◌-◌, ◌*◌, ◌<◌, List, subst, arith}
 use Rattle.zst_space.specs.FreeSectors.{FreeSectors}
 use Rattle.zst_block.specs.Blocks.{Has}
 use Rattle.zst_block.proofs.Working.{Looks-then}
 use Rattle.zst_dnode.specs.declared.slot.Slot.TheVariants as slots
 use Rattle.zst_tree.proofs.Damage.{seen_before}
 use Rattle.zst_tree.proofs.Results.{delivers_if}
-use Rattle.zst_tree.specs.Damage.{IsSeen}
+use Rattle.zst_tree.specs.Damage.{HangsIn, IsSeen, MayHave}
+use Rattle.zst_tree.specs.declared.tree.ObjSet.{ObjSet}
 use Rattle.zst_tree.specs.Indices.{Delivers}
 use Rattle.zst_objset.proofs.LeafLaws.{look_back, look_on}
 use Rattle.zst_objset.proofs.SearchLaws.{lacks_none}
@@ -14,6 +15,7 @@ use Rattle.zst_objset.specs.Dnodes.{IsThere}
 use Rattle.zst_traverse.specs.Cells.{choice_after}
 use Rattle.zst_traverse.specs.Leaves.{EndsLeaf, IsNext, ShowsAhead, StandsFor}
 use Rattle.zst_traverse.specs.Slots.{HasGlance, ShowsLate}
+use Rattle.zst_traverse.specs.Standing.{AheadStands}
 use Rattle.zst_traverse.specs.Telling.{IsDamagedCell}
 use Rattle.zst_traverse.specs.declared.slots.Glance.{Glance}
 use Rattle.zst_traverse.proofs.Damage.{dnode_stands}
@@ -78,14 +80,27 @@ returns-in-Some-There-clause-shows g c = λ snap honest stands.
     let back = look_back (λ (seen : List ℕ) (space : FreeSectors). Delivers (ShowsAhead (Has seen space) snap (choice_after c.args.source) (16 * leaf.index + at)) c.judged.result) _ _ _ _ _ _ _ c.in_ok-load_leaf.ensures.looks (c.judged.ensures.shows snap honest on) in
     delivers_if _ _ c.judged.result shown.behind back
 
-pub returns-in-Some-There-clause-damaged : goal.returns-in-Some-There-clause-damaged
-returns-in-Some-There-clause-damaged g c = λ set honest hangs.
+-- the dnode that is judged may stand in the set
+dnode_there : (g : given.Over) (c : goal.After-judged g) (set : ObjSet) → (g.D.Disk.state c.judged.new.io.disk.now).honest → HangsIn (MayHave (IsSeen (g.D.Disk.state c.args.io.now.disk.now).seen)) set.tree c.args.leaf.now.ptr
+    → StandsIn (IsSeen (g.D.Disk.state c.load_leaf.new.io.disk.now).seen) set c.in-Some-There.dnode
+dnode_there g c set honest hangs =
     let loaded = c.in_ok-load_leaf.ensures.loaded (c.judged.ensures.looks.reads.honest honest) in
     let dnode = c.in-Some-There.dnode in
     let has : (c.in-Some-There.place < 16) × HasSlot c.load_leaf.new.io.node c.in-Some-There.place (slots.There dnode) = subst (λ (seen : Glance). HasGlance c.load_leaf.new.io.node seen) c.in-Some-There.field-0-is c.in-Some-There.ensures.stands in
     let stands = dnode_stands (IsSeen (g.D.Disk.state c.args.io.now.disk.now).seen) set c.args.leaf.now.ptr c.load_leaf.new.io.node c.in-Some-There.place dnode hangs loaded c.if-leaf-eq0.false
     has.0 has.1 in
-    let on = look_on (λ (seen : List ℕ) (space : FreeSectors). StandsIn (IsSeen seen) set dnode) _ _ _ _ _ _ _ c.in_ok-load_leaf.ensures.looks stands in
+    look_on (λ (seen : List ℕ) (space : FreeSectors). StandsIn (IsSeen seen) set dnode) _ _ _ _ _ _ _ c.in_ok-load_leaf.ensures.looks stands
+
+pub returns-then-leaf-eq0-clause-stands : goal.returns-then-leaf-eq0-clause-stands
+returns-then-leaf-eq0-clause-stands g c = λ set honest hangs. c.in_hole.ensures.stands _ set
+
+pub returns-in-Some-There-clause-stands : goal.returns-in-Some-There-clause-stands
+returns-in-Some-There-clause-stands g c = λ set honest hangs.
+    seen_before _ _ _ _ _ _ _ c.in_ok-load_leaf.ensures.looks (λ (seen : List ℕ) (size : ℕ). IfOk c.judged.result (AheadStands (IsSeen seen) set)) (c.judged.ensures.stands set honest (dnode_there g c set honest hangs))
+
+pub returns-in-Some-There-clause-damaged : goal.returns-in-Some-There-clause-damaged
+returns-in-Some-There-clause-damaged g c = λ set honest hangs.
+    let on = dnode_there g c set honest hangs in
     seen_before _ _ _ _ _ _ _ c.in_ok-load_leaf.ensures.looks (λ (seen : List ℕ) (size : ℕ). IfDamaged c.judged.result (IsDamagedCell (IsSeen seen) size set)) (c.judged.ensures.damaged set honest on)
 
 -- in a tight leaf an object that is shown is next

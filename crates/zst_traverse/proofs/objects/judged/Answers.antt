@@ -1,8 +1,7 @@
-use Rattle.std.proofs.Common.{◌≡◌, ℕ, ◌^◌, sym, ◌∙◌, subst, arith}
+use Rattle.std.proofs.Common.{ℕ, ◌^◌, sym, ◌∙◌, subst}
 use Rattle.std.specs.Prelude.{Option}
 use Rattle.std.proofs.lemmas.Result.{err_from_is_err_and}
 use Rattle.zst_block.specs.Blocks.{Has}
-use Rattle.zst_model.specs.states.State.{index_bound}
 use Rattle.zst_tree.specs.Indices.{TreeIs}
 use Rattle.zst_tree.specs.declared.tree.Tree.{Tree}
 use Rattle.zst_traverse.specs.Dates.{FindsLate}

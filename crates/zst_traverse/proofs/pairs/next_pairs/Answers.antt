@@ -1,9 +1,9 @@
-use Rattle.std.proofs.Common.{◌≡◌, ℕ, List, sym, subst, arith}
+use Rattle.std.proofs.Common.{ℕ, List, sym, subst}
 use Rattle.std.specs.Prelude.{Option}
 use Rattle.std.proofs.lemmas.Result.{err_from_is_err_and}
 use Rattle.zst_space.specs.FreeSectors.{FreeSectors}
 use Rattle.zst_block.specs.Blocks.{Has}
-use Rattle.zst_block.proofs.Working.{Looks-then}
+use Rattle.zst_model.specs.states.State.{IsObjectOrNone}
 use Rattle.zst_tree.specs.Indices.{TreeIs}
 use Rattle.zst_tree.specs.declared.tree.Tree.{Tree}
 use Rattle.zst_objset.proofs.LeafLaws.{look_back, look_on}
@@ -17,29 +17,29 @@ pub first_index-from-requires : goal.first_index-from-requires
 first_index-from-requires g c = size_some c.args.dnode.now.block_size c.requires.dnode.head.size
 
 pub returns-in_err-next_late-clause-found : goal.returns-in_err-next_late-clause-found
-returns-in_err-next_late-clause-found g c = λ snap honest there.
+returns-in_err-next_late-clause-found g c = λ snap honest lawful there.
     let p = err_from_is_err_and c.from_residual.result c.from_residual.ensures.1 in
     let tree = subst (λ (t : Tree). TreeIs (Has (g.D.Disk.state c.args.io.now.disk.now).seen c.args.io.now.space) t there.map) (sym c.tree_of.ensures) there.is.tree in
     rw (p.1, p.2) (c.in_err-next_late.ensures.late there.map honest tree)
 
 pub returns-in_err-run-in-Some-clause-found : goal.returns-in_err-run-in-Some-clause-found
-returns-in_err-run-in-Some-clause-found g c = λ snap honest there.
+returns-in_err-run-in-Some-clause-found g c = λ snap honest lawful there.
     let p = err_from_is_err_and c.from_residual-in_err-run-in-Some.result c.from_residual-in_err-run-in-Some.ensures.1 in
     let on = look_on (λ (seen : List ℕ) (space : FreeSectors). ObjectIs (Has seen space) c.args.dnode.now there.object (snap.number_date c.args.point.object) (snap.index_date c.args.point.object) there.map) _ _ _ _ _ _ _ c.in_ok-next_late.ensures.looks there.is in
-    rw (p.1, p.2) (c.in_err-run-in-Some.ensures.run there.object _ _ there.map honest on)
+    rw (p.1, p.2) (c.in_err-run-in-Some.ensures.run there.object _ _ there.map honest (subst IsObjectOrNone there.there (lawful.objects c.args.point.object)) on)
 
 pub returns-in-None-clause-found : goal.returns-in-None-clause-found
-returns-in-None-clause-found g c = λ snap honest there.
+returns-in-None-clause-found g c = λ snap honest lawful there.
     let tree = subst (λ (t : Tree). TreeIs (Has (g.D.Disk.state c.args.io.now.disk.now).seen c.args.io.now.space) t there.map) (sym c.tree_of.ensures) there.is.tree in
     no_pairs_left _ snap c.args.source c.args.point c.args.dnode.now there c.first_index-from.result c.first_index-from.ensures c.requires.dnode.end
     (subst (λ (found : Option ℕ). FindsLate there.map c.args.source c.first_index-from.result c.args.dnode.now.end found) c.in-None.is (c.in_ok-next_late.ensures.late there.map honest tree))
 
 pub returns-in_ok-run-in-Some-clause-found : goal.returns-in_ok-run-in-Some-clause-found
-returns-in_ok-run-in-Some-clause-found g c = λ snap honest there.
+returns-in_ok-run-in-Some-clause-found g c = λ snap honest lawful there.
     let was = c.in_ok-run-in-Some.ensures.looks.reads.honest honest in
     let tree = subst (λ (t : Tree). TreeIs (Has (g.D.Disk.state c.args.io.now.disk.now).seen c.args.io.now.space) t there.map) (sym c.tree_of.ensures) there.is.tree in
     let on = look_on (λ (seen : List ℕ) (space : FreeSectors). ObjectIs (Has seen space) c.args.dnode.now there.object (snap.number_date c.args.point.object) (snap.index_date c.args.point.object) there.map) _ _ _ _ _ _ _ c.in_ok-next_late.ensures.looks there.is in
     let run = look_back (λ (seen : List ℕ) (space : FreeSectors). IsRun (Has seen space) there.object (snap.index_date c.args.point.object) c.in-Some.index c.in_ok-run-in-Some.run') _ _ _ _ _ _ _ c.in_ok-next_late.ensures.looks
-    (c.in_ok-run-in-Some.ensures.run there.object _ _ there.map honest on) in
+    (c.in_ok-run-in-Some.ensures.run there.object _ _ there.map honest (subst IsObjectOrNone there.there (lawful.objects c.args.point.object)) on) in
     pairs_next _ snap c.args.source c.args.point c.args.dnode.now there c.first_index-from.result c.first_index-from.ensures c.requires.dnode.end c.in-Some.index c.in_ok-run-in-Some.run'
     (subst (λ (found : Option ℕ). FindsLate there.map c.args.source c.first_index-from.result c.args.dnode.now.end found) c.in-Some.is (c.in_ok-next_late.ensures.late there.map was tree)) run

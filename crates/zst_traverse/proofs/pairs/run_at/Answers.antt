@@ -1,15 +1,15 @@
 use Rattle.std.proofs.Common.{sym, subst, refl, arith}
 use Rattle.std.proofs.lemmas.Result.{err_from_is_err_and}
 use Rattle.zst_block.specs.Blocks.{Has}
-use Rattle.zst_tree.specs.Damage.{IsSeen, NamesNode, TellsNode}
+use Rattle.zst_tree.specs.Damage.{HangsIn, IsSeen, MayHave, NamesNode, TellsNode}
 use Rattle.zst_tree.specs.Indices.{TreeIs}
 use Rattle.zst_tree.specs.declared.tree.Tree.{Tree}
-use Rattle.zst_traverse.proofs.Damage.{tree_named_told}
-use Rattle.zst_traverse.proofs.Indices.{is_run, run_has_cell}
+use Rattle.zst_traverse.proofs.Damage.{no_cell_told, tree_named_told}
+use Rattle.zst_traverse.proofs.Indices.{cell_stands, is_run, no_cell, run_has_cell}
 use Rattle.zst_traverse.proofs.pairs.run_at.Goals as goal
 
 pub returns-in_err-ptr-clause-run : goal.returns-in_err-ptr-clause-run
-returns-in_err-ptr-clause-run g c = λ object date dates map honest is.
+returns-in_err-ptr-clause-run g c = λ object date dates map honest lawful is.
     let p = err_from_is_err_and c.from_residual.result c.from_residual.ensures.1 in
     let tree = subst (λ (t : Tree). TreeIs (Has (g.D.Disk.state c.args.io.now.disk.now).seen c.args.io.now.space) t map) (sym c.tree_of.ensures) is.tree in
     rw (p.1, p.2) (c.in_err-ptr.ensures.shows map honest tree)
@@ -23,13 +23,26 @@ returns-in_err-ptr-clause-damaged g c = λ set honest stands.
     (subst (λ (t : Tree). TellsNode seen size NamesNode t.levels t.root c.in_err-ptr.field-0.0) c.tree_of.ensures (c.in_err-ptr.ensures.damaged honest)))
 
 pub returns-in_default-clause-run : goal.returns-in_default-clause-run
-returns-in_default-clause-run g c = λ object date dates map honest is.
+returns-in_default-clause-run g c = λ object date dates map honest lawful is.
     let has = Has (g.D.Disk.state c.args.io.now.disk.now).seen c.args.io.now.space in
     let tree = subst (λ (t : Tree). TreeIs has t map) (sym c.tree_of.ensures) is.tree in
-    absurd (run_has_cell has c.args.dnode.now object date dates map is c.args.index c.requires.index c.requires.dnode.end c.in_ok-ptr.ptr c.in_ok-ptr.alike (c.in_ok-ptr.ensures.shows map honest tree) (cc))
+    absurd (run_has_cell _ _ c.args.dnode.now object date dates map lawful is c.args.index c.requires.index c.requires.dnode.end c.in_ok-ptr.ptr c.in_ok-ptr.alike (c.in_ok-ptr.ensures.shows map honest tree) (cc))
+
+pub returns-in_default-clause-damaged : goal.returns-in_default-clause-damaged
+returns-in_default-clause-damaged g c = λ set honest stands.
+    let seen = IsSeen (g.D.Disk.state c.args.io.now.disk.now).seen in
+    let dnode = c.args.dnode.now in
+    let hangs = subst (λ (t : Tree). HangsIn (MayHave seen) t c.in_ok-ptr.ptr) c.tree_of.ensures (c.in_ok-ptr.ensures.hangs honest) in
+    rw c.of_layout.ensures (no_cell_told seen (g.D.Disk.state c.args.io.now.disk.now).size set dnode stands c.in_ok-ptr.ptr hangs (no_cell c.in_ok-ptr.ptr dnode.block_size (cc)))
+
+pub returns-clause-stands : goal.returns-clause-stands
+returns-clause-stands g c = λ set honest stands.
+    let seen = IsSeen (g.D.Disk.state c.args.io.now.disk.now).seen in
+    let hangs = subst (λ (t : Tree). HangsIn (MayHave seen) t c.in_ok-ptr.ptr) c.tree_of.ensures (c.in_ok-ptr.ensures.hangs honest) in
+    cell_stands seen set c.args.dnode.now stands c.in_ok-ptr.ptr hangs _ (cc)
 
 pub returns-clause-run : goal.returns-clause-run
-returns-clause-run g c = λ object date dates map honest is.
+returns-clause-run g c = λ object date dates map honest lawful is.
     let has = Has (g.D.Disk.state c.args.io.now.disk.now).seen c.args.io.now.space in
     let tree = subst (λ (t : Tree). TreeIs has t map) (sym c.tree_of.ensures) is.tree in
     let count = c.count_of-count.ensures in
