@@ -1,5 +1,5 @@
 -- What may be told as damaged of a block that a send reads.
-use Rattle.std.proofs.Common.{◌≡◌, ◌≢◌, ◌⊎◌, inl, inr, ⊎_elim, ℕ, ◌<◌, ◌≤◌, List, refl, arith}
+use Rattle.std.proofs.Common.{inl, inr, ⊎_elim, ℕ, ◌<◌, ◌≤◌, List, refl, arith}
 use Rattle.std.specs.Prelude.{Result, Ok, Err}
 use Rattle.zst_block.specs.Reading.{ReadAnswers}
 use Rattle.zst_block.specs.declared.fault.BlockFault.{BlockFault}
@@ -8,7 +8,7 @@ use Rattle.zst_block.specs.declared.ptr.Ptr.{Ptr}
 use Rattle.zst_objset.proofs.DamageLaws.{IfDamage-weaker}
 use Rattle.zst_objset.specs.Damage.{DamageFact, IfDamage, IfDamaged, IsToldOf}
 use Rattle.zst_tree.specs.Damage.{IsSeen}
-use Rattle.zst_send.specs.Damage.{IsDamagedLoad, IsDamagedRead, IsDamagedSized}
+use Rattle.zst_send.specs.Damage.{IsDamagedLoad, IsDamagedRead}
 
 -- a read answers so
 pub read_told : (seen : List ℕ) (size : ℕ) (ptr : Ptr) (read : List ℕ) (result : Result (Unit {0}) BlockFault) → ReadAnswers seen size ptr read result → IfDamaged result (IsDamagedRead (IsSeen seen) size ptr)
@@ -38,7 +38,3 @@ module _ (images : List ℕ → Type 0) (size : ℕ) (ptr : Ptr) where
   -- no block that a stream may have is too long
   pub short_told : ptr.length ≤ 131072 → (fault : BlockFault) → IfDamage fault (IsDamagedLoad images size ptr) → IfDamage fault (IsDamagedRead images size ptr)
   short_told less fault told = IfDamage-weaker _ _ (told_for (131072 < ptr.length) ⊥ (λ long. omega (arith, less, long))) fault told
-
-  -- nor is one of its object's size
-  pub sized_told : (count : ℕ) → count ≤ 131072 → ptr.length ≡ count → {T : Type 0} → (result : Result T BlockFault) → IfDamaged result (IsDamagedLoad images size ptr) → IfDamaged result (IsDamagedSized images size count ptr)
-  sized_told count less same result told = of_result _ _ (told_for (131072 < ptr.length) (ptr.length ≢ count) (λ long. absurd (omega (arith, less, long, same)))) result told

@@ -2,7 +2,6 @@
 use Rattle.std.proofs.Common.{◌≡◌, ℕ, ◌+◌, ◌*◌, ◌≤◌, length, Bool, true, false, List, [], ◌∷◌, ◌++◌, map, option_map, pred, take, Option, Some, None, refl, sym, ap, ◌∙◌, subst, ◌==◌, ◌&&◌, if◌then◌else◌}
 use Rattle.std.specs.Prelude.{IfSome}
 use Rattle.std.proofs.lemmas.Bool.{cond-true, cond-false, true≢false}
-use Rattle.zst_block.specs.declared.ptr.Ptr.{Ptr}
 use Rattle.zst_dnode.specs.declared.dnode.Dnode.{Dnode}
 use Rattle.zst_model.specs.declared.states.attr.ObjectHead.{ObjectHead}
 use Rattle.zst_model.specs.declared.states.item.Change.{Change}
@@ -16,11 +15,10 @@ use Rattle.zst_laws.specs.Joining.{HeldGoesOn}
 use Rattle.zst_objset.specs.Dnodes.{SpillIs}
 use Rattle.zst_tree.specs.Indices.{Blocks}
 use Rattle.zst_send.specs.Due.{AreBehind, AreDue, AreHeld, IsFirst, behind, head_in, is_run, joined_due, longest_payload, opened}
-use Rattle.zst_send.specs.Places.{ComesFirst, Gives, GoesTo, IsPlaceOf, IsWalk, items_left, left_behind}
+use Rattle.zst_send.specs.Places.{ComesFirst, Gives, GoesTo, IsPlaceOf, left_behind}
 use Rattle.zst_send.specs.declared.due.Due.{Due}
 use Rattle.zst_send.specs.declared.due.Due.TheVariants as dues
 use Rattle.zst_send.specs.declared.place.Place.{Place}
-use Rattle.zst_send.specs.declared.walk.Walk.{Walk}
 
 -- ---- items that stand alone
 
@@ -59,7 +57,7 @@ module _ (has : Blocks) where
   due_alone (dues.Tail k offset) item e is y = rw is (stands_alone k (changes.FreeFrom offset) (tail_alone offset) y)
   due_alone (dues.Holes k offset count) item e is y = absurd (true≢false e)
   due_alone (dues.Redacted k offset count) item e is y = absurd (true≢false e)
-  due_alone (dues.Block k type size offset ptr) item e (bytes, there, long, is) y = rw is (stands_alone k (changes.Write offset type bytes) (block_alone offset type bytes) y)
+  due_alone (dues.Block k type offset ptr) item e (bytes, there, less, is) y = rw is (stands_alone k (changes.Write offset type bytes) (block_alone offset type bytes) y)
 
   -- what is behind the first item is held next
   opened_held : (k : ℕ) (dnode : Dnode) (spill : Option (List ℕ)) → SpillIs has dnode.spill spill → IfSome spill (λ bytes. length bytes ≤ longest_payload)
@@ -80,7 +78,7 @@ module _ (has : Blocks) where
   behind_held (dues.Tail k offset) items is = is
   behind_held (dues.Holes k offset count) items is = is
   behind_held (dues.Redacted k offset count) items is = is
-  behind_held (dues.Block k type size offset ptr) items is = is
+  behind_held (dues.Block k type offset ptr) items is = is
 
   -- what is no run is given, and what is behind it is held
   pub gives_alone : (snap : DatedState) (view : View) (left : List Item) (place : Place) (due : Due) → is_run due ≡ false
@@ -129,25 +127,25 @@ module _ (has : Blocks) where
   items_join (dues.Absent f m) (dues.Tail k offset) x y e p q = rw (p, q) tt
   items_join (dues.Absent f m) (dues.Holes k offset count) x y e p q = rw (p, q) tt
   items_join (dues.Absent f m) (dues.Redacted k offset count) x y e p q = rw (p, q) tt
-  items_join (dues.Absent f m) (dues.Block k type size offset ptr) x y e p (bytes, there, long, q) = rw (p, q) tt
+  items_join (dues.Absent f m) (dues.Block k type offset ptr) x y e p (bytes, there, less, q) = rw (p, q) tt
   items_join (dues.Holes k o m) (dues.Absent g n) x y e p q = rw (p, q) tt
   items_join (dues.Holes k o m) (dues.Object j dnode) x y e p q = rw (p, q) (none_join k (k == j))
   items_join (dues.Holes k o m) (dues.Spill j ptr tail) x y e p (bytes, there, less, q) = rw (p, q) (none_join k (k == j))
   items_join (dues.Holes k o m) (dues.Tail j offset) x y e p q = rw (p, q) (none_join k (k == j))
   items_join (dues.Holes k o m) (dues.Holes j g n) x y e p q = rw (p, q) (holes_join k o m n (k == j) (o + m == g))
   items_join (dues.Holes k o m) (dues.Redacted j offset count) x y e p q = rw (p, q) (none_join k (k == j))
-  items_join (dues.Holes k o m) (dues.Block j type size offset ptr) x y e p (bytes, there, long, q) = rw (p, q) (none_join k (k == j))
+  items_join (dues.Holes k o m) (dues.Block j type offset ptr) x y e p (bytes, there, less, q) = rw (p, q) (none_join k (k == j))
   items_join (dues.Redacted k o m) (dues.Absent g n) x y e p q = rw (p, q) tt
   items_join (dues.Redacted k o m) (dues.Object j dnode) x y e p q = rw (p, q) (none_join k (k == j))
   items_join (dues.Redacted k o m) (dues.Spill j ptr tail) x y e p (bytes, there, less, q) = rw (p, q) (none_join k (k == j))
   items_join (dues.Redacted k o m) (dues.Tail j offset) x y e p q = rw (p, q) (none_join k (k == j))
   items_join (dues.Redacted k o m) (dues.Holes j offset count) x y e p q = rw (p, q) (none_join k (k == j))
   items_join (dues.Redacted k o m) (dues.Redacted j g n) x y e p q = rw (p, q) (redacted_join k o m n (k == j) (o + m == g))
-  items_join (dues.Redacted k o m) (dues.Block j type size offset ptr) x y e p (bytes, there, long, q) = rw (p, q) (none_join k (k == j))
+  items_join (dues.Redacted k o m) (dues.Block j type offset ptr) x y e p (bytes, there, less, q) = rw (p, q) (none_join k (k == j))
   items_join (dues.Object k dnode) due x y e p q = absurd (true≢false (sym e))
   items_join (dues.Spill k ptr tail) due x y e p q = absurd (true≢false (sym e))
   items_join (dues.Tail k offset) due x y e p q = absurd (true≢false (sym e))
-  items_join (dues.Block k type size offset ptr) due x y e p q = absurd (true≢false (sym e))
+  items_join (dues.Block k type offset ptr) due x y e p q = absurd (true≢false (sym e))
 
   -- nothing is behind a run that was joined
   joined_single : (run due both : Due) (items : List Item) → joined_due run (Some due) ≡ Some both → AreBehind has due items → items ≡ []
@@ -158,18 +156,18 @@ module _ (has : Blocks) where
   joined_single (dues.Tail j offset) (dues.Object k dnode) both items e is = absurd (cc)
   joined_single (dues.Holes j offset count) (dues.Object k dnode) both items e is = absurd (cc)
   joined_single (dues.Redacted j offset count) (dues.Object k dnode) both items e is = absurd (cc)
-  joined_single (dues.Block j type size offset ptr) (dues.Object k dnode) both items e is = absurd (cc)
+  joined_single (dues.Block j type offset ptr) (dues.Object k dnode) both items e is = absurd (cc)
   joined_single (dues.Absent f m) (dues.Spill k p t) both items e is = absurd (cc)
   joined_single (dues.Object j other) (dues.Spill k p t) both items e is = absurd (cc)
   joined_single (dues.Spill j ptr tail) (dues.Spill k p t) both items e is = absurd (cc)
   joined_single (dues.Tail j offset) (dues.Spill k p t) both items e is = absurd (cc)
   joined_single (dues.Holes j offset count) (dues.Spill k p t) both items e is = absurd (cc)
   joined_single (dues.Redacted j offset count) (dues.Spill k p t) both items e is = absurd (cc)
-  joined_single (dues.Block j type size offset ptr) (dues.Spill k p t) both items e is = absurd (cc)
+  joined_single (dues.Block j type offset ptr) (dues.Spill k p t) both items e is = absurd (cc)
   joined_single run (dues.Tail k offset) both items e is = is
   joined_single run (dues.Holes k offset count) both items e is = is
   joined_single run (dues.Redacted k offset count) both items e is = is
-  joined_single run (dues.Block k type size offset ptr) both items e is = is
+  joined_single run (dues.Block k type offset ptr) both items e is = is
 
   -- a run comes first of what is left, and then what was found behind it; where nothing was found, nothing is left behind the place
   pub record RunComes (snap : DatedState) (view : View) (left : List Item) (place : Place) (run : Due) (next : Option Due) : Type 0 where
@@ -211,7 +209,7 @@ module _ (has : Blocks) where
   run_single (dues.Tail k offset) items e are = absurd (true≢false (sym e))
   run_single (dues.Holes k offset count) items e are = are.are_behind
   run_single (dues.Redacted k offset count) items e are = are.are_behind
-  run_single (dues.Block k type size offset ptr) items e are = absurd (true≢false (sym e))
+  run_single (dues.Block k type offset ptr) items e are = absurd (true≢false (sym e))
 
   pub run_begins : (snap : DatedState) (view : View) (left : List Item) (old new : Place) (run : Due) (next : Option Due) → is_run run ≡ true
       → ComesFirst has snap view left old (Some run) → GoesTo has snap view old new next → RunComes snap view left new run next
@@ -267,7 +265,7 @@ module _ (has : Blocks) where
   joins_something (dues.Tail k offset) = refl
   joins_something (dues.Holes k offset count) = refl
   joins_something (dues.Redacted k offset count) = refl
-  joins_something (dues.Block k type size offset ptr) = refl
+  joins_something (dues.Block k type offset ptr) = refl
 
   -- so it is with whatever was found
   pub run_goes_on : HeldGoesOn → (snap : DatedState) (view : View) (left : List Item) (old new : Place) (run both : Due) (found next : Option Due) → is_run run ≡ true

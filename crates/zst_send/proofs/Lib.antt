@@ -2,6 +2,7 @@ mod Damaging
 mod Filling
 mod Giving
 mod Joining
+mod Knowing
 mod Passing
 mod Planning
 mod Putting

@@ -1,13 +1,12 @@
 -- What a walk passes over without an item.
-use Rattle.std.proofs.Common.{inl, inr, ◌⊎◌, ◌≡◌, ℕ, zero, suc, pred, ◌+◌, ◌*◌, ◌<◌, ◌≤◌, Bool, true, false, List, [], ◌∷◌, ◌++◌, map, flat_map, Option, Some, None, refl, sym, ap, ◌∙◌, arith, subst, nat_lt, nat_le, ◌==◌, ◌&&◌, ◌||◌, if◌then◌else◌, eq-eqb, ne_eqb}
-use Rattle.std.proofs.lemmas.Bool.{cases_eq, cases_order, cases_lt, cond-true, cond-false, lt-ltb, le-ltb, le-leb, lt-leb, and_from, and_parts, ltb-true, or_left, or_right, true≢false}
+use Rattle.std.proofs.Common.{inl, inr, ◌≡◌, ℕ, zero, suc, ◌+◌, ◌*◌, ◌<◌, ◌≤◌, Bool, true, false, List, [], ◌++◌, map, flat_map, Option, Some, None, refl, sym, ap, ◌∙◌, arith, subst, nat_lt, nat_le, ◌==◌, ◌||◌, if◌then◌else◌, eq-eqb, ne_eqb}
+use Rattle.std.proofs.lemmas.Bool.{cases_eq, cases_order, cases_lt, cond-true, cond-false, lt-ltb, le-ltb, le-leb, lt-leb, and_from, and_parts, ltb-true, or_left, or_right}
 use Rattle.zst_model.specs.declared.sends.header.Header.{Header}
 use Rattle.zst_model.specs.declared.sends.header.Point.{Point}
-use Rattle.zst_model.specs.declared.states.item.Item.{Item}
 use Rattle.zst_model.specs.declared.states.item.Item.TheVariants.{At}
 use Rattle.zst_model.specs.sends.Included.{any_below, includes_number, includes_pair, is_after, is_late_pair}
-use Rattle.zst_model.specs.sends.Items.{block_change, block_changes, change_at, number_items, rising}
-use Rattle.zst_model.specs.sends.View.{View, Shown, Left, Gone, There, object_view, shown_object, view_of}
+use Rattle.zst_model.specs.sends.Items.{block_change, change_at, number_items, rising}
+use Rattle.zst_model.specs.sends.View.{View, Left, Gone, There, object_view, shown_object, view_of}
 use Rattle.zst_model.specs.states.Dated.{DatedState, size_at}
 use Rattle.zst_model.specs.states.State.{Object, IsState, end_of, index_bound, is_number, number_bound}
 use Rattle.zst_laws.specs.Walk.{left_at, number_rest, walk_left, NothingBelow, WalkEnds}

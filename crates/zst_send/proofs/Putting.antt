@@ -1,5 +1,5 @@
 -- The record of an item, as the writer puts it.
-use Rattle.std.proofs.Common.{◌≡◌, ℕ, List, [], ◌++◌, refl, sym, ap, ◌∙◌, subst}
+use Rattle.std.proofs.Common.{◌≡◌, ℕ, List, [], ◌++◌, refl, sym, ap, ◌∙◌}
 use Rattle.std.proofs.lemmas.List.{append-nil}
 use Rattle.zst_model.specs.declared.states.item.Change.TheVariants as changes
 use Rattle.zst_model.specs.declared.states.item.Item.{Item}
@@ -7,8 +7,7 @@ use Rattle.zst_model.specs.declared.states.item.Item.TheVariants.{At, FreeObject
 use Rattle.zst_record.specs.declared.head.Head.{Head}
 use Rattle.zst_stream.specs.Image.{piece_after, record_after}
 use Rattle.zst_stream.specs.Records.{item_head, item_payload, piece_for}
-use Rattle.zst_writer.specs.Writes.{HasWritten, bytes_after}
-use Rattle.zst_writer.specs.declared.writer.Writer.{Writer}
+use Rattle.zst_writer.specs.Writes.{bytes_after}
 
 -- the record of an item has its checksum, and states no sums of its own
 item_bytes : (text : List ℕ) (to : ℕ) (item : Item) → bytes_after text (item_head to item) ≡ record_after text (item_head to item)

@@ -38,11 +38,13 @@ tail_most dnode fits =
 pub object_lawful : (snap : DatedState) (k : ℕ) (object : Object) → IsState snap.state → snap.state k ≡ Some object → IsObject object
 object_lawful snap k object lawful there = subst IsObjectOrNone there (lawful.objects k)
 
--- a block of a lawful object is as long as the object says
-pub data_size : (object : Object) (i : ℕ) (bytes : List ℕ) → IsObject object → object.blocks i ≡ Data bytes → length bytes ≡ object.attr.block_size
-data_size object i bytes lawful is = subst (BlockFits object.attr.block_size) is (lawful.fits i)
+-- the bytes of a block of a lawful object, and of its spill block, are no more than the most
+pub data_most : (object : Object) (i : ℕ) (bytes : List ℕ) → IsObject object → object.blocks i ≡ Data bytes → length bytes ≤ 131072
+data_most object i bytes lawful is =
+    let long : length bytes ≡ object.attr.block_size = subst (BlockFits object.attr.block_size) is (lawful.fits i) in
+    let most : object.attr.block_size ≤ 131072 = size_most object.attr.block_size lawful.attr.head.size in
+    omega (arith, long, most)
 
--- the bytes of its spill block are no more than the most
 spills_most : (spill : Option (List ℕ)) → IfSome spill IsSpill → IfSome spill (λ bytes. length bytes ≤ 131072)
 spills_most None is = tt
 spills_most (Some bytes) is = size_most (length bytes) (spill_is_block (length bytes) is)

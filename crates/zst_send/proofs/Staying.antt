@@ -1,13 +1,12 @@
 -- What a send keeps stands for as long as its blocks are there.
-use Rattle.std.proofs.Common.{◌≡◌, ℕ, Bool, true, false, List, Option, Some, None}
+use Rattle.std.proofs.Common.{ℕ, Bool, true, false, List, Option, Some, None}
 use Rattle.zst_block.specs.declared.ptr.Ptr.{Ptr}
 use Rattle.zst_model.specs.declared.states.item.Item.{Item}
 use Rattle.zst_model.specs.sends.View.{View}
 use Rattle.zst_model.specs.states.Dated.{DatedState}
 use Rattle.zst_objset.specs.Dnodes.{SpillIs}
 use Rattle.zst_tree.specs.Indices.{Blocks}
-use Rattle.zst_send.specs.Due.{AreBehind, AreDue, AreHeld, IsFirst}
-use Rattle.zst_send.specs.Places.{IsWalk}
+use Rattle.zst_send.specs.Due.{AreBehind, AreHeld, IsFirst}
 use Rattle.zst_send.specs.Standing.{IsRest, StandsAt}
 use Rattle.zst_send.specs.Working.{HasBlock, IsPayload, IsWork}
 use Rattle.zst_send.specs.declared.due.Due.{Due}
@@ -38,7 +37,7 @@ module _ (old new : Blocks) (keeps : (ptr : Ptr) (bytes : List ℕ) → old ptr 
   first_stays (Tail k offset) item is = is
   first_stays (Holes k offset length) item is = is
   first_stays (Redacted k offset length) item is = is
-  first_stays (Block k type size offset ptr) item is = (is.0, keeps ptr is.0 is.1, is.2, is.3)
+  first_stays (Block k type offset ptr) item is = (is.0, keeps ptr is.0 is.1, is.2, is.3)
 
   spill_stays : (ptr : Ptr) (spill : Option (List ℕ)) → SpillIs old ptr spill → SpillIs new ptr spill
   spill_stays ptr None is = is
@@ -51,7 +50,7 @@ module _ (old new : Blocks) (keeps : (ptr : Ptr) (bytes : List ℕ) → old ptr 
   behind_stays (Tail k offset) items are = are
   behind_stays (Holes k offset length) items are = are
   behind_stays (Redacted k offset length) items are = are
-  behind_stays (Block k type size offset ptr) items are = are
+  behind_stays (Block k type offset ptr) items are = are
 
   held_stay : (held : Option Due) (items : List Item) → AreHeld old held items → AreHeld new held items
   held_stay None items are = are

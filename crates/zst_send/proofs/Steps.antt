@@ -1,36 +1,34 @@
 -- What a walk finds comes first of what is left of a view.
-use Rattle.std.proofs.Common.{◌⊎◌, inl, inr, ◌≡◌, ℕ, ◌+◌, ◌*◌, ◌<◌, ◌≤◌, Bool, true, false, List, [], ◌∷◌, ◌++◌, map, pred, take, Option, Some, None, refl, sym, ap, ◌∙◌, arith, subst, ◌==◌, if◌then◌else◌}
+use Rattle.std.proofs.Common.{◌≡◌, ℕ, ◌+◌, ◌*◌, ◌<◌, ◌≤◌, Bool, true, false, List, [], ◌∷◌, ◌++◌, map, pred, take, Option, Some, None, refl, sym, ap, ◌∙◌, arith, subst}
 use Rattle.std.proofs.lemmas.Bool.{cond-true, cond-false, true≢false}
 use Rattle.zst_block.specs.declared.ptr.Ptr.{Ptr}
 use Rattle.zst_dnode.specs.declared.dnode.Dnode.{Dnode}
 use Rattle.zst_model.specs.declared.sends.header.Header.{Header}
 use Rattle.zst_model.specs.declared.sends.header.Point.{Point}
-use Rattle.zst_model.specs.declared.states.attr.Attr.{Attr}
 use Rattle.zst_model.specs.declared.states.cell.Cell.{Cell}
 use Rattle.zst_model.specs.declared.states.cell.Cell.TheVariants as cells
-use Rattle.zst_model.specs.declared.states.item.Change.{Change}
 use Rattle.zst_model.specs.declared.states.item.Change.TheVariants as changes
 use Rattle.zst_model.specs.declared.states.item.Item.{Item}
 use Rattle.zst_model.specs.declared.states.item.Item.TheVariants.{At, FreeObjects}
-use Rattle.zst_model.specs.sends.Included.{includes_number, includes_pair}
+use Rattle.zst_model.specs.sends.Included.{includes_pair}
 use Rattle.zst_model.specs.sends.Items.{joined, opening, put_change, spill_change, tail_change}
-use Rattle.zst_model.specs.sends.View.{View, There, object_view, shown_block, view_of}
+use Rattle.zst_model.specs.sends.View.{View, object_view, view_of}
 use Rattle.zst_model.specs.states.Dated.{DatedState, size_at}
 use Rattle.zst_model.specs.states.State.{Object, IsObject, IsState, Block, end_of, index_bound, number_bound}
 use Rattle.zst_model.specs.states.State as states
 use Rattle.zst_laws.specs.Walk.{walk_left, BlockRunIsNext, GoneRunIsNext, ObjectIsNext, WalkEnds, run_change}
 use Rattle.zst_objset.proofs.EndLaws.{end_bounded}
-use Rattle.zst_objset.specs.Dnodes.{IsThere, ObjectIs}
+use Rattle.zst_objset.specs.Dnodes.{ObjectIs}
 use Rattle.zst_traverse.specs.Cells.{CellIs, IsNextCell, IsNextGone, IsNextObject, IsNextPairs, NoneLeft, choice_after, first_number}
 use Rattle.zst_traverse.specs.declared.found.Found.{Found}
 use Rattle.zst_traverse.specs.declared.found.Found.TheVariants as found
 use Rattle.zst_tree.specs.Indices.{Blocks}
 use Rattle.zst_send.specs.Due.{AreBehind, AreDue, IsFirst, due_of, due_pairs}
-use Rattle.zst_send.specs.Places.{GoesTo, IsPassed, IsPlaceOf, left_behind, place_after}
+use Rattle.zst_send.specs.Places.{GoesTo, IsPlaceOf, place_after}
 use Rattle.zst_send.specs.declared.due.Due.{Due}
 use Rattle.zst_send.specs.declared.due.Due.TheVariants as dues
 use Rattle.zst_send.specs.declared.place.Place.{Place}
-use Rattle.zst_send.proofs.Sizes.{data_size, object_lawful, spill_most}
+use Rattle.zst_send.proofs.Sizes.{data_most, object_lawful, spill_most}
 use Rattle.zst_send.proofs.Passing.{counts_by_pair, is_counted, nothing_behind, nothing_below, number_there, shown_gone, shown_there, some_number}
 
 -- the four laws of walks that a step cites
@@ -132,7 +130,7 @@ module _ (has : Blocks) (header : Header) (snap : DatedState) (source : Option �
         states.Data told.0,
         (λ i from below. let same : i ≡ first = omega (arith, single) in ap object.blocks same ∙ told.1),
         (λ bytes e. single),
-        alone (dues.Block k object.attr.type_ object.attr.block_size (first * object.attr.block_size) ptr) (At k (changes.Write (first * object.attr.block_size) object.attr.type_ told.0)) (told.0, told.3, data_size object first told.0 lawful told.1, refl) refl,
+        alone (dues.Block k object.attr.type_ (first * object.attr.block_size) ptr) (At k (changes.Write (first * object.attr.block_size) object.attr.type_ told.0)) (told.0, told.3, data_most object first told.0 lawful told.1, refl) refl,
       )
 
   -- an object's size is that of what stands at its number

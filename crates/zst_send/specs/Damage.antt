@@ -1,7 +1,11 @@
 -- Which block a send tells as damaged.
-use Rattle.std.specs.Prelude.{◌≢◌, ℕ, ◌<◌, List}
+use Rattle.std.specs.Prelude.{◌⊎◌, ℕ, ◌<◌, List}
 use Rattle.zst_block.specs.declared.ptr.Ptr.{Ptr}
-use Rattle.zst_objset.specs.Damage.{DamageFact, IsToldOf}
+use Rattle.zst_dnode.specs.declared.dnode.Dnode.{Dnode}
+use Rattle.zst_objset.specs.Damage.{DamageFact, IsToldOf, StandsIn}
+use Rattle.zst_traverse.specs.Standing.{IsDataOf}
+use Rattle.zst_traverse.specs.Telling.{IsDamagedCell}
+use Rattle.zst_tree.specs.declared.tree.ObjSet.{ObjSet}
 use Rattle.zst_send.specs.Due.{longest_payload}
 use Rattle.zst_send.specs.declared.due.Due.{Due}
 use Rattle.zst_send.specs.declared.due.Due.TheVariants.{Absent, Object, Spill, Tail, Holes, Redacted, Block}
@@ -16,10 +20,6 @@ IsDamagedRead images size ptr sector stated found = IsToldOf images size ⊥ ptr
 abbrev pub IsDamagedLoad : (List ℕ → Type 0) → ℕ → Ptr → DamageFact
 IsDamagedLoad images size ptr sector stated found = IsToldOf images size (longest_payload < ptr.length) ptr sector stated found
 
--- so it is of a block of data, or its pointer states another count of bytes than the blocks of its object have
-abbrev pub IsDamagedSized : (List ℕ → Type 0) → ℕ → ℕ → Ptr → DamageFact
-IsDamagedSized images size count ptr sector stated found = IsToldOf images size (ptr.length ≢ count) ptr sector stated found
-
 -- what may be told of what is due: of the block that its first record has
 abbrev pub IsDamagedDue : (List ℕ → Type 0) → ℕ → Due → DamageFact
 IsDamagedDue images size (Absent first count) sector stated found = ⊥
@@ -28,10 +28,29 @@ IsDamagedDue images size (Spill k ptr tail) sector stated found = IsDamagedRead 
 IsDamagedDue images size (Tail k offset) sector stated found = ⊥
 IsDamagedDue images size (Holes k offset length) sector stated found = ⊥
 IsDamagedDue images size (Redacted k offset length) sector stated found = ⊥
-IsDamagedDue images size (Block k type count offset ptr) sector stated found = IsDamagedSized images size count ptr sector stated found
+IsDamagedDue images size (Block k type offset ptr) sector stated found = IsDamagedLoad images size ptr sector stated found
 
 -- what may be told of the record in work: of the block that follows it
 abbrev pub IsDamagedPayload : (List ℕ → Type 0) → ℕ → Payload → DamageFact
 IsDamagedPayload images size payloads.Nothing sector stated found = ⊥
 IsDamagedPayload images size (payloads.Bonus field count) sector stated found = ⊥
 IsDamagedPayload images size (payloads.Block ptr) sector stated found = IsDamagedRead images size ptr sector stated found
+
+-- a block of data of an object that may stand in the set
+pub record HasDamagedIndex (images : List ℕ → Type 0) (size : ℕ) (set : ObjSet) (sector : ℕ) (stated found : List ℕ) : Type 0 where
+  pub ptr : Ptr
+  pub is : IsDataOf images set ptr
+  pub damaged : IsDamagedRead images size ptr sector stated found
+
+-- the spill block of an object that may stand in the set
+pub record HasDamagedSpill (images : List ℕ → Type 0) (size : ℕ) (set : ObjSet) (sector : ℕ) (stated found : List ℕ) : Type 0 where
+  pub dnode : Dnode
+  pub stands : StandsIn images set dnode
+  pub damaged : IsDamagedRead images size dnode.spill sector stated found
+
+-- what a send may tell: what its walk may, or of a block of data or a spill block of the set
+abbrev pub IsDamagedSend : (List ℕ → Type 0) → ℕ → ObjSet → DamageFact
+IsDamagedSend images size set sector stated found =
+    IsDamagedCell images size set sector stated found
+    ⊎ (HasDamagedIndex images size set sector stated found
+    ⊎ HasDamagedSpill images size set sector stated found)

@@ -24,7 +24,7 @@ use Rattle.zst_send.specs.declared.due.Due.TheVariants.{Absent, Object, Spill, T
 abbrev pub due_pairs : ℕ → ℕ → ℕ → ℕ → ℕ → Cell → Ptr → Due
 due_pairs k first count type size cells.Hole ptr = Holes k (first * size) (count * size)
 due_pairs k first count type size cells.Redacted ptr = Redacted k (first * size) (count * size)
-due_pairs k first count type size cells.Data ptr = Block k type size (first * size) ptr
+due_pairs k first count type size cells.Data ptr = Block k type (first * size) ptr
 
 -- what is found is due, where the point's object has this type and blocks of this size
 abbrev pub due_of : Found → ℕ → ℕ → Due
@@ -44,7 +44,7 @@ behind (Spill k ptr tail) = Some (Tail k tail)
 behind (Tail k offset) = None
 behind (Holes k offset length) = None
 behind (Redacted k offset length) = None
-behind (Block k type size offset ptr) = None
+behind (Block k type offset ptr) = None
 
 -- ---- runs
 
@@ -56,7 +56,7 @@ is_run (Spill k ptr tail) = false
 is_run (Tail k offset) = false
 is_run (Holes k offset length) = true
 is_run (Redacted k offset length) = true
-is_run (Block k type size offset ptr) = false
+is_run (Block k type offset ptr) = false
 
 -- the count of its numbers or of its bytes
 abbrev pub size_of_run : Due → ℕ
@@ -66,7 +66,7 @@ size_of_run (Spill k ptr tail) = 0
 size_of_run (Tail k offset) = 0
 size_of_run (Holes k offset length) = length
 size_of_run (Redacted k offset length) = length
-size_of_run (Block k type size offset ptr) = 0
+size_of_run (Block k type offset ptr) = 0
 
 -- a run and what is found next, as one run, where they are of one kind and touch
 abbrev pub joined_due : Due → Option Due → Option Due
@@ -93,7 +93,7 @@ IsFirst has (Spill k ptr tail) item = (bytes : List ℕ) × has ptr bytes × (le
 IsFirst has (Tail k offset) item = item ≡ At k (changes.FreeFrom offset)
 IsFirst has (Holes k offset length) item = item ≡ At k (changes.Free offset length)
 IsFirst has (Redacted k offset length) item = item ≡ At k (changes.Redact offset length)
-IsFirst has (Block k type size offset ptr) item = (bytes : List ℕ) × has ptr bytes × (length bytes ≡ size) × (item ≡ At k (changes.Write offset type bytes))
+IsFirst has (Block k type offset ptr) item = (bytes : List ℕ) × has ptr bytes × (length bytes ≤ longest_payload) × (item ≡ At k (changes.Write offset type bytes))
 
 -- those behind it: only an object's opening has more than one
 abbrev pub AreBehind : Blocks → Due → List Item → Type 0
@@ -104,7 +104,7 @@ AreBehind has (Spill k ptr tail) items = items ≡ At k (changes.FreeFrom tail) 
 AreBehind has (Tail k offset) items = items ≡ []
 AreBehind has (Holes k offset length) items = items ≡ []
 AreBehind has (Redacted k offset length) items = items ≡ []
-AreBehind has (Block k type size offset ptr) items = items ≡ []
+AreBehind has (Block k type offset ptr) items = items ≡ []
 
 -- the items that are due, over the blocks that are there
 pub record AreDue (has : Blocks) (due : Due) (items : List Item) : Type 0 where
@@ -129,14 +129,14 @@ DueFits (Spill k ptr tail) = (ptr.kind ≡ 1) × (is_spill_size ptr.length ≡ t
 DueFits (Tail k offset) = Unit {0}
 DueFits (Holes k offset length) = (0 < length) × (offset + length ≤ 2 ^ 60)
 DueFits (Redacted k offset length) = (0 < length) × (offset + length ≤ 2 ^ 60)
-DueFits (Block k type size offset ptr) = size ≤ longest_payload
+DueFits (Block k type offset ptr) = Unit {0}
 
--- a block of data is as long as its object's blocks are
-abbrev pub IsSized : Due → Type 0
-IsSized (Absent first count) = Unit {0}
-IsSized (Object k dnode) = Unit {0}
-IsSized (Spill k ptr tail) = Unit {0}
-IsSized (Tail k offset) = Unit {0}
-IsSized (Holes k offset length) = Unit {0}
-IsSized (Redacted k offset length) = Unit {0}
-IsSized (Block k type size offset ptr) = ptr.length ≡ size
+-- the block that its first record has
+abbrev pub block_of : Due → Option Ptr
+block_of (Absent first count) = None
+block_of (Object k dnode) = None
+block_of (Spill k ptr tail) = Some ptr
+block_of (Tail k offset) = None
+block_of (Holes k offset length) = None
+block_of (Redacted k offset length) = None
+block_of (Block k type offset ptr) = Some ptr

@@ -1,5 +1,6 @@
 pub mod Damage
 pub mod Due
+pub mod Knowing
 pub mod Opening
 pub mod Places
 pub mod Sends

@@ -8,6 +8,8 @@ use Rattle.zst_stream.specs.Records.{piece_for}
 use Rattle.zst_tree.specs.Indices.{Blocks}
 use Rattle.zst_writer.specs.Writes.{HasWritten}
 use Rattle.zst_writer.specs.declared.writer.Writer.{Writer}
+use Rattle.zst_send.specs.Due.{block_of}
+use Rattle.zst_send.specs.declared.due.Due.{Due}
 use Rattle.zst_send.specs.declared.room.Room.{Room}
 use Rattle.zst_send.specs.declared.work.Payload.{Payload}
 use Rattle.zst_send.specs.declared.work.Payload.TheVariants.{Nothing, Bonus, Block}
@@ -37,6 +39,12 @@ pub record IsWork (has : Blocks) (work : Work) (left : List ℕ) : Type 0 where
 pub record IsPut (has : Blocks) (to : ℕ) (text : List ℕ) (item : Item) (writer : Writer) (work : Work) : Type 0 where
   pub written : HasWritten writer (text ++ piece_after text (piece_for to item))
   pub work_is : IsWork has work (piece_after text (piece_for to item))
+
+-- a block that follows the record of what is due is the one that is due
+abbrev pub HasBlockOf : Due → Payload → Type 0
+HasBlockOf due Nothing = Unit {0}
+HasBlockOf due (Bonus field count) = Unit {0}
+HasBlockOf due (Block ptr) = block_of due ≡ Some ptr
 
 -- ---- ranges, whatever the image
 

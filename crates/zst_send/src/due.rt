@@ -45,11 +45,10 @@ pub(crate) enum Due {
         offset: u64,
         length: u64,
     },
-    /// A block of an object of this type, whose blocks have this size.
+    /// A block of an object of this type.
     Block {
         object: u64,
         type_: u32,
-        size: u32,
         offset: u64,
         ptr: Ptr,
     },
@@ -91,7 +90,6 @@ pub(crate) fn due_of(found: Found, type_: u32, block_size: u32) -> Due
                 Cell::Data => Due::Block {
                     object,
                     type_,
-                    size: block_size,
                     offset,
                     ptr,
                 },

@@ -1,4 +1,4 @@
-ghost use Rattle.std.specs.Prelude.{◌≡◌, ◌+◌, ◌<◌, ◌≤◌, true, IfOk, IfSome};
+ghost use Rattle.std.specs.Prelude.{◌≡◌, ◌+◌, ◌<◌, ◌≤◌, true, Contains, IfOk, IfSome, List, ℕ};
 ghost use Rattle.zst_block.specs.Blocks.{FitsDisk, Has};
 ghost use Rattle.zst_block.specs.Working.{Looks, stop_of};
 ghost use Rattle.zst_model.specs.declared.sends.header.Header.{Header};
@@ -9,8 +9,10 @@ ghost use Rattle.zst_model.specs.states.State.{number_bound};
 ghost use Rattle.zst_objset.specs.Damage.{IfDamaged};
 ghost use Rattle.zst_objset.specs.Sets.{SetHolds};
 ghost use Rattle.zst_send.specs.Due.{DueFits};
+ghost use Rattle.zst_send.specs.Knowing.{DueStands, IsAmong};
 ghost use Rattle.zst_send.specs.Places.{GoesTo, IsPlaceOf, PlaceFits, place_after};
 ghost use Rattle.zst_traverse.specs.Cells.{FoundFits, IsNextCell, choice_after};
+ghost use Rattle.zst_traverse.specs.Standing.{FoundStands};
 ghost use Rattle.zst_traverse.specs.Telling.{IsDamagedCell};
 ghost use Rattle.zst_objset.specs.Tight.{SetIsTight};
 ghost use Rattle.zst_tree.specs.Damage.{IsSeen};
@@ -133,6 +135,9 @@ impl Place {
         ensures found { (header : Header) (snap : DatedState) → (D.state io.new.disk.now).honest → SetHolds (Has (D.state io.old.disk.now).seen io.old.space) set.now snap → IsPlaceOf snap self.old
             → Delivers (GoesTo (Has (D.state io.new.disk.now).seen io.new.space) snap (view_of header snap (choice_after source)) self.old self.new) result }
 
+        // What is found may stand in the set.
+        ensures stands { (images : List (List ℕ)) → Contains images (D.state io.old.disk.now).seen → (D.state io.new.disk.now).honest → IfOk result (λ found. IfSome found (DueStands (IsAmong images) set.now)) }
+
         // Whatever the image, what is found is in its range, and damage is told of a block of the walk.
         ensures place { PlaceFits self.new }
         ensures ranges { IfOk result (λ found. IfSome found DueFits) }
@@ -170,6 +175,7 @@ fn next_found<D: Disk>(
     ensures found { (snap : DatedState) → (D.state io.new.disk.now).honest → SetHolds (Has (D.state io.old.disk.now).seen io.old.space) set.now snap
         → Delivers (IsNextCell (Has (D.state io.new.disk.now).seen io.new.space) snap (choice_after source) place.now.point place.now.slot) result }
     ensures ranges { IfOk result (λ found. IfSome found (FoundFits place.now.point)) }
+    ensures stands { (D.state io.new.disk.now).honest → IfOk result (λ found. IfSome found (FoundStands (IsSeen (D.state io.old.disk.now).seen) set.now)) }
     ensures damaged { (D.state io.new.disk.now).honest → IfDamaged result (IsDamagedCell (IsSeen (D.state io.old.disk.now).seen) (D.state io.old.disk.now).size set.now) }
     ensures looks { Looks (D.state io.old.disk.now) io.old.space io.old.failed (D.state io.new.disk.now) io.new.space io.new.failed (stop_of result) }
     ensures few { (snap : DatedState) → (D.state io.new.disk.now).honest → SetIsTight (Has (D.state io.old.disk.now).seen io.old.space) set.now snap → (D.state io.new.disk.now).calls ≤ (D.state io.old.disk.now).calls + 64 }
@@ -194,6 +200,7 @@ fn counted<D: Disk, L: Ledger>(
     ensures found { (snap : DatedState) → (D.state io.new.disk.now).honest → SetHolds (Has (D.state io.old.disk.now).seen io.old.space) set.now snap
         → Delivers (IsNextCell (Has (D.state io.new.disk.now).seen io.new.space) snap (choice_after source) place.now.point place.now.slot) result }
     ensures ranges { IfOk result (λ found. IfSome found (FoundFits place.now.point)) }
+    ensures stands { (D.state io.new.disk.now).honest → IfOk result (λ found. IfSome found (FoundStands (IsSeen (D.state io.old.disk.now).seen) set.now)) }
     ensures damaged { (D.state io.new.disk.now).honest → IfDamaged result (IsDamagedCell (IsSeen (D.state io.old.disk.now).seen) (D.state io.old.disk.now).size set.now) }
     ensures looks { Looks (D.state io.old.disk.now) io.old.space io.old.failed (D.state io.new.disk.now) io.new.space io.new.failed (stop_of result) }
     ensures few { (snap : DatedState) → (D.state io.new.disk.now).honest → SetIsTight (Has (D.state io.old.disk.now).seen io.old.space) set.now snap → (D.state io.new.disk.now).calls ≤ (D.state io.old.disk.now).calls + 64 }

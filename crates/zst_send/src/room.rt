@@ -3,8 +3,7 @@ ghost use Rattle.zst_space.specs.FreeSectors.{FreeSectors};
 ghost use Rattle.zst_block.specs.Blocks.{FitsDisk, Has};
 ghost use Rattle.zst_block.specs.Working.{Looks, stop_of};
 ghost use Rattle.zst_objset.specs.Damage.{IfDamaged};
-ghost use Rattle.zst_send.specs.Damage.{IsDamagedLoad, IsDamagedRead, IsDamagedSized};
-ghost use Rattle.zst_send.specs.Due.{longest_payload};
+ghost use Rattle.zst_send.specs.Damage.{IsDamagedLoad, IsDamagedRead};
 ghost use Rattle.zst_send.specs.Working.{IsLoaded, RoomFits};
 ghost use Rattle.zst_tree.specs.Damage.{IsSeen};
 ghost use Rattle.zst_tree.specs.Indices.{Delivers};
@@ -63,39 +62,6 @@ impl Room {
         read_front(io, *ptr, self.bytes.as_mut_slice())?;
         self.holds = Some(*ptr);
         Ok(())
-    }
-
-    /// Has a block of data, as `load` does. One that isn't as long as the blocks of its object isn't
-    /// of its layout.
-    pub(crate) fn load_data<D: Disk>(
-        &mut self,
-        io: &mut Io<'_, D>,
-        ptr: &Ptr,
-        size: u32,
-    ) -> Result<(), BlockFault>
-        requires room { RoomFits self.old }
-        requires size { size ≤ longest_payload }
-        requires fits { FitsDisk (D.state io.old.disk.now).size io.old.space }
-
-        // What is there with this length is loaded, and what was loaded stays so.
-        ensures there { (bytes : List ℕ) → (D.state io.new.disk.now).honest → IsLoaded (Has (D.state io.old.disk.now).seen io.old.space) self.old → Has (D.state io.old.disk.now).seen io.old.space ptr.now bytes
-            → length bytes ≡ size → Delivers (λ done. take ptr.now.length self.new.bytes.items ≡ bytes) result }
-        ensures loaded { (bytes : List ℕ) → (D.state io.new.disk.now).honest → IsLoaded (Has (D.state io.old.disk.now).seen io.old.space) self.old → Has (D.state io.old.disk.now).seen io.old.space ptr.now bytes
-            → IsLoaded (Has (D.state io.new.disk.now).seen io.new.space) self.new }
-
-        ensures room { RoomFits self.new }
-        ensures sized { OnOk result (ptr.now.length ≡ size) }
-        ensures whole { OnOk result (ptr.now.length % 512 ≡ 0) }
-        ensures damaged { (D.state io.new.disk.now).honest → IfDamaged result (IsDamagedSized (IsSeen (D.state io.old.disk.now).seen) (D.state io.old.disk.now).size size ptr.now) }
-        ensures looks { Looks (D.state io.old.disk.now) io.old.space io.old.failed (D.state io.new.disk.now) io.new.space io.new.failed (stop_of result) }
-        ensures calls { (D.state io.new.disk.now).calls ≤ (D.state io.old.disk.now).calls + 1 }
-        ensures kept_fit { FitsDisk (D.state io.new.disk.now).size io.new.space }
-        ensures same { io.new.disk.ghost_name ≡ io.old.disk.ghost_name }
-    {
-        if ptr.length != size {
-            return Err(BlockFault::of_layout(ptr));
-        }
-        self.load(io, ptr)
     }
 
     /// The first bytes of the block that it has.

@@ -17,7 +17,7 @@ pub struct Send {
 }
 
 impl Send {
-    ghost use Rattle.std.specs.Prelude.{◌≡◌, ◌≤◌, false, true, List, [], ℕ, IfOk, None, Err, length};
+    ghost use Rattle.std.specs.Prelude.{◌≡◌, ◌≤◌, false, true, Contains, List, [], ℕ, IfErr, IfOk, None, Err, length};
     ghost use Rattle.zst_space.specs.FreeSectors.{FreeSectors};
     ghost use Rattle.zst_block.specs.Blocks.{FitsDisk, Has};
     ghost use Rattle.zst_block.specs.Working.{Looks};
@@ -26,7 +26,10 @@ impl Send {
     ghost use Rattle.zst_model.specs.pools.Pool.{Pool as Plain};
     ghost use Rattle.zst_model.specs.sends.Headers.{Sent};
     ghost use Rattle.zst_plan.specs.Plans.{IsInside, IsPlanOf};
+    ghost use Rattle.zst_pool.specs.Damage.{IsOf};
     ghost use Rattle.zst_pool.specs.Telling.{stop_of};
+    ghost use Rattle.zst_send.specs.Damage.{IsDamagedSend};
+    ghost use Rattle.zst_send.specs.Knowing.{IsAmong, Knows};
     ghost use Rattle.zst_send.specs.Opening.{IsPlanned, Opens, is_plain, opening};
     ghost use Rattle.zst_send.specs.Sends.{SendFits, Sends, Takes, sent_text};
     ghost use Rattle.zst_send.specs.Working.{RoomFits};
@@ -41,6 +44,8 @@ impl Send {
         ensures opens { (image : List ℕ) (space : FreeSectors) (running : Plain) → pool.old.io.failed ≡ false → RunsBy (Has image space) pool.old.kept.dir running → Opens (Has image space) ask.now running result }
         // Its refusals are those of the rows alone, whatever the object sets and the lists hold.
         ensures planned { (running : Plain) → pool.old.io.failed ≡ false → AreNamed pool.old.kept.dir running → IsPlanned (opening ask.now running) result }
+        // It keeps no pointer yet.
+        ensures knows { (images : List (List ℕ)) → IfOk result (Knows (IsAmong images)) }
         ensures fits { IfOk result SendFits }
         // A pool that has failed answers nothing else.
         ensures failed_pool { pool.old.io.failed ≡ true → result ≡ Err PoolFault.Failed }
@@ -76,6 +81,10 @@ impl Send {
             → Takes (Has (D.state pool.new.io.disk.now).seen pool.new.io.space) self.new sent given left into.new result }
         // Whatever the image, only as many as were asked are given.
         ensures count { IfOk result (λ count. count ≤ length into.old) }
+        // Among the images that the disk had so far, it keeps what may stand in the set, and E25 names a block of it.
+        ensures knows { (images : List (List ℕ)) → Contains images (D.state pool.old.io.disk.now).seen → (D.state pool.new.io.disk.now).honest → Knows (IsAmong images) self.old → Knows (IsAmong images) self.new }
+        ensures damaged { (images : List (List ℕ)) → Contains images (D.state pool.old.io.disk.now).seen → (D.state pool.new.io.disk.now).honest → Knows (IsAmong images) self.old
+            → IfErr result (IsOf (IsDamagedSend (IsAmong images) (D.state pool.old.io.disk.now).size self.old.subject.set)) }
         ensures into { length into.new ≡ length into.old }
         ensures send { SendFits self.new }
 
@@ -103,6 +112,7 @@ impl Send {
         requires inside { IsInside dir.now plan.now }
         requires room { RoomFits room }
         requires empty { room.holds ≡ None }
+        ensures knows { (images : List (List ℕ)) → Knows (IsAmong images) result }
         ensures fits { SendFits result }
         ensures sends { (image : List ℕ) (space : FreeSectors) (running : Plain) (sent : Sent) → RunsBy (Has image space) dir.now running → IsPlanOf dir.now running plan.now sent → is_plain sent ≡ true
             → Sends (Has image space) result sent [] (sent_text sent) }

@@ -1,4 +1,4 @@
-ghost use Rattle.std.specs.Prelude.{◌≡◌, ◌+◌, ◌<◌, ◌≤◌, true, List, ℕ, IfOk, Ok, length};
+ghost use Rattle.std.specs.Prelude.{◌≡◌, ◌+◌, ◌<◌, ◌≤◌, true, Contains, List, ℕ, IfOk, Ok, OnOk, length};
 ghost use Rattle.zst_space.specs.FreeSectors.{FreeSectors};
 ghost use Rattle.zst_block.specs.Blocks.{FitsDisk, Has};
 ghost use Rattle.zst_block.specs.Working.{Looks, stop_of};
@@ -6,7 +6,11 @@ ghost use Rattle.zst_model.specs.declared.sends.header.Header.{Header};
 ghost use Rattle.zst_model.specs.sends.Items.{origin};
 ghost use Rattle.zst_model.specs.sends.View.{View, view_of};
 ghost use Rattle.zst_model.specs.states.Dated.{DatedState};
+ghost use Rattle.zst_objset.specs.Damage.{IfDamaged};
 ghost use Rattle.zst_objset.specs.Sets.{SetHolds};
+ghost use Rattle.zst_send.specs.Damage.{IsDamagedSend};
+ghost use Rattle.zst_send.specs.Knowing.{IsAmong, IsOfSet};
+ghost use Rattle.zst_tree.specs.declared.tree.ObjSet.{ObjSet};
 ghost use Rattle.zst_send.specs.Standing.{Advances, Fills, StandFits, StandsAt};
 ghost use Rattle.zst_record.specs.Formats.{record_len};
 ghost use Rattle.zst_send.specs.Working.{IsLoaded, RoomFits, payload_size};
@@ -47,6 +51,7 @@ impl Stand {
     /// A send that gives BEGIN first.
     pub(crate) fn start(header: Header) -> Stand
         ensures stands { (image : List ℕ) (space : FreeSectors) (snap : DatedState) (view : View) → StandsAt (Has image space) snap view header.to result (view_text header view origin) }
+        ensures knows { (images : List (List ℕ)) (set : ObjSet) → IsOfSet (IsAmong images) set result }
         ensures fits { StandFits result }
     {
         walk_begins();
@@ -82,6 +87,9 @@ impl Stand {
             → IsLoaded (Has (D.state io.old.disk.now).seen io.old.space) room.old → StandsAt (Has (D.state io.old.disk.now).seen io.old.space) snap (view_of header snap (choice_after subject.now.source)) subject.now.to self.old left
             → IsLoaded (Has (D.state io.new.disk.now).seen io.new.space) room.new }
         ensures fresh { result ≡ Ok true → self.new.work.given ≡ 0 }
+        ensures stands { (images : List (List ℕ)) → Contains images (D.state io.old.disk.now).seen → (D.state io.new.disk.now).honest → IsOfSet (IsAmong images) subject.now.set self.old → OnOk result (IsOfSet (IsAmong images) subject.now.set self.new) }
+        ensures damaged { (images : List (List ℕ)) → Contains images (D.state io.old.disk.now).seen → (D.state io.new.disk.now).honest → IsOfSet (IsAmong images) subject.now.set self.old
+            → IfDamaged result (IsDamagedSend (IsAmong images) (D.state io.old.disk.now).size subject.now.set) }
         ensures stand { StandFits self.new }
         ensures room { RoomFits room.new }
         ensures looks { Looks (D.state io.old.disk.now) io.old.space io.old.failed (D.state io.new.disk.now) io.new.space io.new.failed (stop_of result) }
@@ -125,6 +133,9 @@ impl Stand {
             → IsLoaded (Has (D.state io.old.disk.now).seen io.old.space) room.old → StandsAt (Has (D.state io.old.disk.now).seen io.old.space) snap (view_of header snap (choice_after subject.now.source)) subject.now.to self.old left
             → IsLoaded (Has (D.state io.new.disk.now).seen io.new.space) room.new }
         ensures more { result ≡ Ok true → self.new.work.given < record_len + payload_size self.new.work.payload }
+        ensures stands { (images : List (List ℕ)) → Contains images (D.state io.old.disk.now).seen → (D.state io.new.disk.now).honest → IsOfSet (IsAmong images) subject.now.set self.old → OnOk result (IsOfSet (IsAmong images) subject.now.set self.new) }
+        ensures damaged { (images : List (List ℕ)) → Contains images (D.state io.old.disk.now).seen → (D.state io.new.disk.now).honest → IsOfSet (IsAmong images) subject.now.set self.old
+            → IfDamaged result (IsDamagedSend (IsAmong images) (D.state io.old.disk.now).size subject.now.set) }
         ensures stand { StandFits self.new }
         ensures room { RoomFits room.new }
         ensures looks { Looks (D.state io.old.disk.now) io.old.space io.old.failed (D.state io.new.disk.now) io.new.space io.new.failed (stop_of result) }
@@ -156,6 +167,9 @@ impl Stand {
             → IsLoaded (Has (D.state io.new.disk.now).seen io.new.space) room.new }
         ensures into { length into.new ≡ length into.old }
         ensures count { IfOk result (λ count. count ≤ length into.old) }
+        ensures stands { (images : List (List ℕ)) → Contains images (D.state io.old.disk.now).seen → (D.state io.new.disk.now).honest → IsOfSet (IsAmong images) subject.now.set self.old → OnOk result (IsOfSet (IsAmong images) subject.now.set self.new) }
+        ensures damaged { (images : List (List ℕ)) → Contains images (D.state io.old.disk.now).seen → (D.state io.new.disk.now).honest → IsOfSet (IsAmong images) subject.now.set self.old
+            → IfDamaged result (IsDamagedSend (IsAmong images) (D.state io.old.disk.now).size subject.now.set) }
         ensures stand { StandFits self.new }
         ensures room { RoomFits room.new }
         ensures looks { Looks (D.state io.old.disk.now) io.old.space io.old.failed (D.state io.new.disk.now) io.new.space io.new.failed (stop_of result) }

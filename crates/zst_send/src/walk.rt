@@ -1,4 +1,4 @@
-ghost use Rattle.std.specs.Prelude.{◌≡◌, ◌+◌, ◌≤◌, true, List, None, Some, IfOk, IfSome};
+ghost use Rattle.std.specs.Prelude.{◌≡◌, ◌+◌, ◌≤◌, true, Contains, List, None, Some, IfOk, IfSome, OnOk, ℕ};
 ghost use Rattle.zst_block.specs.Blocks.{FitsDisk, Has};
 ghost use Rattle.zst_block.specs.Working.{Looks, stop_of};
 ghost use Rattle.zst_model.specs.declared.sends.header.Header.{Header};
@@ -9,6 +9,7 @@ ghost use Rattle.zst_model.specs.states.Dated.{DatedState};
 ghost use Rattle.zst_objset.specs.Damage.{IfDamaged};
 ghost use Rattle.zst_objset.specs.Sets.{SetHolds};
 ghost use Rattle.zst_send.specs.Due.{DueFits, is_run};
+ghost use Rattle.zst_send.specs.Knowing.{DueStands, IsAmong, WalkStands};
 ghost use Rattle.zst_send.specs.Places.{ComesFirst, Gives, IsWalk, WalkFits, items_left};
 ghost use Rattle.zst_traverse.specs.Cells.{choice_after};
 ghost use Rattle.zst_traverse.specs.Telling.{IsDamagedCell};
@@ -59,6 +60,10 @@ impl Walk {
             → IsWalk (Has (D.state io.old.disk.now).seen io.old.space) snap self.old held
             → Delivers (Gives (Has (D.state io.new.disk.now).seen io.new.space) snap (view_of header snap (choice_after source)) (items_left (view_of header snap (choice_after source)) self.old held) self.new) result }
 
+        // What comes next may stand in the set, where what the walk holds may.
+        ensures stands { (images : List (List ℕ)) → Contains images (D.state io.old.disk.now).seen → (D.state io.new.disk.now).honest → WalkStands (IsAmong images) set.now self.old
+            → OnOk result (WalkStands (IsAmong images) set.now self.new) × IfOk result (λ next. IfSome next (DueStands (IsAmong images) set.now)) }
+
         // Whatever the image, what comes next is in its range, and damage is told of a block of the walk.
         ensures walk { WalkFits self.new }
         ensures ranges { IfOk result (λ next. IfSome next DueFits) }
@@ -90,6 +95,8 @@ impl Walk {
             → IsWalk (Has (D.state io.old.disk.now).seen io.old.space) snap self.old held
             → Delivers (ComesFirst (Has (D.state io.new.disk.now).seen io.new.space) snap (view_of header snap (choice_after source)) (items_left (view_of header snap (choice_after source)) self.old held) self.new.place) result }
         ensures held { self.new.held ≡ None }
+        ensures stands { (images : List (List ℕ)) → Contains images (D.state io.old.disk.now).seen → (D.state io.new.disk.now).honest → WalkStands (IsAmong images) set.now self.old
+            → OnOk result (WalkStands (IsAmong images) set.now self.new) × IfOk result (λ next. IfSome next (DueStands (IsAmong images) set.now)) }
         ensures walk { WalkFits self.new }
         ensures ranges { IfOk result (λ next. IfSome next DueFits) }
         ensures damaged { (D.state io.new.disk.now).honest → IfDamaged result (IsDamagedCell (IsSeen (D.state io.old.disk.now).seen) (D.state io.old.disk.now).size set.now) }
@@ -121,6 +128,8 @@ impl Walk {
         ensures gives { (header : Header) (snap : DatedState) (left : List Item) → (D.state io.new.disk.now).honest → SetHolds (Has (D.state io.old.disk.now).seen io.old.space) set.now snap
             → ComesFirst (Has (D.state io.old.disk.now).seen io.old.space) snap (view_of header snap (choice_after source)) left self.old.place (Some run)
             → Delivers (λ due. Gives (Has (D.state io.new.disk.now).seen io.new.space) snap (view_of header snap (choice_after source)) left self.new (Some due)) result }
+        ensures stands { (images : List (List ℕ)) → Contains images (D.state io.old.disk.now).seen → (D.state io.new.disk.now).honest
+            → OnOk result (WalkStands (IsAmong images) set.now self.new) × IfOk result (DueStands (IsAmong images) set.now) }
         ensures walk { WalkFits self.new }
         ensures ranges { IfOk result DueFits }
         ensures damaged { (D.state io.new.disk.now).honest → IfDamaged result (IsDamagedCell (IsSeen (D.state io.old.disk.now).seen) (D.state io.old.disk.now).size set.now) }

@@ -1,4 +1,4 @@
-ghost use Rattle.std.specs.Prelude.{◌≡◌, ◌==◌, ◌+◌, ◌-◌, ◌%◌, ◌<◌, ◌≤◌, ◌++◌, false, List, [], ℕ, IfOk, OnErr, OnOk, drop, length, min, pred, take};
+ghost use Rattle.std.specs.Prelude.{◌≡◌, ◌==◌, ◌+◌, ◌-◌, ◌%◌, ◌<◌, ◌≤◌, ◌++◌, false, List, [], ℕ, IfOk, OnErr, drop, length, min, pred, take};
 ghost use Rattle.zst_block.specs.Blocks.{FitsDisk, Has};
 ghost use Rattle.zst_block.specs.Working.{Looks, stop_of};
 ghost use Rattle.zst_dnode.specs.Dnode.{DnodeFits};
@@ -9,8 +9,8 @@ ghost use Rattle.zst_record.specs.Formats.{record_len};
 ghost use Rattle.zst_record.specs.Heads.{payload_len};
 ghost use Rattle.zst_objset.specs.Damage.{IfDamaged};
 ghost use Rattle.zst_send.specs.Damage.{IsDamagedDue, IsDamagedPayload};
-ghost use Rattle.zst_send.specs.Due.{DueFits, IsFirst, IsSized, head_in};
-ghost use Rattle.zst_send.specs.Working.{IsLoaded, IsPut, IsWork, RoomFits, WorkFits, payload_size};
+ghost use Rattle.zst_send.specs.Due.{DueFits, IsFirst, head_in};
+ghost use Rattle.zst_send.specs.Working.{HasBlockOf, IsLoaded, IsPut, IsWork, RoomFits, WorkFits, payload_size};
 ghost use Rattle.zst_stream.specs.Found.{HasBonus, found_item};
 ghost use Rattle.zst_stream.specs.Image.{piece_after};
 ghost use Rattle.zst_stream.specs.Records.{item_head, item_payload, padded_bonus, piece_for};
@@ -96,9 +96,9 @@ impl Work {
         ensures loaded { (item : Item) → (D.state io.new.disk.now).honest → IsLoaded (Has (D.state io.old.disk.now).seen io.old.space) room.old
             → IsFirst (Has (D.state io.old.disk.now).seen io.old.space) due.now item → IsLoaded (Has (D.state io.new.disk.now).seen io.new.space) room.new }
 
-        // Whatever the image, a block of data is as long as its object says, and damage is told of the block that is due.
-        ensures sized { OnOk result (IsSized due.now) }
+        // Whatever the image, damage is told of the block that is due, and that block follows the record.
         ensures damaged { (D.state io.new.disk.now).honest → IfDamaged result (IsDamagedDue (IsSeen (D.state io.old.disk.now).seen) (D.state io.old.disk.now).size due.now) }
+        ensures follows { IfOk result (λ work. HasBlockOf due.now work.payload) }
         ensures work { IfOk result WorkFits }
         ensures fresh { IfOk result (λ work. work.given ≡ 0) }
         ensures room { RoomFits room.new }
@@ -152,11 +152,10 @@ impl Work {
             Due::Block {
                 object,
                 type_,
-                size,
                 offset,
                 ptr,
             } => {
-                room.load_data(io, &ptr, size)?;
+                room.load(io, &ptr)?;
                 let bytes = room.block(ptr.length);
                 let item = ItemRef::Block {
                     object,

@@ -1,4 +1,4 @@
-use Rattle.std.proofs.Common.{arith, ◌≡◌, ◌*◌, ◌^◌, ◌≤◌, subst, sym}
+use Rattle.std.proofs.Common.{arith, ◌≡◌}
 use Rattle.zst_send.proofs.Sizes.{spill_named, tail_most}
 use Rattle.zst_send.proofs.due.opened.Goals as goal
 

@@ -1,14 +1,19 @@
-use Rattle.std.proofs.Common.{◌≡◌, ℕ, Option, Some, None, sym, subst}
+use Rattle.std.proofs.Common.{Option, Some, sym, subst}
 use Rattle.std.proofs.lemmas.Result.{err_from_is_err_and}
 use Rattle.zst_block.specs.Blocks.{Has}
 use Rattle.zst_model.specs.sends.View.{view_of}
 use Rattle.zst_traverse.specs.Cells.{IsNextCell, choice_after}
 use Rattle.zst_traverse.specs.declared.found.Found.{Found}
 use Rattle.zst_send.specs.Due.{due_of}
-use Rattle.zst_send.specs.Places.{GoesTo, place_after}
+use Rattle.zst_send.specs.Places.{GoesTo}
 use Rattle.zst_send.specs.declared.due.Due.{Due}
 use Rattle.zst_send.specs.declared.place.Place.{Place}
 use Rattle.zst_send.proofs.Steps.{WalkLaws, found_goes, none_goes}
+use Rattle.std.specs.Prelude.{IfSome}
+use Rattle.zst_tree.specs.Damage.{IsSeen}
+use Rattle.zst_traverse.specs.Standing.{FoundStands}
+use Rattle.zst_send.specs.Knowing.{DueStands, IsAmong}
+use Rattle.zst_send.proofs.Knowing.{due_stands, found_more, seen_among}
 use Rattle.zst_send.proofs.place.Place.find.Goals as goal
 
 pub returns-in_err-found-clause-found : goal.returns-in_err-found-clause-found
@@ -37,3 +42,13 @@ returns-clause-found g c = λ header snap honest holds of.
     let place = c.place_after-place.result in
     let there = subst (λ (p : Place). GoesTo has snap (view_of header snap (choice_after c.args.source)) old p (Some (due_of c.in-Some.found p.type_ p.block_size))) (sym c.place_after-place.ensures.place) goes in
     subst (λ (d : Due). GoesTo has snap (view_of header snap (choice_after c.args.source)) old place (Some d)) (sym c.due_of-due.ensures.due) there
+
+pub returns-clause-stands : goal.returns-clause-stands
+returns-clause-stands g c = λ images among honest.
+    let seen = (g.D.Disk.state c.args.io.now.disk.now).seen in
+    let set = c.args.set.now in
+    let found = c.in-Some.found in
+    let place = c.place_after-place.result in
+    let told = subst (λ (f : Option Found). IfSome f (FoundStands (IsSeen seen) set)) c.in-Some.is (c.in_ok-found.ensures.stands honest) in
+    let stands = found_more (IsSeen seen) (IsAmong images) (seen_among images seen among) set found told in
+    subst (λ (d : Due). DueStands (IsAmong images) set d) (sym c.due_of-due.ensures.due) (due_stands (IsAmong images) set found place.type_ place.block_size stands)

@@ -30,3 +30,6 @@ returns-clause-sends c = λ image space running sent runs is plain.
           (c.start.ensures.stands image space sent.snapshot.objects (sent_view sent));
       loaded = subst (λ (holds : Option Ptr). HasBlock has c.args.room.bytes.items holds) (sym c.requires.empty) tt;
     }
+
+pub returns-clause-knows : goal.returns-clause-knows
+returns-clause-knows c = λ images. c.start.ensures.knows images _

@@ -1,13 +1,18 @@
-use Rattle.std.proofs.Common.{◌≡◌, ℕ, List, ◌++◌, take, drop, sym, ap, ◌∙◌, subst, append_assoc}
+use Rattle.std.proofs.Common.{ℕ, List, ◌++◌, take, drop, sym, ap, ◌∙◌, subst, append_assoc}
 use Rattle.std.proofs.lemmas.List.{take-append-drop}
 use Rattle.zst_space.specs.FreeSectors.{FreeSectors}
 use Rattle.zst_block.specs.Blocks.{Has}
-use Rattle.zst_model.specs.sends.Headers.{choice_of, header_of}
+use Rattle.zst_model.specs.sends.Headers.{header_of}
 use Rattle.zst_model.specs.sends.Included.{Choice}
 use Rattle.zst_model.specs.sends.View.{view_of}
 use Rattle.zst_objset.proofs.LeafLaws.{look_on}
 use Rattle.zst_objset.specs.Sets.{SetHolds}
 use Rattle.zst_send.specs.Standing.{StandsAt}
+use Rattle.std.proofs.lemmas.Result.{err_from_is_err_and}
+use Rattle.zst_pool.proofs.Telling.{set_told}
+use Rattle.zst_objset.specs.declared.fault.ObjFault.TheVariants as set_faults
+use Rattle.zst_send.specs.Damage.{IsDamagedSend}
+use Rattle.zst_send.specs.Knowing.{IsAmong}
 use Rattle.zst_send.proofs.send.Send.take.Goals as goal
 
 pub returns-clause-takes : goal.returns-clause-takes
@@ -27,3 +32,13 @@ returns-clause-takes g c = λ sent given left honest sends.
         loaded = c.in_ok-count.ensures.loaded (header_of sent) snap left honest sends.holds sends.loaded at;
       },
     )
+
+pub returns-in_err-count-clause-damaged : goal.returns-in_err-count-clause-damaged
+returns-in_err-count-clause-damaged g c = λ images among honest was.
+    let p = err_from_is_err_and c.from_residual.result c.from_residual.ensures.1 in
+    let told = c.in_err-count.ensures.damaged images among honest was in
+    let Is = IsDamagedSend (IsAmong images) (g.D.Disk.state c.args.pool.now.io.disk.now).size c.args.self.now.subject.set in
+    rw (p.1, p.2) (set_told Is Is (λ sector stated found damaged. damaged) (Unit {0}) (set_faults.Block c.in_err-count.field-0.0) told)
+
+pub returns-clause-knows : goal.returns-clause-knows
+returns-clause-knows g c = λ images among honest was. c.in_ok-count.ensures.stands images among honest was

@@ -1,17 +1,19 @@
-use Rattle.std.proofs.Common.{◌≡◌, ℕ, List, refl, sym, ap, ◌∙◌, subst}
+use Rattle.std.proofs.Common.{ℕ, List, refl, sym, subst}
 use Rattle.std.specs.Prelude.{Option, true}
 use Rattle.std.proofs.lemmas.Result.{err_from_is_err_and}
 use Rattle.zst_space.specs.FreeSectors.{FreeSectors}
 use Rattle.zst_block.specs.Blocks.{Has}
-use Rattle.zst_model.specs.declared.states.item.Item.{Item}
 use Rattle.zst_model.specs.sends.View.{View, view_of}
 use Rattle.zst_objset.proofs.LeafLaws.{look_on}
 use Rattle.zst_traverse.specs.Cells.{choice_after}
 use Rattle.zst_send.specs.Places.{Gives, IsWalk, items_left}
-use Rattle.zst_send.specs.Standing.{StandsAt}
 use Rattle.zst_send.specs.Working.{IsLoaded}
 use Rattle.zst_send.specs.declared.due.Due.{Due}
-use Rattle.zst_send.proofs.Filling.{continues, end_put, ended_leaves, item_put}
+use Rattle.zst_send.proofs.Filling.{continues, end_put, item_put}
+use Rattle.std.specs.Prelude.{IfSome}
+use Rattle.zst_send.specs.Knowing.{DueStands, IsAmong, PayloadStands}
+use Rattle.zst_send.specs.declared.work.Payload.{Payload}
+use Rattle.zst_send.proofs.Knowing.{among_on, follows_stands, put_told, walk_told}
 use Rattle.zst_send.proofs.stand.Stand.advance.Goals as goal
 
 pub returns-in_err-due-clause-advances : goal.returns-in_err-due-clause-advances
@@ -68,3 +70,37 @@ returns-in-None-clause-advances g c = λ header snap left honest holds loaded at
     end_put _ snap view c.args.subject.now.to left on.text _ (items_left view c.args.self.now.walk on.held)
     (record { walk = c.next.new.self; writer = c.alone-self.new.writer; work = c.alone-self.result; ended = true }) on.left_is gives.0
     (c.alone-self.ensures.written on.text on.written) (c.alone-self.ensures.head on.text on.written) c.alone-self.ensures.payload c.alone-self.ensures.given refl
+
+pub returns-in_err-due-clause-stands : goal.returns-in_err-due-clause-stands
+returns-in_err-due-clause-stands g c = λ images among honest was.
+    let p = err_from_is_err_and c.from_residual.result c.from_residual.ensures.1 in
+    rw p.1 tt
+
+pub returns-in_err-self-in-Some-clause-stands : goal.returns-in_err-self-in-Some-clause-stands
+returns-in_err-self-in-Some-clause-stands g c = λ images among honest was.
+    let p = err_from_is_err_and c.from_residual-in_err-self-in-Some.result c.from_residual-in_err-self-in-Some.ensures.1 in
+    rw p.1 tt
+
+pub returns-in_ok-self-in-Some-clause-stands : goal.returns-in_ok-self-in-Some-clause-stands
+returns-in_ok-self-in-Some-clause-stands g c = λ images among honest was.
+    let next = c.in_ok-due.ensures.stands images among (c.in_ok-self-in-Some.ensures.looks.reads.honest honest) was.walk in
+    let due = subst (λ (d : Option Due). IfSome d (DueStands (IsAmong images) c.args.subject.now.set)) c.in-Some.is next.1 in
+    record { walk = next.0; work = follows_stands (IsAmong images) c.args.subject.now.set c.in-Some.due c.in_ok-self-in-Some.field-0.payload due c.in_ok-self-in-Some.ensures.follows }
+
+pub returns-in-None-clause-stands : goal.returns-in-None-clause-stands
+returns-in-None-clause-stands g c = λ images among honest was.
+    let next = c.in_ok-due.ensures.stands images among honest was.walk in
+    record { walk = next.0; work = subst (λ (p : Payload). PayloadStands (IsAmong images) c.args.subject.now.set p) (sym c.alone-self.ensures.payload) tt }
+
+pub returns-in_err-due-clause-damaged : goal.returns-in_err-due-clause-damaged
+returns-in_err-due-clause-damaged g c = λ images among honest was.
+    let p = err_from_is_err_and c.from_residual.result c.from_residual.ensures.1 in
+    rw (p.1, p.2) (walk_told images c.args.subject.now.set _ _ _ refl among _ (c.in_err-due.ensures.damaged honest))
+
+pub returns-in_err-self-in-Some-clause-damaged : goal.returns-in_err-self-in-Some-clause-damaged
+returns-in_err-self-in-Some-clause-damaged g c = λ images among honest was.
+    let p = err_from_is_err_and c.from_residual-in_err-self-in-Some.result c.from_residual-in_err-self-in-Some.ensures.1 in
+    let next = c.in_ok-due.ensures.stands images among (c.in_err-self-in-Some.ensures.looks.reads.honest honest) was.walk in
+    let due = subst (λ (d : Option Due). IfSome d (DueStands (IsAmong images) c.args.subject.now.set)) c.in-Some.is next.1 in
+    let on = among_on images _ _ c.in_ok-due.ensures.looks.reads.seen among in
+    rw (p.1, p.2) (put_told images c.args.subject.now.set _ _ _ c.in_ok-due.ensures.looks.reads.size on c.in-Some.due due _ (c.in_err-self-in-Some.ensures.damaged honest))

@@ -1,4 +1,4 @@
-use Rattle.std.proofs.Common.{◌≡◌, ℕ, Bool, ◌+◌, ◌-◌, ◌≤◌, rules, min, List, length, take, drop, arith, refl, sym, ap, ◌∙◌, subst}
+use Rattle.std.proofs.Common.{ℕ, Bool, ◌+◌, ◌-◌, ◌≤◌, rules, List, length, drop, arith, sym, ◌∙◌, subst}
 use borrow.Rule.Slice.PartMut.{put_mid}
 use Rattle.std.proofs.lemmas.Result.{err_from_is_err_and}
 use Rattle.zst_space.specs.FreeSectors.{FreeSectors}
@@ -11,6 +11,9 @@ use Rattle.zst_traverse.specs.Cells.{choice_after}
 use Rattle.zst_send.specs.Standing.{Advances}
 use Rattle.zst_send.specs.Working.{IsLoaded, IsWork}
 use Rattle.zst_send.proofs.Filling.{HasGiven, filled_all, filled_room, given_on}
+use Rattle.zst_send.specs.Knowing.{IsAmong, PayloadStands}
+use Rattle.zst_send.specs.declared.work.Payload.{Payload}
+use Rattle.zst_send.proofs.Knowing.{among_on, give_told, send_told}
 use Rattle.zst_send.proofs.stand.Stand.fill.Goals as goal
 
 pub returns-in_err-has_more-clause-fills : goal.returns-in_err-has_more-clause-fills
@@ -83,6 +86,11 @@ loop-count-preserved g c = record {
       look_on (λ (seen : List ℕ) (space : FreeSectors). HasGiven (Has seen space) snap (view_of header snap (choice_after c.args.subject.now.source)) c.args.subject.now.to left
       (put_mid c.loop-count.count (length c.loop-count.into - c.loop-count.count) c.loop-count.into c.give.new.into) (c.loop-count.count + c.in_ok-count.field-0)
       (record c.has_more.new.self { work = c.give.new.self }) c.give.new.room) _ _ _ _ _ _ _ c.in_ok-count.ensures.looks more;
+  knows = λ images among honest was.
+      let mid = c.in_ok-count.ensures.looks.reads.honest honest in
+      let had = c.loop-count.invariant.knows images among (c.in_ok-has_more.ensures.looks.reads.honest mid) was in
+      let on = c.in_ok-has_more.ensures.stands images (among_on images _ _ c.loop-count.invariant.looks.reads.seen among) mid had in
+      record { walk = on.walk; work = subst (λ (p : Payload). PayloadStands (IsAmong images) c.args.subject.now.set p) (sym c.in_ok-count.ensures.payload) on.work };
   stand = record { walk = c.in_ok-has_more.ensures.stand.walk; work = c.in_ok-count.ensures.work };
   room = c.in_ok-count.ensures.room;
   into = search rules;
@@ -99,3 +107,38 @@ returns-clause-fills g c = λ header snap left honest holds loaded at.
 
 pub returns-clause-loaded : goal.returns-clause-loaded
 returns-clause-loaded g c = λ header snap left honest holds loaded at. (c.loop-count.invariant.stands header snap left honest holds loaded at).loaded
+
+pub returns-in_err-has_more-clause-stands : goal.returns-in_err-has_more-clause-stands
+returns-in_err-has_more-clause-stands g c = λ images among honest was.
+    let p = err_from_is_err_and c.from_residual.result c.from_residual.ensures.1 in
+    rw p.1 tt
+
+pub returns-then-not-branch-clause-stands : goal.returns-then-not-branch-clause-stands
+returns-then-not-branch-clause-stands g c = λ images among honest was.
+    let had = c.loop-count.invariant.knows images among (c.in_ok-has_more.ensures.looks.reads.honest honest) was in
+    c.in_ok-has_more.ensures.stands images (among_on images _ _ c.loop-count.invariant.looks.reads.seen among) honest had
+
+pub returns-in_err-count-clause-stands : goal.returns-in_err-count-clause-stands
+returns-in_err-count-clause-stands g c = λ images among honest was.
+    let p = err_from_is_err_and c.from_residual-in_err-count.result c.from_residual-in_err-count.ensures.1 in
+    rw p.1 tt
+
+pub returns-clause-stands : goal.returns-clause-stands
+returns-clause-stands g c = λ images among honest was. c.loop-count.invariant.knows images among honest was
+
+pub returns-in_err-has_more-clause-damaged : goal.returns-in_err-has_more-clause-damaged
+returns-in_err-has_more-clause-damaged g c = λ images among honest was.
+    let p = err_from_is_err_and c.from_residual.result c.from_residual.ensures.1 in
+    let had = c.loop-count.invariant.knows images among (c.in_err-has_more.ensures.looks.reads.honest honest) was in
+    let on = among_on images _ _ c.loop-count.invariant.looks.reads.seen among in
+    rw (p.1, p.2) (send_told images c.args.subject.now.set _ _ _ c.loop-count.invariant.looks.reads.size on _ (c.in_err-has_more.ensures.damaged images on honest had))
+
+pub returns-in_err-count-clause-damaged : goal.returns-in_err-count-clause-damaged
+returns-in_err-count-clause-damaged g c = λ images among honest was.
+    let p = err_from_is_err_and c.from_residual-in_err-count.result c.from_residual-in_err-count.ensures.1 in
+    let mid = c.in_err-count.ensures.looks.reads.honest honest in
+    let had = c.loop-count.invariant.knows images among (c.in_ok-has_more.ensures.looks.reads.honest mid) was in
+    let first = among_on images _ _ c.loop-count.invariant.looks.reads.seen among in
+    let next = c.in_ok-has_more.ensures.stands images first mid had in
+    let on = among_on images _ _ c.in_ok-has_more.ensures.looks.reads.seen first in
+    rw (p.1, p.2) (give_told images c.args.subject.now.set _ _ _ (c.in_ok-has_more.ensures.looks.reads.size ∙ c.loop-count.invariant.looks.reads.size) on c.has_more.new.self.work.payload next.work _ (c.in_err-count.ensures.damaged honest))

@@ -1,5 +1,5 @@
 use Rattle.std.proofs.Common.{◌≡◌, ◌-◌, ◌≤◌, List, ℕ, length}
-use Rattle.std.specs.Prelude.{None}
+use Rattle.std.specs.Prelude.{Contains, None}
 use Rattle.zst_block.specs.Blocks.{FitsDisk, Has}
 use Rattle.zst_block.specs.Working.{Looks}
 use Rattle.zst_model.specs.declared.sends.header.Header.{Header}
@@ -7,6 +7,7 @@ use Rattle.zst_model.specs.sends.View.{view_of}
 use Rattle.zst_model.specs.states.Dated.{DatedState}
 use Rattle.zst_objset.specs.Sets.{SetHolds}
 use Rattle.zst_traverse.specs.Cells.{choice_after}
+use Rattle.zst_send.specs.Knowing.{IsAmong, IsOfSet}
 use Rattle.zst_send.specs.Standing.{StandFits, StandsAt}
 use Rattle.zst_send.specs.Working.{IsLoaded, RoomFits}
 use Rattle.zst_send.proofs.Filling.{HasGiven}
@@ -17,6 +18,7 @@ invariant-loop-count g l = record {
   stands : (header : Header) (snap : DatedState) (left : List ℕ) → (g.D.Disk.state l.io.disk.now).honest → SetHolds (Has (g.D.Disk.state l.fn.io.disk.now).seen l.fn.io.space) l.subject.set snap
       → IsLoaded (Has (g.D.Disk.state l.fn.io.disk.now).seen l.fn.io.space) l.fn.room → StandsAt (Has (g.D.Disk.state l.fn.io.disk.now).seen l.fn.io.space) snap (view_of header snap (choice_after l.subject.source)) l.subject.to l.fn.self left
       → HasGiven (Has (g.D.Disk.state l.io.disk.now).seen l.io.space) snap (view_of header snap (choice_after l.subject.source)) l.subject.to left l.into l.count l.self l.room;
+  knows : (images : List (List ℕ)) → Contains images (g.D.Disk.state l.fn.io.disk.now).seen → (g.D.Disk.state l.io.disk.now).honest → IsOfSet (IsAmong images) l.subject.set l.fn.self → IsOfSet (IsAmong images) l.subject.set l.self;
   stand : StandFits l.self;
   room : RoomFits l.room;
   into : length l.into ≡ length l.fn.into;

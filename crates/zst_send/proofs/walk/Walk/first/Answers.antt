@@ -1,4 +1,4 @@
-use Rattle.std.proofs.Common.{◌≡◌, List, [], ◌++◌, sym, ◌∙◌, ap, refl, subst}
+use Rattle.std.proofs.Common.{◌≡◌, List, [], ◌++◌, ◌∙◌, ap, subst}
 use Rattle.std.specs.Prelude.{Option, Some, None, Ok, Err, Result}
 use Rattle.zst_block.specs.Blocks.{Has}
 use Rattle.zst_block.specs.declared.fault.BlockFault.{BlockFault}
@@ -13,6 +13,8 @@ use Rattle.zst_send.specs.Due.{AreHeld}
 use Rattle.zst_send.specs.Places.{ComesFirst, GoesTo, left_behind}
 use Rattle.zst_send.specs.declared.due.Due.{Due}
 use Rattle.zst_send.specs.declared.place.Place.{Place}
+use Rattle.std.specs.Prelude.{IfSome, OnOk}
+use Rattle.zst_send.specs.Knowing.{DueStands, IsAmong}
 use Rattle.zst_send.proofs.walk.Walk.first.Goals as goal
 
 -- where nothing is held, what is found comes first
@@ -25,3 +27,14 @@ pub returns-in-None-clause-goes : goal.returns-in-None-clause-goes
 returns-in-None-clause-goes g c = λ header snap held honest holds walk.
     let empty : held ≡ [] = subst (λ (h : Option Due). AreHeld (Has (g.D.Disk.state c.args.io.now.disk.now).seen c.args.io.now.space) h held) c.in-None.is walk.held_are in
     delivers_if _ _ c.find.result (found_first _ snap (view_of header snap (choice_after c.args.source)) held c.args.self.now.place c.find.new.self empty) (c.find.ensures.found header snap honest holds walk.place_is)
+
+pub returns-in-Some-clause-stands : goal.returns-in-Some-clause-stands
+returns-in-Some-clause-stands g c = λ images among honest was. (tt, subst (λ (h : Option Due). IfSome h (DueStands (IsAmong images) c.args.set.now)) c.in-Some.is was)
+
+-- what is so is so where a call succeeds
+on_ok : {T : Type 0} (result : Result T BlockFault) (P : Type 0) → P → OnOk result P
+on_ok (Ok value) P is = is
+on_ok (Err fault) P is = tt
+
+pub returns-in-None-clause-stands : goal.returns-in-None-clause-stands
+returns-in-None-clause-stands g c = λ images among honest was. (on_ok c.find.result _ was, c.find.ensures.stands images among honest)

@@ -4,13 +4,14 @@ use Rattle.std.proofs.lemmas.Result.{err_from_is_err_and}
 use Rattle.zst_space.specs.FreeSectors.{FreeSectors}
 use Rattle.zst_block.specs.Blocks.{Has}
 use Rattle.zst_block.proofs.Working.{Looks-then}
-use Rattle.zst_model.specs.declared.states.item.Item.{Item}
 use Rattle.zst_model.specs.sends.View.{View, view_of}
 use Rattle.zst_objset.proofs.LeafLaws.{look_on}
 use Rattle.zst_objset.specs.Sets.{SetHolds}
 use Rattle.zst_traverse.specs.Cells.{choice_after}
 use Rattle.zst_send.specs.Places.{ComesFirst}
 use Rattle.zst_send.proofs.Joining.{RunComes, run_begins, run_ends, run_goes_on}
+use Rattle.zst_send.specs.Knowing.{IsAmong}
+use Rattle.zst_send.proofs.Knowing.{among_on, run_stands}
 use Rattle.zst_send.proofs.walk.Walk.lengthened.Goals as goal
 
 pub returns-in_err-next-clause-gives : goal.returns-in_err-next-clause-gives
@@ -24,6 +25,7 @@ loop-both-init g c = record {
       let view : View = view_of header snap (choice_after c.args.source) in
       let on = look_on (λ (seen : List ℕ) (space : FreeSectors). ComesFirst (Has seen space) snap view left c.args.self.now.place (Some c.args.run)) _ _ _ _ _ _ _ c.in_ok-next.ensures.looks first in
       run_begins _ snap view left c.args.self.now.place c.find.new.self c.args.run c.in_ok-next.next c.requires.run.0 on (c.in_ok-next.ensures.found header snap honest holds first.3);
+  stands = λ images among honest. c.in_ok-next.ensures.stands images among honest;
   walk = record { place = c.in_ok-next.ensures.place; held = c.requires.walk.held };
   run = c.requires.run.0;
   run_fits = c.requires.run.1;
@@ -51,6 +53,7 @@ loop-both-preserved g c = record {
       let moved = look_on (λ (seen : List ℕ) (space : FreeSectors). RunComes (Has seen space) snap view left c.loop-both.self.place c.loop-both.run c.loop-both.next) _ _ _ _ _ _ _ c.in_ok-next-2.ensures.looks comes in
       run_goes_on _ c.held_goes_on.ensures snap view left c.loop-both.self.place c.find-in-Some.new.self c.loop-both.run c.in-Some.both c.loop-both.next c.in_ok-next-2.next c.loop-both.invariant.run
       (sym c.in-Some.ensures.joined) moved (c.in_ok-next-2.ensures.found header snap honest on comes.of);
+  stands = λ images among honest. c.in_ok-next-2.ensures.stands images (among_on images _ _ c.loop-both.invariant.looks.reads.seen among) honest;
   walk = record { place = c.in_ok-next-2.ensures.place; held = c.loop-both.invariant.walk.held };
   run = c.in-Some.ensures.run;
   run_fits = c.in-Some.ensures.fits;
@@ -65,3 +68,17 @@ returns-clause-gives g c = λ header snap left honest holds first.
     let comes = c.loop-both.invariant.comes header snap left honest holds first in
     run_ends _ c.held_goes_on.ensures snap (view_of header snap (choice_after c.args.source)) left c.loop-both.self.place c.loop-both.run c.loop-both.next c.loop-both.invariant.run
     (sym c.joined.ensures.joined ∙ c.in_default.is) comes
+
+pub returns-in_err-next-clause-stands : goal.returns-in_err-next-clause-stands
+returns-in_err-next-clause-stands g c = λ images among honest.
+    let p = err_from_is_err_and c.from_residual.result c.from_residual.ensures.1 in
+    rw p.1 (tt, tt)
+
+pub returns-in_err-next-2-clause-stands : goal.returns-in_err-next-2-clause-stands
+returns-in_err-next-2-clause-stands g c = λ images among honest.
+    let p = err_from_is_err_and c.from_residual-in_err-next-2.result c.from_residual-in_err-next-2.ensures.1 in
+    rw p.1 (tt, tt)
+
+pub returns-clause-stands : goal.returns-clause-stands
+returns-clause-stands g c = λ images among honest.
+    (c.loop-both.invariant.stands images among honest, run_stands (IsAmong images) c.args.set.now c.loop-both.run c.loop-both.invariant.run)

@@ -1,5 +1,5 @@
-use Rattle.std.proofs.Common.{◌≡◌, ◌-◌, ◌^◌, true, List}
-use Rattle.std.specs.Prelude.{None, Some, IfSome}
+use Rattle.std.proofs.Common.{◌≡◌, ◌-◌, ◌^◌, true, ℕ, List}
+use Rattle.std.specs.Prelude.{Contains, None, Some, IfSome}
 use Rattle.zst_block.specs.Blocks.{FitsDisk, Has}
 use Rattle.zst_block.specs.Working.{Looks}
 use Rattle.zst_model.specs.declared.sends.header.Header.{Header}
@@ -9,6 +9,7 @@ use Rattle.zst_model.specs.states.Dated.{DatedState}
 use Rattle.zst_objset.specs.Sets.{SetHolds}
 use Rattle.zst_traverse.specs.Cells.{choice_after}
 use Rattle.zst_send.specs.Due.{DueFits, is_run, size_of_run}
+use Rattle.zst_send.specs.Knowing.{DueStands, IsAmong}
 use Rattle.zst_send.specs.Places.{ComesFirst, WalkFits}
 use Rattle.zst_send.proofs.Joining.{RunComes}
 use Rattle.zst_send.proofs.walk.Walk.lengthened.Given as goal
@@ -18,6 +19,7 @@ invariant-loop-both g l = record {
   comes : (header : Header) (snap : DatedState) (left : List Item) → (g.D.Disk.state l.io.disk.now).honest → SetHolds (Has (g.D.Disk.state l.fn.io.disk.now).seen l.fn.io.space) l.set snap
       → ComesFirst (Has (g.D.Disk.state l.fn.io.disk.now).seen l.fn.io.space) snap (view_of header snap (choice_after l.source)) left l.fn.self.place (Some l.fn.run)
       → RunComes (Has (g.D.Disk.state l.io.disk.now).seen l.io.space) snap (view_of header snap (choice_after l.source)) left l.self.place l.run l.next;
+  stands : (images : List (List ℕ)) → Contains images (g.D.Disk.state l.fn.io.disk.now).seen → (g.D.Disk.state l.io.disk.now).honest → IfSome l.next (DueStands (IsAmong images) l.set);
   walk : WalkFits l.self;
   run : is_run l.run ≡ true;
   run_fits : DueFits l.run;

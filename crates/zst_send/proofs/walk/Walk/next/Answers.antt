@@ -1,4 +1,4 @@
-use Rattle.std.proofs.Common.{◌≡◌, ℕ, List, [], sym, ◌∙◌, refl, subst}
+use Rattle.std.proofs.Common.{ℕ, List, [], sym, ◌∙◌, refl, subst}
 use Rattle.std.specs.Prelude.{Option, Some}
 use Rattle.std.proofs.lemmas.Result.{err_from_is_err_and}
 use Rattle.zst_space.specs.FreeSectors.{FreeSectors}
@@ -12,6 +12,9 @@ use Rattle.zst_send.specs.Due.{AreHeld}
 use Rattle.zst_send.specs.Places.{ComesFirst, Gives, items_left}
 use Rattle.zst_send.specs.declared.due.Due.{Due}
 use Rattle.zst_send.proofs.Joining.{gives_alone}
+use Rattle.std.specs.Prelude.{IfSome}
+use Rattle.zst_send.specs.Knowing.{DueStands, IsAmong}
+use Rattle.zst_send.proofs.Knowing.{among_on, behind_stands}
 use Rattle.zst_send.proofs.walk.Walk.next.Goals as goal
 
 pub returns-in_err-due-clause-gives : goal.returns-in_err-due-clause-gives
@@ -56,3 +59,26 @@ returns-clause-gives g c = λ header snap held honest holds walk.
     let first = subst (λ (d : Option Due). ComesFirst has snap view left place d) c.in-Some.is (c.in_ok-due.ensures.goes header snap held honest holds walk) in
     let alone = gives_alone has snap view left place c.in-Some.due (sym c.is_run.ensures ∙ c.if-is_run.false) first in
     subst (λ (h : Option Due). Gives has snap view left (record { place = place; held = h }) (Some c.in-Some.due)) (sym c.behind-self.ensures.behind) alone
+
+pub returns-in_default-clause-stands : goal.returns-in_default-clause-stands
+returns-in_default-clause-stands g c = λ images among honest was. ((c.in_ok-due.ensures.stands images among honest was).0, tt)
+
+pub returns-in_err-due-clause-stands : goal.returns-in_err-due-clause-stands
+returns-in_err-due-clause-stands g c = λ images among honest was.
+    let p = err_from_is_err_and c.from_residual.result c.from_residual.ensures.1 in
+    rw p.1 (tt, tt)
+
+pub returns-in_err-lengthened-clause-stands : goal.returns-in_err-lengthened-clause-stands
+returns-in_err-lengthened-clause-stands g c = λ images among honest was.
+    let p = err_from_is_err_and c.from_residual-in_err-lengthened.result c.from_residual-in_err-lengthened.ensures.1 in
+    rw p.1 (tt, tt)
+
+pub returns-then-is_run-clause-stands : goal.returns-then-is_run-clause-stands
+returns-then-is_run-clause-stands g c = λ images among honest was.
+    c.in_ok-lengthened.ensures.stands images (among_on images _ _ c.in_ok-due.ensures.looks.reads.seen among) honest
+
+pub returns-clause-stands : goal.returns-clause-stands
+returns-clause-stands g c = λ images among honest was.
+    let first = c.in_ok-due.ensures.stands images among honest was in
+    let due = subst (λ (d : Option Due). IfSome d (DueStands (IsAmong images) c.args.set.now)) c.in-Some.is first.1 in
+    (subst (λ (h : Option Due). IfSome h (DueStands (IsAmong images) c.args.set.now)) (sym c.behind-self.ensures.behind) (behind_stands (IsAmong images) c.args.set.now c.in-Some.due due), due)

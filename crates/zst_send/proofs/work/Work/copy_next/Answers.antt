@@ -1,4 +1,4 @@
-use Rattle.std.proofs.Common.{◌≡◌, ℕ, ◌+◌, ◌-◌, ◌≤◌, List, length, take, drop, min, arith, subst, ◌∙◌, sym, ap}
+use Rattle.std.proofs.Common.{◌≡◌, ℕ, ◌-◌, ◌≤◌, List, length, take, drop, min, arith, subst, ◌∙◌, sym}
 use Rattle.zst_block.specs.Blocks.{Has}
 use Rattle.zst_send.specs.Working.{IsPayload, PayloadFits}
 use Rattle.zst_send.specs.declared.work.Payload.{Payload}

@@ -1,4 +1,4 @@
-use Rattle.std.proofs.Common.{◌≡◌, ℕ, List, ◌++◌, sym, ◌∙◌, ap, subst}
+use Rattle.std.proofs.Common.{ℕ, List, ◌++◌, sym, ◌∙◌, ap, subst}
 use Rattle.zst_record.specs.Heads.{payload_len}
 use Rattle.zst_stream.specs.Found.{found_item}
 use Rattle.zst_writer.specs.Writes.{HasWritten}

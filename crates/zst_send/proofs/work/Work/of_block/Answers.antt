@@ -1,4 +1,4 @@
-use Rattle.std.proofs.Common.{◌≡◌, ℕ, List, ◌++◌, sym, subst}
+use Rattle.std.proofs.Common.{ℕ, List, ◌++◌, sym, subst}
 use Rattle.zst_stream.specs.Found.{found_item}
 use Rattle.zst_writer.specs.Writes.{HasWritten}
 use Rattle.zst_send.proofs.Putting.{is_piece}

@@ -1,5 +1,4 @@
-use Rattle.std.proofs.Common.{◌≡◌, ℕ, List, ◌++◌, sym, ◌∙◌, ap, subst}
-use Rattle.zst_model.specs.declared.states.item.Item.{Item}
+use Rattle.std.proofs.Common.{ℕ, List, ◌++◌, sym, ◌∙◌, ap, subst}
 use Rattle.zst_stream.specs.Records.{item_head, item_payload}
 use Rattle.zst_writer.specs.Writes.{HasWritten}
 use Rattle.zst_send.proofs.Putting.{is_piece}

@@ -1,8 +1,6 @@
-use Rattle.std.proofs.Common.{◌≡◌, ℕ, ◌≤◌, List, ◌++◌, length, take, drop, sym, ◌∙◌, ap, refl, subst}
+use Rattle.std.proofs.Common.{ℕ, ◌++◌, drop, sym, ◌∙◌, ap, subst}
 use Rattle.std.proofs.lemmas.Result.{err_from_is_err_and}
-use Rattle.zst_space.specs.FreeSectors.{FreeSectors}
 use Rattle.zst_block.specs.Blocks.{Has}
-use Rattle.zst_model.specs.declared.states.item.Item.{Item}
 use Rattle.zst_stream.specs.Records.{item_payload}
 use Rattle.zst_send.specs.Due.{IsFirst}
 use Rattle.zst_send.specs.Working.{IsPayload}
@@ -20,11 +18,11 @@ returns-in_err-load-in-Spill-clause-put g c = λ text item honest loaded written
     let named = subst (λ (d : Due). IsFirst (Has (g.D.Disk.state c.args.io.now.disk.now).seen c.args.io.now.space) d item) c.in-Spill.is first in
     rw (p.1, p.2) (c.in_err-load-in-Spill.ensures.there named.0 honest loaded named.1 named.2)
 
-pub returns-in_err-load_data-in-Block-clause-put : goal.returns-in_err-load_data-in-Block-clause-put
-returns-in_err-load_data-in-Block-clause-put g c = λ text item honest loaded written first.
-    let p = err_from_is_err_and c.from_residual-in_err-load_data-in-Block.result c.from_residual-in_err-load_data-in-Block.ensures.1 in
+pub returns-in_err-load-in-Block-clause-put : goal.returns-in_err-load-in-Block-clause-put
+returns-in_err-load-in-Block-clause-put g c = λ text item honest loaded written first.
+    let p = err_from_is_err_and c.from_residual-in_err-load-in-Block.result c.from_residual-in_err-load-in-Block.ensures.1 in
     let named = subst (λ (d : Due). IsFirst (Has (g.D.Disk.state c.args.io.now.disk.now).seen c.args.io.now.space) d item) c.in-Block.is first in
-    rw (p.1, p.2) (c.in_err-load_data-in-Block.ensures.there named.0 honest loaded named.1 named.2)
+    rw (p.1, p.2) (c.in_err-load-in-Block.ensures.there named.0 honest loaded named.1 named.2)
 
 pub returns-in-Object-clause-put : goal.returns-in-Object-clause-put
 returns-in-Object-clause-put g c = λ text item honest loaded written first.
@@ -41,16 +39,13 @@ returns-in-Object-clause-put g c = λ text item honest loaded written first.
       };
     }
 
-pub load_data-requires-clause-size : goal.load_data-requires-clause-size
-load_data-requires-clause-size g c = subst DueFits c.in-Block.is c.requires.due
-
 pub returns-in_err-load-in-Spill-clause-damaged : goal.returns-in_err-load-in-Spill-clause-damaged
 returns-in_err-load-in-Spill-clause-damaged g c = λ honest.
     let p = err_from_is_err_and c.from_residual.result c.from_residual.ensures.1 in
     let fits = subst DueFits c.in-Spill.is c.requires.due in
     rw (p.1, p.2, c.in-Spill.is) (short_told (IsSeen (g.D.Disk.state c.args.io.now.disk.now).seen) (g.D.Disk.state c.args.io.now.disk.now).size c.in-Spill.ptr (spill_size_most c.in-Spill.ptr.length fits.1) _ (c.in_err-load-in-Spill.ensures.damaged honest))
 
-pub returns-in_err-load_data-in-Block-clause-damaged : goal.returns-in_err-load_data-in-Block-clause-damaged
-returns-in_err-load_data-in-Block-clause-damaged g c = λ honest.
-    let p = err_from_is_err_and c.from_residual-in_err-load_data-in-Block.result c.from_residual-in_err-load_data-in-Block.ensures.1 in
-    rw (p.1, p.2, c.in-Block.is) (c.in_err-load_data-in-Block.ensures.damaged honest)
+pub returns-in_err-load-in-Block-clause-damaged : goal.returns-in_err-load-in-Block-clause-damaged
+returns-in_err-load-in-Block-clause-damaged g c = λ honest.
+    let p = err_from_is_err_and c.from_residual-in_err-load-in-Block.result c.from_residual-in_err-load-in-Block.ensures.1 in
+    rw (p.1, p.2, c.in-Block.is) (c.in_err-load-in-Block.ensures.damaged honest)
