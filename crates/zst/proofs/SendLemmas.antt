@@ -21,7 +21,7 @@ use Rattle.zst_send.specs.declared.send.Send.{Send}
 use Rattle.zst_tree.specs.Indices.{Blocks}
 use Rattle.zst.specs.Replies.{HandsOn}
 use Rattle.zst.specs.Sends.{IsSendRefusal, OfGiving, RefusalEnds, SendsBy, TextEnds}
-use Rattle.zst.specs.Sending.{IsOpenRefusal, OpensBy, Passed, PieceWritten, Sending, WritesPiece}
+use Rattle.zst.specs.Sending.{IfUnplanned, IsOpenRefusal, OpensBy, Passed, PieceWritten, PlansOpen, Sending, WritesPiece}
 use Rattle.zst.proofs.Commanded.{disk_fault, failed_before, full_only, of_plan}
 
 -- ---- refusals
@@ -173,3 +173,19 @@ open_refused here here' out out' refusal (inl plan) = rw plan.1 (record {
   cause = λ is. absurd (no_sink (faults.Plan plan.0) is);
 })
 open_refused here here' out out' refusal (inr memory) = rw memory (memory_refused here here' out out')
+
+-- ---- what its plan says of a send, whatever the image
+
+-- what wasn't opened ends as its plan says
+pub unopened_planned : (planned : Result Sent PlanFault) (out : SinkState) (refusal : Refusal) → PlansOpen planned (Err refusal) → IfUnplanned planned out out (Err refusal)
+unopened_planned (Ok sent) out refusal is = tt
+unopened_planned (Err fault) out refusal is =
+    ⊎_elim (λ plan. let one : plan.0 ≡ fault = cc plan.1 in (ap (λ (r : Refusal). Err r) (plan.2 ∙ ap refusal_of one), refl))
+    (λ memory. let passed = memory.1 in absurd (cc passed))
+    is
+
+-- what was opened has a plan that passes
+pub opened_planned : (planned : Result Sent PlanFault) (send : Send) (out out' : SinkState) (result : Result (Unit {0}) Refusal) → PlansOpen planned (Ok send)
+    → IfUnplanned planned out out' result
+opened_planned (Ok sent) send out out' result is = tt
+opened_planned (Err fault) send out out' result is = let passed = is.1 in absurd (cc passed)

@@ -13,11 +13,12 @@ use Rattle.zst_model.specs.declared.refusals.refusal.Refusal.TheVariants as refu
 use Rattle.zst_model.specs.declared.sends.ask.SendAsk.{SendAsk}
 use Rattle.zst_model.specs.pools.Pool.{Pool}
 use Rattle.zst_model.specs.sends.Headers.{Sent}
+use Rattle.zst_dir.specs.Named.{AreNamed}
 use Rattle.zst_dir.specs.Rows.{Rows}
 use Rattle.zst_image.specs.Faults.{open_refusal}
 use Rattle.zst_image.specs.Faults as image_faults
 use Rattle.zst_image.specs.Opening.{GivesPool, OpenAnswers, ReadFault}
-use Rattle.zst_image.specs.Reads.{ReadsAs, RunsBy, free_by}
+use Rattle.zst_image.specs.Reads.{ReadsAs, RunsBy, free_by, kept_rows}
 use Rattle.zst_image.specs.declared.kept.Kept.{Kept}
 use Rattle.zst_image.specs.declared.open_fault.OpenFault.{OpenFault}
 use Rattle.zst_image.specs.declared.open_fault.OpenFault.TheVariants as opens
@@ -26,7 +27,9 @@ use Rattle.zst_pool.specs.declared.fault.PoolFault.{PoolFault}
 use Rattle.zst_pool.specs.declared.fault.PoolFault.TheVariants as faults
 use Rattle.zst_send.specs.Opening.{opening}
 use Rattle.zst_send.specs.Sends.{sent_text}
-use Rattle.zst.specs.Sends.{HasDirectory, IsSendRefusal, OfGiving, OfSending, RefusalEnds, SendOpened, Sends, SendsBy}
+use Rattle.zst.specs.Commands.{Opens}
+use Rattle.zst.specs.Sending.{IfUnplanned}
+use Rattle.zst.specs.Sends.{IsSendRefusal, OfGiving, OfSending, RefusalEnds, SendOpened, SendRan, Sends, SendsBy}
 use Rattle.zst.proofs.Commanded.{of_plan, open_alive, open_disk}
 use Rattle.zst.proofs.SendLemmas.{sent_earlier}
 
@@ -43,12 +46,12 @@ unopened_ends planned before after out (opens.Damaged sector stated found) is ro
 unopened_ends planned before after out opens.NoPool is rose = absurd is
 unopened_ends planned before after out (opens.BadVersion version) is rose = absurd is
 
-unopened_says : (here : DiskState) (out : SinkState) (fault : OpenFault) → OpenAnswers here (Err fault) → SendOpened here out out (Err (open_refusal fault))
-unopened_says here out (opens.Damaged sector stated found) is = inl (is, refl)
-unopened_says here out opens.NoPool is = (is, refl)
-unopened_says here out (opens.BadVersion version) is = (record { body = is.0; there = is.1; version = is.2; other = is.3 }, refl)
-unopened_says here out opens.DiskFault is = tt
-unopened_says here out opens.OutOfMemory is = tt
+unopened_says : (ask : SendAsk) (here : DiskState) (out : SinkState) (fault : OpenFault) → OpenAnswers here (Err fault) → SendOpened ask here out out (Err (open_refusal fault))
+unopened_says ask here out (opens.Damaged sector stated found) is = inl (is, refl)
+unopened_says ask here out opens.NoPool is = (is, refl)
+unopened_says ask here out (opens.BadVersion version) is = (record { body = is.0; there = is.1; version = is.2; other = is.3 }, refl)
+unopened_says ask here out opens.DiskFault is = inl refl
+unopened_says ask here out opens.OutOfMemory is = inl refl
 
 -- a fault of opening is never the output's, nor a full disk's
 open_no_sink : (fault : OpenFault) → open_refusal fault ≢ refusals.SinkFault
@@ -73,7 +76,7 @@ unopened ask here here' out fault there answer reads cause = record {
   reads = reads;
   sends = λ pool told is.
       unopened_ends (opening ask pool) here.faults here'.faults out fault (there is.0 is.1 pool told is.2) (λ e. cause.fault (ap (λ (f : OpenFault). Err f) e));
-  opened = λ told. unopened_says here out fault (answer told);
+  opened = λ told. unopened_says ask here out fault (answer told);
   refused = record {
     pool = record { one = inl (fault, refl); alive = open_alive fault; cause = λ is. cause.fault (ap (λ (f : OpenFault). Err f) (open_disk fault is)) };
     never_full = open_never_full fault;
@@ -104,14 +107,23 @@ is_open : (refusal : Refusal) → OfGiving refusal → is_of_opening refusal ≡
 is_open refusal is =
     ⊎_elim (λ pool. ap is_of_opening pool.1 ∙ pool_is_open pool.0) (⊎_elim (λ sink. ap is_of_opening sink) (λ limit. ap is_of_opening limit)) is
 
-opened_says : (here : DiskState) (out out' : SinkState) (result : Result (Unit {0}) Refusal) → HasDirectory here → IfErr result OfGiving → SendOpened here out out' result
-opened_says here out out' (Ok done) has is = has
-opened_says here out out' (Err refusals.NoPool) has is = absurd (false≢true (sym (is_open refusals.NoPool is)))
-opened_says here out out' (Err (refusals.BadVersion number)) has is = absurd (false≢true (sym (is_open (refusals.BadVersion number) is)))
-opened_says here out out' (Err (refusals.Damaged sector stated found)) has is = inr has
-opened_says here out out' (Err refusals.DiskFault) has is = tt
-opened_says here out out' (Err refusals.OutOfMemory) has is = tt
-opened_says here out out' (Err other) has is = has
+-- what the rows in memory say of each plan, where a pool was opened by a body and rows
+ran : (ask : SendAsk) (here : DiskState) (out out' : SinkState) (kept : Kept) (rows : Rows) (result : Result (Unit {0}) Refusal) → kept.dir ≡ kept_rows rows → Opens here kept.body rows
+    → ((pool : Pool) → AreNamed kept.dir pool → IfUnplanned (opening ask pool) out out' result) → SendRan ask here out out' result kept.body rows
+ran ask here out out' kept rows result same opens plan = record {
+  opens = opens;
+  planned = λ pool fault named refused. rw refused at (plan pool (rw same named.are_named));
+}
+
+opened_says : (ask : SendAsk) (here : DiskState) (out out' : SinkState) (result : Result (Unit {0}) Refusal)
+    → ((uber : Uber) × (rows : Rows) × SendRan ask here out out' result uber rows) → IfErr result OfGiving → SendOpened ask here out out' result
+opened_says ask here out out' (Ok done) has is = has
+opened_says ask here out out' (Err refusals.NoPool) has is = absurd (false≢true (sym (is_open refusals.NoPool is)))
+opened_says ask here out out' (Err (refusals.BadVersion number)) has is = absurd (false≢true (sym (is_open (refusals.BadVersion number) is)))
+opened_says ask here out out' (Err (refusals.Damaged sector stated found)) has is = inr has
+opened_says ask here out out' (Err refusals.DiskFault) has is = inr has
+opened_says ask here out out' (Err refusals.OutOfMemory) has is = inr has
+opened_says ask here out out' (Err other) has is = has
 
 -- what it refused is one of its refusals
 of_giving : (mid here' : DiskState) (out out' : SinkState) (result : Result (Unit {0}) Refusal) → IfErr result (IsSendRefusal OfGiving mid here' out out') → IfErr result OfGiving
@@ -150,14 +162,16 @@ pub opened : (ask : SendAsk) (here mid here' : DiskState) (out out' : SinkState)
     → ((uber : Uber) (rows : Rows) (pool : Pool) → mid.honest → ReadsAs uber rows pool here.seen → GivesPool uber rows (Ok kept))
     → (mid.honest → OpenAnswers here (Ok kept)) → OnlyReads here mid → here.faults ≤ mid.faults → OnlyReads mid here' → mid.faults ≤ here'.faults
     → ((pool : Pool) → here'.honest → RunsBy (Has mid.seen (free_by kept.body)) kept.dir pool → SendsBy (opening ask pool) mid.faults here'.faults out out' result)
-    → IfErr result (IsSendRefusal OfGiving mid here' out out') → Sends ask here here' out out' result
-opened ask here mid here' out out' kept result there answer reads later gave still gives refused = record {
+    → IfErr result (IsSendRefusal OfGiving mid here' out out') → ((pool : Pool) → AreNamed kept.dir pool → IfUnplanned (opening ask pool) out out' result)
+    → Sends ask here here' out out' result
+opened ask here mid here' out out' kept result there answer reads later gave still gives refused plan = record {
   reads = OnlyReads-then here mid here' reads gave;
   sends = λ pool told is.
       sends_earlier (opening ask pool) here.faults mid.faults here'.faults out out' result later
       (gives pool told (runs here mid kept is.0 is.1 pool reads (there is.0 is.1 pool (gave.honest told) is.2) is.2));
   opened = λ told. let was = answer (gave.honest told) in
-      opened_says here out out' result (kept.body, was.1, (was.0, was.2, was.3)) (of_giving mid here' out out' result refused);
+      opened_says ask here out out' result (kept.body, was.1, ran ask here out out' kept was.1 result was.4 (was.0, was.2, was.3) plan)
+      (of_giving mid here' out out' result refused);
   refused = whole_refusal here mid here' out out' result later refused;
   later = omega (arith, later, still);
 }

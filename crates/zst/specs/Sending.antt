@@ -29,6 +29,18 @@ OpensBy has (Ok sent) (Err refusal) = refusal ≡ refusals.OutOfMemory
 OpensBy has (Err fault) (Ok send) = ⊥
 OpensBy has (Err fault) (Err refusal) = (refusal ≡ refusal_of fault) ⊎ (refusal ≡ refusals.OutOfMemory)
 
+-- whatever the image, it is refused by its plan, or that passes: then it is opened, unless no memory is left
+abbrev pub PlansOpen : Result Sent PlanFault → Result Send Refusal → Type 0
+PlansOpen planned (Ok send) = (sent : Sent) × (planned ≡ Ok sent)
+PlansOpen planned (Err refusal) =
+    ((fault : PlanFault) × (planned ≡ Err fault) × (refusal ≡ refusal_of fault))
+    ⊎ ((sent : Sent) × (planned ≡ Ok sent) × (refusal ≡ refusals.OutOfMemory))
+
+-- where its plan refuses a send, that is its answer, and nothing is written
+abbrev pub IfUnplanned : Result Sent PlanFault → SinkState → SinkState → Result (Unit {0}) Refusal → Type 0
+IfUnplanned (Ok sent) out out' result = Unit {0}
+IfUnplanned (Err fault) out out' result = (result ≡ Err (refusal_of fault)) × (out' ≡ out)
+
 -- ---- pieces
 
 -- so many bytes were given, all of them are written, and no fault of the output was counted

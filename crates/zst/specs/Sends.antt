@@ -21,7 +21,7 @@ use Rattle.zst_model.specs.sends.Headers.{Sent, header_of, sent_view}
 use Rattle.zst_dir.specs.Rows.{Rows}
 use Rattle.zst_image.specs.Faults.{open_refusal}
 use Rattle.zst_image.specs.Opening.{TellsBody, TellsDir}
-use Rattle.zst_image.specs.Reads.{Reads}
+use Rattle.zst_image.specs.Reads.{IsNamedBy, Reads, kept_rows}
 use Rattle.zst_image.specs.declared.open_fault.OpenFault.{OpenFault}
 use Rattle.zst_pool.specs.Faults.{pool_refusal}
 use Rattle.zst_pool.specs.declared.fault.PoolFault.{PoolFault}
@@ -99,20 +99,26 @@ pub record SendsBy (planned : Result Sent PlanFault) (before after : ℕ) (out o
 
 -- ---- sending from an image
 
--- the latest body and its directory are of the layout
-abbrev pub HasDirectory : DiskState → Type 0
-HasDirectory here = (uber : Uber) × (rows : Rows) × Opens here uber rows
+-- A send from a pool that was opened by this body and these rows, whether or not the image reads as a pool. What the directory
+-- tells alone: E3, E6, E7 and E19 come where the definition refuses the plan of a pool that the body and the rows name, whatever
+-- its object sets hold, and then nothing is written.
+pub record SendRan (ask : SendAsk) (here : DiskState) (out out' : SinkState) (result : Result (Unit {0}) Refusal) (uber : Uber) (rows : Rows) : Type 0 where
+  pub opens : Opens here uber rows
+  pub planned : (pool : Pool) (fault : PlanFault) → IsNamedBy uber (kept_rows rows) pool → opening ask pool ≡ Err fault
+      → (result ≡ Err (refusal_of fault)) × (out' ≡ out)
 
 -- What an answer says of any image. E26 comes where there is no latest body, E27 where it has another version, E25 where it
--- or its directory isn't of the layout: then nothing is written. Any other answer comes where both are, E28 and E32 aside.
-abbrev pub SendOpened : DiskState → SinkState → SinkState → Result (Unit {0}) Refusal → Type 0
-SendOpened here out out' (Err refusals.NoPool) = (latest here.seen ≡ None) × (out' ≡ out)
-SendOpened here out out' (Err (refusals.BadVersion number)) = HasVersion here number × (out' ≡ out)
-SendOpened here out out' (Err (refusals.Damaged sector stated found)) =
-    ((TellsBody here sector stated found ⊎ TellsDir here sector stated found) × (out' ≡ out)) ⊎ HasDirectory here
-SendOpened here out out' (Err refusals.DiskFault) = Unit {0}
-SendOpened here out out' (Err refusals.OutOfMemory) = Unit {0}
-SendOpened here out out' answer = HasDirectory here
+-- or its directory isn't of the layout: then nothing is written. Any other answer comes where both are, but for E28 and E32
+-- before anything is written.
+abbrev pub SendOpened : SendAsk → DiskState → SinkState → SinkState → Result (Unit {0}) Refusal → Type 0
+SendOpened ask here out out' (Err refusals.NoPool) = (latest here.seen ≡ None) × (out' ≡ out)
+SendOpened ask here out out' (Err (refusals.BadVersion number)) = HasVersion here number × (out' ≡ out)
+SendOpened ask here out out' (Err (refusals.Damaged sector stated found)) =
+    ((TellsBody here sector stated found ⊎ TellsDir here sector stated found) × (out' ≡ out))
+    ⊎ ((uber : Uber) × (rows : Rows) × SendRan ask here out out' (Err (refusals.Damaged sector stated found)) uber rows)
+SendOpened ask here out out' (Err refusals.DiskFault) = (out' ≡ out) ⊎ ((uber : Uber) × (rows : Rows) × SendRan ask here out out' (Err refusals.DiskFault) uber rows)
+SendOpened ask here out out' (Err refusals.OutOfMemory) = (out' ≡ out) ⊎ ((uber : Uber) × (rows : Rows) × SendRan ask here out out' (Err refusals.OutOfMemory) uber rows)
+SendOpened ask here out out' answer = (uber : Uber) × (rows : Rows) × SendRan ask here out out' answer uber rows
 
 -- a refusal of a pool that was opened, E30, or E23 of a stream; and one of opening the pool
 abbrev pub OfGiving : Refusal → Type 0
@@ -131,7 +137,7 @@ pub record IsSendRefusal (Is : Refusal → Type 0) (here here' : DiskState) (out
 pub record Sends (ask : SendAsk) (here here' : DiskState) (out out' : SinkState) (result : Result (Unit {0}) Refusal) : Type 0 where
   pub reads : OnlyReads here here'
   pub sends : (pool : Pool) → here'.honest → Reads pool here.seen → SendsBy (opening ask pool) here.faults here'.faults out out' result
-  pub opened : here'.honest → SendOpened here out out' result
+  pub opened : here'.honest → SendOpened ask here out out' result
   pub refused : IfErr result (IsSendRefusal OfSending here here' out out')
   pub later : here.faults ≤ here'.faults
 

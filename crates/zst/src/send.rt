@@ -4,6 +4,7 @@ ghost use Rattle.zst_outside.specs.Images.{OnlyReads};
 ghost use Rattle.zst_outside.specs.States.{SinkState};
 ghost use Rattle.zst_space.specs.FreeSectors.{FreeSectors};
 ghost use Rattle.zst_block.specs.Blocks.{FitsDisk, Has};
+ghost use Rattle.zst_dir.specs.Named.{AreNamed};
 ghost use Rattle.zst_image.specs.Reads.{RunsBy};
 ghost use Rattle.zst_model.specs.pools.Pool.{Pool as Plain};
 ghost use Rattle.zst_model.specs.sends.Headers.{Sent};
@@ -11,7 +12,7 @@ ghost use Rattle.zst_reader.specs.Filling.{stream_limit};
 ghost use Rattle.zst_send.specs.Opening.{opening};
 ghost use Rattle.zst_send.specs.Sends.{SendFits};
 ghost use Rattle.zst.specs.Sends.{IsSendRefusal, IsSource, OfGiving, Sends, SendsBy, SentAlike, ask_of, source_of};
-ghost use Rattle.zst.specs.Sending.{Advances, IsOpenRefusal, OpensBy, Passed, Sending, WritesPiece};
+ghost use Rattle.zst.specs.Sending.{Advances, IfUnplanned, IsOpenRefusal, OpensBy, Passed, PlansOpen, Sending, WritesPiece};
 
 use crate::reply::hand_on;
 use std::alloc::Global;
@@ -139,19 +140,19 @@ fn pass_all<D: Disk, K: Sink>(
     ensures same { pool.new.io.disk.ghost_name ≡ pool.old.io.disk.ghost_name }
 {
     let mut count = 0;
-    'pieces: for passed in 0..u64::MAX {
+    'pieces: loop {
         match pass_piece(pool, &mut send, &mut count, room, out) {
             Some(result) => return result,
             None => {}
         }
     }
-    unreachable!()
 }
 
 // Opens a send. That reads nothing, so that it is refused by its plan or for want of memory alone.
 fn open<D: Disk>(alloc: Global, pool: &mut Pool<'_, D>, ask: &SendAsk) -> Result<Send, Refusal>
     requires { pool.old.io.failed ≡ false }
     ensures opens { (image : List ℕ) (space : FreeSectors) (running : Plain) → RunsBy (Has image space) pool.old.kept.dir running → OpensBy (Has image space) (opening ask.now running) result }
+    ensures planned { (running : Plain) → AreNamed pool.old.kept.dir running → PlansOpen (opening ask.now running) result }
     ensures fits { IfOk result SendFits }
     ensures refused { IfErr result IsOpenRefusal }
     ensures disk { pool.new.io.disk.now ≡ pool.old.io.disk.now }
@@ -177,6 +178,7 @@ fn send_from<D: Disk, K: Sink>(
     requires works { pool.old.io.failed ≡ false }
     ensures sends { (running : Plain) → (D.state pool.new.io.disk.now).honest → RunsBy (Has (D.state pool.old.io.disk.now).seen pool.old.io.space) pool.old.kept.dir running
         → SendsBy (opening ask.now running) (D.state pool.old.io.disk.now).faults (D.state pool.new.io.disk.now).faults (K.state out.old) (K.state out.new) result }
+    ensures planned { (running : Plain) → AreNamed pool.old.kept.dir running → IfUnplanned (opening ask.now running) (K.state out.old) (K.state out.new) result }
     ensures refused { IfErr result (IsSendRefusal OfGiving (D.state pool.old.io.disk.now) (D.state pool.new.io.disk.now) (K.state out.old) (K.state out.new)) }
     ensures reads { OnlyReads (D.state pool.old.io.disk.now) (D.state pool.new.io.disk.now) }
     ensures later { (D.state pool.old.io.disk.now).faults ≤ (D.state pool.new.io.disk.now).faults }

@@ -14,3 +14,11 @@ returns-in-Err-Plan-clause-opens g c = λ image space running runs.
 
 pub returns-in-Err-clause-opens : goal.returns-in-Err-clause-opens
 returns-in-Err-clause-opens g c = λ image space running runs. wants_memory _ _
+
+pub returns-in-Ok-clause-planned : goal.returns-in-Ok-clause-planned
+returns-in-Ok-clause-planned g c = λ running named. c.in-Ok.ensures.planned running c.requires named
+
+pub returns-in-Err-Plan-clause-planned : goal.returns-in-Err-Plan-clause-planned
+returns-in-Err-Plan-clause-planned g c = λ running named.
+    let e = rw c.in-Err-Plan.field-0-is at c.in-Err-Plan.ensures.planned in
+    inl (c.in-Err-Plan.fault, e running c.requires named, c.from.ensures)

@@ -21,7 +21,6 @@ pieces-preserved g c =
       send = e.send;
       fits = e.fits;
       works = e.works refl;
-      passed = let more = e.advances.0 in let so_far = i.passed in omega arith;
       within = e.advances.1;
       reads = OnlyReads-then _ _ _ i.reads e.reads;
       later = let first = i.later in let next = e.later in omega arith;

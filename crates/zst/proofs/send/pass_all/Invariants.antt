@@ -1,4 +1,4 @@
-use Rattle.std.proofs.Common.{◌≡◌, ◌≤◌, false}
+use Rattle.std.proofs.Common.{◌≡◌, ◌≤◌, ◌-◌, false}
 use Rattle.zst_outside.specs.Images.{OnlyReads}
 use Rattle.zst_block.specs.Blocks.{FitsDisk, Has}
 use Rattle.zst_model.specs.sends.Headers.{Sent}
@@ -7,7 +7,7 @@ use Rattle.zst_send.specs.Sends.{SendFits}
 use Rattle.zst.specs.Sending.{Sending}
 use Rattle.zst.proofs.send.pass_all.Given as goal
 
--- what was given so far is written and counted, and each piece had bytes
+-- what was given so far is written and counted
 abbrev pub invariant-pieces : goal.invariant-pieces
 invariant-pieces g l =
     let disk = g.D.Disk in
@@ -18,10 +18,13 @@ invariant-pieces g l =
       send : SendFits l.send;
       fits : FitsDisk (disk.state l.pool.io.disk.now).size l.pool.io.space;
       works : l.pool.io.failed ≡ false;
-      passed : l.passed ≤ l.count;
       within : l.count ≤ stream_limit;
       reads : OnlyReads (disk.state l.fn.pool.io.disk.now) (disk.state l.pool.io.disk.now);
       later : (disk.state l.fn.pool.io.disk.now).faults ≤ (disk.state l.pool.io.disk.now).faults;
       out_later : (sink.state l.fn.out).faults ≤ (sink.state l.out).faults;
       same : l.pool.io.disk.ghost_name ≡ l.fn.pool.io.disk.ghost_name;
     }
+
+-- each piece has bytes, and so many more at most may be given
+abbrev pub decreases-pieces : goal.decreases-pieces
+decreases-pieces g l = stream_limit - l.count
