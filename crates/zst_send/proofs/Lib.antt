@@ -1,9 +1,11 @@
+mod Costing
 mod Damaging
 mod Filling
 mod Giving
 mod Joining
 mod Knowing
 mod Passing
+mod Paying
 mod Planning
 mod Putting
 mod Sizes

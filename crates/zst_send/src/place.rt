@@ -1,4 +1,4 @@
-ghost use Rattle.std.specs.Prelude.{◌≡◌, ◌+◌, ◌<◌, ◌≤◌, true, Contains, IfOk, IfSome, List, ℕ};
+ghost use Rattle.std.specs.Prelude.{◌≡◌, ◌*◌, ◌+◌, ◌<◌, ◌≤◌, true, Contains, IfOk, IfSome, List, None, Ok, ℕ};
 ghost use Rattle.zst_block.specs.Blocks.{FitsDisk, Has};
 ghost use Rattle.zst_block.specs.Working.{Looks, stop_of};
 ghost use Rattle.zst_model.specs.declared.sends.header.Header.{Header};
@@ -8,6 +8,7 @@ ghost use Rattle.zst_model.specs.states.Dated.{DatedState};
 ghost use Rattle.zst_model.specs.states.State.{number_bound};
 ghost use Rattle.zst_objset.specs.Damage.{IfDamaged};
 ghost use Rattle.zst_objset.specs.Sets.{SetHolds};
+ghost use Rattle.zst_send.specs.Costs.{cells_due, ended, is_ended};
 ghost use Rattle.zst_send.specs.Due.{DueFits};
 ghost use Rattle.zst_send.specs.Knowing.{DueStands, IsAmong};
 ghost use Rattle.zst_send.specs.Places.{GoesTo, IsPlaceOf, PlaceFits, place_after};
@@ -109,6 +110,7 @@ impl Place {
     fn at_end(&self) -> Place
         ensures point { number_bound ≤ result.point.object }
         ensures slot { result.slot ≡ true }
+        ensures ended { ended result ≡ 1 }
         ensures fits { PlaceFits self.now → PlaceFits result }
     {
         Place {
@@ -119,6 +121,14 @@ impl Place {
             slot: true,
             ..*self
         }
+    }
+
+    // Whether it is behind all numbers.
+    #[tactic(auto, unfolding(zst_model::specs::states::State::number_bound))]
+    fn is_ended(&self) -> bool
+        ensures { result ≡ is_ended self.now }
+    {
+        self.slot && self.point.object >= NUMBER_BOUND
     }
 
     /// Finds what comes first of what is left, and goes behind it.
@@ -143,8 +153,12 @@ impl Place {
         ensures ranges { IfOk result (λ found. IfSome found DueFits) }
         ensures damaged { (D.state io.new.disk.now).honest → IfDamaged result (IsDamagedCell (IsSeen (D.state io.old.disk.now).seen) (D.state io.old.disk.now).size set.now) }
         ensures looks { Looks (D.state io.old.disk.now) io.old.space io.old.failed (D.state io.new.disk.now) io.new.space io.new.failed (stop_of result) }
-        // Of a set whose slots are tight it reads at most 64 blocks.
-        ensures few { (snap : DatedState) → (D.state io.new.disk.now).honest → SetIsTight (Has (D.state io.old.disk.now).seen io.old.space) set.now snap → (D.state io.new.disk.now).calls ≤ (D.state io.old.disk.now).calls + 64 }
+        // Of a set whose slots are tight it reads at most 64 blocks, and behind all numbers none. Where nothing is found it goes behind them, and else what is found has an included number or pair.
+        ensures few { (snap : DatedState) → (D.state io.new.disk.now).honest → SetIsTight (Has (D.state io.old.disk.now).seen io.old.space) set.now snap
+            → (D.state io.new.disk.now).calls + 64 * ended self.old ≤ (D.state io.old.disk.now).calls + 64 }
+        ensures ends { result ≡ Ok None → ended self.new ≡ 1 }
+        ensures counted { (snap : DatedState) → (D.state io.new.disk.now).honest → SetHolds (Has (D.state io.old.disk.now).seen io.old.space) set.now snap → IsPlaceOf snap self.old
+            → IfOk result (λ found. IfSome found (λ due. 0 < cells_due snap due)) }
         ensures kept_fit { FitsDisk (D.state io.new.disk.now).size io.new.space }
         ensures same { io.new.disk.ghost_name ≡ io.old.disk.ghost_name }
     {
@@ -164,7 +178,8 @@ impl Place {
     }
 }
 
-// What is found at a place, its steps counted from 0 in a ledger of their own.
+// What is found at a place, its steps counted from 0 in a ledger of their own. Behind all numbers
+// nothing is looked for.
 fn next_found<D: Disk>(
     io: &mut Io<'_, D>,
     set: &ObjSet,
@@ -178,10 +193,14 @@ fn next_found<D: Disk>(
     ensures stands { (D.state io.new.disk.now).honest → IfOk result (λ found. IfSome found (FoundStands (IsSeen (D.state io.old.disk.now).seen) set.now)) }
     ensures damaged { (D.state io.new.disk.now).honest → IfDamaged result (IsDamagedCell (IsSeen (D.state io.old.disk.now).seen) (D.state io.old.disk.now).size set.now) }
     ensures looks { Looks (D.state io.old.disk.now) io.old.space io.old.failed (D.state io.new.disk.now) io.new.space io.new.failed (stop_of result) }
-    ensures few { (snap : DatedState) → (D.state io.new.disk.now).honest → SetIsTight (Has (D.state io.old.disk.now).seen io.old.space) set.now snap → (D.state io.new.disk.now).calls ≤ (D.state io.old.disk.now).calls + 64 }
+    ensures few { (snap : DatedState) → (D.state io.new.disk.now).honest → SetIsTight (Has (D.state io.old.disk.now).seen io.old.space) set.now snap
+        → (D.state io.new.disk.now).calls + 64 * ended place.now ≤ (D.state io.old.disk.now).calls + 64 }
     ensures kept_fit { FitsDisk (D.state io.new.disk.now).size io.new.space }
     ensures same { io.new.disk.ghost_name ≡ io.old.disk.ghost_name }
 {
+    if place.is_ended() {
+        return Ok(None);
+    }
     counted::<D, Brand>(io, set, source, place, Blank::new(1))
 }
 

@@ -1,4 +1,4 @@
-ghost use Rattle.std.specs.Prelude.{◌≡◌, ◌%◌, ◌+◌, ◌≤◌, List, None, ℕ, length, take, IfOk, OnOk};
+ghost use Rattle.std.specs.Prelude.{◌≡◌, ◌%◌, ◌+◌, ◌≤◌, List, None, Some, ℕ, length, take, IfOk, OnOk};
 ghost use Rattle.zst_space.specs.FreeSectors.{FreeSectors};
 ghost use Rattle.zst_block.specs.Blocks.{FitsDisk, Has};
 ghost use Rattle.zst_block.specs.Working.{Looks, stop_of};
@@ -48,7 +48,10 @@ impl Room {
         ensures whole { OnOk result (ptr.now.length % 512 ≡ 0) }
         ensures damaged { (D.state io.new.disk.now).honest → IfDamaged result (IsDamagedLoad (IsSeen (D.state io.old.disk.now).seen) (D.state io.old.disk.now).size ptr.now) }
         ensures looks { Looks (D.state io.old.disk.now) io.old.space io.old.failed (D.state io.new.disk.now) io.new.space io.new.failed (stop_of result) }
+        // It is read at most once, and not where the room has it already.
         ensures calls { (D.state io.new.disk.now).calls ≤ (D.state io.old.disk.now).calls + 1 }
+        ensures kept { self.old.holds ≡ Some ptr.now → (D.state io.new.disk.now).calls ≤ (D.state io.old.disk.now).calls }
+        ensures holds { OnOk result (self.new.holds ≡ Some ptr.now) }
         ensures kept_fit { FitsDisk (D.state io.new.disk.now).size io.new.space }
         ensures same { io.new.disk.ghost_name ≡ io.old.disk.ghost_name }
     {

@@ -17,17 +17,20 @@ pub struct Send {
 }
 
 impl Send {
-    ghost use Rattle.std.specs.Prelude.{◌≡◌, ◌≤◌, false, true, Contains, List, [], ℕ, IfErr, IfOk, None, Err, length};
+    ghost use Rattle.std.specs.Prelude.{◌≡◌, ◌+◌, ◌≤◌, false, true, Contains, List, [], ℕ, IfErr, IfOk, None, Err, length};
     ghost use Rattle.zst_space.specs.FreeSectors.{FreeSectors};
     ghost use Rattle.zst_block.specs.Blocks.{FitsDisk, Has};
     ghost use Rattle.zst_block.specs.Working.{Looks};
     ghost use Rattle.zst_dir.specs.Named.{AreNamed};
     ghost use Rattle.zst_image.specs.Reads.{RunsBy};
     ghost use Rattle.zst_model.specs.pools.Pool.{Pool as Plain};
+    ghost use Rattle.zst_model.specs.declared.states.item.Item.{Item};
     ghost use Rattle.zst_model.specs.sends.Headers.{Sent};
+    ghost use Rattle.zst_objset.specs.Tight.{SetIsTight};
     ghost use Rattle.zst_plan.specs.Plans.{IsInside, IsPlanOf};
     ghost use Rattle.zst_pool.specs.Damage.{IsOf};
     ghost use Rattle.zst_pool.specs.Telling.{stop_of};
+    ghost use Rattle.zst_send.specs.Costs.{AreToCome, PaysFor};
     ghost use Rattle.zst_send.specs.Damage.{IsDamagedSend};
     ghost use Rattle.zst_send.specs.Knowing.{IsAmong, Knows};
     ghost use Rattle.zst_send.specs.Opening.{IsPlanned, Opens, is_plain, opening};
@@ -93,6 +96,11 @@ impl Send {
         ensures open_still { pool.old.io.failed ≡ false → ¬ (result ≡ Err PoolFault.Failed) }
         // The pool is only read. E28 comes only where its disk failed in this call.
         ensures looks { Looks (D.state pool.old.io.disk.now) pool.old.io.space pool.old.io.failed (D.state pool.new.io.disk.now) pool.new.io.space pool.new.io.failed (stop_of result) }
+        // Of a set whose slots are tight it calls the disk no more than the items take that it puts, and once more for the record in work.
+        ensures pays { (sent : Sent) (given left : List ℕ) → (D.state pool.new.io.disk.now).honest → Sends (Has (D.state pool.old.io.disk.now).seen pool.old.io.space) self.old sent given left
+            → SetIsTight (Has (D.state pool.old.io.disk.now).seen pool.old.io.space) self.old.subject.set sent.snapshot.objects
+            → (items : List Item) × AreToCome (Has (D.state pool.old.io.disk.now).seen pool.old.io.space) sent self.old items
+            × IfOk result (λ count. PaysFor (Has (D.state pool.new.io.disk.now).seen pool.new.io.space) sent items self.old self.new ((D.state pool.old.io.disk.now).calls + 1) (D.state pool.new.io.disk.now).calls) }
         ensures kept { pool.new.kept ≡ pool.old.kept }
         ensures kept_fit { FitsDisk (D.state pool.new.io.disk.now).size pool.new.io.space }
         ensures same { pool.new.io.disk.ghost_name ≡ pool.old.io.disk.ghost_name }

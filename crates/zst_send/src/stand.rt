@@ -3,11 +3,14 @@ ghost use Rattle.zst_space.specs.FreeSectors.{FreeSectors};
 ghost use Rattle.zst_block.specs.Blocks.{FitsDisk, Has};
 ghost use Rattle.zst_block.specs.Working.{Looks, stop_of};
 ghost use Rattle.zst_model.specs.declared.sends.header.Header.{Header};
+ghost use Rattle.zst_model.specs.declared.states.item.Item.{Item};
 ghost use Rattle.zst_model.specs.sends.Items.{origin};
 ghost use Rattle.zst_model.specs.sends.View.{View, view_of};
 ghost use Rattle.zst_model.specs.states.Dated.{DatedState};
 ghost use Rattle.zst_objset.specs.Damage.{IfDamaged};
 ghost use Rattle.zst_objset.specs.Sets.{SetHolds};
+ghost use Rattle.zst_objset.specs.Tight.{SetIsTight};
+ghost use Rattle.zst_send.specs.Costs.{AreLeft, IsHeld, Pays};
 ghost use Rattle.zst_send.specs.Damage.{IsDamagedSend};
 ghost use Rattle.zst_send.specs.Knowing.{IsAmong, IsOfSet};
 ghost use Rattle.zst_tree.specs.declared.tree.ObjSet.{ObjSet};
@@ -93,6 +96,11 @@ impl Stand {
         ensures stand { StandFits self.new }
         ensures room { RoomFits room.new }
         ensures looks { Looks (D.state io.old.disk.now) io.old.space io.old.failed (D.state io.new.disk.now) io.new.space io.new.failed (stop_of result) }
+        // Of a set whose slots are tight it reads no more than the items take that it puts.
+        ensures few { (header : Header) (snap : DatedState) (left : List Item) → (D.state io.new.disk.now).honest → SetIsTight (Has (D.state io.old.disk.now).seen io.old.space) subject.now.set snap
+            → AreLeft (Has (D.state io.old.disk.now).seen io.old.space) snap (view_of header snap (choice_after subject.now.source)) self.old.walk self.old.ended left
+            → IfOk result (λ more. Pays (Has (D.state io.new.disk.now).seen io.new.space) snap (view_of header snap (choice_after subject.now.source)) left self.old self.new (D.state io.old.disk.now).calls (D.state io.new.disk.now).calls) }
+        ensures kept { IsHeld room.old.holds self.old.work.payload → OnOk result (IsHeld room.new.holds self.new.work.payload) }
         ensures kept_fit { FitsDisk (D.state io.new.disk.now).size io.new.space }
         ensures same { io.new.disk.ghost_name ≡ io.old.disk.ghost_name }
     {
@@ -139,6 +147,11 @@ impl Stand {
         ensures stand { StandFits self.new }
         ensures room { RoomFits room.new }
         ensures looks { Looks (D.state io.old.disk.now) io.old.space io.old.failed (D.state io.new.disk.now) io.new.space io.new.failed (stop_of result) }
+        // Of a set whose slots are tight it reads no more than the items take that it puts.
+        ensures few { (header : Header) (snap : DatedState) (left : List Item) → (D.state io.new.disk.now).honest → SetIsTight (Has (D.state io.old.disk.now).seen io.old.space) subject.now.set snap
+            → AreLeft (Has (D.state io.old.disk.now).seen io.old.space) snap (view_of header snap (choice_after subject.now.source)) self.old.walk self.old.ended left
+            → IfOk result (λ more. Pays (Has (D.state io.new.disk.now).seen io.new.space) snap (view_of header snap (choice_after subject.now.source)) left self.old self.new (D.state io.old.disk.now).calls (D.state io.new.disk.now).calls) }
+        ensures kept { IsHeld room.old.holds self.old.work.payload → OnOk result (IsHeld room.new.holds self.new.work.payload) }
         ensures kept_fit { FitsDisk (D.state io.new.disk.now).size io.new.space }
         ensures same { io.new.disk.ghost_name ≡ io.old.disk.ghost_name }
     {
@@ -173,6 +186,10 @@ impl Stand {
         ensures stand { StandFits self.new }
         ensures room { RoomFits room.new }
         ensures looks { Looks (D.state io.old.disk.now) io.old.space io.old.failed (D.state io.new.disk.now) io.new.space io.new.failed (stop_of result) }
+        // Of a set whose slots are tight it reads no more than the items take that it puts, and once more for the record in work.
+        ensures few { (header : Header) (snap : DatedState) (left : List Item) → (D.state io.new.disk.now).honest → SetIsTight (Has (D.state io.old.disk.now).seen io.old.space) subject.now.set snap
+            → AreLeft (Has (D.state io.old.disk.now).seen io.old.space) snap (view_of header snap (choice_after subject.now.source)) self.old.walk self.old.ended left
+            → IfOk result (λ count. Pays (Has (D.state io.new.disk.now).seen io.new.space) snap (view_of header snap (choice_after subject.now.source)) left self.old self.new ((D.state io.old.disk.now).calls + 1) (D.state io.new.disk.now).calls) }
         ensures kept_fit { FitsDisk (D.state io.new.disk.now).size io.new.space }
         ensures same { io.new.disk.ghost_name ≡ io.old.disk.ghost_name }
     {

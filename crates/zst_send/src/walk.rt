@@ -1,4 +1,4 @@
-ghost use Rattle.std.specs.Prelude.{◌≡◌, ◌+◌, ◌≤◌, true, Contains, List, None, Some, IfOk, IfSome, OnOk, ℕ};
+ghost use Rattle.std.specs.Prelude.{◌≡◌, ◌*◌, ◌+◌, ◌≤◌, true, Contains, List, None, Some, IfOk, IfSome, OnOk, min, ℕ};
 ghost use Rattle.zst_block.specs.Blocks.{FitsDisk, Has};
 ghost use Rattle.zst_block.specs.Working.{Looks, stop_of};
 ghost use Rattle.zst_model.specs.declared.sends.header.Header.{Header};
@@ -8,9 +8,10 @@ ghost use Rattle.zst_model.specs.sends.View.{view_of};
 ghost use Rattle.zst_model.specs.states.Dated.{DatedState};
 ghost use Rattle.zst_objset.specs.Damage.{IfDamaged};
 ghost use Rattle.zst_objset.specs.Sets.{SetHolds};
+ghost use Rattle.zst_send.specs.Costs.{cells_due, cells_next, ended, looks_ahead};
 ghost use Rattle.zst_send.specs.Due.{DueFits, is_run};
 ghost use Rattle.zst_send.specs.Knowing.{DueStands, IsAmong, WalkStands};
-ghost use Rattle.zst_send.specs.Places.{ComesFirst, Gives, IsWalk, WalkFits, items_left};
+ghost use Rattle.zst_send.specs.Places.{ComesFirst, Gives, IsPlaceOf, IsWalk, WalkFits, items_left};
 ghost use Rattle.zst_traverse.specs.Cells.{choice_after};
 ghost use Rattle.zst_traverse.specs.Telling.{IsDamagedCell};
 ghost use Rattle.zst_objset.specs.Tight.{SetIsTight};
@@ -69,6 +70,10 @@ impl Walk {
         ensures ranges { IfOk result (λ next. IfSome next DueFits) }
         ensures damaged { (D.state io.new.disk.now).honest → IfDamaged result (IsDamagedCell (IsSeen (D.state io.old.disk.now).seen) (D.state io.old.disk.now).size set.now) }
         ensures looks { Looks (D.state io.old.disk.now) io.old.space io.old.failed (D.state io.new.disk.now) io.new.space io.new.failed (stop_of result) }
+        // Of a set whose slots are tight it reads at most 64 blocks for each included number or pair that comes, and for each look that it is further ahead.
+        ensures few { (header : Header) (snap : DatedState) (held : List Item) → (D.state io.new.disk.now).honest → SetIsTight (Has (D.state io.old.disk.now).seen io.old.space) set.now snap
+            → IsWalk (Has (D.state io.old.disk.now).seen io.old.space) snap self.old held
+            → IfOk result (λ next. (D.state io.new.disk.now).calls + 64 * looks_ahead snap self.old ≤ (D.state io.old.disk.now).calls + 64 * (cells_next snap next + looks_ahead snap self.new)) }
         ensures kept_fit { FitsDisk (D.state io.new.disk.now).size io.new.space }
         ensures same { io.new.disk.ghost_name ≡ io.old.disk.ghost_name }
     {
@@ -102,6 +107,8 @@ impl Walk {
         ensures damaged { (D.state io.new.disk.now).honest → IfDamaged result (IsDamagedCell (IsSeen (D.state io.old.disk.now).seen) (D.state io.old.disk.now).size set.now) }
         ensures looks { Looks (D.state io.old.disk.now) io.old.space io.old.failed (D.state io.new.disk.now) io.new.space io.new.failed (stop_of result) }
         ensures few { (snap : DatedState) → (D.state io.new.disk.now).honest → SetIsTight (Has (D.state io.old.disk.now).seen io.old.space) set.now snap → (D.state io.new.disk.now).calls ≤ (D.state io.old.disk.now).calls + 64 }
+        ensures ahead { (snap : DatedState) → (D.state io.new.disk.now).honest → SetIsTight (Has (D.state io.old.disk.now).seen io.old.space) set.now snap → IsPlaceOf snap self.old.place
+            → IfOk result (λ next. (D.state io.new.disk.now).calls + 64 * looks_ahead snap self.old ≤ (D.state io.old.disk.now).calls + 64 * (min 1 (cells_next snap next) + ended self.new.place)) }
         ensures kept_fit { FitsDisk (D.state io.new.disk.now).size io.new.space }
         ensures same { io.new.disk.ghost_name ≡ io.old.disk.ghost_name }
     {
@@ -134,6 +141,9 @@ impl Walk {
         ensures ranges { IfOk result DueFits }
         ensures damaged { (D.state io.new.disk.now).honest → IfDamaged result (IsDamagedCell (IsSeen (D.state io.old.disk.now).seen) (D.state io.old.disk.now).size set.now) }
         ensures looks { Looks (D.state io.old.disk.now) io.old.space io.old.failed (D.state io.new.disk.now) io.new.space io.new.failed (stop_of result) }
+        ensures few { (header : Header) (snap : DatedState) (left : List Item) → (D.state io.new.disk.now).honest → SetIsTight (Has (D.state io.old.disk.now).seen io.old.space) set.now snap
+            → ComesFirst (Has (D.state io.old.disk.now).seen io.old.space) snap (view_of header snap (choice_after source)) left self.old.place (Some run)
+            → IfOk result (λ due. (D.state io.new.disk.now).calls + 64 * (cells_due snap run + ended self.old.place) ≤ (D.state io.old.disk.now).calls + 64 * (cells_due snap due + looks_ahead snap self.new)) }
         ensures kept_fit { FitsDisk (D.state io.new.disk.now).size io.new.space }
         ensures same { io.new.disk.ghost_name ≡ io.old.disk.ghost_name }
     {

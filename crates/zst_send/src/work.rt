@@ -1,4 +1,4 @@
-ghost use Rattle.std.specs.Prelude.{◌≡◌, ◌==◌, ◌+◌, ◌-◌, ◌%◌, ◌<◌, ◌≤◌, ◌++◌, false, List, [], ℕ, IfOk, OnErr, drop, length, min, pred, take};
+ghost use Rattle.std.specs.Prelude.{◌≡◌, ◌⊎◌, ◌==◌, ◌+◌, ◌-◌, ◌%◌, ◌<◌, ◌≤◌, ◌++◌, false, List, [], ℕ, IfOk, OnErr, OnOk, drop, length, min, pred, take};
 ghost use Rattle.zst_block.specs.Blocks.{FitsDisk, Has};
 ghost use Rattle.zst_block.specs.Working.{Looks, stop_of};
 ghost use Rattle.zst_dnode.specs.Dnode.{DnodeFits};
@@ -8,6 +8,7 @@ ghost use Rattle.zst_model.specs.declared.states.item.Item.TheVariants.{At};
 ghost use Rattle.zst_record.specs.Formats.{record_len};
 ghost use Rattle.zst_record.specs.Heads.{payload_len};
 ghost use Rattle.zst_objset.specs.Damage.{IfDamaged};
+ghost use Rattle.zst_send.specs.Costs.{IsHeld, reads_due};
 ghost use Rattle.zst_send.specs.Damage.{IsDamagedDue, IsDamagedPayload};
 ghost use Rattle.zst_send.specs.Due.{DueFits, IsFirst, head_in};
 ghost use Rattle.zst_send.specs.Working.{HasBlockOf, IsLoaded, IsPut, IsWork, RoomFits, WorkFits, payload_size};
@@ -103,6 +104,9 @@ impl Work {
         ensures fresh { IfOk result (λ work. work.given ≡ 0) }
         ensures room { RoomFits room.new }
         ensures looks { Looks (D.state io.old.disk.now) io.old.space io.old.failed (D.state io.new.disk.now) io.new.space io.new.failed (stop_of result) }
+        // It reads the block that is due at most once, and the room has it then.
+        ensures calls { (D.state io.new.disk.now).calls ≤ (D.state io.old.disk.now).calls + reads_due due.now }
+        ensures held { IfOk result (λ work. IsHeld room.new.holds work.payload) }
         ensures kept_fit { FitsDisk (D.state io.new.disk.now).size io.new.space }
         ensures same { io.new.disk.ghost_name ≡ io.old.disk.ghost_name }
     {
@@ -205,6 +209,10 @@ impl Work {
         ensures room { RoomFits room.new }
         ensures stays { OnErr result (self.new ≡ self.old) }
         ensures looks { Looks (D.state io.old.disk.now) io.old.space io.old.failed (D.state io.new.disk.now) io.new.space io.new.failed (stop_of result) }
+        // It reads the block that follows the record at most once, and not where the room has it already.
+        ensures calls { (D.state io.new.disk.now).calls ≤ (D.state io.old.disk.now).calls + 1 }
+        ensures once { OnOk result (((D.state io.new.disk.now).calls ≤ (D.state io.old.disk.now).calls) ⊎ IsHeld room.new.holds self.old.payload) }
+        ensures kept { IsHeld room.old.holds self.old.payload → ((D.state io.new.disk.now).calls ≤ (D.state io.old.disk.now).calls) × OnOk result (IsHeld room.new.holds self.old.payload) }
         ensures kept_fit { FitsDisk (D.state io.new.disk.now).size io.new.space }
         ensures same { io.new.disk.ghost_name ≡ io.old.disk.ghost_name }
     {
@@ -235,6 +243,9 @@ impl Work {
         ensures into { length into.new ≡ length into.old }
         ensures room { RoomFits room.new }
         ensures looks { Looks (D.state io.old.disk.now) io.old.space io.old.failed (D.state io.new.disk.now) io.new.space io.new.failed (stop_of result) }
+        ensures calls { (D.state io.new.disk.now).calls ≤ (D.state io.old.disk.now).calls + 1 }
+        ensures once { OnOk result (((D.state io.new.disk.now).calls ≤ (D.state io.old.disk.now).calls) ⊎ IsHeld room.new.holds self.now.payload) }
+        ensures kept { IsHeld room.old.holds self.now.payload → ((D.state io.new.disk.now).calls ≤ (D.state io.old.disk.now).calls) × OnOk result (IsHeld room.new.holds self.now.payload) }
         ensures kept_fit { FitsDisk (D.state io.new.disk.now).size io.new.space }
         ensures same { io.new.disk.ghost_name ≡ io.old.disk.ghost_name }
     {

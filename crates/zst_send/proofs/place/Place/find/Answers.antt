@@ -1,4 +1,6 @@
-use Rattle.std.proofs.Common.{Option, Some, sym, subst}
+use Rattle.std.proofs.Common.{Option, Some, ◌<◌, sym, subst}
+use Rattle.zst_send.specs.Costs.{cells_due}
+use Rattle.zst_send.proofs.Costing.{found_counts}
 use Rattle.std.proofs.lemmas.Result.{err_from_is_err_and}
 use Rattle.zst_block.specs.Blocks.{Has}
 use Rattle.zst_model.specs.sends.View.{view_of}
@@ -52,3 +54,17 @@ returns-clause-stands g c = λ images among honest.
     let told = subst (λ (f : Option Found). IfSome f (FoundStands (IsSeen seen) set)) c.in-Some.is (c.in_ok-found.ensures.stands honest) in
     let stands = found_more (IsSeen seen) (IsAmong images) (seen_among images seen among) set found told in
     subst (λ (d : Due). DueStands (IsAmong images) set d) (sym c.due_of-due.ensures.due) (due_stands (IsAmong images) set found place.type_ place.block_size stands)
+
+pub returns-in_err-found-clause-counted : goal.returns-in_err-found-clause-counted
+returns-in_err-found-clause-counted g c = λ snap honest holds of.
+    let p = err_from_is_err_and c.from_residual.result c.from_residual.ensures.1 in
+    rw p.1 tt
+
+pub returns-clause-counted : goal.returns-clause-counted
+returns-clause-counted g c = λ snap honest holds of.
+    let has = Has (g.D.Disk.state c.next_found.new.io.disk.now).seen c.next_found.new.io.space in
+    let old = c.args.self.now in
+    let next = subst (λ (f : Option Found). IsNextCell has snap (choice_after c.args.source) old.point old.slot f) c.in-Some.is (c.in_ok-found.ensures.found snap honest holds) in
+    let counts = found_counts has snap (choice_after c.args.source) old c.in-Some.found c.requires.place.some of next in
+    let there = subst (λ (p : Place). 0 < cells_due snap (due_of c.in-Some.found p.type_ p.block_size)) (sym c.place_after-place.ensures.place) counts in
+    subst (λ (d : Due). 0 < cells_due snap d) (sym c.due_of-due.ensures.due) there

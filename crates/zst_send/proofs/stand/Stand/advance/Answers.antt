@@ -1,4 +1,4 @@
-use Rattle.std.proofs.Common.{ℕ, List, refl, sym, subst}
+use Rattle.std.proofs.Common.{Bool, ℕ, List, [], ◌∷◌, ◌∙◌, ap, arith, refl, sym, subst}
 use Rattle.std.specs.Prelude.{Option, true}
 use Rattle.std.proofs.lemmas.Result.{err_from_is_err_and}
 use Rattle.zst_space.specs.FreeSectors.{FreeSectors}
@@ -6,6 +6,8 @@ use Rattle.zst_block.specs.Blocks.{Has}
 use Rattle.zst_model.specs.sends.View.{View, view_of}
 use Rattle.zst_objset.proofs.LeafLaws.{look_on}
 use Rattle.zst_traverse.specs.Cells.{choice_after}
+use Rattle.zst_send.specs.Costs.{AreLeft, cells_next}
+use Rattle.zst_send.proofs.Paying.{first_costs}
 use Rattle.zst_send.specs.Places.{Gives, IsWalk, items_left}
 use Rattle.zst_send.specs.Working.{IsLoaded}
 use Rattle.zst_send.specs.declared.due.Due.{Due}
@@ -104,3 +106,40 @@ returns-in_err-self-in-Some-clause-damaged g c = λ images among honest was.
     let due = subst (λ (d : Option Due). IfSome d (DueStands (IsAmong images) c.args.subject.now.set)) c.in-Some.is next.1 in
     let on = among_on images _ _ c.in_ok-due.ensures.looks.reads.seen among in
     rw (p.1, p.2) (put_told images c.args.subject.now.set _ _ _ c.in_ok-due.ensures.looks.reads.size on c.in-Some.due due _ (c.in_err-self-in-Some.ensures.damaged honest))
+
+pub returns-in_err-due-clause-few : goal.returns-in_err-due-clause-few
+returns-in_err-due-clause-few g c = λ header snap left honest tight are.
+    let p = err_from_is_err_and c.from_residual.result c.from_residual.ensures.1 in
+    rw p.1 tt
+
+pub returns-in_err-self-in-Some-clause-few : goal.returns-in_err-self-in-Some-clause-few
+returns-in_err-self-in-Some-clause-few g c = λ header snap left honest tight are.
+    let p = err_from_is_err_and c.from_residual-in_err-self-in-Some.result c.from_residual-in_err-self-in-Some.ensures.1 in
+    rw p.1 tt
+
+pub returns-in_ok-self-in-Some-clause-few : goal.returns-in_ok-self-in-Some-clause-few
+returns-in_ok-self-in-Some-clause-few g c = λ header snap left honest tight are.
+    let view : View = view_of header snap (choice_after c.args.subject.now.source) in
+    let was = c.in_ok-self-in-Some.ensures.looks.reads.honest honest in
+    let on = subst (λ (e : Bool). AreLeft (Has (g.D.Disk.state c.args.io.now.disk.now).seen c.args.io.now.space) snap view c.args.self.now.walk e left) c.if-self.false are in
+    let gives = subst (λ (d : Option Due). Gives (Has (g.D.Disk.state c.next.new.io.disk.now).seen c.next.new.io.space) snap view (items_left view c.args.self.now.walk on.0) c.next.new.self d) c.in-Some.is (c.in_ok-due.ensures.gives header snap on.0 was tight.holds on.1) in
+    let walk = look_on (λ (seen : List ℕ) (space : FreeSectors). IsWalk (Has seen space) snap c.next.new.self gives.1) _ _ _ _ _ _ _ c.in_ok-self-in-Some.ensures.looks gives.3 in
+    let cells = ap (cells_next snap) c.in-Some.is in
+    let costs = first_costs _ snap c.in-Some.due gives.0 gives.2 in
+    let few = c.in_ok-due.ensures.few header snap on.0 was tight on.1 in
+    record {
+      put = gives.0 ∷ [];
+      later = items_left view c.next.new.self gives.1;
+      are = on.2 ∙ gives.4;
+      are_left = subst (λ (e : Bool). AreLeft (Has (g.D.Disk.state c.put.new.io.disk.now).seen c.put.new.io.space) snap view c.next.new.self e (items_left view c.next.new.self gives.1)) (sym c.if-self.false) (gives.1, walk, refl);
+      few = omega (arith, cells, costs.0, costs.1, few, c.in_ok-self-in-Some.ensures.calls);
+    }
+
+pub returns-in-None-clause-few : goal.returns-in-None-clause-few
+returns-in-None-clause-few g c = λ header snap left honest tight are.
+    let view : View = view_of header snap (choice_after c.args.subject.now.source) in
+    let on = subst (λ (e : Bool). AreLeft (Has (g.D.Disk.state c.args.io.now.disk.now).seen c.args.io.now.space) snap view c.args.self.now.walk e left) c.if-self.false are in
+    let gives = subst (λ (d : Option Due). Gives (Has (g.D.Disk.state c.next.new.io.disk.now).seen c.next.new.io.space) snap view (items_left view c.args.self.now.walk on.0) c.next.new.self d) c.in-None.is (c.in_ok-due.ensures.gives header snap on.0 honest tight.holds on.1) in
+    let cells = ap (cells_next snap) c.in-None.is in
+    let few = c.in_ok-due.ensures.few header snap on.0 honest tight on.1 in
+    record { put = []; later = []; are = on.2 ∙ gives.0; are_left = refl; few = omega (arith, cells, few) }

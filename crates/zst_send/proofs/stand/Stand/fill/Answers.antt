@@ -1,4 +1,4 @@
-use Rattle.std.proofs.Common.{ℕ, Bool, ◌+◌, ◌-◌, ◌≤◌, rules, List, length, drop, arith, sym, ◌∙◌, subst}
+use Rattle.std.proofs.Common.{inl, ℕ, Bool, ◌+◌, ◌-◌, ◌≤◌, rules, List, length, drop, arith, sym, ◌∙◌, subst}
 use borrow.Rule.Slice.PartMut.{put_mid}
 use Rattle.std.proofs.lemmas.Result.{err_from_is_err_and}
 use Rattle.zst_space.specs.FreeSectors.{FreeSectors}
@@ -7,6 +7,8 @@ use Rattle.zst_block.proofs.Working.{Looks-then}
 use Rattle.zst_model.specs.sends.View.{View, view_of}
 use Rattle.zst_objset.proofs.LeafLaws.{look_back, look_on}
 use Rattle.zst_objset.specs.Sets.{SetHolds}
+use Rattle.zst_objset.specs.Tight.{SetIsTight}
+use Rattle.zst_send.proofs.Paying.{Paid, paid_on, paid_once, paid_then, pays_none}
 use Rattle.zst_traverse.specs.Cells.{choice_after}
 use Rattle.zst_send.specs.Standing.{Advances}
 use Rattle.zst_send.specs.Working.{IsLoaded, IsWork}
@@ -68,6 +70,20 @@ returns-in_err-count-clause-loaded g c = λ header snap left honest holds loaded
     let still = c.in_ok-has_more.ensures.loaded header snap (drop c.loop-count.count left) mid on given.loaded given.stands in
     c.in_err-count.ensures.loaded at_next.pending honest still at_next.work
 
+pub loop-count-init : goal.loop-count-init
+loop-count-init g c = record {
+  stands = search rules;
+  paid = λ header snap left honest tight are. inl (pays_none _ snap (view_of header snap (choice_after c.args.subject.now.source)) left c.args.self.now _ are);
+  knows = search rules;
+  stand = search rules;
+  room = search rules;
+  into = search rules;
+  count = search rules;
+  looks = search rules;
+  fits = search rules;
+  same = search rules;
+}
+
 pub loop-count-preserved : goal.loop-count-preserved
 loop-count-preserved g c = record {
   stands = λ header snap left honest holds loaded at.
@@ -86,6 +102,16 @@ loop-count-preserved g c = record {
       look_on (λ (seen : List ℕ) (space : FreeSectors). HasGiven (Has seen space) snap (view_of header snap (choice_after c.args.subject.now.source)) c.args.subject.now.to left
       (put_mid c.loop-count.count (length c.loop-count.into - c.loop-count.count) c.loop-count.into c.give.new.into) (c.loop-count.count + c.in_ok-count.field-0)
       (record c.has_more.new.self { work = c.give.new.self }) c.give.new.room) _ _ _ _ _ _ _ c.in_ok-count.ensures.looks more;
+  paid = λ header snap left honest tight are.
+      let view : View = view_of header snap (choice_after c.args.subject.now.source) in
+      let mid = c.in_ok-count.ensures.looks.reads.honest honest in
+      let was = c.in_ok-has_more.ensures.looks.reads.honest mid in
+      let on = look_on (λ (seen : List ℕ) (space : FreeSectors). SetIsTight (Has seen space) c.args.subject.now.set snap) _ _ _ _ _ _ _ c.loop-count.invariant.looks tight in
+      let paid = paid_on _ _ snap view left c.args.self.now c.loop-count.self c.has_more.new.self c.give.new.self c.loop-count.room.holds c.has_more.new.room.holds c.give.new.room.holds _ _ _ _
+      (c.loop-count.invariant.paid header snap left was tight are) (λ later rest. c.in_ok-has_more.ensures.few header snap later mid on rest)
+      c.in_ok-has_more.ensures.kept c.in_ok-count.ensures.payload c.in_ok-count.ensures.calls c.in_ok-count.ensures.once c.in_ok-count.ensures.kept in
+      look_on (λ (seen : List ℕ) (space : FreeSectors). Paid (Has seen space) snap view left c.args.self.now (record c.has_more.new.self { work = c.give.new.self }) c.give.new.room.holds
+      (g.D.Disk.state c.args.io.now.disk.now).calls (g.D.Disk.state c.give.new.io.disk.now).calls) _ _ _ _ _ _ _ c.in_ok-count.ensures.looks paid;
   knows = λ images among honest was.
       let mid = c.in_ok-count.ensures.looks.reads.honest honest in
       let had = c.loop-count.invariant.knows images among (c.in_ok-has_more.ensures.looks.reads.honest mid) was in
@@ -142,3 +168,24 @@ returns-in_err-count-clause-damaged g c = λ images among honest was.
     let next = c.in_ok-has_more.ensures.stands images first mid had in
     let on = among_on images _ _ c.in_ok-has_more.ensures.looks.reads.seen first in
     rw (p.1, p.2) (give_told images c.args.subject.now.set _ _ _ (c.in_ok-has_more.ensures.looks.reads.size ∙ c.loop-count.invariant.looks.reads.size) on c.has_more.new.self.work.payload next.work _ (c.in_err-count.ensures.damaged honest))
+
+pub returns-in_err-has_more-clause-few : goal.returns-in_err-has_more-clause-few
+returns-in_err-has_more-clause-few g c = λ header snap left honest tight are.
+    let p = err_from_is_err_and c.from_residual.result c.from_residual.ensures.1 in
+    rw p.1 tt
+
+pub returns-then-not-branch-clause-few : goal.returns-then-not-branch-clause-few
+returns-then-not-branch-clause-few g c = λ header snap left honest tight are.
+    let was = c.in_ok-has_more.ensures.looks.reads.honest honest in
+    let on = look_on (λ (seen : List ℕ) (space : FreeSectors). SetIsTight (Has seen space) c.args.subject.now.set snap) _ _ _ _ _ _ _ c.loop-count.invariant.looks tight in
+    paid_then _ _ snap (view_of header snap (choice_after c.args.subject.now.source)) left c.args.self.now c.loop-count.self c.has_more.new.self c.loop-count.room.holds _ _ _
+    (c.loop-count.invariant.paid header snap left was tight are) (λ later rest. c.in_ok-has_more.ensures.few header snap later honest on rest)
+
+pub returns-in_err-count-clause-few : goal.returns-in_err-count-clause-few
+returns-in_err-count-clause-few g c = λ header snap left honest tight are.
+    let p = err_from_is_err_and c.from_residual-in_err-count.result c.from_residual-in_err-count.ensures.1 in
+    rw p.1 tt
+
+pub returns-clause-few : goal.returns-clause-few
+returns-clause-few g c = λ header snap left honest tight are.
+    paid_once _ snap (view_of header snap (choice_after c.args.subject.now.source)) left c.args.self.now c.loop-count.self c.loop-count.room.holds _ _ (c.loop-count.invariant.paid header snap left honest tight are)

@@ -1,4 +1,4 @@
-use Rattle.std.proofs.Common.{◌≡◌, List, [], ◌++◌, ◌∙◌, ap, subst}
+use Rattle.std.proofs.Common.{◌≡◌, ℕ, ◌+◌, ◌*◌, ◌<◌, ◌≤◌, List, [], ◌++◌, ◌∙◌, ap, arith, min, refl, subst}
 use Rattle.std.specs.Prelude.{Option, Some, None, Ok, Err, Result}
 use Rattle.zst_block.specs.Blocks.{Has}
 use Rattle.zst_block.specs.declared.fault.BlockFault.{BlockFault}
@@ -13,7 +13,10 @@ use Rattle.zst_send.specs.Due.{AreHeld}
 use Rattle.zst_send.specs.Places.{ComesFirst, GoesTo, left_behind}
 use Rattle.zst_send.specs.declared.due.Due.{Due}
 use Rattle.zst_send.specs.declared.place.Place.{Place}
-use Rattle.std.specs.Prelude.{IfSome, OnOk}
+use Rattle.std.specs.Prelude.{IfOk, IfSome, OnOk}
+use Rattle.zst_send.specs.Costs.{cells_due, cells_next, ended, looks_ahead}
+use Rattle.zst_send.specs.declared.walk.Walk.{Walk}
+use Rattle.zst_send.proofs.Costing.{look_ahead}
 use Rattle.zst_send.specs.Knowing.{DueStands, IsAmong}
 use Rattle.zst_send.proofs.walk.Walk.first.Goals as goal
 
@@ -38,3 +41,25 @@ on_ok (Err fault) P is = tt
 
 pub returns-in-None-clause-stands : goal.returns-in-None-clause-stands
 returns-in-None-clause-stands g c = λ images among honest was. (on_ok c.find.result _ was, c.find.ensures.stands images among honest)
+
+pub returns-in-Some-clause-ahead : goal.returns-in-Some-clause-ahead
+returns-in-Some-clause-ahead g c = λ snap honest tight of.
+    let same = subst (λ (h : Option Due). looks_ahead snap c.args.self.now ≡ min 1 (cells_next snap h) + ended c.args.self.now.place) c.in-Some.is refl in
+    omega (arith, same)
+
+-- what is found is a look ahead
+found_ahead : (snap : DatedState) (old : Walk) (place : Place) (before after : ℕ) (result : Result (Option Due) BlockFault) → old.held ≡ None → after + 64 * ended old.place ≤ before + 64
+    → (result ≡ Ok None → ended place ≡ 1) → IfOk result (λ found. IfSome found (λ due. 0 < cells_due snap due))
+    → IfOk result (λ next. after + 64 * looks_ahead snap old ≤ before + 64 * (min 1 (cells_next snap next) + ended place))
+found_ahead snap old place before after (Ok next) empty few ends counted =
+    let ahead = look_ahead snap place next (λ none. ends (ap Ok none)) counted in
+    let none : cells_next snap old.held ≡ 0 = ap (cells_next snap) empty in
+    omega (arith, few, ahead, none)
+found_ahead snap old place before after (Err fault) empty few ends counted = tt
+
+pub returns-in-None-clause-ahead : goal.returns-in-None-clause-ahead
+returns-in-None-clause-ahead g c = λ snap honest tight of.
+    found_ahead snap c.args.self.now c.find.new.self _ _ c.find.result c.in-None.is (c.find.ensures.few snap honest tight) c.find.ensures.ends (c.find.ensures.counted snap honest tight.holds of)
+
+pub returns-in-None-clause-few : goal.returns-in-None-clause-few
+returns-in-None-clause-few g c = λ snap honest tight. omega (arith, c.find.ensures.few snap honest tight)

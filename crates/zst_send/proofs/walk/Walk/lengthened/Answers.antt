@@ -1,5 +1,5 @@
-use Rattle.std.proofs.Common.{ℕ, List, sym, ◌∙◌}
-use Rattle.std.specs.Prelude.{Some}
+use Rattle.std.proofs.Common.{ℕ, List, ap, arith, sym, ◌∙◌}
+use Rattle.std.specs.Prelude.{Ok, Some}
 use Rattle.std.proofs.lemmas.Result.{err_from_is_err_and}
 use Rattle.zst_space.specs.FreeSectors.{FreeSectors}
 use Rattle.zst_block.specs.Blocks.{Has}
@@ -7,8 +7,10 @@ use Rattle.zst_block.proofs.Working.{Looks-then}
 use Rattle.zst_model.specs.sends.View.{View, view_of}
 use Rattle.zst_objset.proofs.LeafLaws.{look_on}
 use Rattle.zst_objset.specs.Sets.{SetHolds}
+use Rattle.zst_objset.specs.Tight.{SetIsTight}
 use Rattle.zst_traverse.specs.Cells.{choice_after}
 use Rattle.zst_send.specs.Places.{ComesFirst}
+use Rattle.zst_send.proofs.Costing.{joined_counts, look_ahead}
 use Rattle.zst_send.proofs.Joining.{RunComes, run_begins, run_ends, run_goes_on}
 use Rattle.zst_send.specs.Knowing.{IsAmong}
 use Rattle.zst_send.proofs.Knowing.{among_on, run_stands}
@@ -25,6 +27,10 @@ loop-both-init g c = record {
       let view : View = view_of header snap (choice_after c.args.source) in
       let on = look_on (λ (seen : List ℕ) (space : FreeSectors). ComesFirst (Has seen space) snap view left c.args.self.now.place (Some c.args.run)) _ _ _ _ _ _ _ c.in_ok-next.ensures.looks first in
       run_begins _ snap view left c.args.self.now.place c.find.new.self c.args.run c.in_ok-next.next c.requires.run.0 on (c.in_ok-next.ensures.found header snap honest holds first.3);
+  paid = λ header snap left honest tight first.
+      let counted = c.in_ok-next.ensures.counted snap honest tight.holds first.3 in
+      let ahead = look_ahead snap c.find.new.self c.in_ok-next.next (λ none. c.in_ok-next.ensures.ends (ap Ok none)) counted in
+      omega (arith, ahead, c.in_ok-next.ensures.few snap honest tight);
   stands = λ images among honest. c.in_ok-next.ensures.stands images among honest;
   walk = record { place = c.in_ok-next.ensures.place; held = c.requires.walk.held };
   run = c.requires.run.0;
@@ -53,6 +59,15 @@ loop-both-preserved g c = record {
       let moved = look_on (λ (seen : List ℕ) (space : FreeSectors). RunComes (Has seen space) snap view left c.loop-both.self.place c.loop-both.run c.loop-both.next) _ _ _ _ _ _ _ c.in_ok-next-2.ensures.looks comes in
       run_goes_on _ c.held_goes_on.ensures snap view left c.loop-both.self.place c.find-in-Some.new.self c.loop-both.run c.in-Some.both c.loop-both.next c.in_ok-next-2.next c.loop-both.invariant.run
       (sym c.in-Some.ensures.joined) moved (c.in_ok-next-2.ensures.found header snap honest on comes.of);
+  paid = λ header snap left honest tight first.
+      let was = c.in_ok-next-2.ensures.looks.reads.honest honest in
+      let on = look_on (λ (seen : List ℕ) (space : FreeSectors). SetIsTight (Has seen space) c.args.set.now snap) _ _ _ _ _ _ _ c.loop-both.invariant.looks tight in
+      let comes = c.loop-both.invariant.comes header snap left was tight.holds first in
+      let counted = c.in_ok-next-2.ensures.counted snap honest on.holds comes.of in
+      let ahead = look_ahead snap c.find-in-Some.new.self c.in_ok-next-2.next (λ none. c.in_ok-next-2.ensures.ends (ap Ok none)) counted in
+      let joins = joined_counts snap c.loop-both.run c.in-Some.both c.loop-both.next c.loop-both.invariant.run (sym c.in-Some.ensures.joined) in
+      let paid = c.loop-both.invariant.paid header snap left was tight first in
+      omega (arith, ahead, joins, paid, c.in_ok-next-2.ensures.few snap honest on);
   stands = λ images among honest. c.in_ok-next-2.ensures.stands images (among_on images _ _ c.loop-both.invariant.looks.reads.seen among) honest;
   walk = record { place = c.in_ok-next-2.ensures.place; held = c.loop-both.invariant.walk.held };
   run = c.in-Some.ensures.run;
@@ -82,3 +97,16 @@ returns-in_err-next-2-clause-stands g c = λ images among honest.
 pub returns-clause-stands : goal.returns-clause-stands
 returns-clause-stands g c = λ images among honest.
     (c.loop-both.invariant.stands images among honest, run_stands (IsAmong images) c.args.set.now c.loop-both.run c.loop-both.invariant.run)
+
+pub returns-in_err-next-clause-few : goal.returns-in_err-next-clause-few
+returns-in_err-next-clause-few g c = λ header snap left honest tight first.
+    let p = err_from_is_err_and c.from_residual.result c.from_residual.ensures.1 in
+    rw p.1 tt
+
+pub returns-in_err-next-2-clause-few : goal.returns-in_err-next-2-clause-few
+returns-in_err-next-2-clause-few g c = λ header snap left honest tight first.
+    let p = err_from_is_err_and c.from_residual-in_err-next-2.result c.from_residual-in_err-next-2.ensures.1 in
+    rw p.1 tt
+
+pub returns-clause-few : goal.returns-clause-few
+returns-clause-few g c = λ header snap left honest tight first. c.loop-both.invariant.paid header snap left honest tight first

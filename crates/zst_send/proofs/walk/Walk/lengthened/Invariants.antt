@@ -1,4 +1,4 @@
-use Rattle.std.proofs.Common.{◌≡◌, ◌-◌, ◌^◌, true, ℕ, List}
+use Rattle.std.proofs.Common.{◌≡◌, ◌+◌, ◌*◌, ◌-◌, ◌^◌, ◌≤◌, true, ℕ, List, min}
 use Rattle.std.specs.Prelude.{Contains, None, Some, IfSome}
 use Rattle.zst_block.specs.Blocks.{FitsDisk, Has}
 use Rattle.zst_block.specs.Working.{Looks}
@@ -7,7 +7,9 @@ use Rattle.zst_model.specs.declared.states.item.Item.{Item}
 use Rattle.zst_model.specs.sends.View.{view_of}
 use Rattle.zst_model.specs.states.Dated.{DatedState}
 use Rattle.zst_objset.specs.Sets.{SetHolds}
+use Rattle.zst_objset.specs.Tight.{SetIsTight}
 use Rattle.zst_traverse.specs.Cells.{choice_after}
+use Rattle.zst_send.specs.Costs.{cells_due, cells_next, ended}
 use Rattle.zst_send.specs.Due.{DueFits, is_run, size_of_run}
 use Rattle.zst_send.specs.Knowing.{DueStands, IsAmong}
 use Rattle.zst_send.specs.Places.{ComesFirst, WalkFits}
@@ -19,6 +21,9 @@ invariant-loop-both g l = record {
   comes : (header : Header) (snap : DatedState) (left : List Item) → (g.D.Disk.state l.io.disk.now).honest → SetHolds (Has (g.D.Disk.state l.fn.io.disk.now).seen l.fn.io.space) l.set snap
       → ComesFirst (Has (g.D.Disk.state l.fn.io.disk.now).seen l.fn.io.space) snap (view_of header snap (choice_after l.source)) left l.fn.self.place (Some l.fn.run)
       → RunComes (Has (g.D.Disk.state l.io.disk.now).seen l.io.space) snap (view_of header snap (choice_after l.source)) left l.self.place l.run l.next;
+  paid : (header : Header) (snap : DatedState) (left : List Item) → (g.D.Disk.state l.io.disk.now).honest → SetIsTight (Has (g.D.Disk.state l.fn.io.disk.now).seen l.fn.io.space) l.set snap
+      → ComesFirst (Has (g.D.Disk.state l.fn.io.disk.now).seen l.fn.io.space) snap (view_of header snap (choice_after l.source)) left l.fn.self.place (Some l.fn.run)
+      → (g.D.Disk.state l.io.disk.now).calls + 64 * (cells_due snap l.fn.run + ended l.fn.self.place) ≤ (g.D.Disk.state l.fn.io.disk.now).calls + 64 * (cells_due snap l.run + (min 1 (cells_next snap l.next) + ended l.self.place));
   stands : (images : List (List ℕ)) → Contains images (g.D.Disk.state l.fn.io.disk.now).seen → (g.D.Disk.state l.io.disk.now).honest → IfSome l.next (DueStands (IsAmong images) l.set);
   walk : WalkFits l.self;
   run : is_run l.run ≡ true;

@@ -1,4 +1,4 @@
-use Rattle.std.proofs.Common.{ℕ, List, [], sym, ◌∙◌, refl, subst}
+use Rattle.std.proofs.Common.{◌≡◌, ℕ, List, [], ap, arith, sym, ◌∙◌, refl, subst}
 use Rattle.std.specs.Prelude.{Option, Some}
 use Rattle.std.proofs.lemmas.Result.{err_from_is_err_and}
 use Rattle.zst_space.specs.FreeSectors.{FreeSectors}
@@ -7,10 +7,13 @@ use Rattle.zst_model.specs.declared.states.item.Item.{Item}
 use Rattle.zst_model.specs.sends.View.{View, view_of}
 use Rattle.zst_objset.proofs.LeafLaws.{look_on}
 use Rattle.zst_objset.specs.Sets.{SetHolds}
+use Rattle.zst_objset.specs.Tight.{SetIsTight}
+use Rattle.zst_send.specs.Costs.{cells_next}
 use Rattle.zst_traverse.specs.Cells.{choice_after}
 use Rattle.zst_send.specs.Due.{AreHeld}
 use Rattle.zst_send.specs.Places.{ComesFirst, Gives, items_left}
 use Rattle.zst_send.specs.declared.due.Due.{Due}
+use Rattle.zst_send.proofs.Costing.{given_counts}
 use Rattle.zst_send.proofs.Joining.{gives_alone}
 use Rattle.std.specs.Prelude.{IfSome}
 use Rattle.zst_send.specs.Knowing.{DueStands, IsAmong}
@@ -82,3 +85,40 @@ returns-clause-stands g c = λ images among honest was.
     let first = c.in_ok-due.ensures.stands images among honest was in
     let due = subst (λ (d : Option Due). IfSome d (DueStands (IsAmong images) c.args.set.now)) c.in-Some.is first.1 in
     (subst (λ (h : Option Due). IfSome h (DueStands (IsAmong images) c.args.set.now)) (sym c.behind-self.ensures.behind) (behind_stands (IsAmong images) c.args.set.now c.in-Some.due due), due)
+
+pub returns-in_err-due-clause-few : goal.returns-in_err-due-clause-few
+returns-in_err-due-clause-few g c = λ header snap held honest tight walk.
+    let p = err_from_is_err_and c.from_residual.result c.from_residual.ensures.1 in
+    rw p.1 tt
+
+pub returns-in_default-clause-few : goal.returns-in_default-clause-few
+returns-in_default-clause-few g c = λ header snap held honest tight walk.
+    let ahead = c.in_ok-due.ensures.ahead snap honest tight walk.place_is in
+    let none = ap (cells_next snap) c.in_default.is in
+    let kept : cells_next snap c.first.new.self.held ≡ 0 = ap (cells_next snap) c.in_ok-due.ensures.held in
+    omega (arith, ahead, none, kept)
+
+pub returns-in_err-lengthened-clause-few : goal.returns-in_err-lengthened-clause-few
+returns-in_err-lengthened-clause-few g c = λ header snap held honest tight walk.
+    let p = err_from_is_err_and c.from_residual-in_err-lengthened.result c.from_residual-in_err-lengthened.ensures.1 in
+    rw p.1 tt
+
+pub returns-then-is_run-clause-few : goal.returns-then-is_run-clause-few
+returns-then-is_run-clause-few g c = λ header snap held honest tight walk.
+    let has = Has (g.D.Disk.state c.first.new.io.disk.now).seen c.first.new.io.space in
+    let view : View = view_of header snap (choice_after c.args.source) in
+    let left : List Item = items_left view c.args.self.now held in
+    let was = c.in_ok-lengthened.ensures.looks.reads.honest honest in
+    let on = look_on (λ (seen : List ℕ) (space : FreeSectors). SetIsTight (Has seen space) c.args.set.now snap) _ _ _ _ _ _ _ c.in_ok-due.ensures.looks tight in
+    let first = subst (λ (d : Option Due). ComesFirst has snap view left c.first.new.self.place d) c.in-Some.is (c.in_ok-due.ensures.goes header snap held was tight.holds walk) in
+    let ahead = c.in_ok-due.ensures.ahead snap was tight walk.place_is in
+    let found = ap (cells_next snap) c.in-Some.is in
+    omega (arith, ahead, found, c.in_ok-lengthened.ensures.few header snap left honest on first)
+
+pub returns-clause-few : goal.returns-clause-few
+returns-clause-few g c = λ header snap held honest tight walk.
+    let ahead = c.in_ok-due.ensures.ahead snap honest tight walk.place_is in
+    let found = ap (cells_next snap) c.in-Some.is in
+    let given = given_counts snap c.in-Some.due (sym c.is_run.ensures ∙ c.if-is_run.false) in
+    let held : cells_next snap c.behind-self.result ≡ 0 = ap (cells_next snap) c.behind-self.ensures.behind ∙ given.1 in
+    omega (arith, ahead, found, given.0, held)
