@@ -3,3 +3,6 @@ pub mod TableLaws
 pub mod SizeLaws
 pub mod BeginLaws
 pub mod DecodeLaws
+mod Gives
+pub mod FitsLaws
+pub mod StatedLaws

@@ -1,46 +1,16 @@
 -- The payload of a record that passes its checks.
-use Rattle.std.proofs.Common.{◌≡◌, ℕ, ◌+◌, ◌*◌, ◌/◌, ◌%◌, ◌^◌, ◌≤◌, ◌==◌, ◌&&◌, ◌||◌, Bool, true, false, not, ◌-◌, cond, leb, List, Option, Some, None, Ok, Err, refl, subst, arith}
+use Rattle.std.proofs.Common.{◌≡◌, ℕ, ◌+◌, ◌*◌, ◌/◌, ◌%◌, ◌^◌, ◌≤◌, ◌==◌, ◌&&◌, ◌||◌, Bool, true, false, not, ◌-◌, leb, List, Ok, refl, arith}
 use Rattle.std.proofs.lemmas.Bool.{leb-true, eqb-true, and_parts}
 use Rattle.std.specs.Prelude.{bit_and}
 use Rattle.zst_bytes.specs.Bytes.{number_at}
-use Rattle.zst_model.specs.declared.sends.header.Header.{Header}
 use Rattle.zst_model.specs.states.State.{is_block_size, is_spill_size, largest_block}
 use Rattle.zst_record.specs.declared.head.Head.{Head}
 use Rattle.zst_record.specs.declared.head.Head.TheVariants as heads
-use Rattle.zst_model.specs.declared.refusals.stream_fault.StreamFault.{StreamFault}
 use Rattle.zst_model.specs.sends.Features.{redacts}
 use Rattle.zst_record.specs.Formats.{stream_magic, reversed_magic, large_blocks}
-use Rattle.zst_record.specs.Decode.{Decoded, check, is_object, is_range, is_payload_len, needs_payload, others_of, decoded, begin_of, begin_with, snapshot_with, named, name_in, typed, object_with, write_with, free_with, spill_with, redact_with}
+use Rattle.zst_record.specs.Decode.{Decoded, is_object, is_range, is_payload_len, needs_payload, others_of, decoded, begin_of, begin_with, snapshot_with, header_with, name_in, typed, object_with, write_with, free_with, spill_with, redact_with}
 use Rattle.zst_record.specs.Laws.{IsBounded}
-
--- what holds of each head that is answered
-abbrev Gives : (Head → Type 0) → Decoded → Type 0
-Gives P d = (head : Head) → d ≡ Ok head → P head
-
-abbrev answer : Head → Decoded
-answer head = Ok head
-
-gives-err : (P : Head → Type 0) (f : StreamFault) → Gives P (Err f)
-gives-err P f head e = absurd cc
-
-ok-is : (one other : Head) → answer one ≡ answer other → one ≡ other
-ok-is one other e = cc
-
-gives-ok : (P : Head → Type 0) (head : Head) → P head → Gives P (Ok head)
-gives-ok P head h other e = subst P (ok-is head other e) h
-
-gives-check : (P : Head → Type 0) (b : Bool) (f : StreamFault) (next : Decoded) → (b ≡ true → Gives P next) → Gives P (check b f next)
-gives-check P true f next h = h refl
-gives-check P false f next h = gives-err P f
-
-gives-if : (P : Head → Type 0) (b : Bool) (x y : Decoded) → Gives P x → Gives P y → Gives P (cond b x y)
-gives-if P true x y h g = h
-gives-if P false x y h g = g
-
-gives-named : (P : Head → Type 0) (next : Header → Decoded) (make : List ℕ → Header) (name : Option (List ℕ)) → ((header : Header) → Gives P (next header)) → Gives P (named next make name)
-unfolding named
-gives-named P next make None h = gives-err P _
-gives-named P next make (Some name) h = h (make name)
+use Rattle.zst_record.proofs.Gives.{Gives, gives-err, gives-ok, gives-check, gives-if, gives-named}
 
 pub block-bounded : (size : ℕ) → is_block_size size ≡ true → (size % 4 ≡ 0) × (size ≤ 131072)
 unfolding is_block_size largest_block
@@ -124,8 +94,8 @@ snapshot-bounded : (len features time kind flags to from : ℕ) (name : List ℕ
 unfolding snapshot_with
 snapshot-bounded len features time kind flags to from name =
     gives-check IsBounded ((kind == 2) || (kind == 3)) _ _ (λ a. gives-check IsBounded (not (to == 0)) _ _ (λ b.
-    gives-named IsBounded _ _ (name_in name) (λ header. gives-check IsBounded (is_payload_len len) _ _ (λ is. gives-check IsBounded (not ((len == 0) && needs_payload features)) _ _ (λ c.
-    gives-ok IsBounded (heads.Begin header len) (len-bounded len is))))))
+    gives-named IsBounded _ _ (name_in name) (λ field is_name. gives-check IsBounded (is_payload_len len) _ _ (λ is. gives-check IsBounded (not ((len == 0) && needs_payload features)) _ _ (λ c.
+    gives-ok IsBounded (heads.Begin (header_with features kind flags time to from field) len) (len-bounded len is))))))
 
 begin-bounded : (record_kind magic form features : ℕ) (next : Decoded) → Gives IsBounded next → Gives IsBounded (begin_with record_kind magic form features next)
 unfolding begin_with

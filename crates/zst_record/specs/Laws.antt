@@ -1,12 +1,13 @@
 -- What is written is read again, and what passes its checks is in its table's ranges.
-use Rattle.std.specs.Prelude.{ℕ, ◌≡◌, ◌<◌, ◌≤◌, ◌%◌, List, Ok}
+use Rattle.std.specs.Prelude.{ℕ, ◌≡◌, ◌^◌, ◌<◌, ◌≤◌, ◌%◌, List, Ok, All}
 use Rattle.zst_model.specs.declared.sends.header.Header.{Header}
+use Rattle.zst_model.specs.pools.Pool.{IsStated}
 use Rattle.zst_record.specs.declared.head.Head.{Head}
 use Rattle.zst_record.specs.declared.head.Head.TheVariants as heads
 use Rattle.zst_record.specs.Formats.{longest_payload}
 use Rattle.zst_record.specs.Heads.{payload_len}
 use Rattle.zst_record.specs.Table.{head_bytes, sealed_bytes}
-use Rattle.zst_record.specs.Decode.{decoded}
+use Rattle.zst_record.specs.Decode.{decoded, features_in}
 use Rattle.zst_record.specs.Fits.{Fits, IsLater, BeginFits}
 
 -- the record of a BEGIN says that BEGIN
@@ -29,3 +30,30 @@ IsBounded head = (payload_len head % 4 ≡ 0) × (payload_len head ≤ longest_p
 abbrev pub PayloadIsBounded : Type 0
 PayloadIsBounded =
     (at features : ℕ) (bytes : List ℕ) (head : Head) → decoded at features bytes ≡ Ok head → IsBounded head
+
+-- numbers that are bytes
+abbrev pub AreBytes : List ℕ → Type 0
+AreBytes bytes = All (λ byte. byte < 2 ^ 8) bytes
+
+-- a BEGIN of a stream with these features that fits, and whose name is bytes
+abbrev pub Begins : ℕ → Head → Type 0
+Begins features (heads.Begin header len) = Fits features (heads.Begin header len) × AreBytes header.name
+Begins features head = ⊥
+
+-- a record behind BEGIN that fits a stream with these features
+abbrev pub Follows : ℕ → Head → Type 0
+Follows features head = IsLater head × Fits features head
+
+-- In a stream's first place what passes its checks is a BEGIN, and fits the features that stand there.
+abbrev pub DecodedBegins : Type 0
+DecodedBegins =
+    (features : ℕ) (bytes : List ℕ) (head : Head) → AreBytes bytes → decoded 0 features bytes ≡ Ok head → Begins (features_in bytes) head
+
+-- In any other place it is another record, and fits the stream's features.
+abbrev pub DecodedFits : Type 0
+DecodedFits =
+    (at features : ℕ) (bytes : List ℕ) (head : Head) → AreBytes bytes → 0 < at → decoded at features bytes ≡ Ok head → Follows features head
+
+-- A header that fits a BEGIN without a payload can be stated, where its name is bytes.
+abbrev pub BeginIsStated : Type 0
+BeginIsStated = (header : Header) → BeginFits header 0 → AreBytes header.name → IsStated header

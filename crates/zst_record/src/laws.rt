@@ -2,7 +2,7 @@
 ghost use Rattle.std.specs.Prelude.{◌≡◌, max};
 ghost use Rattle.zst_model.specs.states.State.{largest_block, largest_spill};
 ghost use Rattle.zst_record.specs.Formats.{record_len, summed_len, longest_payload, stream_magic, reversed_magic, substream, compound_stream};
-ghost use Rattle.zst_record.specs.Laws.{BeginIsDecoded, PayloadIsBounded, RecordIsDecoded};
+ghost use Rattle.zst_record.specs.Laws.{BeginIsDecoded, BeginIsStated, DecodedBegins, DecodedFits, PayloadIsBounded, RecordIsDecoded};
 
 use crate::{
     COMPOUND_STREAM, LONGEST_PAYLOAD, MAGIC, RECORD_LEN, REVERSED_MAGIC, SUBSTREAM, SUMMED_LEN,
@@ -36,4 +36,15 @@ pub fn record_is_decoded()
 pub fn payload_is_bounded()
     ensures bounded { PayloadIsBounded }
     ensures longest { longest_payload ≡ max largest_block largest_spill }
+{}
+
+/// What passes its checks fits its stream: in the first place it is a BEGIN, and in any other another record.
+pub fn decoded_fits()
+    ensures first { DecodedBegins }
+    ensures later { DecodedFits }
+{}
+
+/// The header of a BEGIN without a payload can be stated, where its name is bytes.
+pub fn begin_is_stated()
+    ensures { BeginIsStated }
 {}

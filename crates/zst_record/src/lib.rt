@@ -11,7 +11,10 @@ pub mod types;
 pub use decoding::{decode, get_sums};
 pub use encoding::{encode, put_sums};
 pub use head::{Head, Record};
-pub use laws::{begin_is_decoded, formats_are_defined, payload_is_bounded, record_is_decoded};
+pub use laws::{
+    begin_is_decoded, begin_is_stated, decoded_fits, formats_are_defined, payload_is_bounded,
+    record_is_decoded,
+};
 
 /// The magic number of BEGIN (`DMU_BACKUP_MAGIC` of zfs_ioctl.h).
 pub const MAGIC: u64 = 0x2_f5ba_cbac;

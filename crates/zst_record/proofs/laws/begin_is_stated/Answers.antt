@@ -1,0 +1,5 @@
+use Rattle.zst_record.proofs.StatedLaws.{begin-stated}
+use Rattle.zst_record.proofs.laws.begin_is_stated.Goals as goal
+
+pub returns : goal.returns
+returns c = begin-stated
