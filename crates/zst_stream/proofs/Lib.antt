@@ -5,3 +5,4 @@ pub mod Growth
 pub mod Whole
 mod Said
 mod Plain
+pub mod Passing

@@ -6,3 +6,4 @@ pub mod Records
 pub mod Items
 pub mod Found
 pub mod Example
+pub mod Passed

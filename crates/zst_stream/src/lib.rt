@@ -5,6 +5,7 @@ ghost use Rattle.zst_stream.specs.Example.{ExampleCanBeSent, ExampleIsStream};
 ghost use Rattle.zst_stream.specs.Records.{ItemsFit};
 ghost use Rattle.zst_stream.specs.Items.{ItemsAreRead, PayloadsFit, PlainIsAllowed, ViewIsStream, ViewIsRead, FirstItems};
 ghost use Rattle.zst_stream.specs.Laws.{FrontsAgree, FaultsAreFound, ImageIsRead, FrontIsRead, CoversArePieces, FirstPieces, PieceGoesOn};
+ghost use Rattle.zst_stream.specs.Passed.{CoveredFit, CoveredInOrder};
 
 mod forms;
 mod item_ref;
@@ -20,6 +21,16 @@ pub fn fronts_agree()
 /// What a reading refuses is in the stream itself, and never that the input is cut.
 pub fn faults_are_found()
     ensures { FaultsAreFound }
+{}
+
+/// What is covered of bytes passed its checks: each record fits its stream, and its payload is as long as it says.
+pub fn covered_fit()
+    ensures { CoveredFit }
+{}
+
+/// The covered records of bytes are BEGIN, then other records, and END at most as the last.
+pub fn covered_in_order()
+    ensures { CoveredInOrder }
 {}
 
 /// An image is read as BEGIN, its pieces and END.

@@ -1,0 +1,5 @@
+use Rattle.zst_stream.proofs.Passing.{passed}
+use Rattle.zst_stream.proofs.covered_fit.Goals as goal
+
+pub returns : goal.returns
+returns c = passed
