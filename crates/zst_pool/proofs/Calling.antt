@@ -1,13 +1,13 @@
 -- What a call of a receive did, from what its commit did.
-use Rattle.std.specs.Prelude.{Result, Ok, Err, IfOk, OnErr}
-use Rattle.std.proofs.Common.{◌≡◌, ◌⊎◌, inl, inr, ⊎_elim, ℕ, ◌+◌, ◌<◌, List, refl, sym, ap, ◌∙◌}
+use Rattle.std.specs.Prelude.{Result, Ok, Err, IfOk, OnOk, OnErr}
+use Rattle.std.proofs.Common.{◌≡◌, ◌⊎◌, inl, inr, ⊎_elim, ℕ, ◌+◌, ◌<◌, List, refl, sym, ap, subst, ◌∙◌}
 use Rattle.zst_outside.specs.Images.{DiskState, Leaves, Leaves-weaker}
 use Rattle.zst_space.specs.FreeSectors.{FreeSectors}
 use Rattle.zst_model.specs.declared.refusals.refusal.Refusal.{Refusal}
 use Rattle.zst_model.specs.pools.Kept.{kept_of}
 use Rattle.zst_model.specs.pools.Pool.{Pool}
 use Rattle.zst_dir.specs.Rows.{Rows}
-use Rattle.zst_pool.specs.Calls.{CallDid, CallFault, IsAtRest, IsUnderWay}
+use Rattle.zst_pool.specs.Calls.{CallDid, CallFault, IsAtRest, IsUnderWay, keeping}
 use Rattle.zst_pool.specs.Faults.{of_committed}
 use Rattle.zst_image.specs.declared.commit_fault.CommitFault.{CommitFault}
 use Rattle.zst_image.specs.declared.commit_fault.CommitFault.TheVariants as commits
@@ -63,3 +63,11 @@ module _ (start now : DiskState) (kept : Kept) (rows : Rows) (running next : Poo
 pub number_after : (made : Result Kept CommitFault) (number next : ℕ) → next ≡ number → IfOk made (λ kept. kept.body.number ≡ number + 1) → IfOk made (λ kept. kept.body.number ≡ next + 1)
 number_after (Ok kept) number next same is = is ∙ ap (λ n. n + 1) (sym same)
 number_after (Err fault) number next same is = tt
+
+-- what holds of what was committed holds of what the pool then keeps
+pub kept_has : (P : Kept → Type 0) (kept : Kept) (answer : Result ℕ PoolFault) (made : Result Kept PoolFault) → keeping kept answer ≡ made → IfOk made P → OnOk answer (P kept)
+kept_has P kept answer made is holds = by_answer answer (subst (λ (r : Result Kept PoolFault). IfOk r P) (sym is) holds)
+  where
+    by_answer : (a : Result ℕ PoolFault) → IfOk (keeping kept a) P → OnOk a (P kept)
+    by_answer (Ok number) h = h
+    by_answer (Err fault) h = tt

@@ -95,6 +95,7 @@ fn commit_finished<D: Disk>(
     requires works { CanCommit (D.state io.old.disk.now) io.old.space kept.now.body }
     ensures did { (start : D) (running : Plain) (plain : PlainPartial) → (D.state io.new.disk.now).honest → IsUnderWay (D.state start) (D.state io.old.disk.now) io.old.space kept.now running
         → PartialIs (Has (D.state io.old.disk.now).seen io.old.space) partial.now plain → CallDid (D.state start) (D.state io.new.disk.now) kept.now running (partial_finished plain running) result }
+    ensures rows { IfOk result (λ next. next.dir ≡ rows_with_finished (kept.now.body.number + 1) partial.now kept.now.dir) }
     ensures known { IfErr result IsCallFault }
     ensures full { (need largest : ℕ) → result ≡ Err (PoolFault.Full need largest) → IsCallFull io.old.space io.new.space kept.now.dir need largest }
     ensures ready { IfOk result (λ next. Ready (D.state io.new.disk.now) next.body) }
@@ -127,6 +128,7 @@ impl<'d, D: Disk> Pool<'d, D> {
         ensures did { (start : D) (running : Plain) (plain : PlainPartial) → (D.state self.new.io.disk.now).honest → self.old.io.failed ≡ false
             → IsUnderWay (D.state start) (D.state self.old.io.disk.now) self.old.io.space self.old.kept running → PartialIs (Has (D.state self.old.io.disk.now).seen self.old.io.space) partial plain
             → CallDid (D.state start) (D.state self.new.io.disk.now) self.old.kept running (partial_finished plain running) (keeping self.new.kept result) }
+        ensures rows { OnOk result (self.new.kept.dir ≡ rows_with_finished (self.old.kept.body.number + 1) partial self.old.kept.dir) }
         ensures number { IfOk result (λ number. number ≡ self.new.kept.body.number) }
         // Whatever the image is, there is no other refusal than E23, E24, E28 and E32.
         ensures known { self.old.io.failed ≡ false → IfErr result IsCallFault }

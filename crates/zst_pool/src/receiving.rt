@@ -1,5 +1,5 @@
 // What a receive does to a pool: it commits a partial state, or drops one.
-ghost use Rattle.std.specs.Prelude.{◌≡◌, ◌+◌, ◌<◌, ◌∷◌, ◌++◌, ◌||◌, ℕ, false, true, filter, length, not, IfErr, IfOk, IfSome, OnErr, OnOk, Err};
+ghost use Rattle.std.specs.Prelude.{◌≡◌, ◌+◌, ◌<◌, ◌^◌, ◌∷◌, ◌++◌, ◌||◌, ℕ, false, true, filter, length, not, IfErr, IfOk, IfSome, OnErr, OnOk, Err};
 ghost use Rattle.zst_block.specs.Blocks.{Has};
 ghost use Rattle.zst_block.specs.Working.{TakesAtMost};
 ghost use Rattle.zst_model.specs.pools.Pool.{Pool as Plain, Partial as PlainPartial};
@@ -8,6 +8,7 @@ ghost use Rattle.zst_dir.specs.Rows.{HasSnapshot, IsPartialRow, is_unkept_for};
 ghost use Rattle.zst_dir.specs.Spelling.{dir_bytes};
 ghost use Rattle.zst_pool.specs.Calls.{CallDid, CanCommit, IsAtRest, IsCallFault, IsCallFull, IsUnderWay, ListsAnew, keeping};
 ghost use Rattle.zst_pool.specs.Faults.{HasDiskCause, is_disk_fault, is_full};
+ghost use Rattle.zst_pool.specs.PartialRows.{rows_with_partial};
 ghost use Rattle.zst_pool.specs.Partials.{next_commit, partial_put, without_unkept};
 ghost use Rattle.zst_image.specs.Reads.{PartialIs, RunsBy, dir_sectors, free_by};
 ghost use Rattle.zst_image.specs.Committing.{IsDirFull, Ready};
@@ -33,6 +34,8 @@ pub fn commit_next<D: Disk>(
     requires works { CanCommit (D.state io.old.disk.now) io.old.space kept.now.body }
     ensures did { (start : D) (running next : Plain) → (D.state io.new.disk.now).honest → IsUnderWay (D.state start) (D.state io.old.disk.now) io.old.space kept.now running
         → ListsAnew running next → RunsBy (Has (D.state io.old.disk.now).seen io.old.space) dir next → CallDid (D.state start) (D.state io.new.disk.now) kept.now running (next_commit next) result }
+    ensures rows { IfOk result (λ next. next.dir ≡ dir) }
+    ensures below { OnOk result (kept.now.body.number < 2 ^ 63) }
     ensures known { IfErr result IsCallFault }
     ensures full { (need largest : ℕ) → result ≡ Err (PoolFault.Full need largest) → IsDirFull io.old.space io.new.space dir need largest }
     ensures takes { TakesAtMost (dir_sectors (length (dir_bytes dir))) io.old.space io.new.space }
@@ -61,6 +64,7 @@ fn commit_partial<D: Disk>(
     requires works { CanCommit (D.state io.old.disk.now) io.old.space kept.now.body }
     ensures did { (start : D) (running : Plain) (plain : PlainPartial) → (D.state io.new.disk.now).honest → IsUnderWay (D.state start) (D.state io.old.disk.now) io.old.space kept.now running
         → PartialIs (Has (D.state io.old.disk.now).seen io.old.space) partial plain → CallDid (D.state start) (D.state io.new.disk.now) kept.now running (partial_put roll plain running) result }
+    ensures rows { IfOk result (λ next. next.dir ≡ rows_with_partial roll partial kept.now.dir) }
     ensures known { IfErr result IsCallFault }
     ensures full { (need largest : ℕ) → result ≡ Err (PoolFault.Full need largest) → IsCallFull io.old.space io.new.space kept.now.dir need largest }
     ensures ready { IfOk result (λ next. Ready (D.state io.new.disk.now) next.body) }
@@ -140,6 +144,7 @@ impl<'d, D: Disk> Pool<'d, D> {
         ensures did { (start : D) (running : Plain) (plain : PlainPartial) → (D.state self.new.io.disk.now).honest → self.old.io.failed ≡ false
             → IsUnderWay (D.state start) (D.state self.old.io.disk.now) self.old.io.space self.old.kept running → PartialIs (Has (D.state self.old.io.disk.now).seen self.old.io.space) partial plain
             → CallDid (D.state start) (D.state self.new.io.disk.now) self.old.kept running (partial_put roll plain running) (keeping self.new.kept result) }
+        ensures rows { OnOk result (self.new.kept.dir ≡ rows_with_partial roll partial self.old.kept.dir) }
         ensures number { IfOk result (λ number. number ≡ self.new.kept.body.number) }
         // Whatever the image is, there is no other refusal than E23, E24, E28 and E32.
         ensures known { self.old.io.failed ≡ false → IfErr result IsCallFault }

@@ -1,5 +1,5 @@
-use Rattle.std.proofs.Common.{refl, sym, subst}
-use Rattle.std.specs.Prelude.{Result}
+use Rattle.std.proofs.Common.{◌≡◌, refl, sym, subst}
+use Rattle.std.specs.Prelude.{Result, IfOk}
 use Rattle.zst_block.specs.Blocks.{Has}
 use Rattle.zst_dir.specs.Rows.{Rows}
 use Rattle.zst_image.specs.declared.kept.Kept.{Kept}
@@ -30,3 +30,6 @@ returns-clause-did g c = λ start running plain told way is.
     let was = way_runs (g.D.Disk.state start) old c.args.io.now.space c.args.kept.now running way in
     let runs = subst (λ (r : Rows). RunsBy has r next) (sym c.in_ok-dir.ensures.put) (partial_is_put has c.args.kept.now.dir running was.runs_by c.args.partial plain is c.args.roll) in
     c.commit_next.ensures.did start running next told way (record { id = refl; number = refl; guids = refl }) runs
+
+pub returns-clause-rows : goal.returns-clause-rows
+returns-clause-rows g c = subst (λ (r : Rows). IfOk c.commit_next.result (λ next. next.dir ≡ r)) c.in_ok-dir.ensures.put c.commit_next.ensures.rows
