@@ -1,5 +1,5 @@
 -- The checks of a receive, one after another.
-use Rattle.std.proofs.Common.{inl, inr, ◌||◌, ◌≡◌, ℕ, ◌+◌, ◌<◌, Bool, true, false, not, ◌&&◌, ◌==◌, nat_lt, List, length, Option, Some, None, is_some, option_map, Result, Ok, Err, if◌then◌else◌, refl, sym, ap, ◌∙◌, subst, arith}
+use Rattle.std.proofs.Common.{◌||◌, ◌≡◌, ℕ, ◌+◌, ◌<◌, Bool, true, false, not, ◌&&◌, ◌==◌, nat_lt, List, length, Option, Some, None, is_some, option_map, Result, Ok, Err, if◌then◌else◌, refl, sym, ap, ◌∙◌, subst, arith}
 use Rattle.std.specs.Prelude.{IsErrAnd}
 use Rattle.std.specs.List.{find, position, count_by}
 use Rattle.std.specs.Option.{is_none, ok_or, option_map_or}
@@ -25,7 +25,7 @@ use Rattle.zst_model.specs.pools.Step.{count_datasets}
 use Rattle.zst_model.specs.states.Apply.{unless, ◌>>=◌}
 use Rattle.zst_names.specs.Names.{dataset_of}
 use Rattle.zst_plan.specs.Places.{AnswerAlike, FindAlike, StandsAt}
-use Rattle.zst_plan.specs.Receipts.{NeedsNoDates, TellsHead, TellsNeeded, latest_date}
+use Rattle.zst_plan.specs.Receipts.{TellsHead, latest_date}
 use Rattle.zst_plan.specs.RecvPlan.{Base, RecvPlan, Resumes, Begins, base_by_guid, base_by_head, base_onto, cloned_base, find_latest, fresh_plan, goes_on, if_contained, if_increment, if_kind, if_new, if_room, if_source, if_within, is_dated_after, is_full, is_resumed, new_datasets, recv_plan, component_for, resumed_plan, rolled_back, snapshot_name, wrong_resume}
 use Rattle.zst_plan.specs.declared.receive.RecvAsk.{RecvAsk}
 use Rattle.zst_plan.proofs.Chain.{both_refuse, err_is}
@@ -188,8 +188,3 @@ is_increment ask header name passes = go (is_full header) refl
         let fault = plans.Exists (present.Named (names.Dataset name)) in
         let clash : Err fault ≡ Ok (unrolled None) = ap (λ full. unless (full || is_some ask.origin) fault (Ok (unrolled None))) (sym e) ∙ passes (Ok (unrolled None)) in
         absurd (cc)
-
--- where a plan looks at no date, none is needed
-pub needs_none : (rows : Rows) (pool : Pool) (ask : RecvAsk) (header : Header) → NeedsNoDates ask header pool → TellsNeeded rows pool ask header
-needs_none rows pool ask header (inl full) = λ own there. absurd (cc)
-needs_none rows pool ask header (inr none) = λ own there. let absent : is_some (dataset_named ask.target pool) ≡ false = ap (λ o. is_some o) none in absurd (cc)

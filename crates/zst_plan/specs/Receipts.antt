@@ -1,5 +1,5 @@
 -- Which receipt a plan is of.
-use Rattle.std.specs.Prelude.{◌≡◌, ◌<◌, ◌⊎◌, ℕ, true, false, length, max, nat_lt, None, IfSome, is_some}
+use Rattle.std.specs.Prelude.{◌≡◌, ◌<◌, ℕ, true, false, length, max, nat_lt, IfSome, is_some}
 use Rattle.zst_dir.specs.Named.{Match}
 use Rattle.zst_dir.specs.Rows.{Rows}
 use Rattle.zst_dir.specs.declared.rows.Dataset as rows
@@ -24,10 +24,6 @@ TellsHead row dataset = (number : ℕ) → nat_lt number (latest_date row.head) 
 -- so it is with each dataset of the directory
 abbrev pub TellsDates : Rows → Pool → Type 0
 TellsDates rows pool = Match TellsHead rows.datasets pool.datasets
-
--- a plan looks at no date: the stream is full, or its target isn't there
-abbrev pub NeedsNoDates : RecvAsk → Header → Pool → Type 0
-NeedsNoDates ask header pool = (is_full header ≡ true) ⊎ (dataset_named ask.target pool ≡ None)
 
 -- the sets tell the dates where a plan looks at them
 abbrev pub TellsNeeded : Rows → Pool → RecvAsk → Header → Type 0

@@ -1,5 +1,7 @@
 // What an ask names, looked up in the directory.
-ghost use Rattle.std.specs.Prelude.{◌<◌, length, Option, Some, IfOk, IfSome};
+ghost use Rattle.std.specs.Prelude.{◌≡◌, ◌<◌, length, Option, Some, IfOk, IfSome};
+ghost use Rattle.std.specs.List.{position};
+ghost use Rattle.std.specs.Str.{bytes_eq};
 ghost use Rattle.zst_dir.specs.Named.{AreNamed, NamesSnapshot};
 ghost use Rattle.zst_model.specs.pools.Pool.{Pool, dataset_named, dataset_of_snapshot, snapshot_named};
 ghost use Rattle.zst_model.specs.pools.Pool as plain;
@@ -16,6 +18,7 @@ use zst_names::{BookName, SnapName};
 pub fn find_snapshot(dir: &Dir, name: &SnapName) -> Result<usize, PlanFault>
     ensures inside { IfOk result (λ place. place < length dir.now.snapshots) }
     ensures found { (pool : Pool) → AreNamed dir.now pool → AnswerAlike (StandsAt dir.now.snapshots pool.snapshots) result (find_snapshot name.now pool) }
+    ensures named { IfOk result (λ place. position (λ snapshot. bytes_eq snapshot.name name.now) dir.now.snapshots ≡ Some place) }
 {
     match dir.snapshot(name) {
         Some(place) => Ok(place),

@@ -2,7 +2,7 @@ ghost use Rattle.std.specs.Prelude.{◌≡◌, ◌<◌, ℕ, List, length, IfOk}
 ghost use Rattle.zst_dir.specs.Named.{AreNamed};
 ghost use Rattle.zst_model.specs.pools.Pool.{Pool, Partial as PlainPartial};
 ghost use Rattle.zst_plan.specs.Places.{AnswerAlike, StandsAt};
-ghost use Rattle.zst_plan.specs.Receipts.{IsRecvInside, IsRecvPlanOf, NeedsNoDates, TellsDates, TellsNeeded};
+ghost use Rattle.zst_plan.specs.Receipts.{IsRecvInside, IsRecvPlanOf, TellsNeeded};
 ghost use Rattle.zst_plan.specs.RecvPlan.{fresh_plan, recv_plan, resumed_plan, snapshot_name};
 ghost use Rattle.zst_plan.specs.declared.receive.RecvAsk.{RecvAsk as Ask};
 
@@ -91,8 +91,7 @@ fn fresh_plan(
 /// no memory.
 pub fn recv_plan(dir: &Dir, ask: &RecvAsk, header: &Header) -> Result<RecvPlan, PlanFault>
     ensures inside { IfOk result (IsRecvInside dir.now) }
-    ensures exact { (pool : Pool) → AreNamed dir.now pool → TellsDates dir.now pool → AnswerAlike (IsRecvPlanOf dir.now pool ask.now) result (recv_plan ask.now header.now pool) }
-    ensures undated { (pool : Pool) → AreNamed dir.now pool → NeedsNoDates ask.now header.now pool → AnswerAlike (IsRecvPlanOf dir.now pool ask.now) result (recv_plan ask.now header.now pool) }
+    ensures exact { (pool : Pool) → AreNamed dir.now pool → TellsNeeded dir.now pool ask.now header.now → AnswerAlike (IsRecvPlanOf dir.now pool ask.now) result (recv_plan ask.now header.now pool) }
 {
     let name = find_name(ask, header)?;
     match dir.partial(&ask.target) {

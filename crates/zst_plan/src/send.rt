@@ -1,4 +1,6 @@
 ghost use Rattle.std.specs.Prelude.{◌≡◌, ◌<◌, length, None, Some, IfOk, IfSome};
+ghost use Rattle.std.specs.List.{position};
+ghost use Rattle.std.specs.Str.{bytes_eq};
 ghost use Rattle.zst_dir.specs.Named.{AreNamed, NamesSnapshot};
 ghost use Rattle.zst_dir.specs.Rows.{Rows};
 ghost use Rattle.zst_model.specs.pools.Before as plain;
@@ -51,6 +53,7 @@ fn plan_of(
     book_t: Option<usize>,
 ) -> SendPlan
     ensures inside { (rows : Rows) → snap < length rows.snapshots → IfSome source.now (IsInRows rows) → IfSome book_t (λ p. p < length rows.bookmarks) → IsInside rows result }
+    ensures snapshot { result.snap ≡ snap }
     ensures plan { (rows : Rows) (pool : Pool) (sent : Sent) → StandsAt rows.snapshots pool.snapshots snap sent.snapshot → NamesSnapshot snapshot.now sent.snapshot
         → FindAlike (IsSource rows pool) source.now sent.source → FindAlike (StandsAt rows.bookmarks pool.bookmarks) book_t sent.redaction
         → sent.kind ≡ kind_of pool sent.snapshot → IsPlanOf rows pool result sent }
@@ -74,6 +77,7 @@ fn plan_of(
 pub fn send_plan(dir: &Dir, ask: &SendAsk) -> Result<SendPlan, PlanFault>
     ensures inside { IfOk result (IsInside dir.now) }
     ensures exact { (pool : Pool) → AreNamed dir.now pool → AnswerAlike (IsPlanOf dir.now pool) result (send_plan ask.now pool) }
+    ensures named { IfOk result (λ plan. position (λ snapshot. bytes_eq snapshot.name ask.now.snap) dir.now.snapshots ≡ Some plan.snap) }
 {
     let snap = find_snapshot(dir, &ask.snap)?;
     let source = find_source(dir, &ask.from)?;

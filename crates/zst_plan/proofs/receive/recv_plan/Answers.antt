@@ -6,7 +6,7 @@ use Rattle.zst_plan.specs.Receipts.{IsRecvPlanOf}
 use Rattle.zst_plan.specs.RecvPlan.{component_for, fresh_plan, recv_plan, resumed_plan, snapshot_name}
 use Rattle.zst_plan.proofs.Chain.{err_alike, ok_alike}
 use Rattle.zst_plan.proofs.Lookups.{none_alike, some_alike}
-use Rattle.zst_plan.proofs.Receiving.{by_component, hands_on, needs_none, partials_find, refuses}
+use Rattle.zst_plan.proofs.Receiving.{by_component, hands_on, partials_find, refuses}
 use Rattle.zst_plan.proofs.receive.recv_plan.Goals as goal
 
 pub returns-in_err-name-clause-exact : goal.returns-in_err-name-clause-exact
@@ -38,35 +38,4 @@ returns-in-None-clause-exact c = λ pool are tells.
     let none = none_alike (StandsAt rows.partials pool.partials) (partial_of ask.target pool) (partials_find rows pool are ask.target None (sym c.in-None.is ∙ c.partial.ensures)) in
     hands_on (IsRecvPlanOf rows pool ask) c.fresh_plan.result (recv_plan ask header pool) (fresh_plan ask header n.0 pool)
     (by_component ask header pool _ n.1 ∙ ap (λ o. option_map_or (resumed_plan header) o (fresh_plan ask header n.0 pool)) none)
-    (c.fresh_plan.ensures.exact pool n.0 are (λ own there. tells) n.2)
-
-pub returns-in_err-name-clause-undated : goal.returns-in_err-name-clause-undated
-returns-in_err-name-clause-undated c = λ pool are when.
-    let rows = c.args.dir.now in
-    let header = c.args.header.now in
-    let ask = c.args.ask.now in
-    let fault = c.in_err-name.field-0.0 in
-    refuses (IsRecvPlanOf rows pool ask) c.from_residual.result (recv_plan ask header pool) fault c.from_residual.ensures.1
-    (by_component ask header pool _ (err_alike (λ (found : List ℕ) (component : List ℕ). found ≡ snapshot_name ask.target component) fault (component_for ask header) c.in_err-name.ensures))
-
-pub returns-in-Some-clause-undated : goal.returns-in-Some-clause-undated
-returns-in-Some-clause-undated c = λ pool are when.
-    let rows = c.args.dir.now in
-    let header = c.args.header.now in
-    let ask = c.args.ask.now in
-    let n = ok_alike (λ (found : List ℕ) (component : List ℕ). found ≡ snapshot_name ask.target component) c.in_ok-name.name (component_for ask header) c.in_ok-name.ensures in
-    let found = some_alike (StandsAt rows.partials pool.partials) c.in-Some.place (partial_of ask.target pool) (partials_find rows pool are ask.target (Some c.in-Some.place) (sym c.in-Some.is ∙ c.partial.ensures)) in
-    hands_on (IsRecvPlanOf rows pool ask) c.resumed_plan.result (recv_plan ask header pool) (resumed_plan header found.0)
-    (by_component ask header pool _ n.1 ∙ ap (λ o. option_map_or (resumed_plan header) o (fresh_plan ask header n.0 pool)) found.1)
-    (c.resumed_plan.ensures.exact pool ask found.0 are found.2)
-
-pub returns-in-None-clause-undated : goal.returns-in-None-clause-undated
-returns-in-None-clause-undated c = λ pool are when.
-    let rows = c.args.dir.now in
-    let header = c.args.header.now in
-    let ask = c.args.ask.now in
-    let n = ok_alike (λ (found : List ℕ) (component : List ℕ). found ≡ snapshot_name ask.target component) c.in_ok-name.name (component_for ask header) c.in_ok-name.ensures in
-    let none = none_alike (StandsAt rows.partials pool.partials) (partial_of ask.target pool) (partials_find rows pool are ask.target None (sym c.in-None.is ∙ c.partial.ensures)) in
-    hands_on (IsRecvPlanOf rows pool ask) c.fresh_plan.result (recv_plan ask header pool) (fresh_plan ask header n.0 pool)
-    (by_component ask header pool _ n.1 ∙ ap (λ o. option_map_or (resumed_plan header) o (fresh_plan ask header n.0 pool)) none)
-    (c.fresh_plan.ensures.exact pool n.0 are (needs_none rows pool ask header when) n.2)
+    (c.fresh_plan.ensures.exact pool n.0 are tells n.2)
