@@ -76,6 +76,15 @@ module _ (images more : List ℕ → Type 0) (up : (image : List ℕ) → images
     found_is = none.found_is;
   }))
 
+  data_more : (set : ObjSet) (ptr : Ptr) → IsDataOf images set ptr → IsDataOf more set ptr
+  data_more set ptr is = record {
+    dnode = is.dnode;
+    stands = StandsIn-more images more up set is.dnode is.stands;
+    hangs = HangsBelow-grows (MayHave images) (MayHave more) (MayHave-more images more up) is.dnode.levels is.dnode.root ptr is.hangs;
+    is_data = is.is_data;
+    length_is = is.length_is;
+  }
+
   pub due_more : (size : ℕ) (due : Due) (sector : ℕ) (stated found : List ℕ) → IsDamagedDue images size due sector stated found → IsDamagedDue more size due sector stated found
   due_more size (Absent first count) sector stated found told = absurd told
   due_more size (Object k dnode) sector stated found told = absurd told
@@ -90,16 +99,23 @@ module _ (images more : List ℕ → Type 0) (up : (image : List ℕ) → images
   payload_more size (payloads.Bonus field count) sector stated found told = absurd told
   payload_more size (payloads.Block ptr) sector stated found told = told_more size ⊥ ptr sector stated found told
 
+  pub send_more : (size : ℕ) (set : ObjSet) (sector : ℕ) (stated found : List ℕ) → IsDamagedSend images size set sector stated found → IsDamagedSend more size set sector stated found
+  send_more size set sector stated found (inl cell) = inl (cell_more size set sector stated found cell)
+  send_more size set sector stated found (inr (inl index)) = inr (inl (record {
+    ptr = index.ptr;
+    is = data_more set index.ptr index.is;
+    damaged = told_more size ⊥ index.ptr sector stated found index.damaged;
+  }))
+  send_more size set sector stated found (inr (inr spill)) = inr (inr (record {
+    dnode = spill.dnode;
+    stands = StandsIn-more images more up set spill.dnode spill.stands;
+    damaged = told_more size ⊥ spill.dnode.spill sector stated found spill.damaged;
+  }))
+
   cell_stands : (set : ObjSet) (what : Cell) (ptr : Ptr) → CellStands images set what ptr → CellStands more set what ptr
   cell_stands set cells.Hole ptr stands = tt
   cell_stands set cells.Redacted ptr stands = tt
-  cell_stands set cells.Data ptr stands = record {
-    dnode = stands.dnode;
-    stands = StandsIn-more images more up set stands.dnode stands.stands;
-    hangs = HangsBelow-grows (MayHave images) (MayHave more) (MayHave-more images more up) stands.dnode.levels stands.dnode.root ptr stands.hangs;
-    is_data = stands.is_data;
-    length_is = stands.length_is;
-  }
+  cell_stands set cells.Data ptr stands = data_more set ptr stands
 
   pub found_more : (set : ObjSet) (next : Found) → FoundStands images set next → FoundStands more set next
   found_more set (found.Object number dnode) stands = StandsIn-more images more up set dnode stands

@@ -3,7 +3,7 @@ mod Damaging
 mod Filling
 mod Giving
 mod Joining
-mod Knowing
+pub mod Knowing
 mod Passing
 mod Paying
 mod Planning

@@ -1,6 +1,9 @@
 -- What a plan's rows tell of the send that it is of, where they stand for what a pool lists.
-use Rattle.std.proofs.Common.{◌≡◌, ℕ, Bool, true, false, not, List, [], ◌∷◌, length, is_some, Option, Some, None, Result, Ok, Err, refl, sym, ap, ◌∙◌, subst, get_or, arith}
+use Rattle.std.proofs.Common.{◌≡◌, ℕ, Bool, true, false, not, List, [], ◌∷◌, length, is_some, Option, Some, None, Result, Ok, Err, cond, option_map, suc, zero, ◌<◌, refl, sym, ap, ◌∙◌, subst, get_or, arith}
 use Rattle.std.proofs.lemmas.List.{get_or_default}
+use Rattle.std.proofs.lemmas.List.Quantifiers.{position-Some}
+use Rattle.std.specs.List.{find, position}
+use Rattle.std.specs.Str.{bytes_eq}
 use Rattle.std.specs.Prelude.{IsErrAnd}
 use Rattle.std.proofs.lemmas.Bool.{and_parts, lt-ltb, true≢false}
 use Rattle.zst_dir.proofs.Matching.{Match-alike}
@@ -9,6 +12,7 @@ use Rattle.zst_dir.specs.Rows.{Rows}
 use Rattle.zst_dir.specs.declared.rows.Snapshot.{Snapshot}
 use Rattle.zst_image.specs.Reads.{BookmarkIs, RunsBy, SnapshotIs}
 use Rattle.zst_model.specs.declared.refusals.faults.Lack.TheVariants as lacks
+use Rattle.zst_model.specs.declared.refusals.named.Name.TheVariants as names
 use Rattle.zst_model.specs.declared.refusals.plan_fault.PlanFault.{PlanFault}
 use Rattle.zst_model.specs.declared.refusals.plan_fault.PlanFault.TheVariants as plans
 use Rattle.zst_model.specs.declared.sends.ask.SendAsk.{SendAsk}
@@ -23,6 +27,10 @@ use Rattle.zst_objset.specs.Sets.{SetHolds}
 use Rattle.zst_plan.specs.Places.{AnswerAlike, FindAlike, StandsAt}
 use Rattle.zst_plan.specs.Plans.{IsPlanOf, bookmark_source}
 use Rattle.zst_plan.specs.declared.plan.SendPlan.{SendPlan}
+use Rattle.zst_block.specs.declared.fault.BlockFault.{BlockFault}
+use Rattle.zst_block.specs.declared.fault.BlockFault.TheVariants as blocks
+use Rattle.zst_pool.specs.Faults.{of_block}
+use Rattle.zst_pool.specs.Finding.{set_named}
 use Rattle.zst_pool.specs.declared.fault.PoolFault.{PoolFault}
 use Rattle.zst_pool.specs.declared.fault.PoolFault.TheVariants.{OutOfMemory, Plan}
 use Rattle.zst_traverse.specs.Cells.{choice_after}
@@ -36,6 +44,28 @@ at_names : {A B : Type 0} (Is : A → B → Type 0) (rows : List A) (others : Li
 at_names {A = A} Is rows others place row other m at is =
     let same : at.row ≡ row = sym at.is_there ∙ get_or_default rows place at.row row at.below ∙ sym is in
     subst (λ (r : A). Is r other) same (Match-alike Is rows others at.row other m at.alike)
+
+-- what is found is the first that passes
+found_at : {A : Type 0} (p : A → Bool) (d : A) (xs : List A) (i : ℕ) → i < length xs → p (get_or xs i d) ≡ true → ((k : ℕ) → k < i → p (get_or xs k d) ≡ false) → find p xs ≡ Some (get_or xs i d)
+found_at p d [] i below here before = absurd (omega (arith, below))
+found_at p d (x ∷ xs) zero below here before = ap (λ b. cond b (Some x) (find p xs)) here
+found_at p d (x ∷ xs) (suc i) below here before =
+    ap (λ b. cond b (Some x) (find p xs)) (before 0 (omega arith)) ∙ found_at p d xs i (omega (arith, below)) here (λ k less. before (suc k) (omega (arith, less)))
+
+-- the snapshot of a name has the set of that name
+pub set_at : (rows : Rows) (name : List ℕ) (place : ℕ) (row : Snapshot) → position (λ snapshot. bytes_eq snapshot.name name) rows.snapshots ≡ Some place → row ≡ get_or rows.snapshots place row
+    → set_named (names.Snapshot name) rows ≡ Some row.objects
+set_at rows name place row stands here =
+    let passes = λ (snapshot : Snapshot). bytes_eq snapshot.name name in
+    let at = position-Some passes rows.snapshots place row stands in
+    ap (λ (o : Option Snapshot). option_map (λ (snapshot : Snapshot). snapshot.objects) o) (found_at passes row rows.snapshots place at.0 at.1 at.2)
+    ∙ ap (λ (r : Snapshot). Some r.objects) (sym here)
+
+-- a block's fault is no plan's
+pub never_planned : (block : BlockFault) (fault : PlanFault) → of_block block ≡ Plan fault → ⊥
+never_planned (blocks.Full need largest) fault is = absurd (cc is)
+never_planned (blocks.Damaged sector stated found) fault is = absurd (cc is)
+never_planned blocks.DiskFault fault is = absurd (cc is)
 
 -- what answers alike found and refused
 pub err_is : {T E : Type 0} (result : Result T E) (fault : E) → IsErrAnd result (λ e. e ≡ fault) → result ≡ Err fault

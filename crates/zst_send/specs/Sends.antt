@@ -10,6 +10,7 @@ use Rattle.zst_space.specs.FreeSectors.{FreeSectors}
 use Rattle.zst_stream.specs.Records.{view_text}
 use Rattle.zst_traverse.specs.Cells.{choice_after}
 use Rattle.zst_tree.specs.Indices.{Blocks}
+use Rattle.zst_tree.specs.declared.tree.ObjSet.{ObjSet}
 use Rattle.zst_send.specs.Standing.{StandFits, StandsAt}
 use Rattle.zst_send.specs.Working.{IsLoaded, RoomFits}
 use Rattle.zst_send.specs.declared.send.Send.{Send}
@@ -26,6 +27,10 @@ pub record Sends (has : Blocks) (send : Send) (sent : Sent) (given left : List �
   pub to : send.subject.to ≡ (header_of sent).to
   pub stands : StandsAt has sent.snapshot.objects (sent_view sent) send.subject.to send.stand left
   pub loaded : IsLoaded has send.room
+
+-- the object set of the snapshot that is sent
+abbrev pub sent_set : Send → ObjSet
+sent_set send = send.subject.set
 
 -- what it keeps is in its ranges, whatever the image
 pub record SendFits (send : Send) : Type 0 where

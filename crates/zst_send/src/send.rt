@@ -17,24 +17,29 @@ pub struct Send {
 }
 
 impl Send {
-    ghost use Rattle.std.specs.Prelude.{◌≡◌, ◌+◌, ◌≤◌, false, true, Contains, List, [], ℕ, IfErr, IfOk, None, Err, length};
+    ghost use Rattle.std.specs.Prelude.{◌≡◌, ◌≢◌, ◌+◌, ◌≤◌, false, true, Contains, List, [], ℕ, IfErr, IfOk, None, Some, Err, length};
+    ghost use Rattle.std.specs.List.{position};
+    ghost use Rattle.std.specs.Str.{bytes_eq};
     ghost use Rattle.zst_space.specs.FreeSectors.{FreeSectors};
     ghost use Rattle.zst_block.specs.Blocks.{FitsDisk, Has};
     ghost use Rattle.zst_block.specs.Working.{Looks};
     ghost use Rattle.zst_dir.specs.Named.{AreNamed};
     ghost use Rattle.zst_image.specs.Reads.{RunsBy};
     ghost use Rattle.zst_model.specs.pools.Pool.{Pool as Plain};
+    ghost use Rattle.zst_model.specs.declared.refusals.named.Name.TheVariants as names;
+    ghost use Rattle.zst_model.specs.declared.refusals.plan_fault.PlanFault.{PlanFault};
     ghost use Rattle.zst_model.specs.declared.states.item.Item.{Item};
     ghost use Rattle.zst_model.specs.sends.Headers.{Sent};
     ghost use Rattle.zst_objset.specs.Tight.{SetIsTight};
     ghost use Rattle.zst_plan.specs.Plans.{IsInside, IsPlanOf};
     ghost use Rattle.zst_pool.specs.Damage.{IsOf};
+    ghost use Rattle.zst_pool.specs.Finding.{set_named};
     ghost use Rattle.zst_pool.specs.Telling.{stop_of};
     ghost use Rattle.zst_send.specs.Costs.{AreToCome, PaysFor};
     ghost use Rattle.zst_send.specs.Damage.{IsDamagedSend};
     ghost use Rattle.zst_send.specs.Knowing.{IsAmong, Knows};
     ghost use Rattle.zst_send.specs.Opening.{IsPlanned, Opens, is_plain, opening};
-    ghost use Rattle.zst_send.specs.Sends.{SendFits, Sends, Takes, sent_text};
+    ghost use Rattle.zst_send.specs.Sends.{SendFits, Sends, Takes, sent_set, sent_text};
     ghost use Rattle.zst_send.specs.Working.{RoomFits};
 
     /// Plans a send and takes all of its memory. Nothing is read.
@@ -47,7 +52,8 @@ impl Send {
         ensures opens { (image : List ℕ) (space : FreeSectors) (running : Plain) → pool.old.io.failed ≡ false → RunsBy (Has image space) pool.old.kept.dir running → Opens (Has image space) ask.now running result }
         // Its refusals are those of the rows alone, whatever the object sets and the lists hold.
         ensures planned { (running : Plain) → pool.old.io.failed ≡ false → AreNamed pool.old.kept.dir running → IsPlanned (opening ask.now running) result }
-        // It keeps no pointer yet.
+        // It is of the object set that the asked name has, and keeps no pointer yet.
+        ensures set { IfOk result (λ send. set_named (names.Snapshot ask.now.snap) pool.old.kept.dir ≡ Some (sent_set send)) }
         ensures knows { (images : List (List ℕ)) → IfOk result (Knows (IsAmong images)) }
         ensures fits { IfOk result SendFits }
         // A pool that has failed answers nothing else.
@@ -84,6 +90,9 @@ impl Send {
             → Takes (Has (D.state pool.new.io.disk.now).seen pool.new.io.space) self.new sent given left into.new result }
         // Whatever the image, only as many as were asked are given.
         ensures count { IfOk result (λ count. count ≤ length into.old) }
+        // Its subject stays, and the plan isn't asked again.
+        ensures subject { self.new.subject ≡ self.old.subject }
+        ensures unplanned { (fault : PlanFault) → result ≢ Err (PoolFault.Plan fault) }
         // Among the images that the disk had so far, it keeps what may stand in the set, and E25 names a block of it.
         ensures knows { (images : List (List ℕ)) → Contains images (D.state pool.old.io.disk.now).seen → (D.state pool.new.io.disk.now).honest → Knows (IsAmong images) self.old → Knows (IsAmong images) self.new }
         ensures damaged { (images : List (List ℕ)) → Contains images (D.state pool.old.io.disk.now).seen → (D.state pool.new.io.disk.now).honest → Knows (IsAmong images) self.old
@@ -120,6 +129,7 @@ impl Send {
         requires inside { IsInside dir.now plan.now }
         requires room { RoomFits room }
         requires empty { room.holds ≡ None }
+        ensures set { (name : List ℕ) → position (λ snapshot. bytes_eq snapshot.name name) dir.now.snapshots ≡ Some plan.now.snap → set_named (names.Snapshot name) dir.now ≡ Some (sent_set result) }
         ensures knows { (images : List (List ℕ)) → Knows (IsAmong images) result }
         ensures fits { SendFits result }
         ensures sends { (image : List ℕ) (space : FreeSectors) (running : Plain) (sent : Sent) → RunsBy (Has image space) dir.now running → IsPlanOf dir.now running plan.now sent → is_plain sent ≡ true

@@ -69,3 +69,6 @@ returns-clause-planned g c = λ running live named.
     let ask = c.args.ask.now in
     let s = ok_alike (IsPlanOf rows running) c.in_ok-plan.plan (send_plan ask running) (c.in_ok-plan.ensures.exact running named) in
     (s.0, planned_is ask running s.0 s.1 ∙ c.in_ok-check_built.ensures.judges running s.0 named s.2)
+
+pub returns-clause-set : goal.returns-clause-set
+returns-clause-set g c = c.planned.ensures.set c.args.ask.now.snap c.in_ok-plan.ensures.named

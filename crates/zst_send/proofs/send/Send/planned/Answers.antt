@@ -1,4 +1,4 @@
-use Rattle.std.proofs.Common.{List, Option, get_or, refl, sym, ap, ◌∙◌, subst}
+use Rattle.std.proofs.Common.{List, Option, Some, get_or, refl, sym, ap, ◌∙◌, subst}
 use Rattle.zst_block.specs.declared.ptr.Ptr.{Ptr}
 use Rattle.zst_block.specs.Blocks.{Has}
 use Rattle.zst_dir.specs.declared.rows.Snapshot.{Snapshot}
@@ -10,7 +10,7 @@ use Rattle.zst_send.specs.Standing.{StandsAt}
 use Rattle.zst_send.specs.Working.{HasBlock}
 use Rattle.zst_objset.specs.Sets.{SetHolds}
 use Rattle.zst_pool.proofs.Naming.{rows_named}
-use Rattle.zst_send.proofs.Planning.{plan_choice, plan_holds}
+use Rattle.zst_send.proofs.Planning.{plan_choice, plan_holds, set_at}
 use Rattle.zst_send.proofs.send.Send.planned.Goals as goal
 
 pub returns-clause-sends : goal.returns-clause-sends
@@ -30,6 +30,13 @@ returns-clause-sends c = λ image space running sent runs is plain.
           (c.start.ensures.stands image space sent.snapshot.objects (sent_view sent));
       loaded = subst (λ (holds : Option Ptr). HasBlock has c.args.room.bytes.items holds) (sym c.requires.empty) tt;
     }
+
+pub returns-clause-set : goal.returns-clause-set
+returns-clause-set c = λ name stands.
+    let plan = c.args.plan.now in
+    let row = c.index-snapshots-plan.result in
+    set_at c.args.dir.now name plan.snap row stands (c.index-snapshots-plan.is ∙ ap (λ (xs : List Snapshot). get_or xs plan.snap row) c.snapshots.ensures)
+    ∙ ap (λ (r : Snapshot). Some r.objects) c.index-snapshots-plan.is
 
 pub returns-clause-knows : goal.returns-clause-knows
 returns-clause-knows c = λ images. c.start.ensures.knows images _

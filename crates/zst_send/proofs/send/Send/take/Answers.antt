@@ -1,4 +1,4 @@
-use Rattle.std.proofs.Common.{ℕ, ◌+◌, List, ◌++◌, take, drop, sym, ap, ◌∙◌, subst, append_assoc}
+use Rattle.std.proofs.Common.{◌≡◌, ℕ, ◌+◌, List, ◌++◌, take, drop, sym, ap, ◌∙◌, subst, append_assoc}
 use Rattle.std.proofs.lemmas.List.{take-append-drop}
 use Rattle.zst_space.specs.FreeSectors.{FreeSectors}
 use Rattle.zst_block.specs.Blocks.{Has}
@@ -15,6 +15,8 @@ use Rattle.zst_send.specs.Costs.{AreLeft, Pays}
 use Rattle.zst_send.proofs.Paying.{stand_items}
 use Rattle.zst_send.specs.Damage.{IsDamagedSend}
 use Rattle.zst_send.specs.Knowing.{IsAmong}
+use Rattle.zst_send.proofs.Planning.{never_planned}
+use Rattle.zst_pool.specs.declared.fault.PoolFault.TheVariants.{Plan}
 use Rattle.zst_send.proofs.send.Send.take.Goals as goal
 
 pub returns-clause-takes : goal.returns-clause-takes
@@ -41,6 +43,12 @@ returns-in_err-count-clause-damaged g c = λ images among honest was.
     let told = c.in_err-count.ensures.damaged images among honest was in
     let Is = IsDamagedSend (IsAmong images) (g.D.Disk.state c.args.pool.now.io.disk.now).size c.args.self.now.subject.set in
     rw (p.1, p.2) (set_told Is Is (λ sector stated found damaged. damaged) (Unit {0}) (set_faults.Block c.in_err-count.field-0.0) told)
+
+pub returns-in_err-count-clause-unplanned : goal.returns-in_err-count-clause-unplanned
+returns-in_err-count-clause-unplanned g c = λ fault is.
+    let p = err_from_is_err_and c.from_residual.result c.from_residual.ensures.1 in
+    let same : p.0 ≡ Plan fault = cc (p.1, is) in
+    never_planned c.in_err-count.field-0.0 fault (sym p.2 ∙ same)
 
 pub returns-clause-knows : goal.returns-clause-knows
 returns-clause-knows g c = λ images among honest was. c.in_ok-count.ensures.stands images among honest was
