@@ -21,6 +21,7 @@ use Rattle.zst_tree.specs.Indices.{Blocks}
 use Rattle.zst_writer.specs.Writes.{HasWritten, bytes_after}
 use Rattle.zst_send.specs.Due.{AreHeld}
 use Rattle.zst_send.specs.Places.{IsWalk, items_left}
+use Rattle.zst_send.specs.Records.{AreLeft, HasPut, IsInWork, end_size}
 use Rattle.zst_send.specs.Standing.{Fills, IsRest, StandFits, StandsAt}
 use Rattle.zst_send.specs.Working.{IsLoaded, IsPayload, IsPut, IsWork, WorkFits, payload_size}
 use Rattle.zst_send.specs.declared.work.Payload.{Payload}
@@ -205,4 +206,25 @@ begins all has snap view header stand written head payload given held point slot
         ap (λ (l : List Item). image_after front (pieces_for header.to (joined l)) header.to) (sym left),
       );
       are = refl;
+    }
+
+-- and has put none of them
+pub begins_put : WalkBegins → (has : Blocks) (snap : DatedState) (view : View) (stand : Stand) → stand.work.payload ≡ Nothing → stand.work.given ≡ 0
+    → stand.walk.held ≡ None → stand.walk.place.point ≡ origin → stand.walk.place.slot ≡ true → stand.ended ≡ false → HasPut has snap view [] 0 stand
+begins_put all has snap view stand payload given held point slot open_still =
+    let left : walk_left view stand.walk.place.point stand.walk.place.slot ≡ single_items view origin =
+    ap (λ (p : Point). walk_left view p stand.walk.place.slot) point ∙ ap (walk_left view origin) slot ∙ all view origin in
+    record {
+      later = items view origin;
+      are = refl;
+      are_left = subst (λ (e : Bool). AreLeft has snap view stand.walk e (items view origin)) (sym open_still) (
+        [],
+        record { held_are = subst (λ (h : Option Due). AreHeld has h []) (sym held) refl; place_is = λ passed. absurd (true≢false (sym slot ∙ passed)) },
+        ap joined (sym left),
+      );
+      in_work = subst (λ (p : Payload). IsInWork [] stand.ended p) (sym payload) tt;
+      place_is =
+          let size : payload_size stand.work.payload ≡ 0 = ap payload_size payload in
+          let none : end_size stand.ended ≡ 0 = ap end_size open_still in
+          omega (arith, size, none, given);
     }

@@ -11,3 +11,4 @@ mod Putting
 mod Sizes
 mod Staying
 mod Steps
+mod Touching

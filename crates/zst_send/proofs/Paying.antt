@@ -1,20 +1,26 @@
 -- What the items that were put pay of a send's calls of the disk.
-use Rattle.std.proofs.Common.{inl, inr, ◌≡◌, ◌⊎◌, Bool, true, false, ℕ, ◌+◌, ◌≤◌, List, [], ◌∷◌, ◌++◌, refl, sym, ap, ◌∙◌, arith, subst, Option}
-use Rattle.std.proofs.lemmas.List.{append_assoc}
+use Rattle.std.proofs.Common.{inl, inr, ◌≡◌, ◌⊎◌, Bool, true, false, if◌then◌else◌, ℕ, ◌+◌, ◌*◌, ◌<◌, ◌≤◌, List, [], ◌∷◌, ◌++◌, refl, sym, ap, ◌∙◌, arith, subst, Option, Some, None}
+use Rattle.std.specs.Prelude.{IfSome}
+use Rattle.std.proofs.lemmas.List.{append-nil, append_assoc, append_cancel_left}
 use Rattle.zst_block.specs.declared.ptr.Ptr.{Ptr}
 use Rattle.zst_model.specs.declared.states.item.Item.{Item}
+use Rattle.zst_model.specs.sends.Items.{items, origin}
 use Rattle.zst_model.specs.sends.View.{View}
 use Rattle.zst_model.specs.states.Dated.{DatedState}
 use Rattle.zst_tree.specs.Indices.{Blocks}
-use Rattle.zst_send.specs.Costs.{AreLeft, IsHeld, Pays, calls_for, cells_due, cells_of, reads_due, reads_of}
+use Rattle.zst_record.specs.Formats.{record_len}
+use Rattle.zst_send.specs.Costs.{IsHeld, Pays, Puts, PutsIn, blocks_in, calls_for, cells_due, cells_in, cells_of, is_ended, listed, looks_ahead, reads_due}
 use Rattle.zst_send.specs.Due.{IsFirst}
 use Rattle.zst_send.specs.declared.due.Due.{Due}
 use Rattle.zst_send.specs.declared.due.Due.TheVariants as dues
 use Rattle.zst_send.specs.declared.stand.Stand.{Stand}
-use Rattle.zst_send.specs.Places.{items_left}
-use Rattle.zst_send.specs.Standing.{IsRest, StandsAt}
+use Rattle.zst_send.specs.Places.{IsWalk, items_left}
+use Rattle.zst_send.specs.Records.{AreLeft, HasPut, IsInWork, IsOfItem, blocks_behind, end_size, reads_of, size_of, sizes_of, touched}
+use Rattle.zst_send.specs.Working.{payload_size}
 use Rattle.zst_send.specs.declared.walk.Walk.{Walk}
 use Rattle.zst_send.specs.declared.work.Payload.{Payload}
+use Rattle.zst_send.specs.declared.work.Payload.TheVariants as payloads
+use Rattle.zst_send.proofs.Touching.{touched_more, touched_next, touched_there}
 use Rattle.zst_send.specs.declared.work.Work.{Work}
 
 module _ (has : Blocks) (snap : DatedState) where
@@ -28,73 +34,237 @@ module _ (has : Blocks) (snap : DatedState) where
   first_costs (dues.Redacted k offset count) item is = (ap (cells_of snap) is, ap reads_of is)
   first_costs (dues.Block k type offset ptr) item (bytes, there, long, is) = (ap (cells_of snap) is, ap reads_of is)
 
-  module _ (view : View) where
-    -- nothing was put, for no calls
-    pub pays_none : (left : List Item) (old : Stand) (before : ℕ) → AreLeft has snap view old.walk old.ended left → Pays has snap view left old old before before
-    pays_none left old before are = record { put = []; later = left; are = refl; are_left = are; few = omega arith }
+-- ---- sums over lists of items
 
-    calls_join : (put more : List Item) → calls_for snap (put ++ more) ≡ calls_for snap put + calls_for snap more
-    calls_join [] more = omega arith
-    calls_join (item ∷ put) more = let rest = calls_join put more in omega (arith, rest)
+pub calls_join : (snap : DatedState) (put more : List Item) → calls_for snap (put ++ more) ≡ calls_for snap put + calls_for snap more
+calls_join snap [] more = omega arith
+calls_join snap (item ∷ put) more = let rest = calls_join snap put more in omega (arith, rest)
 
-    -- what was put, and then more of what was left
-    pub pays_then : (was : Blocks) (left : List Item) (old mid new : Stand) (before between after : ℕ) (pays : Pays was snap view left old mid before between)
-        → Pays has snap view pays.later mid new between after → Pays has snap view left old new before after
-    pays_then was left old mid new before between after pays more =
-        let joins = calls_join pays.put more.put in
-        record {
-          put = pays.put ++ more.put;
-          later = more.later;
-          are = pays.are ∙ ap (λ (l : List Item). pays.put ++ l) more.are ∙ sym (append_assoc pays.put more.put more.later);
-          are_left = more.are_left;
-          few = (let one = pays.few in let other = more.few in omega (arith, joins, one, other));
-        }
+sizes_join : (put more : List Item) → sizes_of (put ++ more) ≡ sizes_of put + sizes_of more
+sizes_join [] more = omega arith
+sizes_join (item ∷ put) more = let rest = sizes_join put more in omega (arith, rest)
 
-    -- another record in work, and other calls
-    pays_with : (left : List Item) (old new : Stand) (work : Work) (before more between after : ℕ) → Pays has snap view left old new before between → after + before ≤ between + more
-        → Pays has snap view left old (record new { work = work }) more after
-    pays_with left old new work before more between after pays less =
-        record { put = pays.put; later = pays.later; are = pays.are; are_left = pays.are_left; few = (let few = pays.few in omega (arith, few, less)) }
+-- a walk is at most two looks ahead
+looks_most : (snap : DatedState) (walk : Walk) → looks_ahead snap walk ≤ 2
+looks_most snap walk = let most = go (is_ended walk.place) in omega (arith, most)
+  where
+    go : (b : Bool) → (if b then 1 else 0) ≤ 1
+    go true = omega arith
+    go false = omega arith
 
--- so it is up to here, or with one call more where the room has the block of the record in work
-abbrev pub Paid : Blocks → DatedState → View → List Item → Stand → Stand → Option Ptr → ℕ → ℕ → Type 0
-Paid has snap view left old new holds before after = Pays has snap view left old new before after ⊎ (IsHeld holds new.work.payload × Pays has snap view left old new (before + 1) after)
+at_most_one : (payload : Payload) → blocks_behind payload ≤ 1
+at_most_one payloads.Nothing = omega arith
+at_most_one (payloads.Bonus field count) = omega arith
+at_most_one (payloads.Block ptr) = omega arith
 
--- at most one call more
-pub paid_once : (has : Blocks) (snap : DatedState) (view : View) (left : List Item) (old new : Stand) (holds : Option Ptr) (before after : ℕ) → Paid has snap view left old new holds before after
-    → Pays has snap view left old new (before + 1) after
-paid_once has snap view left old new holds before after (inl pays) = pays_with has snap view left old new new.work before (before + 1) after after pays (omega arith)
-paid_once has snap view left old new holds before after (inr (held, pays)) = pays
+-- ---- what a step puts
 
--- what was put so far, and what the next step puts
-pub paid_then : (was has : Blocks) (snap : DatedState) (view : View) (left : List Item) (old mid new : Stand) (holds : Option Ptr) (before between after : ℕ) → Paid was snap view left old mid holds before between
-    → ((later : List Item) → AreLeft was snap view mid.walk mid.ended later → Pays has snap view later mid new between after) → Pays has snap view left old new (before + 1) after
-paid_then was has snap view left old mid new holds before between after paid more =
-    let pays = paid_once was snap view left old mid holds before between paid in
-    pays_then has snap view was left old mid new (before + 1) between after pays (more pays.later pays.are_left)
+module _ (has : Blocks) (snap : DatedState) (view : View) (put : List Item) (place : ℕ) where
+  -- the bytes of a send so far end behind what was put, where all of it was given
+  pub put_ends : (stand : Stand) → HasPut has snap view put place stand → stand.ended ≡ false → record_len + payload_size stand.work.payload ≡ stand.work.given → place ≡ record_len + sizes_of put
+  put_ends stand had open_still given =
+      let none : end_size stand.ended ≡ 0 = ap end_size open_still in
+      let is = had.place_is in
+      omega (arith, none, is, given)
 
--- a record is given a part of, whose block the room has then or isn't read
-pub paid_on : (was has : Blocks) (snap : DatedState) (view : View) (left : List Item) (old at mid : Stand) (work : Work) (first next last : Option Ptr) (before between put after : ℕ)
-    → Paid was snap view left old at first before between → ((later : List Item) → AreLeft was snap view at.walk at.ended later → Pays has snap view later at mid between put)
-    → (IsHeld first at.work.payload → IsHeld next mid.work.payload) → work.payload ≡ mid.work.payload
-    → after ≤ put + 1 → (after ≤ put) ⊎ IsHeld last mid.work.payload → (IsHeld next mid.work.payload → (after ≤ put) × IsHeld last mid.work.payload)
-    → Paid has snap view left old (record mid { work = work }) last before after
-paid_on was has snap view left old at mid work first next last before between put after (inl pays) more kept same most (inl none) stays =
-    let then = pays_then has snap view was left old at mid before between put pays (more pays.later pays.are_left) in
-    inl (pays_with has snap view left old mid work before before put after then (omega (arith, none)))
-paid_on was has snap view left old at mid work first next last before between put after (inl pays) more kept same most (inr held) stays =
-    let then = pays_then has snap view was left old at mid before between put pays (more pays.later pays.are_left) in
-    inr (subst (λ (p : Payload). IsHeld last p) (sym same) held, pays_with has snap view left old mid work before (before + 1) put after then (omega (arith, most)))
-paid_on was has snap view left old at mid work first next last before between put after (inr (held, pays)) more kept same most once stays =
-    let then = pays_then has snap view was left old at mid (before + 1) between put pays (more pays.later pays.are_left) in
-    let still = stays (kept held) in
-    inr (subst (λ (p : Payload). IsHeld last p) (sym same) still.1, pays_with has snap view left old mid work (before + 1) (before + 1) put after then (omega (arith, still.0)))
+  last_in_work : (first : Item) (ended : Bool) (payload : Payload) → IsOfItem first payload → ended ≡ false → IsInWork (put ++ first ∷ []) ended payload
+  last_in_work first ended payloads.Nothing of open_still = tt
+  last_in_work first ended (payloads.Bonus field count) of open_still = tt
+  last_in_work first ended (payloads.Block ptr) of open_still = (put, first, refl, of, open_still)
 
--- where a send stands some items are left
-items_there : (has : Blocks) (snap : DatedState) (view : View) (to : ℕ) (text : List ℕ) (walk : Walk) (ended : Bool) (rest : List ℕ) → IsRest has snap view to text walk ended rest
-    → (items : List Item) × AreLeft has snap view walk ended items
-items_there has snap view to text walk true rest is = ([], refl)
-items_there has snap view to text walk false rest (held, of, are) = (items_left view walk held, (held, of, refl))
+  -- one item more
+  pub put_one : (later : List Item) (first : Item) (held : List Item) (new : Stand) → items view origin ≡ put ++ later → later ≡ first ∷ items_left view new.walk held → place ≡ record_len + sizes_of put
+      → IsWalk has snap new.walk held → IsOfItem first new.work.payload → new.work.given ≡ 0 → new.ended ≡ false → HasPut has snap view (put ++ first ∷ []) place new
+  put_one later first held new are comes at walk of fresh open_still = record {
+    later = items_left view new.walk held;
+    are = are ∙ ap (λ (l : List Item). put ++ l) comes ∙ sym (append_assoc put (first ∷ []) (items_left view new.walk held));
+    are_left = subst (λ (e : Bool). AreLeft has snap view new.walk e (items_left view new.walk held)) (sym open_still) (held, walk, refl);
+    in_work = last_in_work first new.ended new.work.payload of open_still;
+    place_is =
+        let none : end_size new.ended ≡ 0 = ap end_size open_still in
+        let sizes : sizes_of (put ++ first ∷ []) ≡ sizes_of put + (size_of first + 0) = sizes_join put (first ∷ []) in
+        let size = of.size in
+        omega (arith, none, sizes, size, at, fresh);
+  }
 
-pub stand_items : (has : Blocks) (snap : DatedState) (view : View) (to : ℕ) (stand : Stand) (left : List ℕ) → StandsAt has snap view to stand left → (items : List Item) × AreLeft has snap view stand.walk stand.ended items
-stand_items has snap view to stand left at = items_there has snap view to at.text stand.walk stand.ended at.rest at.is_rest
+  -- END
+  pub put_end : (later : List Item) (new : Stand) → items view origin ≡ put ++ later → later ≡ [] → place ≡ record_len + sizes_of put
+      → new.work.payload ≡ payloads.Nothing → new.work.given ≡ 0 → new.ended ≡ true → HasPut has snap view (put ++ []) place new
+  put_end later new are none at alone fresh ended = record {
+    later = [];
+    are = are ∙ ap (λ (l : List Item). put ++ l) none ∙ sym (append-nil (put ++ []));
+    are_left = subst (λ (e : Bool). AreLeft has snap view new.walk e []) (sym ended) refl;
+    in_work = subst (λ (p : Payload). IsInWork (put ++ []) new.ended p) (sym alone) tt;
+    place_is =
+        let last : end_size new.ended ≡ record_len = ap end_size ended in
+        let sizes : sizes_of (put ++ []) ≡ sizes_of put = ap sizes_of (append-nil put) in
+        let size : payload_size new.work.payload ≡ 0 = ap payload_size alone in
+        omega (arith, last, sizes, size, at, fresh);
+  }
+
+  -- nothing
+  pub put_none : (stand : Stand) → HasPut has snap view put place stand → HasPut has snap view (put ++ []) place stand
+  put_none stand had = subst (λ (l : List Item). HasPut has snap view l place stand) (sym (append-nil put)) had
+
+  -- some bytes more of the record in work were given
+  given_further : (step : ℕ) (stand : Stand) (work : Work) → work.payload ≡ stand.work.payload → work.given ≡ stand.work.given + step → HasPut has snap view put place stand
+      → HasPut has snap view put (place + step) (record stand { work = work })
+  given_further step stand work same moved had = record {
+    later = had.later;
+    are = had.are;
+    are_left = had.are_left;
+    in_work = subst (λ (p : Payload). IsInWork put stand.ended p) (sym same) had.in_work;
+    place_is = (let size : payload_size work.payload ≡ payload_size stand.work.payload = ap payload_size same in let is = had.place_is in omega (arith, size, is, moved));
+  }
+
+-- a step that leaves the send as it is
+pub puts_none : (has : Blocks) (snap : DatedState) (view : View) (tight : Type 0) (put : List Item) (place : ℕ) (stand : Stand) (holds : Option Ptr) (calls : ℕ) → HasPut has snap view put place stand
+    → Puts has snap view tight put place stand stand holds holds calls calls
+puts_none has snap view tight put place stand holds calls had =
+    record { next = None; now = put_none has snap view put place stand had; begins = tt; room = inl (refl, refl, refl); few = λ is. omega arith }
+
+-- ---- what a take puts
+
+-- so it is up to here: no block was read and nothing was put, or the room has the block of the record in work
+pub record Paid (has : Blocks) (snap : DatedState) (view : View) (tight : Type 0) (put : List Item) (place count : ℕ) (old new : Stand) (holds : Option Ptr) (before after : ℕ) : Type 0 where
+  pub on : PutsIn has snap view tight put place count old new before after
+  pub room : ((on.again ≡ 0) × (on.more ≡ [])) ⊎ IsHeld holds new.work.payload
+
+-- nothing was put, for no calls
+pub paid_none : (has : Blocks) (snap : DatedState) (view : View) (tight : Type 0) (put : List Item) (place : ℕ) (stand : Stand) (holds : Option Ptr) (calls : ℕ) → HasPut has snap view put place stand
+    → Paid has snap view tight put place 0 stand stand holds calls calls
+paid_none has snap view tight put place stand holds calls had = record {
+  on = record {
+    more = [];
+    now = subst (λ (p : ℕ). HasPut has snap view (put ++ []) p stand) (omega arith) (put_none has snap view put place stand had);
+    again = 0;
+    once = omega arith;
+    given = omega arith;
+    few = λ is. omega arith;
+  };
+  room = inl (refl, refl);
+}
+
+module _ (snap : DatedState) (view : View) (place count step : ℕ) where
+  abbrev bytes : ℕ → List Item
+  bytes n = touched place n record_len (items view origin)
+
+  -- what was put so far and what is put next has bytes of what is given
+  next_given : (put more later : List Item) (next : Option Item) (again : ℕ) → 0 < step → items view origin ≡ ((put ++ more) ++ listed next) ++ later → IfSome next (λ item. place + count ≡ record_len + sizes_of (put ++ more))
+      → again + calls_for snap more ≤ calls_for snap (bytes count) → again + calls_for snap (more ++ listed next) ≤ calls_for snap (bytes (count + step))
+  next_given put more later None again some are begins given =
+      let joins = calls_join snap more [] in
+      let further = touched_more snap place count (count + step) record_len (items view origin) (omega arith) in
+      omega (arith, joins, further, given)
+  next_given put more later (Some item) again some are begins given =
+      let joins = calls_join snap more (item ∷ []) in
+      let all : items view origin ≡ (put ++ more) ++ item ∷ later = are ∙ append_assoc (put ++ more) (item ∷ []) later in
+      let further = subst (λ (l : List Item). calls_for snap (touched place count record_len l) + (64 * cells_of snap item + reads_of item) ≤ calls_for snap (touched place (count + step) record_len l)) (sym all)
+      (touched_next snap place count (count + step) record_len (put ++ more) item later begins (omega (arith, some))) in
+      omega (arith, joins, further, given)
+
+  -- the record in work has bytes of what is given, and pays its block
+  block_given : (put later : List Item) (ended : Bool) (payload : Payload) (given : ℕ) → 0 < step → items view origin ≡ put ++ later → IsInWork put ended payload
+      → place + count + record_len + payload_size payload ≡ record_len + sizes_of put + end_size ended + given → given < record_len + payload_size payload
+      → blocks_behind payload ≤ calls_for snap (bytes (count + step))
+  block_given put later ended payloads.Nothing given some are in_work is left = omega arith
+  block_given put later ended (payloads.Bonus field size) given some are in_work is left = omega arith
+  block_given put later ended (payloads.Block ptr) given some are (first, last, put_is, of, open_still) is left =
+      let none : end_size ended ≡ 0 = ap end_size open_still in
+      let sizes : sizes_of put ≡ sizes_of first + (size_of last + 0) = ap sizes_of put_is ∙ sizes_join first (last ∷ []) in
+      let size = of.size in
+      let blocks = of.blocks in
+      let all : items view origin ≡ first ++ last ∷ later = are ∙ ap (λ (l : List Item). l ++ later) put_is ∙ append_assoc first (last ∷ []) later in
+      let paid = subst (λ (l : List Item). reads_of last ≤ calls_for snap (touched place (count + step) record_len l)) (sym all)
+      (touched_there snap place (count + step) record_len first last later (omega (arith, some)) (omega (arith, some, none, sizes, size, is)) (omega (arith, none, sizes, size, is, left))) in
+      omega (arith, paid, blocks)
+
+-- a step, and then some bytes of the record in work, whose block the room has then or isn't read
+module _ (was has : Blocks) (snap : DatedState) (view : View) (tight still : Type 0) (put : List Item) (place count step : ℕ) (old at mid : Stand) (work : Work) (first next last : Option Ptr) (before between asked after : ℕ)
+    (keeps : tight → still) (paid : Paid was snap view tight put place count old at first before between) (puts : Puts has snap view still (put ++ paid.on.more) (place + count) at mid first next between asked)
+    (same : work.payload ≡ mid.work.payload) (moved : work.given ≡ mid.work.given + step) (some : 0 < step) (left : mid.work.given < record_len + payload_size mid.work.payload) where
+  abbrev more : List Item
+  more = paid.on.more ++ listed puts.next
+
+  now : HasPut has snap view (put ++ more) (place + (count + step)) (record mid { work = work })
+  now =
+      subst (λ (p : ℕ). HasPut has snap view (put ++ more) p (record mid { work = work })) (omega arith)
+      (subst (λ (l : List Item). HasPut has snap view l (place + count + step) (record mid { work = work })) (append_assoc put paid.on.more (listed puts.next))
+      (given_further has snap view ((put ++ paid.on.more) ++ listed puts.next) (place + count) step mid work same moved puts.now))
+
+  -- no block is read for the bytes
+  quiet : after ≤ asked → ((paid.on.again ≡ 0) × (more ≡ [])) ⊎ IsHeld last work.payload → Paid has snap view tight put place (count + step) old (record mid { work = work }) last before after
+  quiet less room = record {
+    on = record {
+      more = more;
+      now = now;
+      again = paid.on.again;
+      once = paid.on.once;
+      given = next_given snap view place count step put paid.on.more puts.now.later puts.next paid.on.again some puts.now.are puts.begins paid.on.given;
+      few = λ is.
+          let one = paid.on.few is in
+          let other = puts.few (keeps is) in
+          let joins = calls_join snap paid.on.more (listed puts.next) in
+          omega (arith, one, other, joins, less);
+    };
+    room = room;
+  }
+
+  -- the block of the record that was in work before is read
+  loud : after ≤ asked + blocks_behind mid.work.payload → paid.on.again ≡ 0 → more ≡ [] → IsHeld last work.payload → Paid has snap view tight put place (count + step) old (record mid { work = work }) last before after
+  loud most none nothing held = record {
+    on = record {
+      more = more;
+      now = now;
+      again = blocks_behind mid.work.payload;
+      once = at_most_one mid.work.payload;
+      given =
+          let free : calls_for snap more ≡ 0 = ap (calls_for snap) nothing in
+          let given = block_given snap view place count step ((put ++ paid.on.more) ++ listed puts.next) puts.now.later mid.ended mid.work.payload mid.work.given some puts.now.are puts.now.in_work puts.now.place_is left in
+          omega (arith, free, given);
+      few = λ is.
+          let one = paid.on.few is in
+          let other = puts.few (keeps is) in
+          let joins = calls_join snap paid.on.more (listed puts.next) in
+          omega (arith, one, other, joins, most, none);
+    };
+    room = inr held;
+  }
+
+  pub paid_on : after ≤ asked + blocks_behind mid.work.payload → (after ≤ asked) ⊎ IsHeld last mid.work.payload → (IsHeld next mid.work.payload → (after ≤ asked) × IsHeld last mid.work.payload)
+      → Paid has snap view tight put place (count + step) old (record mid { work = work }) last before after
+  paid_on most once stays = go paid.room puts.room once
+    where
+      here : IsHeld last mid.work.payload → IsHeld last work.payload
+      here held = subst (λ (p : Payload). IsHeld last p) (sym same) held
+
+      go : ((paid.on.again ≡ 0) × (paid.on.more ≡ [])) ⊎ IsHeld first at.work.payload → ((puts.next ≡ None) × (mid.work.payload ≡ at.work.payload) × (next ≡ first)) ⊎ IsHeld next mid.work.payload
+          → (after ≤ asked) ⊎ IsHeld last mid.work.payload → Paid has snap view tight put place (count + step) old (record mid { work = work }) last before after
+      go room (inr held) once = let kept = stays held in quiet kept.0 (inr (here kept.1))
+      go (inl (none, nothing)) (inl (no_next, payload, holds)) (inl less) = quiet less (inl (none, ap (λ (l : List Item). l ++ listed puts.next) nothing ∙ ap listed no_next))
+      go (inl (none, nothing)) (inl (no_next, payload, holds)) (inr held) = loud most none (ap (λ (l : List Item). l ++ listed puts.next) nothing ∙ ap listed no_next) (here held)
+      go (inr held) (inl (no_next, payload, holds)) once =
+          let kept = stays (subst (λ (p : Payload). IsHeld next p) (sym payload) (subst (λ (h : Option Ptr). IsHeld h at.work.payload) (sym holds) held)) in
+          quiet kept.0 (inr (here kept.1))
+
+-- ---- a take
+
+-- what a take gives pays its calls, but for two looks
+pub take_pays : (has : Blocks) (snap : DatedState) (view : View) (tight : Type 0) (put : List Item) (place count : ℕ) (old new : Stand) (before after : ℕ) → tight → PutsIn has snap view tight put place count old new before after
+    → after ≤ before + (64 * (cells_in snap (touched place count record_len (items view origin)) + 2) + blocks_in (touched place count record_len (items view origin)))
+take_pays has snap view tight put place count old new before after is puts =
+    let few = puts.few is in
+    let given = puts.given in
+    let most = looks_most snap new.walk in
+    omega (arith, few, given, most)
+
+-- what was to come was put in part, and the others are to come
+pub take_puts : (was has : Blocks) (snap : DatedState) (view : View) (tight : Type 0) (put : List Item) (place count : ℕ) (old new : Stand) (before after : ℕ) → tight → (had : HasPut was snap view put place old)
+    → PutsIn has snap view tight put place count old new before after → Pays has snap view had.later old new (before + 1) after
+take_puts was has snap view tight put place count old new before after is had puts = record {
+  put = puts.more;
+  later = puts.now.later;
+  are = append_cancel_left put had.later (puts.more ++ puts.now.later) (sym had.are ∙ puts.now.are ∙ append_assoc put puts.more puts.now.later);
+  are_left = puts.now.are_left;
+  few = (let few = puts.few is in let once = puts.once in omega (arith, few, once));
+}

@@ -7,6 +7,7 @@ use Rattle.zst_model.specs.states.Dated.{DatedState}
 use Rattle.zst_objset.specs.Dnodes.{SpillIs}
 use Rattle.zst_tree.specs.Indices.{Blocks}
 use Rattle.zst_send.specs.Due.{AreBehind, AreHeld, IsFirst}
+use Rattle.zst_send.specs.Records.{AreLeft, HasPut}
 use Rattle.zst_send.specs.Standing.{IsRest, StandsAt}
 use Rattle.zst_send.specs.Working.{HasBlock, IsPayload, IsWork}
 use Rattle.zst_send.specs.declared.due.Due.{Due}
@@ -78,3 +79,12 @@ module _ (old new : Blocks) (keeps : (ptr : Ptr) (bytes : List ℕ) → old ptr 
       is_rest = rest_stays at.text stand.walk stand.ended at.rest at.is_rest;
       are = at.are;
     }
+
+  -- so does what it has put
+  left_stay : (snap : DatedState) (view : View) (walk : Walk) (ended : Bool) (items : List Item) → AreLeft old snap view walk ended items → AreLeft new snap view walk ended items
+  left_stay snap view walk true items are = are
+  left_stay snap view walk false items are = (are.0, record { held_are = held_stay walk.held are.0 are.1.held_are; place_is = are.1.place_is }, are.2)
+
+  pub put_stays : (snap : DatedState) (view : View) (put : List Item) (place : ℕ) (stand : Stand) → HasPut old snap view put place stand → HasPut new snap view put place stand
+  put_stays snap view put place stand had =
+      record { later = had.later; are = had.are; are_left = left_stay snap view stand.walk stand.ended had.later had.are_left; in_work = had.in_work; place_is = had.place_is }

@@ -1,15 +1,17 @@
 -- What a send costs in calls of the disk: looks for what comes next, and reads of blocks.
-use Rattle.std.specs.Prelude.{◌≡◌, ℕ, ◌+◌, ◌*◌, ◌/◌, ◌≤◌, ◌&&◌, Bool, true, false, min, nat_le, if◌then◌else◌, List, [], ◌∷◌, ◌++◌, Option, Some, None}
+use Rattle.std.specs.Prelude.{◌≡◌, ◌⊎◌, ℕ, ◌+◌, ◌*◌, ◌/◌, ◌≤◌, ◌&&◌, Bool, min, nat_le, if◌then◌else◌, List, [], ◌∷◌, ◌++◌, Option, Some, None, IfSome}
 use Rattle.zst_block.specs.declared.ptr.Ptr.{Ptr}
 use Rattle.zst_model.specs.declared.states.item.Change.TheVariants as changes
 use Rattle.zst_model.specs.declared.states.item.Item.{Item}
 use Rattle.zst_model.specs.declared.states.item.Item.TheVariants.{At, FreeObjects}
 use Rattle.zst_model.specs.sends.Headers.{Sent, sent_view}
+use Rattle.zst_model.specs.sends.Items.{items, origin}
 use Rattle.zst_model.specs.sends.View.{View}
 use Rattle.zst_model.specs.states.Dated.{DatedState, size_at}
 use Rattle.zst_model.specs.states.State.{number_bound}
 use Rattle.zst_tree.specs.Indices.{Blocks}
-use Rattle.zst_send.specs.Places.{IsWalk, items_left}
+use Rattle.zst_record.specs.Formats.{record_len}
+use Rattle.zst_send.specs.Records.{AreLeft, HasPut, reads_of, sizes_of, touched}
 use Rattle.zst_send.specs.declared.due.Due.{Due}
 use Rattle.zst_send.specs.declared.due.Due.TheVariants.{Absent, Object, Spill, Tail, Holes, Redacted, Block}
 use Rattle.zst_send.specs.declared.place.Place.{Place}
@@ -78,25 +80,23 @@ cells_of snap (At k (changes.Free offset length)) = length / size_at (snap.state
 cells_of snap (At k (changes.Redact offset length)) = length / size_at (snap.state k)
 cells_of snap (At k (changes.Write offset type bytes)) = 1
 
--- 1 where its record has a block: WRITE and SPILL
-abbrev pub reads_of : Item → ℕ
-reads_of (FreeObjects first count) = 0
-reads_of (At k (changes.Put head bonus keep most)) = 0
-reads_of (At k (changes.Spill bytes)) = 1
-reads_of (At k (changes.FreeFrom offset)) = 0
-reads_of (At k (changes.Free offset length)) = 0
-reads_of (At k (changes.Redact offset length)) = 0
-reads_of (At k (changes.Write offset type bytes)) = 1
+-- so many included numbers and pairs these items stand for
+abbrev pub cells_in : DatedState → List Item → ℕ
+cells_in snap [] = 0
+cells_in snap (item ∷ items) = cells_of snap item + cells_in snap items
+
+-- so many of their records have a block
+abbrev pub blocks_in : List Item → ℕ
+blocks_in [] = 0
+blocks_in (item ∷ items) = reads_of item + blocks_in items
 
 -- so many calls of the disk are for these items: 64 for each included number and pair, and one for each block
 abbrev pub calls_for : DatedState → List Item → ℕ
-calls_for snap [] = 0
-calls_for snap (item ∷ items) = 64 * cells_of snap item + reads_of item + calls_for snap items
+calls_for snap items = 64 * cells_in snap items + blocks_in items
 
--- these items are to be put yet: behind END none
-abbrev pub AreLeft : Blocks → DatedState → View → Walk → Bool → List Item → Type 0
-AreLeft has snap view walk true items = items ≡ []
-AreLeft has snap view walk false items = (held : List Item) × IsWalk has snap walk held × (items ≡ items_left view walk held)
+-- so many a take makes at most that gives these: those that are for them, and 64 for each of two looks more
+abbrev pub most_calls : Sent → List Item → ℕ
+most_calls sent items = 64 * (cells_in sent.snapshot.objects items + 2) + blocks_in items
 
 -- some items were put and the others are left, for no more calls than those items and the looks take that the walk is further ahead
 pub record Pays (has : Blocks) (snap : DatedState) (view : View) (left : List Item) (old new : Stand) (before after : ℕ) : Type 0 where
@@ -105,6 +105,30 @@ pub record Pays (has : Blocks) (snap : DatedState) (view : View) (left : List It
   pub are : left ≡ put ++ later
   pub are_left : AreLeft has snap view new.walk new.ended later
   pub few : after + 64 * looks_ahead snap old.walk ≤ before + calls_for snap put + 64 * looks_ahead snap new.walk
+
+-- ---- a step, and a take
+
+-- the item that is put, where one is
+abbrev pub listed : Option Item → List Item
+listed None = []
+listed (Some item) = item ∷ []
+
+-- a step puts the next item, whose block the room has then, or END, or nothing, for no more calls than the item and the looks take that the walk is further ahead, where the set is tight
+pub record Puts (has : Blocks) (snap : DatedState) (view : View) (tight : Type 0) (put : List Item) (place : ℕ) (old new : Stand) (was holds : Option Ptr) (before after : ℕ) : Type 0 where
+  pub next : Option Item
+  pub now : HasPut has snap view (put ++ listed next) place new
+  pub begins : IfSome next (λ item. place ≡ record_len + sizes_of put)
+  pub room : ((next ≡ None) × (new.work.payload ≡ old.work.payload) × (holds ≡ was)) ⊎ IsHeld holds new.work.payload
+  pub few : tight → after + 64 * looks_ahead snap old.walk ≤ before + calls_for snap (listed next) + 64 * looks_ahead snap new.walk
+
+-- while it gives `count` bytes a send puts some items, for no more calls than these and the looks take, and one where the block of the record in work is read again: all of them are for items that have a byte among those
+pub record PutsIn (has : Blocks) (snap : DatedState) (view : View) (tight : Type 0) (put : List Item) (place count : ℕ) (old new : Stand) (before after : ℕ) : Type 0 where
+  pub more : List Item
+  pub now : HasPut has snap view (put ++ more) (place + count) new
+  pub again : ℕ
+  pub once : again ≤ 1
+  pub given : again + calls_for snap more ≤ calls_for snap (touched place count record_len (items view origin))
+  pub few : tight → after + 64 * looks_ahead snap old.walk ≤ before + (again + calls_for snap more) + 64 * looks_ahead snap new.walk
 
 -- ---- a send
 

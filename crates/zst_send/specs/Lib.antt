@@ -4,6 +4,7 @@ pub mod Due
 pub mod Knowing
 pub mod Opening
 pub mod Places
+pub mod Records
 pub mod Sends
 pub mod Standing
 pub mod Working

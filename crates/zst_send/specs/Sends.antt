@@ -1,6 +1,7 @@
 -- What a send has given and what is left of it.
 use Rattle.std.specs.Prelude.{◌≡◌, ℕ, List, ◌++◌, length, take, drop, min, Result, Ok, Err}
 use Rattle.zst_block.specs.Blocks.{Has, KeepsBlocks}
+use Rattle.zst_model.specs.declared.states.item.Item.{Item}
 use Rattle.zst_model.specs.sends.Headers.{Sent, choice_of, header_of, sent_view}
 use Rattle.zst_model.specs.sends.Items.{origin}
 use Rattle.zst_objset.specs.Sets.{SetHolds}
@@ -11,6 +12,7 @@ use Rattle.zst_stream.specs.Records.{view_text}
 use Rattle.zst_traverse.specs.Cells.{choice_after}
 use Rattle.zst_tree.specs.Indices.{Blocks}
 use Rattle.zst_tree.specs.declared.tree.ObjSet.{ObjSet}
+use Rattle.zst_send.specs.Records.{HasPut}
 use Rattle.zst_send.specs.Standing.{StandFits, StandsAt}
 use Rattle.zst_send.specs.Working.{IsLoaded, RoomFits}
 use Rattle.zst_send.specs.declared.send.Send.{Send}
@@ -26,6 +28,8 @@ pub record Sends (has : Blocks) (send : Send) (sent : Sent) (given left : List �
   pub choice : choice_of sent ≡ choice_after send.subject.source
   pub to : send.subject.to ≡ (header_of sent).to
   pub stands : StandsAt has sent.snapshot.objects (sent_view sent) send.subject.to send.stand left
+  pub put : List Item
+  pub has_put : HasPut has sent.snapshot.objects (sent_view sent) put (length given) send.stand
   pub loaded : IsLoaded has send.room
 
 -- the object set of the snapshot that is sent

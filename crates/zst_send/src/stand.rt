@@ -1,4 +1,4 @@
-ghost use Rattle.std.specs.Prelude.{◌≡◌, ◌+◌, ◌<◌, ◌≤◌, true, Contains, List, ℕ, IfOk, Ok, OnOk, length};
+ghost use Rattle.std.specs.Prelude.{◌≡◌, ◌+◌, ◌<◌, ◌≤◌, true, false, Contains, List, [], ℕ, IfOk, Ok, OnOk, length};
 ghost use Rattle.zst_space.specs.FreeSectors.{FreeSectors};
 ghost use Rattle.zst_block.specs.Blocks.{FitsDisk, Has};
 ghost use Rattle.zst_block.specs.Working.{Looks, stop_of};
@@ -10,7 +10,8 @@ ghost use Rattle.zst_model.specs.states.Dated.{DatedState};
 ghost use Rattle.zst_objset.specs.Damage.{IfDamaged};
 ghost use Rattle.zst_objset.specs.Sets.{SetHolds};
 ghost use Rattle.zst_objset.specs.Tight.{SetIsTight};
-ghost use Rattle.zst_send.specs.Costs.{AreLeft, IsHeld, Pays};
+ghost use Rattle.zst_send.specs.Costs.{IsHeld, Puts, PutsIn};
+ghost use Rattle.zst_send.specs.Records.{HasPut};
 ghost use Rattle.zst_send.specs.Damage.{IsDamagedSend};
 ghost use Rattle.zst_send.specs.Knowing.{IsAmong, IsOfSet};
 ghost use Rattle.zst_tree.specs.declared.tree.ObjSet.{ObjSet};
@@ -55,6 +56,7 @@ impl Stand {
     pub(crate) fn start(header: Header) -> Stand
         ensures stands { (image : List ℕ) (space : FreeSectors) (snap : DatedState) (view : View) → StandsAt (Has image space) snap view header.to result (view_text header view origin) }
         ensures knows { (images : List (List ℕ)) (set : ObjSet) → IsOfSet (IsAmong images) set result }
+        ensures puts { (image : List ℕ) (space : FreeSectors) (snap : DatedState) (view : View) → HasPut (Has image space) snap view [] 0 result }
         ensures fits { StandFits result }
     {
         walk_begins();
@@ -97,9 +99,11 @@ impl Stand {
         ensures room { RoomFits room.new }
         ensures looks { Looks (D.state io.old.disk.now) io.old.space io.old.failed (D.state io.new.disk.now) io.new.space io.new.failed (stop_of result) }
         // Of a set whose slots are tight it reads no more than the items take that it puts.
-        ensures few { (header : Header) (snap : DatedState) (left : List Item) → (D.state io.new.disk.now).honest → SetIsTight (Has (D.state io.old.disk.now).seen io.old.space) subject.now.set snap
-            → AreLeft (Has (D.state io.old.disk.now).seen io.old.space) snap (view_of header snap (choice_after subject.now.source)) self.old.walk self.old.ended left
-            → IfOk result (λ more. Pays (Has (D.state io.new.disk.now).seen io.new.space) snap (view_of header snap (choice_after subject.now.source)) left self.old self.new (D.state io.old.disk.now).calls (D.state io.new.disk.now).calls) }
+        ensures puts { (header : Header) (snap : DatedState) (put : List Item) (place : ℕ) → (D.state io.new.disk.now).honest → SetHolds (Has (D.state io.old.disk.now).seen io.old.space) subject.now.set snap
+            → HasPut (Has (D.state io.old.disk.now).seen io.old.space) snap (view_of header snap (choice_after subject.now.source)) put place self.old
+            → IfOk result (λ more. Puts (Has (D.state io.new.disk.now).seen io.new.space) snap (view_of header snap (choice_after subject.now.source)) (SetIsTight (Has (D.state io.old.disk.now).seen io.old.space) subject.now.set snap) put place
+            self.old self.new room.old.holds room.new.holds (D.state io.old.disk.now).calls (D.state io.new.disk.now).calls) }
+        ensures rests { result ≡ Ok false → (self.new ≡ self.old) × ((D.state io.new.disk.now).calls ≡ (D.state io.old.disk.now).calls) }
         ensures kept { IsHeld room.old.holds self.old.work.payload → OnOk result (IsHeld room.new.holds self.new.work.payload) }
         ensures kept_fit { FitsDisk (D.state io.new.disk.now).size io.new.space }
         ensures same { io.new.disk.ghost_name ≡ io.old.disk.ghost_name }
@@ -148,9 +152,11 @@ impl Stand {
         ensures room { RoomFits room.new }
         ensures looks { Looks (D.state io.old.disk.now) io.old.space io.old.failed (D.state io.new.disk.now) io.new.space io.new.failed (stop_of result) }
         // Of a set whose slots are tight it reads no more than the items take that it puts.
-        ensures few { (header : Header) (snap : DatedState) (left : List Item) → (D.state io.new.disk.now).honest → SetIsTight (Has (D.state io.old.disk.now).seen io.old.space) subject.now.set snap
-            → AreLeft (Has (D.state io.old.disk.now).seen io.old.space) snap (view_of header snap (choice_after subject.now.source)) self.old.walk self.old.ended left
-            → IfOk result (λ more. Pays (Has (D.state io.new.disk.now).seen io.new.space) snap (view_of header snap (choice_after subject.now.source)) left self.old self.new (D.state io.old.disk.now).calls (D.state io.new.disk.now).calls) }
+        ensures puts { (header : Header) (snap : DatedState) (put : List Item) (place : ℕ) → (D.state io.new.disk.now).honest → SetHolds (Has (D.state io.old.disk.now).seen io.old.space) subject.now.set snap
+            → HasPut (Has (D.state io.old.disk.now).seen io.old.space) snap (view_of header snap (choice_after subject.now.source)) put place self.old
+            → IfOk result (λ more. Puts (Has (D.state io.new.disk.now).seen io.new.space) snap (view_of header snap (choice_after subject.now.source)) (SetIsTight (Has (D.state io.old.disk.now).seen io.old.space) subject.now.set snap) put place
+            self.old self.new room.old.holds room.new.holds (D.state io.old.disk.now).calls (D.state io.new.disk.now).calls) }
+        ensures rests { result ≡ Ok false → (self.new ≡ self.old) × ((D.state io.new.disk.now).calls ≡ (D.state io.old.disk.now).calls) }
         ensures kept { IsHeld room.old.holds self.old.work.payload → OnOk result (IsHeld room.new.holds self.new.work.payload) }
         ensures kept_fit { FitsDisk (D.state io.new.disk.now).size io.new.space }
         ensures same { io.new.disk.ghost_name ≡ io.old.disk.ghost_name }
@@ -186,10 +192,11 @@ impl Stand {
         ensures stand { StandFits self.new }
         ensures room { RoomFits room.new }
         ensures looks { Looks (D.state io.old.disk.now) io.old.space io.old.failed (D.state io.new.disk.now) io.new.space io.new.failed (stop_of result) }
-        // Of a set whose slots are tight it reads no more than the items take that it puts, and once more for the record in work.
-        ensures few { (header : Header) (snap : DatedState) (left : List Item) → (D.state io.new.disk.now).honest → SetIsTight (Has (D.state io.old.disk.now).seen io.old.space) subject.now.set snap
-            → AreLeft (Has (D.state io.old.disk.now).seen io.old.space) snap (view_of header snap (choice_after subject.now.source)) self.old.walk self.old.ended left
-            → IfOk result (λ count. Pays (Has (D.state io.new.disk.now).seen io.new.space) snap (view_of header snap (choice_after subject.now.source)) left self.old self.new ((D.state io.old.disk.now).calls + 1) (D.state io.new.disk.now).calls) }
+        // Of a set whose slots are tight it reads no more than the items take that have a byte of what it gives.
+        ensures puts { (header : Header) (snap : DatedState) (put : List Item) (place : ℕ) → (D.state io.new.disk.now).honest → SetHolds (Has (D.state io.old.disk.now).seen io.old.space) subject.now.set snap
+            → HasPut (Has (D.state io.old.disk.now).seen io.old.space) snap (view_of header snap (choice_after subject.now.source)) put place self.old
+            → IfOk result (λ count. PutsIn (Has (D.state io.new.disk.now).seen io.new.space) snap (view_of header snap (choice_after subject.now.source)) (SetIsTight (Has (D.state io.old.disk.now).seen io.old.space) subject.now.set snap) put place count
+            self.old self.new (D.state io.old.disk.now).calls (D.state io.new.disk.now).calls) }
         ensures kept_fit { FitsDisk (D.state io.new.disk.now).size io.new.space }
         ensures same { io.new.disk.ghost_name ≡ io.old.disk.ghost_name }
     {

@@ -11,6 +11,7 @@ ghost use Rattle.zst_objset.specs.Damage.{IfDamaged};
 ghost use Rattle.zst_send.specs.Costs.{IsHeld, reads_due};
 ghost use Rattle.zst_send.specs.Damage.{IsDamagedDue, IsDamagedPayload};
 ghost use Rattle.zst_send.specs.Due.{DueFits, IsFirst, head_in};
+ghost use Rattle.zst_send.specs.Records.{IsOfItem, blocks_behind};
 ghost use Rattle.zst_send.specs.Working.{HasBlockOf, IsLoaded, IsPut, IsWork, RoomFits, WorkFits, payload_size};
 ghost use Rattle.zst_stream.specs.Found.{HasBonus, found_item};
 ghost use Rattle.zst_stream.specs.Image.{piece_after};
@@ -102,6 +103,8 @@ impl Work {
         ensures follows { IfOk result (λ work. HasBlockOf due.now work.payload) }
         ensures work { IfOk result WorkFits }
         ensures fresh { IfOk result (λ work. work.given ≡ 0) }
+        // What follows the record is what is due.
+        ensures size { (item : Item) → IsFirst (Has (D.state io.old.disk.now).seen io.old.space) due.now item → IfOk result (λ work. IsOfItem item work.payload) }
         ensures room { RoomFits room.new }
         ensures looks { Looks (D.state io.old.disk.now) io.old.space io.old.failed (D.state io.new.disk.now) io.new.space io.new.failed (stop_of result) }
         // It reads the block that is due at most once, and the room has it then.
@@ -203,14 +206,15 @@ impl Work {
         // Whatever the image, damage is told of the block that follows the record.
         ensures damaged { (D.state io.new.disk.now).honest → IfDamaged result (IsDamagedPayload (IsSeen (D.state io.old.disk.now).seen) (D.state io.old.disk.now).size self.old.payload) }
         ensures count { IfOk result (λ count. (0 < count) × (count ≤ length into.old)) }
+        ensures moved { IfOk result (λ count. self.new.given ≡ self.old.given + count) }
         ensures payload { self.new.payload ≡ self.old.payload }
         ensures into { length into.new ≡ length into.old }
         ensures work { WorkFits self.new }
         ensures room { RoomFits room.new }
         ensures stays { OnErr result (self.new ≡ self.old) }
         ensures looks { Looks (D.state io.old.disk.now) io.old.space io.old.failed (D.state io.new.disk.now) io.new.space io.new.failed (stop_of result) }
-        // It reads the block that follows the record at most once, and not where the room has it already.
-        ensures calls { (D.state io.new.disk.now).calls ≤ (D.state io.old.disk.now).calls + 1 }
+        // It reads the block that follows the record, where one does, at most once, and not where the room has it already.
+        ensures calls { (D.state io.new.disk.now).calls ≤ (D.state io.old.disk.now).calls + blocks_behind self.old.payload }
         ensures once { OnOk result (((D.state io.new.disk.now).calls ≤ (D.state io.old.disk.now).calls) ⊎ IsHeld room.new.holds self.old.payload) }
         ensures kept { IsHeld room.old.holds self.old.payload → ((D.state io.new.disk.now).calls ≤ (D.state io.old.disk.now).calls) × OnOk result (IsHeld room.new.holds self.old.payload) }
         ensures kept_fit { FitsDisk (D.state io.new.disk.now).size io.new.space }
@@ -243,7 +247,7 @@ impl Work {
         ensures into { length into.new ≡ length into.old }
         ensures room { RoomFits room.new }
         ensures looks { Looks (D.state io.old.disk.now) io.old.space io.old.failed (D.state io.new.disk.now) io.new.space io.new.failed (stop_of result) }
-        ensures calls { (D.state io.new.disk.now).calls ≤ (D.state io.old.disk.now).calls + 1 }
+        ensures calls { (D.state io.new.disk.now).calls ≤ (D.state io.old.disk.now).calls + blocks_behind self.now.payload }
         ensures once { OnOk result (((D.state io.new.disk.now).calls ≤ (D.state io.old.disk.now).calls) ⊎ IsHeld room.new.holds self.now.payload) }
         ensures kept { IsHeld room.old.holds self.now.payload → ((D.state io.new.disk.now).calls ≤ (D.state io.old.disk.now).calls) × OnOk result (IsHeld room.new.holds self.now.payload) }
         ensures kept_fit { FitsDisk (D.state io.new.disk.now).size io.new.space }

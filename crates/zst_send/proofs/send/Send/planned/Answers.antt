@@ -1,4 +1,4 @@
-use Rattle.std.proofs.Common.{List, Option, Some, get_or, refl, sym, ap, ◌∙◌, subst}
+use Rattle.std.proofs.Common.{List, Option, Some, get_or, refl, sym, ap, ◌∙◌, subst, []}
 use Rattle.zst_block.specs.declared.ptr.Ptr.{Ptr}
 use Rattle.zst_block.specs.Blocks.{Has}
 use Rattle.zst_dir.specs.declared.rows.Snapshot.{Snapshot}
@@ -28,6 +28,8 @@ returns-clause-sends c = λ image space running sent runs is plain.
       to = ap (λ (h : Header). h.to) header;
       stands = subst (λ (h : Header). StandsAt has sent.snapshot.objects (sent_view sent) c.header-header.result.to c.start.result (view_text h (sent_view sent) origin)) header
           (c.start.ensures.stands image space sent.snapshot.objects (sent_view sent));
+      put = [];
+      has_put = c.start.ensures.puts image space sent.snapshot.objects (sent_view sent);
       loaded = subst (λ (holds : Option Ptr). HasBlock has c.args.room.bytes.items holds) (sym c.requires.empty) tt;
     }
 

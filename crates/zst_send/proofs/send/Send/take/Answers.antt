@@ -1,5 +1,5 @@
-use Rattle.std.proofs.Common.{◌≡◌, ℕ, ◌+◌, List, ◌++◌, take, drop, sym, ap, ◌∙◌, subst, append_assoc}
-use Rattle.std.proofs.lemmas.List.{take-append-drop}
+use Rattle.std.proofs.Common.{◌≡◌, ℕ, ◌+◌, List, ◌++◌, take, drop, sym, ap, ◌∙◌, subst, append_assoc, Some, refl, ◌*◌, ◌≤◌, length, arith, length-append}
+use Rattle.std.proofs.lemmas.List.{take-append-drop, length-take-le}
 use Rattle.zst_space.specs.FreeSectors.{FreeSectors}
 use Rattle.zst_block.specs.Blocks.{Has}
 use Rattle.zst_model.specs.sends.Headers.{header_of, sent_view}
@@ -7,12 +7,21 @@ use Rattle.zst_model.specs.sends.Included.{Choice}
 use Rattle.zst_model.specs.sends.View.{view_of}
 use Rattle.zst_objset.proofs.LeafLaws.{look_on}
 use Rattle.zst_objset.specs.Sets.{SetHolds}
+use Rattle.zst_block.specs.declared.fault.BlockFault.{BlockFault}
+use Rattle.zst_block.specs.declared.fault.BlockFault.TheVariants as blocks
+use Rattle.zst_pool.specs.Faults.{of_block}
+use Rattle.zst_tree.specs.Indices.{IsNoDamage}
+use Rattle.zst_send.specs.Sends.{IsTakeFault, Sends}
 use Rattle.zst_send.specs.Standing.{StandsAt}
 use Rattle.std.proofs.lemmas.Result.{err_from_is_err_and}
 use Rattle.zst_pool.proofs.Telling.{set_told}
 use Rattle.zst_objset.specs.declared.fault.ObjFault.TheVariants as set_faults
-use Rattle.zst_send.specs.Costs.{AreLeft, Pays}
-use Rattle.zst_send.proofs.Paying.{stand_items}
+use Rattle.zst_model.specs.sends.Items.{items, origin}
+use Rattle.zst_record.specs.Formats.{record_len}
+use Rattle.zst_traverse.specs.Cells.{choice_after}
+use Rattle.zst_send.specs.Costs.{Pays, blocks_in, cells_in}
+use Rattle.zst_send.specs.Records.{AreLeft, HasPut, touched}
+use Rattle.zst_send.proofs.Paying.{take_pays, take_puts}
 use Rattle.zst_send.specs.Damage.{IsDamagedSend}
 use Rattle.zst_send.specs.Knowing.{IsAmong}
 use Rattle.zst_send.proofs.Planning.{never_planned}
@@ -24,7 +33,11 @@ returns-clause-takes g c = λ sent given left honest sends.
     let snap = sent.snapshot.objects in
     let to : ℕ = c.args.self.now.subject.to in
     let at = subst (λ (choice : Choice). StandsAt (Has (g.D.Disk.state c.args.pool.now.io.disk.now).seen c.args.pool.now.io.space) snap (view_of (header_of sent) snap choice) to c.args.self.now.stand left) sends.choice sends.stands in
-    let fills = c.in_ok-count.ensures.fills (header_of sent) snap left honest sends.holds sends.loaded at in (
+    let fills = c.in_ok-count.ensures.fills (header_of sent) snap left honest sends.holds sends.loaded at in
+    let had = subst (λ (choice : Choice). HasPut (Has (g.D.Disk.state c.args.pool.now.io.disk.now).seen c.args.pool.now.io.space) snap (view_of (header_of sent) snap choice) sends.put (length given) c.args.self.now.stand) sends.choice sends.has_put in
+    let puts = c.in_ok-count.ensures.puts (header_of sent) snap sends.put (length given) honest sends.holds had in
+    let less : c.in_ok-count.count ≤ length left = omega (arith, fills.count_is) in
+    let long : length (given ++ take c.in_ok-count.count left) ≡ length given + c.in_ok-count.count = length-append given (take c.in_ok-count.count left) ∙ ap (λ (n : ℕ). length given + n) (length-take-le c.in_ok-count.count left less) in (
       fills.count_is,
       fills.given,
       record {
@@ -33,9 +46,30 @@ returns-clause-takes g c = λ sent given left honest sends.
         choice = sends.choice;
         to = sends.to;
         stands = subst (λ (choice : Choice). StandsAt (Has (g.D.Disk.state c.fill.new.io.disk.now).seen c.fill.new.io.space) snap (view_of (header_of sent) snap choice) to c.fill.new.self (drop c.in_ok-count.count left)) (sym sends.choice) fills.stands;
+        put = sends.put ++ puts.more;
+        has_put = subst (λ (n : ℕ). HasPut (Has (g.D.Disk.state c.fill.new.io.disk.now).seen c.fill.new.io.space) snap (sent_view sent) (sends.put ++ puts.more) n c.fill.new.self) (sym long)
+            (subst (λ (choice : Choice). HasPut (Has (g.D.Disk.state c.fill.new.io.disk.now).seen c.fill.new.io.space) snap (view_of (header_of sent) snap choice) (sends.put ++ puts.more) (length given + c.in_ok-count.count) c.fill.new.self) (sym sends.choice) puts.now);
         loaded = c.in_ok-count.ensures.loaded (header_of sent) snap left honest sends.holds sends.loaded at;
       },
     )
+
+-- a call that reads refuses for its disk alone, where no damage is told
+take_refused : (fault : BlockFault) → IsNoDamage fault → ((need largest : ℕ) → ¬ (Some fault ≡ Some (blocks.Full need largest))) → IsTakeFault (of_block fault)
+take_refused (blocks.Full need largest) none never = absurd (never need largest refl)
+take_refused (blocks.Damaged sector stated found) none never = absurd none
+take_refused blocks.DiskFault none never = tt
+
+pub returns-in_err-count-clause-takes : goal.returns-in_err-count-clause-takes
+returns-in_err-count-clause-takes g c = λ sent given left honest sends.
+    let snap = sent.snapshot.objects in
+    let at = subst (λ (choice : Choice). StandsAt (Has (g.D.Disk.state c.args.pool.now.io.disk.now).seen c.args.pool.now.io.space) snap (view_of (header_of sent) snap choice) c.args.self.now.subject.to c.args.self.now.stand left) sends.choice sends.stands in
+    let same = look_on (λ (seen : List ℕ) (space : FreeSectors). Sends (Has seen space) c.args.self.now sent given left) _ _ _ _ _ _ _ c.in_err-count.ensures.looks sends in
+    let loaded = c.in_err-count.ensures.loaded (header_of sent) snap left honest sends.holds sends.loaded at in
+    let still : Sends (Has (g.D.Disk.state c.fill.new.io.disk.now).seen c.fill.new.io.space) (record c.args.self.now { room = c.fill.new.room }) sent given left =
+    record { text = same.text; holds = same.holds; choice = same.choice; to = same.to; stands = same.stands; put = same.put; has_put = same.has_put; loaded = loaded } in
+    let fills = c.in_err-count.ensures.fills (header_of sent) snap left honest sends.holds sends.loaded at in
+    let p = err_from_is_err_and c.from_residual.result c.from_residual.ensures.1 in
+    rw (p.1, p.2) (take_refused _ fills c.in_err-count.ensures.looks.never_full, still)
 
 pub returns-in_err-count-clause-damaged : goal.returns-in_err-count-clause-damaged
 returns-in_err-count-clause-damaged g c = λ images among honest was.
@@ -53,26 +87,38 @@ returns-in_err-count-clause-unplanned g c = λ fault is.
 pub returns-clause-knows : goal.returns-clause-knows
 returns-clause-knows g c = λ images among honest was. c.in_ok-count.ensures.stands images among honest was
 
-pub returns-then-pool-clause-pays : goal.returns-then-pool-clause-pays
-returns-then-pool-clause-pays g c = λ sent given left honest sends tight.
-    let items = stand_items _ sent.snapshot.objects (sent_view sent) c.args.self.now.subject.to c.args.self.now.stand left sends.stands in
-    (items.0, items.1, tt)
-
 pub returns-in_err-count-clause-pays : goal.returns-in_err-count-clause-pays
 returns-in_err-count-clause-pays g c = λ sent given left honest sends tight.
     let p = err_from_is_err_and c.from_residual.result c.from_residual.ensures.1 in
-    let items = stand_items _ sent.snapshot.objects (sent_view sent) c.args.self.now.subject.to c.args.self.now.stand left sends.stands in
-    (items.0, items.1, rw p.1 tt)
+    rw p.1 tt
 
 pub returns-clause-pays : goal.returns-clause-pays
 returns-clause-pays g c = λ sent given left honest sends tight.
     let snap = sent.snapshot.objects in
-    let stand = c.args.self.now.stand in
-    let items = stand_items _ snap (sent_view sent) c.args.self.now.subject.to stand left sends.stands in
-    let are = subst (λ (choice : Choice). AreLeft (Has (g.D.Disk.state c.args.pool.now.io.disk.now).seen c.args.pool.now.io.space) snap (view_of (header_of sent) snap choice) stand.walk stand.ended items.0) sends.choice items.1 in
-    let pays = c.in_ok-count.ensures.few (header_of sent) snap items.0 honest tight are in (
-      items.0,
-      items.1,
-      subst (λ (choice : Choice). Pays (Has (g.D.Disk.state c.fill.new.io.disk.now).seen c.fill.new.io.space) snap (view_of (header_of sent) snap choice) items.0 stand c.fill.new.self
+    let has = Has (g.D.Disk.state c.args.pool.now.io.disk.now).seen c.args.pool.now.io.space in
+    let had = subst (λ (choice : Choice). HasPut has snap (view_of (header_of sent) snap choice) sends.put (length given) c.args.self.now.stand) sends.choice sends.has_put in
+    let puts = c.in_ok-count.ensures.puts (header_of sent) snap sends.put (length given) honest sends.holds had in
+    let pays = take_pays _ snap (view_of (header_of sent) snap (choice_after c.args.self.now.subject.source)) _ sends.put (length given) c.in_ok-count.count c.args.self.now.stand c.fill.new.self _ _ tight puts in
+    subst (λ (choice : Choice). (g.D.Disk.state c.fill.new.io.disk.now).calls ≤ (g.D.Disk.state c.args.pool.now.io.disk.now).calls
+    + (64 * (cells_in snap (touched (length given) c.in_ok-count.count record_len (items (view_of (header_of sent) snap choice) origin)) + 2) + blocks_in (touched (length given) c.in_ok-count.count record_len (items (view_of (header_of sent) snap choice) origin)))) (sym sends.choice) pays
+
+pub returns-then-pool-clause-ahead : goal.returns-then-pool-clause-ahead
+returns-then-pool-clause-ahead g c = λ sent given left honest sends tight. (sends.has_put.later, sends.has_put.are_left, tt)
+
+pub returns-in_err-count-clause-ahead : goal.returns-in_err-count-clause-ahead
+returns-in_err-count-clause-ahead g c = λ sent given left honest sends tight.
+    let p = err_from_is_err_and c.from_residual.result c.from_residual.ensures.1 in
+    (sends.has_put.later, sends.has_put.are_left, rw p.1 tt)
+
+pub returns-clause-ahead : goal.returns-clause-ahead
+returns-clause-ahead g c = λ sent given left honest sends tight.
+    let snap = sent.snapshot.objects in
+    let has = Has (g.D.Disk.state c.args.pool.now.io.disk.now).seen c.args.pool.now.io.space in
+    let had = subst (λ (choice : Choice). HasPut has snap (view_of (header_of sent) snap choice) sends.put (length given) c.args.self.now.stand) sends.choice sends.has_put in
+    let puts = c.in_ok-count.ensures.puts (header_of sent) snap sends.put (length given) honest sends.holds had in
+    let pays = take_puts has _ snap (view_of (header_of sent) snap (choice_after c.args.self.now.subject.source)) _ sends.put (length given) c.in_ok-count.count c.args.self.now.stand c.fill.new.self _ _ tight had puts in (
+      had.later,
+      subst (λ (choice : Choice). AreLeft has snap (view_of (header_of sent) snap choice) c.args.self.now.stand.walk c.args.self.now.stand.ended had.later) (sym sends.choice) had.are_left,
+      subst (λ (choice : Choice). Pays (Has (g.D.Disk.state c.fill.new.io.disk.now).seen c.fill.new.io.space) snap (view_of (header_of sent) snap choice) had.later c.args.self.now.stand c.fill.new.self
           ((g.D.Disk.state c.args.pool.now.io.disk.now).calls + 1) (g.D.Disk.state c.fill.new.io.disk.now).calls) (sym sends.choice) pays,
     )

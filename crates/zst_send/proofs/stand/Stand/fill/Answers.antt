@@ -1,5 +1,6 @@
-use Rattle.std.proofs.Common.{inl, ℕ, Bool, ◌+◌, ◌-◌, ◌≤◌, rules, List, length, drop, arith, sym, ◌∙◌, subst}
+use Rattle.std.proofs.Common.{ℕ, Bool, ◌+◌, ◌-◌, ◌≤◌, rules, List, ◌++◌, length, drop, ap, arith, sym, ◌∙◌, subst}
 use borrow.Rule.Slice.PartMut.{put_mid}
+use Rattle.std.specs.Prelude.{Ok}
 use Rattle.std.proofs.lemmas.Result.{err_from_is_err_and}
 use Rattle.zst_space.specs.FreeSectors.{FreeSectors}
 use Rattle.zst_block.specs.Blocks.{Has}
@@ -8,12 +9,14 @@ use Rattle.zst_model.specs.sends.View.{View, view_of}
 use Rattle.zst_objset.proofs.LeafLaws.{look_back, look_on}
 use Rattle.zst_objset.specs.Sets.{SetHolds}
 use Rattle.zst_objset.specs.Tight.{SetIsTight}
-use Rattle.zst_send.proofs.Paying.{Paid, paid_on, paid_once, paid_then, pays_none}
+use Rattle.zst_send.proofs.Paying.{Paid, paid_none, paid_on}
 use Rattle.zst_traverse.specs.Cells.{choice_after}
+use Rattle.zst_send.specs.Costs.{PutsIn}
 use Rattle.zst_send.specs.Standing.{Advances}
 use Rattle.zst_send.specs.Working.{IsLoaded, IsWork}
 use Rattle.zst_send.proofs.Filling.{HasGiven, filled_all, filled_room, given_on}
 use Rattle.zst_send.specs.Knowing.{IsAmong, PayloadStands}
+use Rattle.zst_send.specs.declared.stand.Stand.{Stand}
 use Rattle.zst_send.specs.declared.work.Payload.{Payload}
 use Rattle.zst_send.proofs.Knowing.{among_on, give_told, send_told}
 use Rattle.zst_send.proofs.stand.Stand.fill.Goals as goal
@@ -73,7 +76,7 @@ returns-in_err-count-clause-loaded g c = λ header snap left honest holds loaded
 pub loop-count-init : goal.loop-count-init
 loop-count-init g c = record {
   stands = search rules;
-  paid = λ header snap left honest tight are. inl (pays_none _ snap (view_of header snap (choice_after c.args.subject.now.source)) left c.args.self.now _ are);
+  paid = λ header snap put place honest holds had. paid_none _ snap (view_of header snap (choice_after c.args.subject.now.source)) _ put place c.args.self.now _ _ had;
   knows = search rules;
   stand = search rules;
   room = search rules;
@@ -102,16 +105,19 @@ loop-count-preserved g c = record {
       look_on (λ (seen : List ℕ) (space : FreeSectors). HasGiven (Has seen space) snap (view_of header snap (choice_after c.args.subject.now.source)) c.args.subject.now.to left
       (put_mid c.loop-count.count (length c.loop-count.into - c.loop-count.count) c.loop-count.into c.give.new.into) (c.loop-count.count + c.in_ok-count.field-0)
       (record c.has_more.new.self { work = c.give.new.self }) c.give.new.room) _ _ _ _ _ _ _ c.in_ok-count.ensures.looks more;
-  paid = λ header snap left honest tight are.
+  paid = λ header snap put place honest holds had.
       let view : View = view_of header snap (choice_after c.args.subject.now.source) in
       let mid = c.in_ok-count.ensures.looks.reads.honest honest in
       let was = c.in_ok-has_more.ensures.looks.reads.honest mid in
-      let on = look_on (λ (seen : List ℕ) (space : FreeSectors). SetIsTight (Has seen space) c.args.subject.now.set snap) _ _ _ _ _ _ _ c.loop-count.invariant.looks tight in
-      let paid = paid_on _ _ snap view left c.args.self.now c.loop-count.self c.has_more.new.self c.give.new.self c.loop-count.room.holds c.has_more.new.room.holds c.give.new.room.holds _ _ _ _
-      (c.loop-count.invariant.paid header snap left was tight are) (λ later rest. c.in_ok-has_more.ensures.few header snap later mid on rest)
-      c.in_ok-has_more.ensures.kept c.in_ok-count.ensures.payload c.in_ok-count.ensures.calls c.in_ok-count.ensures.once c.in_ok-count.ensures.kept in
-      look_on (λ (seen : List ℕ) (space : FreeSectors). Paid (Has seen space) snap view left c.args.self.now (record c.has_more.new.self { work = c.give.new.self }) c.give.new.room.holds
-      (g.D.Disk.state c.args.io.now.disk.now).calls (g.D.Disk.state c.give.new.io.disk.now).calls) _ _ _ _ _ _ _ c.in_ok-count.ensures.looks paid;
+      let on = look_on (λ (seen : List ℕ) (space : FreeSectors). SetHolds (Has seen space) c.args.subject.now.set snap) _ _ _ _ _ _ _ c.loop-count.invariant.looks holds in
+      let had_paid = c.loop-count.invariant.paid header snap put place was holds had in
+      let puts = c.in_ok-has_more.ensures.puts header snap (put ++ had_paid.on.more) (place + c.loop-count.count) mid on had_paid.on.now in
+      let paid = paid_on _ _ snap view _ _ put place c.loop-count.count c.in_ok-count.field-0 c.args.self.now c.loop-count.self c.has_more.new.self c.give.new.self c.loop-count.room.holds c.has_more.new.room.holds c.give.new.room.holds _ _ _ _
+      (λ tight. look_on (λ (seen : List ℕ) (space : FreeSectors). SetIsTight (Has seen space) c.args.subject.now.set snap) _ _ _ _ _ _ _ c.loop-count.invariant.looks tight)
+      had_paid puts c.in_ok-count.ensures.payload c.in_ok-count.ensures.moved c.in_ok-count.ensures.count.0 (c.in_ok-has_more.ensures.more (ap (λ (b : Bool). Ok b) c.if-not-branch.false))
+      c.in_ok-count.ensures.calls c.in_ok-count.ensures.once c.in_ok-count.ensures.kept in
+      look_on (λ (seen : List ℕ) (space : FreeSectors). Paid (Has seen space) snap view (SetIsTight (Has (g.D.Disk.state c.args.io.now.disk.now).seen c.args.io.now.space) c.args.subject.now.set snap) put place (c.loop-count.count + c.in_ok-count.field-0)
+      c.args.self.now (record c.has_more.new.self { work = c.give.new.self }) c.give.new.room.holds (g.D.Disk.state c.args.io.now.disk.now).calls (g.D.Disk.state c.give.new.io.disk.now).calls) _ _ _ _ _ _ _ c.in_ok-count.ensures.looks paid;
   knows = λ images among honest was.
       let mid = c.in_ok-count.ensures.looks.reads.honest honest in
       let had = c.loop-count.invariant.knows images among (c.in_ok-has_more.ensures.looks.reads.honest mid) was in
@@ -169,23 +175,27 @@ returns-in_err-count-clause-damaged g c = λ images among honest was.
     let on = among_on images _ _ c.in_ok-has_more.ensures.looks.reads.seen first in
     rw (p.1, p.2) (give_told images c.args.subject.now.set _ _ _ (c.in_ok-has_more.ensures.looks.reads.size ∙ c.loop-count.invariant.looks.reads.size) on c.has_more.new.self.work.payload next.work _ (c.in_err-count.ensures.damaged honest))
 
-pub returns-in_err-has_more-clause-few : goal.returns-in_err-has_more-clause-few
-returns-in_err-has_more-clause-few g c = λ header snap left honest tight are.
+pub returns-in_err-has_more-clause-puts : goal.returns-in_err-has_more-clause-puts
+returns-in_err-has_more-clause-puts g c = λ header snap put place honest holds had.
     let p = err_from_is_err_and c.from_residual.result c.from_residual.ensures.1 in
     rw p.1 tt
 
-pub returns-then-not-branch-clause-few : goal.returns-then-not-branch-clause-few
-returns-then-not-branch-clause-few g c = λ header snap left honest tight are.
+pub returns-then-not-branch-clause-puts : goal.returns-then-not-branch-clause-puts
+returns-then-not-branch-clause-puts g c = λ header snap put place honest holds had.
+    let view : View = view_of header snap (choice_after c.args.subject.now.source) in
     let was = c.in_ok-has_more.ensures.looks.reads.honest honest in
-    let on = look_on (λ (seen : List ℕ) (space : FreeSectors). SetIsTight (Has seen space) c.args.subject.now.set snap) _ _ _ _ _ _ _ c.loop-count.invariant.looks tight in
-    paid_then _ _ snap (view_of header snap (choice_after c.args.subject.now.source)) left c.args.self.now c.loop-count.self c.has_more.new.self c.loop-count.room.holds _ _ _
-    (c.loop-count.invariant.paid header snap left was tight are) (λ later rest. c.in_ok-has_more.ensures.few header snap later honest on rest)
+    let tight = SetIsTight (Has (g.D.Disk.state c.args.io.now.disk.now).seen c.args.io.now.space) c.args.subject.now.set snap in
+    let before : ℕ = (g.D.Disk.state c.args.io.now.disk.now).calls in
+    let on = (c.loop-count.invariant.paid header snap put place was holds had).on in
+    let rests = c.in_ok-has_more.ensures.rests (ap (λ (b : Bool). Ok b) c.if-not-branch.true) in
+    look_on (λ (seen : List ℕ) (space : FreeSectors). PutsIn (Has seen space) snap view tight put place c.loop-count.count c.args.self.now c.has_more.new.self before (g.D.Disk.state c.has_more.new.io.disk.now).calls) _ _ _ _ _ _ _ c.in_ok-has_more.ensures.looks
+    (subst (λ (calls : ℕ). PutsIn (Has (g.D.Disk.state c.loop-count.io.disk.now).seen c.loop-count.io.space) snap view tight put place c.loop-count.count c.args.self.now c.has_more.new.self before calls) (sym rests.1)
+    (subst (λ (stand : Stand). PutsIn (Has (g.D.Disk.state c.loop-count.io.disk.now).seen c.loop-count.io.space) snap view tight put place c.loop-count.count c.args.self.now stand before (g.D.Disk.state c.loop-count.io.disk.now).calls) (sym rests.0) on))
 
-pub returns-in_err-count-clause-few : goal.returns-in_err-count-clause-few
-returns-in_err-count-clause-few g c = λ header snap left honest tight are.
+pub returns-in_err-count-clause-puts : goal.returns-in_err-count-clause-puts
+returns-in_err-count-clause-puts g c = λ header snap put place honest holds had.
     let p = err_from_is_err_and c.from_residual-in_err-count.result c.from_residual-in_err-count.ensures.1 in
     rw p.1 tt
 
-pub returns-clause-few : goal.returns-clause-few
-returns-clause-few g c = λ header snap left honest tight are.
-    paid_once _ snap (view_of header snap (choice_after c.args.subject.now.source)) left c.args.self.now c.loop-count.self c.loop-count.room.holds _ _ (c.loop-count.invariant.paid header snap left honest tight are)
+pub returns-clause-puts : goal.returns-clause-puts
+returns-clause-puts g c = λ header snap put place honest holds had. (c.loop-count.invariant.paid header snap put place honest holds had).on

@@ -8,7 +8,7 @@ use Rattle.zst_model.specs.states.Dated.{DatedState}
 use Rattle.zst_objset.specs.Sets.{SetHolds}
 use Rattle.zst_objset.specs.Tight.{SetIsTight}
 use Rattle.zst_model.specs.declared.states.item.Item.{Item}
-use Rattle.zst_send.specs.Costs.{AreLeft}
+use Rattle.zst_send.specs.Records.{HasPut}
 use Rattle.zst_send.proofs.Paying.{Paid}
 use Rattle.zst_traverse.specs.Cells.{choice_after}
 use Rattle.zst_send.specs.Knowing.{IsAmong, IsOfSet}
@@ -22,9 +22,10 @@ invariant-loop-count g l = record {
   stands : (header : Header) (snap : DatedState) (left : List ℕ) → (g.D.Disk.state l.io.disk.now).honest → SetHolds (Has (g.D.Disk.state l.fn.io.disk.now).seen l.fn.io.space) l.subject.set snap
       → IsLoaded (Has (g.D.Disk.state l.fn.io.disk.now).seen l.fn.io.space) l.fn.room → StandsAt (Has (g.D.Disk.state l.fn.io.disk.now).seen l.fn.io.space) snap (view_of header snap (choice_after l.subject.source)) l.subject.to l.fn.self left
       → HasGiven (Has (g.D.Disk.state l.io.disk.now).seen l.io.space) snap (view_of header snap (choice_after l.subject.source)) l.subject.to left l.into l.count l.self l.room;
-  paid : (header : Header) (snap : DatedState) (left : List Item) → (g.D.Disk.state l.io.disk.now).honest → SetIsTight (Has (g.D.Disk.state l.fn.io.disk.now).seen l.fn.io.space) l.subject.set snap
-      → AreLeft (Has (g.D.Disk.state l.fn.io.disk.now).seen l.fn.io.space) snap (view_of header snap (choice_after l.subject.source)) l.fn.self.walk l.fn.self.ended left
-      → Paid (Has (g.D.Disk.state l.io.disk.now).seen l.io.space) snap (view_of header snap (choice_after l.subject.source)) left l.fn.self l.self l.room.holds (g.D.Disk.state l.fn.io.disk.now).calls (g.D.Disk.state l.io.disk.now).calls;
+  paid : (header : Header) (snap : DatedState) (put : List Item) (place : ℕ) → (g.D.Disk.state l.io.disk.now).honest → SetHolds (Has (g.D.Disk.state l.fn.io.disk.now).seen l.fn.io.space) l.subject.set snap
+      → HasPut (Has (g.D.Disk.state l.fn.io.disk.now).seen l.fn.io.space) snap (view_of header snap (choice_after l.subject.source)) put place l.fn.self
+      → Paid (Has (g.D.Disk.state l.io.disk.now).seen l.io.space) snap (view_of header snap (choice_after l.subject.source)) (SetIsTight (Has (g.D.Disk.state l.fn.io.disk.now).seen l.fn.io.space) l.subject.set snap) put place l.count
+      l.fn.self l.self l.room.holds (g.D.Disk.state l.fn.io.disk.now).calls (g.D.Disk.state l.io.disk.now).calls;
   knows : (images : List (List ℕ)) → Contains images (g.D.Disk.state l.fn.io.disk.now).seen → (g.D.Disk.state l.io.disk.now).honest → IsOfSet (IsAmong images) l.subject.set l.fn.self → IsOfSet (IsAmong images) l.subject.set l.self;
   stand : StandFits l.self;
   room : RoomFits l.room;

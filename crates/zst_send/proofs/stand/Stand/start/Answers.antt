@@ -1,6 +1,6 @@
 use Rattle.std.proofs.Common.{[], false, refl}
 use Rattle.zst_block.specs.Blocks.{Has}
-use Rattle.zst_send.proofs.Filling.{begins}
+use Rattle.zst_send.proofs.Filling.{begins, begins_put}
 use Rattle.std.proofs.Common.{sym, subst}
 use Rattle.std.specs.Prelude.{IfSome, Option}
 use Rattle.zst_send.specs.Knowing.{DueStands, IsAmong, PayloadStands}
@@ -13,6 +13,11 @@ returns-clause-stands c = λ image space snap view.
     begins c.walk_begins.ensures (Has image space) snap view c.args.header (record { walk = c.start.result; writer = c.alone-work.new.writer; work = c.alone-work.result; ended = false })
     (c.alone-work.ensures.written [] c.new-writer.ensures) (c.alone-work.ensures.head [] c.new-writer.ensures) c.alone-work.ensures.payload c.alone-work.ensures.given
     c.start.ensures.held c.start.ensures.point c.start.ensures.slot refl
+
+pub returns-clause-puts : goal.returns-clause-puts
+returns-clause-puts c = λ image space snap view.
+    begins_put c.walk_begins.ensures (Has image space) snap view (record { walk = c.start.result; writer = c.alone-work.new.writer; work = c.alone-work.result; ended = false })
+    c.alone-work.ensures.payload c.alone-work.ensures.given c.start.ensures.held c.start.ensures.point c.start.ensures.slot refl
 
 pub returns-clause-knows : goal.returns-clause-knows
 returns-clause-knows c = λ images set. record {

@@ -1,9 +1,12 @@
-use Rattle.std.proofs.Common.{ℕ, ◌++◌, drop, sym, ◌∙◌, ap, subst}
+use Rattle.std.proofs.Common.{ℕ, ◌++◌, drop, length, sym, ◌∙◌, ap, subst}
 use Rattle.std.proofs.lemmas.Result.{err_from_is_err_and}
 use Rattle.zst_block.specs.Blocks.{Has}
 use Rattle.zst_stream.specs.Records.{item_payload}
 use Rattle.zst_send.specs.Due.{IsFirst}
-use Rattle.zst_send.specs.Working.{IsPayload}
+use Rattle.zst_block.proofs.BlocksLaws.{IsBlock-length}
+use Rattle.zst_model.specs.declared.states.item.Item.{Item}
+use Rattle.zst_send.specs.Records.{blocks_behind, reads_of}
+use Rattle.zst_send.specs.Working.{IsPayload, payload_size}
 use Rattle.zst_send.specs.declared.work.Payload.{Payload}
 use Rattle.zst_send.specs.declared.due.Due.{Due}
 use Rattle.zst_tree.specs.Damage.{IsSeen}
@@ -49,3 +52,31 @@ pub returns-in_err-load-in-Block-clause-damaged : goal.returns-in_err-load-in-Bl
 returns-in_err-load-in-Block-clause-damaged g c = λ honest.
     let p = err_from_is_err_and c.from_residual-in_err-load-in-Block.result c.from_residual-in_err-load-in-Block.ensures.1 in
     rw (p.1, p.2, c.in-Block.is) (c.in_err-load-in-Block.ensures.damaged honest)
+
+pub returns-in_err-load-in-Spill-clause-size : goal.returns-in_err-load-in-Spill-clause-size
+returns-in_err-load-in-Spill-clause-size g c = λ item first.
+    let p = err_from_is_err_and c.from_residual.result c.from_residual.ensures.1 in
+    rw p.1 tt
+
+pub returns-in_err-load-in-Block-clause-size : goal.returns-in_err-load-in-Block-clause-size
+returns-in_err-load-in-Block-clause-size g c = λ item first.
+    let p = err_from_is_err_and c.from_residual-in_err-load-in-Block.result c.from_residual-in_err-load-in-Block.ensures.1 in
+    rw p.1 tt
+
+pub returns-in_ok-load-in-Spill-clause-size : goal.returns-in_ok-load-in-Spill-clause-size
+returns-in_ok-load-in-Spill-clause-size g c = λ item first.
+    let named = subst (λ (d : Due). IsFirst (Has (g.D.Disk.state c.args.io.now.disk.now).seen c.args.io.now.space) d item) c.in-Spill.is first in
+    let long = IsBlock-length _ c.in-Spill.ptr named.0 named.1.block in
+    record {
+      size = ap payload_size c.of_block.ensures.payload ∙ sym long ∙ sym (ap (λ (i : Item). length (item_payload i)) named.3);
+      blocks = ap blocks_behind c.of_block.ensures.payload ∙ sym (ap reads_of named.3);
+    }
+
+pub returns-in_ok-load-in-Block-clause-size : goal.returns-in_ok-load-in-Block-clause-size
+returns-in_ok-load-in-Block-clause-size g c = λ item first.
+    let named = subst (λ (d : Due). IsFirst (Has (g.D.Disk.state c.args.io.now.disk.now).seen c.args.io.now.space) d item) c.in-Block.is first in
+    let long = IsBlock-length _ c.in-Block.ptr named.0 named.1.block in
+    record {
+      size = ap payload_size c.of_block-in-Block.ensures.payload ∙ sym long ∙ sym (ap (λ (i : Item). length (item_payload i)) named.3);
+      blocks = ap blocks_behind c.of_block-in-Block.ensures.payload ∙ sym (ap reads_of named.3);
+    }
