@@ -87,6 +87,13 @@ NotLimit (faults.Redacted object block) = Unit {0}
 NotLimit (faults.Limit which number) = ⊥
 NotLimit (faults.Block fault) = Unit {0}
 
+-- no E22
+abbrev pub NotRedacted : ObjFault → Type 0
+NotRedacted (faults.CannotApply fault) = Unit {0}
+NotRedacted (faults.Redacted object block) = ⊥
+NotRedacted (faults.Limit which number) = Unit {0}
+NotRedacted (faults.Block fault) = Unit {0}
+
 -- E23 of this quantity alone, with its limit, and only where the end of a range is past that
 abbrev pub LimitOnly : Quantity → (limit past : ℕ) → ObjFault → Type 0
 LimitOnly which limit past (faults.CannotApply fault) = Unit {0}

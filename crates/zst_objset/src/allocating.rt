@@ -13,7 +13,7 @@ ghost use Rattle.zst_model.specs.states.Dated.{DatedState};
 ghost use Rattle.zst_model.specs.states.State.{IsBonus, IsHead, is_number, number_bound};
 ghost use Rattle.zst_tree.specs.Sets.{SetFits};
 ghost use Rattle.zst_objset.specs.Allocating.{kept_blocks, kept_spill, no_blocks};
-ghost use Rattle.zst_objset.specs.Answers.{Changes, LimitOnly, stop_of};
+ghost use Rattle.zst_objset.specs.Answers.{Changes, LimitOnly, stop_of, NotRedacted};
 ghost use Rattle.zst_objset.specs.Changes.{object_put};
 ghost use Rattle.zst_objset.specs.Damage.{IfSetDamaged, IsDamagedSet, IsSetWithin};
 ghost use Rattle.zst_objset.specs.Dnodes.{DnodeIs};
@@ -142,6 +142,7 @@ pub(crate) fn put_object<D: Disk>(
     ensures tight { (state : DatedState) → (D.state io.new.disk.now).honest → SetIsTight (Has (D.state io.old.disk.now).seen io.old.space) set.old state → DatedUpTo number state
         → Changes (SetIsTight (Has (D.state io.new.disk.now).seen io.new.space) set.new) (object_put number object head bonus.now keep_spill state) result }
     ensures limits { IfErr result (LimitOnly quantities.Object number_bound (object + 1)) }
+    ensures unredacted { IfErr result NotRedacted }
     ensures damaged { (D.state io.new.disk.now).honest → IfSetDamaged result (IsDamagedSet (SparesTaken io.old.space (D.state io.old.disk.now).seen) (D.state io.old.disk.now).size set.old) }
     ensures within { (D.state io.new.disk.now).honest → OnOk result (IsSetWithin (SparesTaken io.old.space (D.state io.old.disk.now).seen) (D.state io.old.disk.now).size set.old (SparesTaken io.new.space (D.state io.new.disk.now).seen) set.new) }
     ensures kept { OnErr result (set.new ≡ set.old) }

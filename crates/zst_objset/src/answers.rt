@@ -10,7 +10,7 @@ ghost use Rattle.zst_model.specs.states.Dated.{DatedState};
 ghost use Rattle.zst_model.specs.declared.refusals.faults.Quantity.TheVariants as quantities;
 ghost use Rattle.zst_model.specs.states.State.{Block, BlockFits, Object, index_bound};
 ghost use Rattle.zst_tree.specs.Damage.{IsSeen};
-ghost use Rattle.zst_objset.specs.Answers.{FindsObject, FindsSlot, FindsThere, IsOfBlock, LimitOnly, NotLimit, ReadsBlock, ReadsData, stop_of};
+ghost use Rattle.zst_objset.specs.Answers.{FindsObject, FindsSlot, FindsThere, IsOfBlock, LimitOnly, NotLimit, ReadsBlock, ReadsData, stop_of, NotRedacted};
 ghost use Rattle.zst_objset.specs.Changes.{block_found, found_at};
 ghost use Rattle.zst_objset.specs.Damage.{IfSetDamaged, IsDamagedBlock, IsDamagedData, IsDamagedSet, StandsIn};
 ghost use Rattle.zst_objset.specs.Dnodes.{BlockIs};
@@ -83,6 +83,7 @@ pub(crate) fn object_there<D: Disk>(
         → IfOk result (λ dnode. IsTightSlot snap object (There dnode)) }
     ensures ranges { IfOk result DnodeFits }
     ensures limits { IfErr result NotLimit }
+    ensures unredacted { IfErr result NotRedacted }
     ensures bound { OnOk result (object < 2 ^ 48) }
     ensures stands { (D.state io.new.disk.now).honest → IfOk result (StandsIn (IsSeen (D.state io.old.disk.now).seen) set.now) }
     ensures damaged { (D.state io.new.disk.now).honest → IfSetDamaged result (IsDamagedSet (IsSeen (D.state io.old.disk.now).seen) (D.state io.old.disk.now).size set.now) }

@@ -10,7 +10,7 @@ ghost use Rattle.zst_model.specs.pools.Sound.{DatedUpTo};
 ghost use Rattle.zst_model.specs.states.Dated.{DatedState};
 ghost use Rattle.zst_model.specs.states.State.{IsSpill};
 ghost use Rattle.zst_tree.specs.Sets.{SetFits};
-ghost use Rattle.zst_objset.specs.Answers.{Changes, stop_of, NotLimit};
+ghost use Rattle.zst_objset.specs.Answers.{Changes, stop_of, NotLimit, NotRedacted};
 ghost use Rattle.zst_objset.specs.Changes.{changed, spill_put};
 ghost use Rattle.zst_objset.specs.Damage.{IfSetDamaged, IsDamagedSet, IsSetWithin};
 ghost use Rattle.zst_objset.specs.Putting.{MakesDnode};
@@ -72,6 +72,7 @@ pub(crate) fn put_dnode<D: Disk>(
         → MakesDnode (Has (D.state io.old.disk.now).seen io.old.space) number object change state dnode → IsTightDnode number object change state dnode
         → Changes (SetIsTight (Has (D.state io.new.disk.now).seen io.new.space) set.new) (changed number (At object change) state) result }
     ensures limits { IfErr result NotLimit }
+    ensures unredacted { IfErr result NotRedacted }
     ensures damaged { (D.state io.new.disk.now).honest → IfSetDamaged result (IsDamagedSet (SparesTaken io.old.space (D.state io.old.disk.now).seen) (D.state io.old.disk.now).size set.old) }
     ensures within { (D.state io.new.disk.now).honest → OnOk result (IsSetWithin (SparesTaken io.old.space (D.state io.old.disk.now).seen) (D.state io.old.disk.now).size set.old (SparesTaken io.new.space (D.state io.new.disk.now).seen) set.new) }
     ensures kept { OnErr result (set.new ≡ set.old) }
@@ -105,6 +106,7 @@ pub(crate) fn put_spill<D: Disk>(
     ensures tight { (state : DatedState) → (D.state io.new.disk.now).honest → SetIsTight (Has (D.state io.old.disk.now).seen io.old.space) set.old state → DatedUpTo number state
         → Changes (SetIsTight (Has (D.state io.new.disk.now).seen io.new.space) set.new) (spill_put number object bytes.now state) result }
     ensures limits { IfErr result NotLimit }
+    ensures unredacted { IfErr result NotRedacted }
     ensures damaged { (D.state io.new.disk.now).honest → IfSetDamaged result (IsDamagedSet (SparesTaken io.old.space (D.state io.old.disk.now).seen) (D.state io.old.disk.now).size set.old) }
     ensures kept { OnErr result (set.new ≡ set.old) }
     ensures levels { OnOk result (SetFits set.new) }

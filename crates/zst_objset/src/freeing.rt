@@ -7,7 +7,7 @@ ghost use Rattle.zst_model.specs.states.Dated.{DatedState};
 ghost use Rattle.zst_model.specs.states.State.{number_bound};
 ghost use Rattle.zst_tree.specs.Indices.{Delivers};
 ghost use Rattle.zst_tree.specs.Sets.{SetFits};
-ghost use Rattle.zst_objset.specs.Answers.{Changes, stop_of, LimitOnly};
+ghost use Rattle.zst_objset.specs.Answers.{Changes, stop_of, LimitOnly, NotRedacted};
 ghost use Rattle.zst_objset.specs.Changes.{objects_freed};
 ghost use Rattle.zst_objset.specs.Damage.{IfDamaged, IfSetDamaged, IsDamagedSet, IsSetWithin};
 ghost use Rattle.zst_objset.specs.Freeing.{freed};
@@ -134,6 +134,7 @@ pub(crate) fn free_objects<D: Disk>(
     ensures tight { (state : DatedState) → (D.state io.new.disk.now).honest → SetIsTight (Has (D.state io.old.disk.now).seen io.old.space) set.old state
         → Changes (SetIsTight (Has (D.state io.new.disk.now).seen io.new.space) set.new) (objects_freed number first count state) result }
     ensures limits { IfErr result (LimitOnly quantities.Object number_bound (first + count)) }
+    ensures unredacted { IfErr result NotRedacted }
     ensures damaged { (D.state io.new.disk.now).honest → IfSetDamaged result (IsDamagedSet (SparesTaken io.old.space (D.state io.old.disk.now).seen) (D.state io.old.disk.now).size set.old) }
     ensures kept { OnErr result (set.new ≡ set.old) }
     ensures levels { SetFits set.old → SetFits set.new }

@@ -12,7 +12,7 @@ ghost use Rattle.zst_model.specs.declared.refusals.faults.Quantity.TheVariants a
 ghost use Rattle.zst_model.specs.states.State.{Object, IsBonus, IsHead, IsSpill, index_bound, number_bound};
 ghost use Rattle.zst_tree.specs.Damage.{IsSeen, NamesNode, SumsUp};
 ghost use Rattle.zst_tree.specs.Indices.{Blocks};
-ghost use Rattle.zst_objset.specs.Answers.{Changes, FindsObject, FindsSlot, IsOfBlock, LimitOnly, NotLimit, ReadsBlock, stop_of};
+ghost use Rattle.zst_objset.specs.Answers.{Changes, FindsObject, FindsSlot, IsOfBlock, LimitOnly, NotLimit, NotRedacted, ReadsBlock, stop_of};
 ghost use Rattle.zst_objset.specs.Changes.{block_written, found_at, holes_made, object_put, objects_freed, range_redacted, spill_put};
 ghost use Rattle.zst_objset.specs.Damage.{DamageFact, IfSetDamaged};
 ghost use Rattle.zst_objset.specs.Searching.{FindsNext};
@@ -134,6 +134,7 @@ pub trait Objects<D: Disk> {
         ensures tight { (state : DatedState) → (D.state io.new.disk.now).honest → tight self.old (Has (D.state io.old.disk.now).seen io.old.space) state → DatedUpTo number state
             → Changes (tight self.new (Has (D.state io.new.disk.now).seen io.new.space)) (object_put number object head bonus.now keep_spill state) result }
         ensures limits { IfErr result (LimitOnly quantities.Object number_bound (object + 1)) }
+        ensures unredacted { IfErr result NotRedacted }
         ensures damaged { (D.state io.new.disk.now).honest → IfSetDamaged result (slot_damage (SparesTaken io.old.space (D.state io.old.disk.now).seen) (D.state io.old.disk.now).size self.old) }
         ensures within { (D.state io.new.disk.now).honest → OnOk result ((sector : ℕ) (stated found : List ℕ) → slot_damage (SparesTaken io.new.space (D.state io.new.disk.now).seen) (D.state io.old.disk.now).size self.new sector stated found
             → slot_damage (SparesTaken io.old.space (D.state io.old.disk.now).seen) (D.state io.old.disk.now).size self.old sector stated found) }
@@ -158,6 +159,7 @@ pub trait Objects<D: Disk> {
         ensures tight { (state : DatedState) → (D.state io.new.disk.now).honest → tight self.old (Has (D.state io.old.disk.now).seen io.old.space) state → DatedUpTo number state
             → Changes (tight self.new (Has (D.state io.new.disk.now).seen io.new.space)) (spill_put number object bytes.now state) result }
         ensures limits { IfErr result NotLimit }
+        ensures unredacted { IfErr result NotRedacted }
         ensures damaged { (D.state io.new.disk.now).honest → IfSetDamaged result (slot_damage (SparesTaken io.old.space (D.state io.old.disk.now).seen) (D.state io.old.disk.now).size self.old) }
         ensures kept { OnErr result (self.new ≡ self.old) }
         ensures levels { OnOk result (fits self.new) }
@@ -179,6 +181,7 @@ pub trait Objects<D: Disk> {
         ensures tight { (state : DatedState) → (D.state io.new.disk.now).honest → tight self.old (Has (D.state io.old.disk.now).seen io.old.space) state
             → Changes (tight self.new (Has (D.state io.new.disk.now).seen io.new.space)) (objects_freed number first count state) result }
         ensures limits { IfErr result (LimitOnly quantities.Object number_bound (first + count)) }
+        ensures unredacted { IfErr result NotRedacted }
         ensures damaged { (D.state io.new.disk.now).honest → IfSetDamaged result (slot_damage (SparesTaken io.old.space (D.state io.old.disk.now).seen) (D.state io.old.disk.now).size self.old) }
         ensures kept { OnErr result (self.new ≡ self.old) }
         ensures levels { fits self.old → fits self.new }
@@ -201,6 +204,7 @@ pub trait Objects<D: Disk> {
         ensures tight { (state : DatedState) → (D.state io.new.disk.now).honest → tight self.old (Has (D.state io.old.disk.now).seen io.old.space) state → DatedUpTo number state
             → Changes (tight self.new (Has (D.state io.new.disk.now).seen io.new.space)) (block_written number object index bytes.now state) result }
         ensures limits { IfErr result (LimitOnly quantities.Block index_bound (index + 1)) }
+        ensures unredacted { IfErr result NotRedacted }
         ensures damaged { (D.state io.new.disk.now).honest → IfSetDamaged result (tree_damage (SparesTaken io.old.space (D.state io.old.disk.now).seen) (D.state io.old.disk.now).size NamesNode self.old) }
         ensures kept { OnErr result (self.new ≡ self.old) }
         ensures levels { OnOk result (fits self.new) }
@@ -223,6 +227,7 @@ pub trait Objects<D: Disk> {
         ensures tight { (state : DatedState) → (D.state io.new.disk.now).honest → tight self.old (Has (D.state io.old.disk.now).seen io.old.space) state → DatedUpTo number state
             → Changes (tight self.new (Has (D.state io.new.disk.now).seen io.new.space)) (holes_made number object first count state) result }
         ensures limits { IfErr result (LimitOnly quantities.Block index_bound (first + count)) }
+        ensures unredacted { IfErr result NotRedacted }
         ensures damaged { (D.state io.new.disk.now).honest → IfSetDamaged result (tree_damage (SparesTaken io.old.space (D.state io.old.disk.now).seen) (D.state io.old.disk.now).size (SumsUp (SparesTaken io.old.space (D.state io.old.disk.now).seen)) self.old) }
         ensures kept { OnErr result (self.new ≡ self.old) }
         ensures levels { OnOk result (fits self.new) }
@@ -245,6 +250,7 @@ pub trait Objects<D: Disk> {
         ensures tight { (state : DatedState) → (D.state io.new.disk.now).honest → tight self.old (Has (D.state io.old.disk.now).seen io.old.space) state → DatedUpTo number state
             → Changes (tight self.new (Has (D.state io.new.disk.now).seen io.new.space)) (range_redacted number object first count state) result }
         ensures limits { IfErr result (LimitOnly quantities.Block index_bound (first + count)) }
+        ensures unredacted { IfErr result NotRedacted }
         ensures damaged { (D.state io.new.disk.now).honest → IfSetDamaged result (tree_damage (SparesTaken io.old.space (D.state io.old.disk.now).seen) (D.state io.old.disk.now).size NamesNode self.old) }
         ensures kept { OnErr result (self.new ≡ self.old) }
         ensures levels { OnOk result (fits self.new) }

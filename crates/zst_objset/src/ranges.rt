@@ -12,7 +12,7 @@ ghost use Rattle.zst_model.specs.states.State.{Object, Hole, Redacted, IsState, 
 ghost use Rattle.zst_tree.specs.Damage.{IsSeen, NamesDamage, NamesNode, SumsUp};
 ghost use Rattle.zst_tree.specs.Indices.{Delivers, Map};
 ghost use Rattle.zst_tree.specs.Sets.{SetFits};
-ghost use Rattle.zst_objset.specs.Answers.{Changes, stop_of, LimitOnly};
+ghost use Rattle.zst_objset.specs.Answers.{Changes, stop_of, LimitOnly, NotRedacted};
 ghost use Rattle.zst_objset.specs.Changes.{holes_made, range_redacted};
 ghost use Rattle.zst_objset.specs.Damage.{IfSetDamaged, IsDamagedObject};
 ghost use Rattle.zst_objset.specs.Dnodes.{IsThere, ObjectIs};
@@ -38,6 +38,7 @@ use zst_tree::ObjSet;
 fn check_range(first: u64, count: u64) -> Result<(), ObjFault>
     ensures inside { OnOk result (first + count ≤ index_bound) }
     ensures past { IfErr result (λ fault. (fault ≡ faults.Limit quantities.Block index_bound) × (index_bound < first + count)) }
+    ensures unredacted { IfErr result NotRedacted }
 {
     if first.saturating_add(count) > INDEX_BOUND {
         return Err(ObjFault::Limit {
@@ -188,6 +189,7 @@ pub(crate) fn punch<D: Disk>(
     ensures tight { (state : DatedState) → (D.state io.new.disk.now).honest → SetIsTight (Has (D.state io.old.disk.now).seen io.old.space) set.old state → DatedUpTo number state
         → Changes (SetIsTight (Has (D.state io.new.disk.now).seen io.new.space) set.new) (holes_made number object first count state) result }
     ensures limits { IfErr result (LimitOnly quantities.Block index_bound (first + count)) }
+    ensures unredacted { IfErr result NotRedacted }
     ensures damaged { (D.state io.new.disk.now).honest → IfSetDamaged result (IsDamagedObject (SparesTaken io.old.space (D.state io.old.disk.now).seen) (D.state io.old.disk.now).size (SumsUp (SparesTaken io.old.space (D.state io.old.disk.now).seen)) set.old) }
     ensures kept { OnErr result (set.new ≡ set.old) }
     ensures levels { OnOk result (SetFits set.new) }
@@ -216,6 +218,7 @@ pub(crate) fn redact_range<D: Disk>(
     ensures tight { (state : DatedState) → (D.state io.new.disk.now).honest → SetIsTight (Has (D.state io.old.disk.now).seen io.old.space) set.old state → DatedUpTo number state
         → Changes (SetIsTight (Has (D.state io.new.disk.now).seen io.new.space) set.new) (range_redacted number object first count state) result }
     ensures limits { IfErr result (LimitOnly quantities.Block index_bound (first + count)) }
+    ensures unredacted { IfErr result NotRedacted }
     ensures damaged { (D.state io.new.disk.now).honest → IfSetDamaged result (IsDamagedObject (SparesTaken io.old.space (D.state io.old.disk.now).seen) (D.state io.old.disk.now).size NamesNode set.old) }
     ensures kept { OnErr result (set.new ≡ set.old) }
     ensures levels { OnOk result (SetFits set.new) }

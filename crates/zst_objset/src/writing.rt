@@ -10,7 +10,7 @@ ghost use Rattle.zst_tree.specs.Changes.{TreeDatedUpTo};
 ghost use Rattle.zst_tree.specs.Damage.{NamesDamage, NamesNode};
 ghost use Rattle.zst_tree.specs.Indices.{Delivers, Map, TreeIs};
 ghost use Rattle.zst_tree.specs.Sets.{SetFits};
-ghost use Rattle.zst_objset.specs.Answers.{Changes, stop_of, LimitOnly};
+ghost use Rattle.zst_objset.specs.Answers.{Changes, stop_of, LimitOnly, NotRedacted};
 ghost use Rattle.zst_objset.specs.Changes.{block_written};
 ghost use Rattle.zst_objset.specs.Damage.{IfSetDamaged, IsDamagedObject};
 ghost use Rattle.zst_objset.specs.Sets.{SetHolds};
@@ -41,6 +41,7 @@ fn judge_write(dnode: &Dnode, index: u64, count: usize) -> Result<(), ObjFault>
     ensures judged { result ≡ write_judged dnode.now.block_size index count }
     ensures index { OnOk result (index < 2 ^ 43) }
     ensures limits { IfErr result (LimitOnly quantities.Block index_bound (index + 1)) }
+    ensures unredacted { IfErr result NotRedacted }
     ensures stop { stop_of result ≡ None }
 {
     if count != dnode.block_size as usize {
@@ -103,6 +104,7 @@ pub(crate) fn write_block<D: Disk>(
     ensures tight { (state : DatedState) → (D.state io.new.disk.now).honest → SetIsTight (Has (D.state io.old.disk.now).seen io.old.space) set.old state → DatedUpTo number state
         → Changes (SetIsTight (Has (D.state io.new.disk.now).seen io.new.space) set.new) (block_written number object index bytes.now state) result }
     ensures limits { IfErr result (LimitOnly quantities.Block index_bound (index + 1)) }
+    ensures unredacted { IfErr result NotRedacted }
     ensures damaged { (D.state io.new.disk.now).honest → IfSetDamaged result (IsDamagedObject (SparesTaken io.old.space (D.state io.old.disk.now).seen) (D.state io.old.disk.now).size NamesNode set.old) }
     ensures kept { OnErr result (set.new ≡ set.old) }
     ensures levels { OnOk result (SetFits set.new) }

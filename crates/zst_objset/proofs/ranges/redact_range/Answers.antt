@@ -137,3 +137,13 @@ returns-clause-tight g c = λ state honest tight dated.
     Changes-indices (c.args.first + c.args.count) _ _ _ c.in_ok-check_range.ensures.inside
     (c.put_dnode.ensures.tight c.args.number (redact_of c.args.first c.args.count (state.state c.args.object)) state honest grown (made.made c.args.object state was_made number tight.holds.lawful there)
     (made.tight c.args.object state was_made number tight.holds.lawful there dated was))
+
+pub returns-in_err-dnode-clause-unredacted : goal.returns-in_err-dnode-clause-unredacted
+returns-in_err-dnode-clause-unredacted g c =
+    let p = err_from_is_err_and c.from_residual.result c.from_residual.ensures.1 in
+    rw (p.1, p.2) c.in_err-dnode.ensures.unredacted
+
+pub returns-in_err-check_range-clause-unredacted : goal.returns-in_err-check_range-clause-unredacted
+returns-in_err-check_range-clause-unredacted g c =
+    let p = err_from_is_err_and c.from_residual-in_err-check_range.result c.from_residual-in_err-check_range.ensures.1 in
+    rw (p.1, p.2) c.in_err-check_range.ensures.unredacted
