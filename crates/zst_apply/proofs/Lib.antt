@@ -1,0 +1,7 @@
+pub mod Answering
+pub mod Changing
+pub mod Freeing
+pub mod HeadLaws
+pub mod Ranging
+pub mod Receiving
+pub mod Telling

@@ -1,0 +1,3 @@
+pub mod Applying
+pub mod Checks
+pub mod Damage
