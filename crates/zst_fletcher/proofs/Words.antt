@@ -1,6 +1,7 @@
 -- The words of a text that is made of two.
 use Rattle.std.proofs.Common.{◌≡◌, ◌+◌, ◌*◌, ◌/◌, ◌%◌, ◌^◌, ◌<◌, ◌≤◌, ℕ, zero, suc, List, [], ◌∷◌, ◌++◌, length, take, drop, refl, ap, sym, ◌∙◌, arith, length-append, length-take, length-drop, append_assoc}
 use Rattle.std.proofs.Math.Seq.{take-add}
+use Rattle.std.proofs.lemmas.List.{drop-drop}
 use Rattle.std.specs.Int.{w32, from_le_bytes}
 use Rattle.std.specs.Simd.Lanes.{Each1, number_l, digits_l}
 use Rattle.zst_fletcher.specs.WeightSum.{words, IsWhole}
@@ -40,19 +41,43 @@ length-words (a ∷ b ∷ []) h = absurd (omega arith)
 length-words (a ∷ b ∷ c ∷ []) h = absurd (omega arith)
 length-words (a ∷ b ∷ c ∷ d ∷ xs) h = omega (arith, length-words xs (omega arith))
 
--- the words of whole rows
-pub rows-count : (bytes : List ℕ) (i : ℕ) → 16 * i ≤ length bytes → length (words (take (16 * i) bytes)) ≡ 4 * i
-rows-count bytes i room =
-    let long : length (take (16 * i) bytes) ≡ 16 * i = simp length-take (omega arith) in
-    omega (arith, length-words (take (16 * i) bytes) (omega arith))
+-- the words of whole steps
+pub steps-count : (bytes : List ℕ) (i : ℕ) → 128 * i ≤ length bytes → length (words (take (128 * i) bytes)) ≡ 32 * i
+steps-count bytes i room =
+    let long : length (take (128 * i) bytes) ≡ 128 * i = simp length-take (omega arith) in
+    omega (arith, length-words (take (128 * i) bytes) (omega arith))
 
--- one more row of the text
-pub words-row : (bytes : List ℕ) (i : ℕ) → 16 * i + 16 ≤ length bytes →
-    words (take (16 * (i + 1)) bytes) ≡ words (take (16 * i) bytes) ++ words (take 16 (drop (16 * i) bytes))
-words-row bytes i room =
-    let split : take (16 * (i + 1)) bytes ≡ take (16 * i) bytes ++ take 16 (drop (16 * i) bytes) =
-    ap (λ n. take n bytes) (omega arith) ∙ take-add (16 * i) 16 bytes in
-    rw split (words-append (take (16 * i) bytes) (take 16 (drop (16 * i) bytes)) (simp length-take (omega arith)))
+-- one more step of the text
+pub words-step : (bytes : List ℕ) (i : ℕ) → 128 * i + 128 ≤ length bytes →
+    words (take (128 * (i + 1)) bytes) ≡ words (take (128 * i) bytes) ++ words (take 128 (drop (128 * i) bytes))
+words-step bytes i room =
+    let split : take (128 * (i + 1)) bytes ≡ take (128 * i) bytes ++ take 128 (drop (128 * i) bytes) =
+    ap (λ n. take n bytes) (omega arith) ∙ take-add (128 * i) 128 bytes in
+    rw split (words-append (take (128 * i) bytes) (take 128 (drop (128 * i) bytes)) (simp length-take (omega arith)))
+
+-- one more row behind some of a step
+words-row : (before bytes : List ℕ) (at n : ℕ) → n % 4 ≡ 0 → at + n ≤ length bytes
+    → (before ++ words (take n (drop at bytes))) ++ words (take 32 (drop (at + n) bytes)) ≡ before ++ words (take (n + 32) (drop at bytes))
+words-row before bytes at n whole room =
+    let front = take n (drop at bytes) in
+    let row = take 32 (drop (at + n) bytes) in
+    let split : take (n + 32) (drop at bytes) ≡ front ++ row = take-add n 32 (drop at bytes) ∙ ap (λ bs. front ++ take 32 bs) (drop-drop n at bytes) in
+    let parts : words (front ++ row) ≡ words front ++ words row = words-append front row (simp (length-take, length-drop) (omega arith)) in
+    append_assoc before (words front) (words row) ∙ ap (λ ws. before ++ ws) (sym (ap words split ∙ parts))
+
+pub length-row : (before bytes : List ℕ) (at : ℕ) → length before % 8 ≡ 0 → at + 32 ≤ length bytes
+    → length (before ++ words (take 32 (drop at bytes))) % 8 ≡ 0
+length-row before bytes at whole room =
+    let row = take 32 (drop at bytes) in
+    let long : length row ≡ 32 = simp (length-take, length-drop) (omega arith) in
+    omega (arith, length-append before (words row), length-words row (omega arith))
+
+-- the four rows of a step
+pub words-rows : (before bytes : List ℕ) (at : ℕ) → at + 128 ≤ length bytes
+    → (((before ++ words (take 32 (drop at bytes))) ++ words (take 32 (drop (at + 32) bytes))) ++ words (take 32 (drop (at + 64) bytes)))
+    ++ words (take 32 (drop (at + 96) bytes)) ≡ before ++ words (take 128 (drop at bytes))
+words-rows before bytes at room =
+    rw (words-row before bytes at 32 refl (omega arith), words-row before bytes at 64 refl (omega arith)) (words-row before bytes at 96 refl (omega arith))
 
 -- the digits of 32 bits of the number that the bytes are
 pub words-digits : (n : ℕ) (xs : List ℕ) → length xs ≡ 4 * n → Each1 (λ x. x < 2 ^ 8) xs → digits_l (2 ^ 32) n (number_l 256 xs) ≡ words xs

@@ -1,12 +1,13 @@
-ghost use Rattle.std.specs.Prelude.{◌≡◌, ◌<◌, ◌^◌, ◌++◌, [], List, ℕ, length};
+ghost use Rattle.std.specs.Prelude.{◌≡◌, ◌%◌, ◌<◌, ◌^◌, ◌++◌, [], List, ℕ, length};
+ghost use Rattle.zst_fletcher.specs.Pairs.{totals_of, seconds_of};
 ghost use Rattle.zst_fletcher.specs.WeightSum.{sums_of, weight_sum, IsWhole, parts_of};
 
-use crate::lanes::{ROW, sum_of_rows};
+use crate::lanes::{STEP, sum_of_steps};
 use crate::plain::add_words;
 use crate::weights::{pyramid, triangle};
 
 /// The bytes from which on a text is summed faster in lanes than word by word.
-const WORTH_LANES: usize = 128;
+const WORTH_LANES: usize = 256;
 
 /// The four running sums of Fletcher-4, each modulo 2^64. Each word adds to `a`, then `a` to `b`,
 /// `b` to `c` and `c` to `d`. A record states them in this order (`drr_checksum` of zfs_ioctl.h).
@@ -46,8 +47,8 @@ impl Sum {
         if bytes.len() < WORTH_LANES {
             add_words(self, bytes);
         } else {
-            let (rows, rest) = bytes.split_at(bytes.len() / ROW * ROW);
-            *self = self.append(&sum_of_rows(rows), rows.len() as u64 / 4);
+            let (steps, rest) = bytes.split_at(bytes.len() / STEP * STEP);
+            *self = self.append(&sum_of_steps(steps), steps.len() as u64 / 4);
             add_words(self, rest);
         }
     }
@@ -73,6 +74,30 @@ impl Sum {
             b: self.b.wrapping_add(b).wrapping_add(later.b),
             c: self.c.wrapping_add(c).wrapping_add(later.c),
             d: self.d.wrapping_add(d).wrapping_add(later.d),
+        }
+    }
+
+    /// The sum of words in pairs, by that of the pairs' totals and that of their second words. The m-th pair from the end has
+    /// the places 2m and 2m - 1, so that its second word has less weight than the first.
+    #[inline(always)]
+    pub(crate) fn part(&self, seconds: &Sum) -> Sum
+        ensures { (words : List ℕ) → length words % 2 ≡ 0 → self.now ≡ sums_of (totals_of words) → seconds.now ≡ sums_of (seconds_of words)
+            → result ≡ sums_of words }
+    {
+        Sum {
+            a: self.a,
+            b: self.b.wrapping_mul(2).wrapping_sub(seconds.a),
+            c: self
+                .c
+                .wrapping_mul(4)
+                .wrapping_sub(self.b)
+                .wrapping_sub(seconds.b.wrapping_mul(2)),
+            d: self
+                .d
+                .wrapping_mul(8)
+                .wrapping_sub(self.c.wrapping_mul(4))
+                .wrapping_sub(seconds.c.wrapping_mul(4))
+                .wrapping_add(seconds.b),
         }
     }
 }

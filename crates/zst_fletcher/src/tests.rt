@@ -90,7 +90,7 @@ fn parts_by_weights(bytes: &[u8]) -> [u64; 4] {
 #[test]
 fn both_forms_agree_at_each_length(rt: HostRuntime) {
     let text = sample();
-    for words in 0..66 {
+    for words in 0..130 {
         let bytes = &text[..4 * words];
         check(&rt, bytes, parts_by_weights(bytes));
     }
