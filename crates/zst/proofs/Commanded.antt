@@ -1,6 +1,6 @@
 -- What stands after a command on the pool of an image, from what opening and stepping say.
 use Rattle.std.specs.Prelude.{false, Option, Some, None, Result, Ok, Err}
-use Rattle.std.proofs.Common.{◌≡◌, ◌≢◌, ◌⊎◌, inl, inr, ⊎_elim, ℕ, ◌≤◌, List, [], refl, sym, ap, ◌∙◌, subst, arith}
+use Rattle.std.proofs.Common.{◌≡◌, ◌≢◌, ◌⊎◌, inl, inr, ⊎_elim, ℕ, ◌≤◌, List, [], refl, sym, ap, ◌∙◌, subst, arith, Bool}
 use Rattle.zst_outside.specs.Causes.{Rose-earlier}
 use Rattle.zst_outside.specs.Images.{DiskState, Leaves, Leaves-weaker, Leaves-then, OnlyReads, OnlyReads-then, IsSynced}
 use Rattle.zst_outside.specs.States.{SinkState}
@@ -22,6 +22,7 @@ use Rattle.zst_laws.specs.Stepping.{StepsKeepKept}
 use Rattle.zst_tree.specs.Damage.{IsSeen, NamesNode, SumsUp}
 use Rattle.zst_objset.specs.Damage.{IsDamagedBlock, IsDamagedObject, IsDamagedSet}
 use Rattle.zst_dir.specs.Rows.{Rows}
+use Rattle.zst_pool.proofs.Resting.{rest_plain}
 use Rattle.zst_image.specs.Faults.{open_refusal}
 use Rattle.zst_image.specs.Faults as opening
 use Rattle.zst_image.specs.Opening.{GivesPool, OpenAnswers}
@@ -180,10 +181,10 @@ refused_open here here' fault cause = record { one = inl (fault, refl); alive = 
 -- ---- opening
 
 -- a disk that read as a pool and where nothing is pending rests as that pool
-pub rests_read : (here mid : DiskState) (uber : Uber) (rows : Rows) (pool : Pool) → ReadsAs uber rows pool here.seen → OnlyReads here mid → IsSynced mid → Rests mid uber rows pool
-rests_read here mid uber rows pool is reads synced =
-    let read : ReadsAs uber rows pool mid.seen = subst (λ (bytes : List ℕ). ReadsAs uber rows pool bytes) (sym reads.seen) is in
-    record { reads = read; each = λ c image. subst (λ (bytes : List ℕ). ReadsAs uber rows pool bytes) (sym (synced c image)) read }
+pub rests_read : {tight : Bool} (here mid : DiskState) (uber : Uber) (rows : Rows) (pool : Pool) → ReadsAs tight uber rows pool here.seen → OnlyReads here mid → IsSynced mid → Rests tight mid uber rows pool
+rests_read {tight = tight} here mid uber rows pool is reads synced =
+    let read : ReadsAs tight uber rows pool mid.seen = subst (λ (bytes : List ℕ). ReadsAs tight uber rows pool bytes) (sym reads.seen) is in
+    record { reads = read; each = λ c image. subst (λ (bytes : List ℕ). ReadsAs tight uber rows pool bytes) (sym (synced c image)) read }
 
 -- what holds of the body that is kept holds of the body that it is
 for_kept : (P : Uber → Type 0) (kept : Kept) (uber : Uber) (rows : Rows) → GivesPool uber rows (Ok kept) → P kept.body → P uber
@@ -191,7 +192,7 @@ for_kept P kept uber rows same is = subst P same.0 is
 
 -- what is kept of a pool that an image reads as, and of what a command makes of it, is all of it
 abbrev pub KeepLaws : Type 0
-KeepLaws = ((pool : Pool) → KeepsAll pool → kept_of pool ≡ pool) × StepsKeepKept × ((uber : Uber) (rows : Rows) (pool : Pool) (image : List ℕ) → ReadsAs uber rows pool image → KeepsAll pool)
+KeepLaws = ((pool : Pool) → KeepsAll pool → kept_of pool ≡ pool) × StepsKeepKept × ((tight : Bool) (uber : Uber) (rows : Rows) (pool : Pool) (image : List ℕ) → ReadsAs tight uber rows pool image → KeepsAll pool)
 
 module _ (laws : KeepLaws) where
   -- what is kept of the pool that a command makes
@@ -199,25 +200,25 @@ module _ (laws : KeepLaws) where
   kept_done now command pool done all is = laws.0 done.pool (laws.1 [] now command pool done is all)
 
   -- an image that reads as what is kept before or after reads as the pool before or after
-  reads_whole : (now : ℕ) (command : Command) (here : DiskState) (pool : Pool) → KeepsAll pool → (c : List ℕ)
-      → BeforeOrAfter pool (stepped [] now command pool) c → OldOrReads here pool (stepped [] now command pool) c
-  reads_whole now command here pool all c (inl reads) = inr (inl (subst (λ (p : Pool). Reads p c) (laws.0 pool all) reads))
-  reads_whole now command here pool all c (inr after) = inr (inr (after.0, after.1, subst (λ (p : Pool). Reads p c) (kept_done now command pool after.0 all after.1) after.2))
+  reads_whole : {tight : Bool} (now : ℕ) (command : Command) (here : DiskState) (pool : Pool) → KeepsAll pool → (c : List ℕ)
+      → BeforeOrAfter tight pool (stepped [] now command pool) c → OldOrReads tight here pool (stepped [] now command pool) c
+  reads_whole {tight = tight} now command here pool all c (inl reads) = inr (inl (subst (λ (p : Pool). Reads tight p c) (laws.0 pool all) reads))
+  reads_whole {tight = tight} now command here pool all c (inr after) = inr (inr (after.0, after.1, subst (λ (p : Pool). Reads tight p c) (kept_done now command pool after.0 all after.1) after.2))
 
 -- the moments of opening, and those of the command behind it
-pub moments_read : (here mid : DiskState) (pool : Pool) (after : Result Stepped Refusal) → OnlyReads here mid → Leaves here mid (OldOrReads here pool after)
-moments_read here mid pool after reads = Leaves-weaker here mid here.images (OldOrReads here pool after) reads.time (λ c image. inl image)
+pub moments_read : {tight : Bool} (here mid : DiskState) (pool : Pool) (after : Result Stepped Refusal) → OnlyReads here mid → Leaves here mid (OldOrReads tight here pool after)
+moments_read {tight = tight} here mid pool after reads = Leaves-weaker here mid here.images (OldOrReads tight here pool after) reads.time (λ c image. inl image)
 
-pub moments_then : (here mid here' : DiskState) (pool : Pool) (after : Result Stepped Refusal) → OnlyReads here mid → Leaves mid here' (BeforeOrAfter pool after)
-    → ((c : List ℕ) → BeforeOrAfter pool after c → OldOrReads here pool after c) → Leaves here here' (OldOrReads here pool after)
-moments_then here mid here' pool after reads step whole =
-    Leaves-then here mid here' (OldOrReads here pool after) (BeforeOrAfter pool after) (moments_read here mid pool after reads) step whole
+pub moments_then : {tight : Bool} (here mid here' : DiskState) (pool : Pool) (after : Result Stepped Refusal) → OnlyReads here mid → Leaves mid here' (BeforeOrAfter tight pool after)
+    → ((c : List ℕ) → BeforeOrAfter tight pool after c → OldOrReads tight here pool after c) → Leaves here here' (OldOrReads tight here pool after)
+moments_then {tight = tight} here mid here' pool after reads step whole =
+    Leaves-then here mid here' (OldOrReads tight here pool after) (BeforeOrAfter tight pool after) (moments_read here mid pool after reads) step whole
 
 -- ---- answers
 
 -- where the pool reads, opening is refused by the disk or by want of memory alone
-pub answers_unopened : (command : Command) (mid : DiskState) (pool : Pool) (after : Result Stepped Refusal) (uber : Uber) (rows : Rows) (fault : OpenFault)
-    → (fault ≢ opens.DiskFault → Rests mid uber rows pool) → GivesPool uber rows (Err fault) → Answers command uber rows pool mid after (Err (open_refusal fault))
+pub answers_unopened : {tight : Bool} (command : Command) (mid : DiskState) (pool : Pool) (after : Result Stepped Refusal) (uber : Uber) (rows : Rows) (fault : OpenFault)
+    → (fault ≢ opens.DiskFault → Rests tight mid uber rows pool) → GivesPool uber rows (Err fault) → Answers tight command uber rows pool mid after (Err (open_refusal fault))
 answers_unopened command mid pool after uber rows (opens.Damaged sector stated found) rests gives = absurd gives
 answers_unopened command mid pool after uber rows opens.NoPool rests gives = absurd gives
 answers_unopened command mid pool after uber rows (opens.BadVersion version) rests gives = absurd gives
@@ -229,15 +230,15 @@ with_rows : (P : Rows → Type 0) (kept : Kept) (rows : Rows) → kept.dir ≡ k
 with_rows P kept rows same is = subst P same is
 
 -- what a refused command leaves
-pub answers_refused : (command : Command) (here' : DiskState) (kept : Kept) (rows : Rows) (pool : Pool) (after : Result Stepped Refusal) (fault : PoolFault) → kept.dir ≡ kept_rows rows
-    → ((left : FreeSectors) × FindsNoRoom (cost_of command).cells ((cost_of command).block pool) kept left fault) → (fault ≢ faults.DiskFault → IsAtRest here' kept pool → Rests here' kept.body rows pool) → StepFault (IsAtRest here' kept pool) after fault
-    → Answers command kept.body rows pool here' after (Err (pool_refusal fault))
-answers_refused command here' kept rows pool after (faults.Plan fault) same room still is =
+pub answers_refused : {tight : Bool} (command : Command) (here' : DiskState) (kept : Kept) (rows : Rows) (pool : Pool) (after : Result Stepped Refusal) (fault : PoolFault) → kept.dir ≡ kept_rows rows
+    → ((left : FreeSectors) × FindsNoRoom (cost_of command).cells ((cost_of command).block pool) kept left fault) → (fault ≢ faults.DiskFault → IsAtRest tight here' kept pool → Rests tight here' kept.body rows pool) → StepFault (IsAtRest tight here' kept pool) after fault
+    → Answers tight command kept.body rows pool here' after (Err (pool_refusal fault))
+answers_refused {tight = tight} command here' kept rows pool after (faults.Plan fault) same room still is =
     let rests = still (λ e. absurd (cc e)) is.1 in
-    of_plan (λ r. after ≡ Err r → Answers command kept.body rows pool here' after (Err r)) (λ f e. (e, rests)) (λ w n e. (e, rests)) fault is.0
-answers_refused command here' kept rows pool after (faults.CannotApply fault) same room still is = (is.0, still (λ e. absurd (cc e)) is.1)
-answers_refused command here' kept rows pool after (faults.Redacted object block) same room still is = (is.0, still (λ e. absurd (cc e)) is.1)
-answers_refused command here' kept rows pool after (faults.Full need largest) same room still is = (
+    of_plan (λ r. after ≡ Err r → Answers tight command kept.body rows pool here' after (Err r)) (λ f e. (e, rests)) (λ w n e. (e, rests)) fault is.0
+answers_refused {tight = tight} command here' kept rows pool after (faults.CannotApply fault) same room still is = (is.0, still (λ e. absurd (cc e)) is.1)
+answers_refused {tight = tight} command here' kept rows pool after (faults.Redacted object block) same room still is = (is.0, still (λ e. absurd (cc e)) is.1)
+answers_refused {tight = tight} command here' kept rows pool after (faults.Full need largest) same room still is = (
   record {
     done = is.0.0;
     accepts = is.0.1;
@@ -245,10 +246,10 @@ answers_refused command here' kept rows pool after (faults.Full need largest) sa
   },
   still (λ e. absurd (cc e)) is.1,
 )
-answers_refused command here' kept rows pool after (faults.Damaged sector stated found) same room still is = absurd is
-answers_refused command here' kept rows pool after faults.DiskFault same room still is = tt
-answers_refused command here' kept rows pool after faults.Failed same room still is = absurd is
-answers_refused command here' kept rows pool after faults.OutOfMemory same room still is = still (λ e. absurd (cc e)) is
+answers_refused {tight = tight} command here' kept rows pool after (faults.Damaged sector stated found) same room still is = absurd is
+answers_refused {tight = tight} command here' kept rows pool after faults.DiskFault same room still is = tt
+answers_refused {tight = tight} command here' kept rows pool after faults.Failed same room still is = absurd is
+answers_refused {tight = tight} command here' kept rows pool after faults.OutOfMemory same room still is = still (λ e. absurd (cc e)) is
 
 -- ---- what answers say of any image
 
@@ -367,14 +368,14 @@ images_after old new P leaves before only now c image =
 
 -- opening was refused
 pub stepping_unopened : (now : ℕ) (command : Command) (here here' : DiskState) (fault : OpenFault)
-    → ((uber : Uber) (rows : Rows) (pool : Pool) → here'.honest → ReadsAs uber rows pool here.seen → GivesPool uber rows (Err fault))
+    → ((tight : Bool) (uber : Uber) (rows : Rows) (pool : Pool) → here'.honest → ReadsAs tight uber rows pool here.seen → GivesPool uber rows (Err fault))
     → (here'.honest → OpenAnswers here (Err fault)) → OnlyReads here here' → (fault ≢ opens.DiskFault → IsSynced here') → opening.HasDiskCause {T = Kept} opens.DiskFault here.faults here'.faults (Err fault)
     → Stepping now command here here' (Err (open_refusal fault))
 stepping_unopened now command here here' fault there answer reads synced cause = record {
-  moments = λ pool told is. moments_read here here' pool (stepped [] now command pool) reads;
-  images = λ pool told is c image. inl (reads.crash c image);
-  answers = λ uber rows pool told is. answers_unopened command here' pool (stepped [] now command pool) uber rows fault
-      (λ alive. rests_read here here' uber rows pool is reads (synced alive)) (there uber rows pool told is);
+  moments = λ tight pool told is. moments_read here here' pool (stepped [] now command pool) reads;
+  images = λ tight pool told is c image. inl (reads.crash c image);
+  answers = λ tight uber rows pool told is. answers_unopened command here' pool (stepped [] now command pool) uber rows fault
+      (λ alive. rests_read here here' uber rows pool is reads (synced alive)) (there tight uber rows pool told is);
   opened = λ told. opened_refused now command here here' fault reads (answer told);
   refused = refused_open here here' fault cause;
   idle = λ not. reads;
@@ -383,91 +384,91 @@ stepping_unopened now command here here' fault there answer reads synced cause =
 
 -- by one image one pool is read, by one body and by rows that are one
 abbrev pub ReadsOne : Type 0
-ReadsOne = (uber other : Uber) (rows others : Rows) (pool another : Pool) (image : List ℕ) → ReadsAs uber rows pool image → ReadsAs other others another image → rows ≡ others
+ReadsOne = (tight : Bool) (uber other : Uber) (rows others : Rows) (pool another : Pool) (image : List ℕ) → ReadsAs tight uber rows pool image → ReadsAs tight other others another image → rows ≡ others
 
 abbrev pub ReadsStay : Type 0
-ReadsStay = (uber : Uber) (rows : Rows) (pool : Pool) (old new : List ℕ) → SparesTaken (free_by uber) old new → ReadsAs uber rows pool old → ReadsAs uber rows pool new
+ReadsStay = (tight : Bool) (uber : Uber) (rows : Rows) (pool : Pool) (old new : List ℕ) → SparesTaken (free_by uber) old new → ReadsAs tight uber rows pool old → ReadsAs tight uber rows pool new
 
 -- the command ran on what was opened
 module _ (laws : KeepLaws) (one : ReadsOne) (stay : ReadsStay) (now : ℕ) (command : Command) (here mid here' : DiskState) (kept kept' : Kept)
-    (there : (uber : Uber) (rows : Rows) (pool : Pool) → mid.honest → ReadsAs uber rows pool here.seen → GivesPool uber rows (Ok kept))
+    (there : (tight : Bool) (uber : Uber) (rows : Rows) (pool : Pool) → mid.honest → ReadsAs tight uber rows pool here.seen → GivesPool uber rows (Ok kept))
     (falls : here'.honest → mid.honest) (answer : mid.honest → OpenAnswers here (Ok kept)) (reads : OnlyReads here mid)
-    (stands : (uber : Uber) (rows : Rows) (pool : Pool) → mid.honest → ReadsAs uber rows pool here.seen → Rests mid kept.body rows pool)
-    (opened : (rows : Rows) (pool : Pool) → Rests mid kept.body rows pool → kept.dir ≡ kept_rows rows → IsAtRest mid kept pool) (later : here.faults ≤ mid.faults)
-    (step : (pool : Pool) → here'.honest → IsAtRest mid kept pool → Leaves mid here' (BeforeOrAfter pool (stepped [] now command pool)))
+    (stands : (tight : Bool) (uber : Uber) (rows : Rows) (pool : Pool) → mid.honest → ReadsAs tight uber rows pool here.seen → Rests tight mid kept.body rows pool)
+    (opened : (tight : Bool) (rows : Rows) (pool : Pool) → Rests tight mid kept.body rows pool → kept.dir ≡ kept_rows rows → IsAtRest tight mid kept pool) (later : here.faults ≤ mid.faults)
+    (step : (tight : Bool) (pool : Pool) → here'.honest → IsAtRest tight mid kept pool → Leaves mid here' (BeforeOrAfter tight pool (stepped [] now command pool)))
     (looks : commits command ≡ false → OnlyReads mid here')
     (only : (c : List ℕ) → here.left_since here.moment c → here.images c) (now_left : (t : ℕ) (c : List ℕ) → t ≤ here'.moment → here'.images c → here'.left_since t c) where
-  rests : (uber : Uber) (rows : Rows) (pool : Pool) → here'.honest → ReadsAs uber rows pool here.seen → IsAtRest mid kept pool
-  rests uber rows pool told is = let gives = there uber rows pool (falls told) is in opened rows pool (stands uber rows pool (falls told) is) gives.1
+  rests : (tight : Bool) (uber : Uber) (rows : Rows) (pool : Pool) → here'.honest → ReadsAs tight uber rows pool here.seen → IsAtRest tight mid kept pool
+  rests tight uber rows pool told is = let gives = there tight uber rows pool (falls told) is in opened tight rows pool (stands tight uber rows pool (falls told) is) gives.1
 
-  moments : (pool : Pool) → here'.honest → Reads pool here.seen → Leaves here here' (OldOrReads here pool (stepped [] now command pool))
-  moments pool told is =
-      moments_then here mid here' pool (stepped [] now command pool) reads (step pool told (rests is.0 is.1 pool told is.2))
-      (reads_whole laws now command here pool (laws.2 is.0 is.1 pool here.seen is.2))
+  moments : (tight : Bool) (pool : Pool) → here'.honest → Reads tight pool here.seen → Leaves here here' (OldOrReads tight here pool (stepped [] now command pool))
+  moments tight pool told is =
+      moments_then here mid here' pool (stepped [] now command pool) reads (step tight pool told (rests tight is.0 is.1 pool told is.2))
+      (reads_whole laws now command here pool (laws.2 tight is.0 is.1 pool here.seen is.2))
 
-  images : (pool : Pool) → here'.honest → Reads pool here.seen → (c : List ℕ) → here'.images c → OldOrReads here pool (stepped [] now command pool) c
-  images pool told is = images_after here here' (OldOrReads here pool (stepped [] now command pool)) (moments pool told is) (λ c image. inl image) only now_left
+  images : (tight : Bool) (pool : Pool) → here'.honest → Reads tight pool here.seen → (c : List ℕ) → here'.images c → OldOrReads tight here pool (stepped [] now command pool) c
+  images tight pool told is = images_after here here' (OldOrReads tight here pool (stepped [] now command pool)) (moments tight pool told is) (λ c image. inl image) only now_left
 
-  done : (uber : Uber) (rows : Rows) (pool : Pool) (lines : List (List ℕ)) → GivesPool uber rows (Ok kept) → KeepsAll pool
-      → Grows (most_sectors (cost_of command).cells ((cost_of command).block pool) kept.dir) kept.body kept'.body → StepAnswer here' kept' pool (stepped [] now command pool) (Ok lines)
-      → Answers command uber rows pool here' (stepped [] now command pool) (Ok lines)
-  done uber rows pool lines same all grows is = for_kept (λ u. Answers command u rows pool here' (stepped [] now command pool) (Ok lines)) kept uber rows same (record {
+  done : (tight : Bool) (uber : Uber) (rows : Rows) (pool : Pool) (lines : List (List ℕ)) → GivesPool uber rows (Ok kept) → KeepsAll pool
+      → Grows (most_sectors (cost_of command).cells ((cost_of command).block pool) kept.dir) kept.body kept'.body → StepAnswer tight here' kept' pool (stepped [] now command pool) (Ok lines)
+      → Answers tight command uber rows pool here' (stepped [] now command pool) (Ok lines)
+  done tight uber rows pool lines same all grows is = for_kept (λ u. Answers tight command u rows pool here' (stepped [] now command pool) (Ok lines)) kept uber rows same (record {
     done = is.0;
     accepts = is.1;
     reply = is.2;
     body = kept'.body;
     directory = is.3.rows;
-    rests = subst (λ (p : Pool). Rests here' kept'.body is.3.rows p) (kept_done laws now command pool is.0 all is.1) is.3.rests;
+    rests = subst (λ (p : Pool). Rests tight here' kept'.body is.3.rows p) (kept_done laws now command pool is.0 all is.1) is.3.rests;
     grows = with_rows (λ r. Grows (most_sectors (cost_of command).cells ((cost_of command).block pool) r) kept.body kept'.body) kept rows same.1 grows;
   })
 
   pub stepping_done : (lines : List (List ℕ)) → mid.faults ≤ here'.faults
       → Plans {T = List (List ℕ)} (λ pool. stepped [] now command pool) (numbers_end command) (indices_end command) kept (Ok lines)
-      → ((pool : Pool) → here'.honest → IsAtRest mid kept pool → Grows (most_sectors (cost_of command).cells ((cost_of command).block pool) kept.dir) kept.body kept'.body)
-      → ((pool : Pool) → here'.honest → IsAtRest mid kept pool → StepAnswer here' kept' pool (stepped [] now command pool) (Ok lines))
+      → ((pool : Pool) → here'.honest → IsAtRest false mid kept pool → Grows (most_sectors (cost_of command).cells ((cost_of command).block pool) kept.dir) kept.body kept'.body)
+      → ((tight : Bool) (pool : Pool) → here'.honest → IsAtRest tight mid kept pool → StepAnswer tight here' kept' pool (stepped [] now command pool) (Ok lines))
       → Stepping now command here here' (Ok lines)
   stepping_done lines after plan grows did = record {
     moments = moments;
     images = images;
-    answers = λ uber rows pool told is.
-        let before = rests uber rows pool told is in
-        done uber rows pool lines (there uber rows pool (falls told) is) (laws.2 uber rows pool here.seen is) (grows pool told before) (did pool told before);
+    answers = λ tight uber rows pool told is.
+        let before = rests tight uber rows pool told is in
+        done tight uber rows pool lines (there tight uber rows pool (falls told) is) (laws.2 tight uber rows pool here.seen is) (grows pool told (rest_plain mid kept pool before)) (did tight pool told before);
     opened = λ told. let was = answer (falls told) in (kept.body, was.1, ran_done now command here here' kept was.1 lines was.4 (was.0, was.2, was.3) plan);
     refused = tt;
     idle = λ not. OnlyReads-then here mid here' reads (looks not);
     later = omega (arith, later, after);
   }
 
-  left_as : (fault : PoolFault) (pool : Pool) → kept' ≡ kept → StepAnswer here' kept' pool (stepped [] now command pool) (Err fault)
-      → StepFault (IsAtRest here' kept pool) (stepped [] now command pool) fault
-  left_as fault pool same is = subst (λ (k : Kept). StepFault (IsAtRest here' k pool) (stepped [] now command pool) fault) same is
+  left_as : (tight : Bool) (fault : PoolFault) (pool : Pool) → kept' ≡ kept → StepAnswer tight here' kept' pool (stepped [] now command pool) (Err fault)
+      → StepFault (IsAtRest tight here' kept pool) (stepped [] now command pool) fault
+  left_as tight fault pool same is = subst (λ (k : Kept). StepFault (IsAtRest tight here' k pool) (stepped [] now command pool) fault) same is
 
   -- where free sectors alone were written the pool rests by the rows that it had
-  still_rests : (uber : Uber) (rows : Rows) (pool : Pool) → here'.honest → ReadsAs uber rows pool here.seen → SparesTaken (free_by kept.body) mid.seen here'.seen → IsAtRest here' kept pool → Rests here' kept.body rows pool
-  still_rests uber rows pool told is spares at_rest =
-      let before = stands uber rows pool (falls told) is in
-      let read = stay kept.body rows pool mid.seen here'.seen spares before.reads in
-      let rows_are = one kept.body kept.body at_rest.rows rows (kept_of pool) pool here'.seen at_rest.rests.reads read in
-      subst (λ (r : Rows). Rests here' kept.body r pool) rows_are
-      (subst (λ (p : Pool). Rests here' kept.body at_rest.rows p) (laws.0 pool (laws.2 uber rows pool here.seen is)) at_rest.rests)
+  still_rests : (tight : Bool) (uber : Uber) (rows : Rows) (pool : Pool) → here'.honest → ReadsAs tight uber rows pool here.seen → SparesTaken (free_by kept.body) mid.seen here'.seen → IsAtRest tight here' kept pool → Rests tight here' kept.body rows pool
+  still_rests tight uber rows pool told is spares at_rest =
+      let before = stands tight uber rows pool (falls told) is in
+      let read = stay tight kept.body rows pool mid.seen here'.seen spares before.reads in
+      let rows_are = one tight kept.body kept.body at_rest.rows rows (kept_of pool) pool here'.seen at_rest.rests.reads read in
+      subst (λ (r : Rows). Rests tight here' kept.body r pool) rows_are
+      (subst (λ (p : Pool). Rests tight here' kept.body at_rest.rows p) (laws.0 pool (laws.2 tight uber rows pool here.seen is)) at_rest.rests)
 
   pub stepping_refused : (fault : PoolFault) → kept' ≡ kept → HasDiskCause {T = List (List ℕ)} mid.faults here'.faults (Err fault) → fault ≢ faults.Failed
       → (fault ≢ faults.DiskFault → SparesTaken (free_by kept.body) mid.seen here'.seen)
       → ((left : FreeSectors) × (block : ℕ) × (block ≤ (cost_of command).most) × FindsNoRoom (cost_of command).cells block kept left fault)
       → (here'.honest → IsOf (TellsDamage command kept.dir mid (free_by kept.body)) fault)
       → (fault ≢ faults.OutOfMemory → Plans {T = List (List ℕ)} (λ pool. stepped [] now command pool) (numbers_end command) (indices_end command) kept (Err fault))
-      → ((pool : Pool) → here'.honest → IsAtRest mid kept pool → (left : FreeSectors) × FindsNoRoom (cost_of command).cells ((cost_of command).block pool) kept left fault)
-      → ((pool : Pool) → here'.honest → IsAtRest mid kept pool → StepAnswer here' kept' pool (stepped [] now command pool) (Err fault))
+      → ((pool : Pool) → here'.honest → IsAtRest false mid kept pool → (left : FreeSectors) × FindsNoRoom (cost_of command).cells ((cost_of command).block pool) kept left fault)
+      → ((tight : Bool) (pool : Pool) → here'.honest → IsAtRest tight mid kept pool → StepAnswer tight here' kept' pool (stepped [] now command pool) (Err fault))
       → Stepping now command here here' (Err (pool_refusal fault))
   stepping_refused fault same cause alive spares bounded damaged plan room did = record {
     moments = moments;
     images = images;
-    answers = λ uber rows pool told is.
-        let before = rests uber rows pool told is in
-        let gives = there uber rows pool (falls told) is in
-        for_kept (λ u. Answers command u rows pool here' (stepped [] now command pool) (Err (pool_refusal fault))) kept uber rows gives
-        (answers_refused command here' kept rows pool (stepped [] now command pool) fault gives.1 (room pool told before)
-        (λ not at_rest. still_rests uber rows pool told is (spares not) at_rest) (left_as fault pool same (did pool told before)));
+    answers = λ tight uber rows pool told is.
+        let before = rests tight uber rows pool told is in
+        let gives = there tight uber rows pool (falls told) is in
+        for_kept (λ u. Answers tight command u rows pool here' (stepped [] now command pool) (Err (pool_refusal fault))) kept uber rows gives
+        (answers_refused command here' kept rows pool (stepped [] now command pool) fault gives.1 (room pool told (rest_plain mid kept pool before))
+        (λ not at_rest. still_rests tight uber rows pool told is (spares not) at_rest) (left_as tight fault pool same (did tight pool told before)));
     opened = λ told. let was = answer (falls told) in opened_then now command here here' kept was.1 fault alive
         (λ not. ran_refused now command here mid here' kept was.1 fault was.4 (was.0, was.2, was.3) reads
         (subst (λ (bytes : List ℕ). SparesTaken (free_by kept.body) bytes here'.seen) reads.seen (spares not)) bounded (damaged told) plan);

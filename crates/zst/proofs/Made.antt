@@ -1,6 +1,6 @@
 -- What stands after a pool was made in an image, from what making it says.
 use Rattle.std.specs.Prelude.{Result, Ok, Err}
-use Rattle.std.proofs.Common.{◌≡◌, ◌≢◌, ◌⊎◌, ℕ, ◌≤◌, List, [], ◌∷◌, refl, ◌∙◌, ap}
+use Rattle.std.proofs.Common.{◌≡◌, ◌≢◌, ◌⊎◌, ℕ, ◌≤◌, List, [], ◌∷◌, refl, ◌∙◌, ap, Bool}
 use Rattle.zst_outside.specs.Images.{DiskState, Leaves}
 use Rattle.zst_outside.specs.States.{SinkState}
 use Rattle.zst_uber.specs.Slots.{latest}
@@ -17,7 +17,7 @@ use Rattle.zst.specs.Commands.{Creates, IsPoolRefusal, Makes, OfMaking}
 use Rattle.zst.specs.Replies.{Replied}
 
 pub makes_done : (sectors id : ℕ) (here here' : DiskState) (kept : Kept) → CreateAnswers here.size (latest here.seen) sectors (Ok kept)
-    → IsNew sectors kept → Rests here' kept.body kept.dir (new_pool id) → Makes sectors id here here' (Ok (ok_line 1 ∷ []))
+    → IsNew sectors kept → ((tight : Bool) → Rests tight here' kept.body kept.dir (new_pool id)) → Makes sectors id here here' (Ok (ok_line 1 ∷ []))
 makes_done sectors id here here' kept is new rests = (refl, is.0, is.1, (kept, new, rests))
 
 pub makes_refused : (sectors id : ℕ) (here here' : DiskState) (fault : CreateFault) → CreateAnswers here.size (latest here.seen) sectors (Err fault)
@@ -46,7 +46,7 @@ refused_create here here' fault cause = record { one = (fault, refl); alive = cr
 -- making was refused, and nothing is written
 pub creates_refused : (sectors id : ℕ) (here here' : DiskState) (out : SinkState) (fault : CreateFault)
     → (here'.honest → CreateAnswers here.size (latest here.seen) sectors (Err fault)) → RefusedLeaves here here' fault
-    → (here'.honest → Leaves here here' (λ c. ((d : List ℕ) × here.images d × (latest c ≡ latest d)) ⊎ Reads (new_pool id) c))
+    → ((tight : Bool) → here'.honest → Leaves here here' (λ c. ((d : List ℕ) × here.images d × (latest c ≡ latest d)) ⊎ Reads tight (new_pool id) c))
     → HasDiskCause {T = Kept} DiskFault here.faults here'.faults (Err fault) → Creates sectors id here here' out out (Err (create_refusal fault))
 creates_refused sectors id here here' out fault answers left moments cause = record {
   answer = Err (create_refusal fault);
@@ -61,14 +61,14 @@ creates_refused sectors id here here' out fault answers left moments cause = rec
 
 -- the pool was made, and its line is written or not
 pub creates_made : (sectors id : ℕ) (here here' : DiskState) (out out' : SinkState) (kept : Kept) (result : Result (Unit {0}) Refusal)
-    → (here'.honest → CreateAnswers here.size (latest here.seen) sectors (Ok kept)) → IsNew sectors kept → (here'.honest → Rests here' kept.body kept.dir (new_pool id))
-    → (here'.honest → Leaves here here' (λ c. ((d : List ℕ) × here.images d × (latest c ≡ latest d)) ⊎ Reads (new_pool id) c))
+    → (here'.honest → CreateAnswers here.size (latest here.seen) sectors (Ok kept)) → IsNew sectors kept → ((tight : Bool) → here'.honest → Rests tight here' kept.body kept.dir (new_pool id))
+    → ((tight : Bool) → here'.honest → Leaves here here' (λ c. ((d : List ℕ) × here.images d × (latest c ≡ latest d)) ⊎ Reads tight (new_pool id) c))
     → here.faults ≤ here'.faults → Replied out out' (Ok (ok_line 1 ∷ [])) result → Creates sectors id here here' out out' result
 creates_made sectors id here here' out out' kept result answers new made moments later replied = record {
   answer = Ok (ok_line 1 ∷ []);
   making = record {
     moments = moments;
-    makes = λ told. makes_done sectors id here here' kept (answers told) new (made told);
+    makes = λ told. makes_done sectors id here here' kept (answers told) new (λ tight. made tight told);
     refused = tt;
     later = later;
   };

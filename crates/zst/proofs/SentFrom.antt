@@ -1,5 +1,5 @@
 -- What a send from an image leaves, from what opening the pool and giving its text say.
-use Rattle.std.proofs.Common.{◌≡◌, ◌≢◌, inl, inr, ⊎_elim, ℕ, ◌≤◌, Bool, true, false, Result, List, [], Ok, Err, IfErr, refl, sym, ap, ◌∙◌, subst, arith}
+use Rattle.std.proofs.Common.{◌≡◌, ◌≢◌, inl, inr, ⊎_elim, ℕ, ◌≤◌, Bool, true, false, Result, List, [], Ok, Err, IfErr, refl, sym, ap, ◌∙◌, subst, arith, None}
 use Rattle.std.proofs.lemmas.Bool.{false≢true}
 use Rattle.zst_outside.specs.Causes.{Rose, Rose-earlier}
 use Rattle.zst_outside.specs.Images.{DiskState, OnlyReads, OnlyReads-then}
@@ -69,13 +69,13 @@ open_never_full opens.DiskFault need largest is = absurd (cc is)
 open_never_full opens.OutOfMemory need largest is = absurd (cc is)
 
 pub unopened : (ask : SendAsk) (here here' : DiskState) (out : SinkState) (fault : OpenFault)
-    → ((uber : Uber) (rows : Rows) (pool : Pool) → here'.honest → ReadsAs uber rows pool here.seen → GivesPool uber rows (Err fault))
+    → ((tight : Bool) (uber : Uber) (rows : Rows) (pool : Pool) → here'.honest → ReadsAs tight uber rows pool here.seen → GivesPool uber rows (Err fault))
     → (here'.honest → OpenAnswers here (Err fault)) → OnlyReads here here' → image_faults.HasDiskCause {T = Kept} opens.DiskFault here.faults here'.faults (Err fault)
     → Sends ask here here' out out (Err (open_refusal fault))
 unopened ask here here' out fault there answer reads cause = record {
   reads = reads;
   sends = λ pool told is.
-      unopened_ends (opening ask pool) here.faults here'.faults out fault (there is.0 is.1 pool told is.2) (λ e. cause.fault (ap (λ (f : OpenFault). Err f) e));
+      unopened_ends (opening ask pool) here.faults here'.faults out fault (there false is.0 is.1 pool told is.2) (λ e. cause.fault (ap (λ (f : OpenFault). Err f) e));
   opened = λ told. unopened_says ask here out fault (answer told);
   refused = record {
     pool = record { one = inl (fault, refl); alive = open_alive fault; cause = λ is. cause.fault (ap (λ (f : OpenFault). Err f) (open_disk fault is)) };
@@ -151,24 +151,24 @@ sends_earlier (Ok sent) before mid after out out' result later s = sent_earlier 
 sends_earlier (Err fault) before mid after out out' result later s = record { front = s.front; ends = (plan_earlier fault before mid after result later s.ends.0, s.ends.1) }
 
 -- the rows in memory stand for the pool that the image reads as
-runs : (here mid : DiskState) (kept : Kept) (uber : Uber) (rows : Rows) (pool : Pool) → OnlyReads here mid → GivesPool uber rows (Ok kept) → ReadsAs uber rows pool here.seen
-    → RunsBy (Has mid.seen (free_by kept.body)) kept.dir pool
+runs : (here mid : DiskState) (kept : Kept) (uber : Uber) (rows : Rows) (pool : Pool) → OnlyReads here mid → GivesPool uber rows (Ok kept) → ReadsAs false uber rows pool here.seen
+    → RunsBy None (Has mid.seen (free_by kept.body)) kept.dir pool
 runs here mid kept uber rows pool reads same is =
-    subst (λ (seen : List ℕ). RunsBy (Has seen (free_by kept.body)) kept.dir pool) (sym reads.seen)
-    (subst (λ (u : Uber). RunsBy (Has here.seen (free_by u)) kept.dir pool) (sym same.0)
-    (subst (λ (r : Rows). RunsBy (Has here.seen (free_by uber)) r pool) (sym same.1) is.described.rows_are))
+    subst (λ (seen : List ℕ). RunsBy None (Has seen (free_by kept.body)) kept.dir pool) (sym reads.seen)
+    (subst (λ (u : Uber). RunsBy None (Has here.seen (free_by u)) kept.dir pool) (sym same.0)
+    (subst (λ (r : Rows). RunsBy None (Has here.seen (free_by uber)) r pool) (sym same.1) is.described.rows_are))
 
 pub opened : (ask : SendAsk) (here mid here' : DiskState) (out out' : SinkState) (kept : Kept) (result : Result (Unit {0}) Refusal)
-    → ((uber : Uber) (rows : Rows) (pool : Pool) → mid.honest → ReadsAs uber rows pool here.seen → GivesPool uber rows (Ok kept))
+    → ((tight : Bool) (uber : Uber) (rows : Rows) (pool : Pool) → mid.honest → ReadsAs tight uber rows pool here.seen → GivesPool uber rows (Ok kept))
     → (mid.honest → OpenAnswers here (Ok kept)) → OnlyReads here mid → here.faults ≤ mid.faults → OnlyReads mid here' → mid.faults ≤ here'.faults
-    → ((pool : Pool) → here'.honest → RunsBy (Has mid.seen (free_by kept.body)) kept.dir pool → SendsBy (opening ask pool) mid.faults here'.faults out out' result)
+    → ((pool : Pool) → here'.honest → RunsBy None (Has mid.seen (free_by kept.body)) kept.dir pool → SendsBy (opening ask pool) mid.faults here'.faults out out' result)
     → IfErr result (IsSendRefusal OfGiving mid here' out out') → ((pool : Pool) → AreNamed kept.dir pool → IfUnplanned (opening ask pool) out out' result)
     → Sends ask here here' out out' result
 opened ask here mid here' out out' kept result there answer reads later gave still gives refused plan = record {
   reads = OnlyReads-then here mid here' reads gave;
   sends = λ pool told is.
       sends_earlier (opening ask pool) here.faults mid.faults here'.faults out out' result later
-      (gives pool told (runs here mid kept is.0 is.1 pool reads (there is.0 is.1 pool (gave.honest told) is.2) is.2));
+      (gives pool told (runs here mid kept is.0 is.1 pool reads (there false is.0 is.1 pool (gave.honest told) is.2) is.2));
   opened = λ told. let was = answer (gave.honest told) in
       opened_says ask here out out' result (kept.body, was.1, ran ask here out out' kept was.1 result was.4 (was.0, was.2, was.3) plan)
       (of_giving mid here' out out' result refused);

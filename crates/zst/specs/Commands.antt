@@ -1,5 +1,5 @@
 -- What a line that works on a pool leaves of its image, and what it answers.
-use Rattle.std.specs.Prelude.{ℕ, ◌≡◌, ◌≢◌, ◌⊎◌, ◌↔◌, ◌*◌, ◌<◌, ◌≤◌, false, true, IfErr, OnErr, List, [], ◌∷◌, None, Some, Result, Ok, Err}
+use Rattle.std.specs.Prelude.{ℕ, ◌≡◌, ◌≢◌, ◌⊎◌, ◌↔◌, ◌*◌, ◌<◌, ◌≤◌, Bool, false, true, IfErr, OnErr, List, [], ◌∷◌, None, Some, Result, Ok, Err}
 use Rattle.zst_outside.specs.Causes.{Rose}
 use Rattle.zst_outside.specs.Images.{DiskState, Leaves, OnlyReads}
 use Rattle.zst_outside.specs.States.{SinkState}
@@ -36,8 +36,8 @@ use Rattle.zst_pool.specs.declared.fault.PoolFault.{PoolFault}
 use Rattle.zst.specs.Replies.{Replied}
 
 -- an image that stood before a command, or one that reads as the pool before it or as the pool after it
-abbrev pub OldOrReads : DiskState → Pool → Result Stepped Refusal → List ℕ → Type 0
-OldOrReads here pool after image = here.images image ⊎ (Reads pool image ⊎ ((done : Stepped) × (after ≡ Ok done) × Reads done.pool image))
+abbrev pub OldOrReads : (tight : Bool) → DiskState → Pool → Result Stepped Refusal → List ℕ → Type 0
+OldOrReads tight here pool after image = here.images image ⊎ (Reads tight pool image ⊎ ((done : Stepped) × (after ≡ Ok done) × Reads tight done.pool image))
 
 -- a refusal of making a pool, and one of opening it or of a command on it
 abbrev pub OfMaking : Refusal → Type 0
@@ -59,13 +59,13 @@ abbrev pub most_of : Command → Rows → Pool → ℕ
 most_of command rows pool = most_sectors (cost_of command).cells ((cost_of command).block pool) (kept_rows rows)
 
 -- The command was done: the lines and the pool are the definition's, and no more sectors are taken than it costs.
-pub record IsDone (command : Command) (uber : Uber) (rows : Rows) (pool : Pool) (here' : DiskState) (after : Result Stepped Refusal) (lines : List (List ℕ)) : Type 0 where
+pub record IsDone (tight : Bool) (command : Command) (uber : Uber) (rows : Rows) (pool : Pool) (here' : DiskState) (after : Result Stepped Refusal) (lines : List (List ℕ)) : Type 0 where
   pub done : Stepped
   pub accepts : after ≡ Ok done
   pub reply : lines ≡ done.reply
   pub body : Uber
   pub directory : Rows
-  pub rests : Rests here' body directory done.pool
+  pub rests : Rests tight here' body directory done.pool
   pub grows : Grows (most_of command rows pool) uber body
 
 -- there was no room for the sectors that are needed, by a command that costs so many cells and so many sectors of data
@@ -80,12 +80,12 @@ pub record IsFull (command : Command) (uber : Uber) (rows : Rows) (pool : Pool) 
 
 -- What stands after a command on the pool of this body and these rows. A refusal leaves the pool as it was, unless the
 -- disk failed, and is the definition's, unless the disk is full or no memory is left.
-abbrev pub Answers : Command → Uber → Rows → Pool → DiskState → Result Stepped Refusal → Result (List (List ℕ)) Refusal → Type 0
-Answers command uber rows pool here' after (Ok lines) = IsDone command uber rows pool here' after lines
-Answers command uber rows pool here' after (Err refusals.DiskFault) = Unit {0}
-Answers command uber rows pool here' after (Err (refusals.Full need largest)) = IsFull command uber rows pool after need largest × Rests here' uber rows pool
-Answers command uber rows pool here' after (Err refusals.OutOfMemory) = Rests here' uber rows pool
-Answers command uber rows pool here' after (Err refusal) = (after ≡ Err refusal) × Rests here' uber rows pool
+abbrev pub Answers : (tight : Bool) → Command → Uber → Rows → Pool → DiskState → Result Stepped Refusal → Result (List (List ℕ)) Refusal → Type 0
+Answers tight command uber rows pool here' after (Ok lines) = IsDone tight command uber rows pool here' after lines
+Answers tight command uber rows pool here' after (Err refusals.DiskFault) = Unit {0}
+Answers tight command uber rows pool here' after (Err (refusals.Full need largest)) = IsFull command uber rows pool after need largest × Rests tight here' uber rows pool
+Answers tight command uber rows pool here' after (Err refusals.OutOfMemory) = Rests tight here' uber rows pool
+Answers tight command uber rows pool here' after (Err refusal) = (after ≡ Err refusal) × Rests tight here' uber rows pool
 
 -- the latest body has this version, which is another
 pub record HasVersion (here : DiskState) (number : ℕ) : Type 0 where
@@ -132,12 +132,12 @@ Opened now command here here' (Err refusals.OutOfMemory) =
 Opened now command here here' answer = (uber : Uber) × (rows : Rows) × Ran now command here here' answer uber rows
 
 -- One command on the pool of an image: at every moment, and in the end, each image stood before it, or reads as the pool
--- before it or as what the definition makes of it. One that only answers reads the image.
+-- before it or as what the definition makes of it, by tight object sets where it stood so. One that only answers reads the image.
 pub record Stepping (now : ℕ) (command : Command) (here here' : DiskState) (answer : Result (List (List ℕ)) Refusal) : Type 0 where
-  pub moments : (pool : Pool) → here'.honest → Reads pool here.seen → Leaves here here' (OldOrReads here pool (stepped [] now command pool))
-  pub images : (pool : Pool) → here'.honest → Reads pool here.seen → (c : List ℕ) → here'.images c → OldOrReads here pool (stepped [] now command pool) c
-  pub answers : (uber : Uber) (rows : Rows) (pool : Pool) → here'.honest → ReadsAs uber rows pool here.seen
-      → Answers command uber rows pool here' (stepped [] now command pool) answer
+  pub moments : (tight : Bool) (pool : Pool) → here'.honest → Reads tight pool here.seen → Leaves here here' (OldOrReads tight here pool (stepped [] now command pool))
+  pub images : (tight : Bool) (pool : Pool) → here'.honest → Reads tight pool here.seen → (c : List ℕ) → here'.images c → OldOrReads tight here pool (stepped [] now command pool) c
+  pub answers : (tight : Bool) (uber : Uber) (rows : Rows) (pool : Pool) → here'.honest → ReadsAs tight uber rows pool here.seen
+      → Answers tight command uber rows pool here' (stepped [] now command pool) answer
   pub opened : here'.honest → Opened now command here here' answer
   pub refused : IfErr answer (IsPoolRefusal OfStepping here here')
   pub idle : commits command ≡ false → OnlyReads here here'
@@ -151,9 +151,9 @@ pub record Steps (now : ℕ) (command : Command) (here here' : DiskState) (out o
 
 -- ---- making a pool
 
--- an empty pool with this id and so many sectors stands
+-- an empty pool with this id and so many sectors stands, by tight sets too
 abbrev pub HasNew : ℕ → ℕ → DiskState → Type 0
-HasNew sectors id here' = (kept : Kept) × IsNew sectors kept × Rests here' kept.body kept.dir (new_pool id)
+HasNew sectors id here' = (kept : Kept) × IsNew sectors kept × ((tight : Bool) → Rests tight here' kept.body kept.dir (new_pool id))
 
 -- What stands after making a pool, and why it is refused: E4 where one is there, also a damaged one or one of another
 -- version; E23 where the disk is too small. Both change nothing, and without memory there still is no pool.
@@ -169,7 +169,7 @@ Makes sectors id here here' (Err refusal) = ⊥
 
 -- Making a pool in an image: at every moment each image has the latest body that one had before, or reads as the new pool.
 pub record Making (sectors id : ℕ) (here here' : DiskState) (answer : Result (List (List ℕ)) Refusal) : Type 0 where
-  pub moments : here'.honest → Leaves here here' (λ c. ((d : List ℕ) × here.images d × (latest c ≡ latest d)) ⊎ Reads (new_pool id) c)
+  pub moments : (tight : Bool) → here'.honest → Leaves here here' (λ c. ((d : List ℕ) × here.images d × (latest c ≡ latest d)) ⊎ Reads tight (new_pool id) c)
   pub makes : here'.honest → Makes sectors id here here' answer
   pub refused : IfErr answer (IsPoolRefusal OfMaking here here')
   pub later : here.faults ≤ here'.faults

@@ -1,5 +1,5 @@
 -- What a send writes, and why it ends.
-use Rattle.std.specs.Prelude.{ℕ, ◌≡◌, ◌≢◌, ◌⊎◌, ◌<◌, ◌≤◌, IfErr, List, [], ◌++◌, length, Option, None, Some, Result, Ok, Err}
+use Rattle.std.specs.Prelude.{ℕ, ◌≡◌, ◌≢◌, ◌⊎◌, ◌<◌, ◌≤◌, IfErr, List, [], ◌++◌, length, Option, None, Some, Result, Ok, Err, false}
 use Rattle.zst_outside.specs.Causes.{Rose}
 use Rattle.zst_outside.specs.Images.{DiskState, OnlyReads}
 use Rattle.zst_outside.specs.Printing.{Printed, Wrote}
@@ -136,7 +136,7 @@ pub record IsSendRefusal (Is : Refusal → Type 0) (here here' : DiskState) (out
 -- A send of what is asked, from an image, which is only read. Of a pool a front of the text of its plan is written.
 pub record Sends (ask : SendAsk) (here here' : DiskState) (out out' : SinkState) (result : Result (Unit {0}) Refusal) : Type 0 where
   pub reads : OnlyReads here here'
-  pub sends : (pool : Pool) → here'.honest → Reads pool here.seen → SendsBy (opening ask pool) here.faults here'.faults out out' result
+  pub sends : (pool : Pool) → here'.honest → Reads false pool here.seen → SendsBy (opening ask pool) here.faults here'.faults out out' result
   pub opened : here'.honest → SendOpened ask here out out' result
   pub refused : IfErr result (IsSendRefusal OfSending here here' out out')
   pub later : here.faults ≤ here'.faults
@@ -148,7 +148,7 @@ pub record SendsOf (sent : Sent) (here here' : DiskState) (out out' : SinkState)
   pub ask : SendAsk
   pub pool : Pool
   pub honest : here'.honest
-  pub reads : Reads pool here.seen
+  pub reads : Reads false pool here.seen
   pub is : opening ask pool ≡ Ok sent
   pub sends : Sends ask here here' out out' result
 

@@ -151,7 +151,7 @@ fn pass_all<D: Disk, K: Sink>(
 // Opens a send. That reads nothing, so that it is refused by its plan or for want of memory alone.
 fn open<D: Disk>(alloc: Global, pool: &mut Pool<'_, D>, ask: &SendAsk) -> Result<Send, Refusal>
     requires { pool.old.io.failed ≡ false }
-    ensures opens { (image : List ℕ) (space : FreeSectors) (running : Plain) → RunsBy (Has image space) pool.old.kept.dir running → OpensBy (Has image space) (opening ask.now running) result }
+    ensures opens { (image : List ℕ) (space : FreeSectors) (running : Plain) → RunsBy None (Has image space) pool.old.kept.dir running → OpensBy (Has image space) (opening ask.now running) result }
     ensures planned { (running : Plain) → AreNamed pool.old.kept.dir running → PlansOpen (opening ask.now running) result }
     ensures fits { IfOk result SendFits }
     ensures refused { IfErr result IsOpenRefusal }
@@ -176,7 +176,7 @@ fn send_from<D: Disk, K: Sink>(
 ) -> Result<(), Refusal>
     requires fits { FitsDisk (D.state pool.old.io.disk.now).size pool.old.io.space }
     requires works { pool.old.io.failed ≡ false }
-    ensures sends { (running : Plain) → (D.state pool.new.io.disk.now).honest → RunsBy (Has (D.state pool.old.io.disk.now).seen pool.old.io.space) pool.old.kept.dir running
+    ensures sends { (running : Plain) → (D.state pool.new.io.disk.now).honest → RunsBy None (Has (D.state pool.old.io.disk.now).seen pool.old.io.space) pool.old.kept.dir running
         → SendsBy (opening ask.now running) (D.state pool.old.io.disk.now).faults (D.state pool.new.io.disk.now).faults (K.state out.old) (K.state out.new) result }
     ensures planned { (running : Plain) → AreNamed pool.old.kept.dir running → IfUnplanned (opening ask.now running) (K.state out.old) (K.state out.new) result }
     ensures refused { IfErr result (IsSendRefusal OfGiving (D.state pool.old.io.disk.now) (D.state pool.new.io.disk.now) (K.state out.old) (K.state out.new)) }

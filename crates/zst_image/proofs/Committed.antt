@@ -1,6 +1,6 @@
 -- How a commit follows on what was written before it, and what an image then reads as.
 use Rattle.std.specs.Prelude.{Result, Ok, Err, Option, IsTrue}
-use Rattle.std.proofs.Common.{◌≡◌, ◌⊎◌, inl, inr, ⊎_elim, ℕ, ◌+◌, ◌≤◌, List, length, refl, sym, ◌∙◌, ap, subst, arith}
+use Rattle.std.proofs.Common.{◌≡◌, ◌⊎◌, inl, inr, ⊎_elim, ℕ, ◌+◌, ◌≤◌, List, length, refl, sym, ◌∙◌, ap, subst, arith, Bool}
 use Rattle.zst_outside.specs.Images.{DiskState, Leaves, WritesIn, IsSynced, Leaves-weaker, Leaves-then}
 use Rattle.zst_outside.specs.Ranges.{Torn}
 use Rattle.zst_space.specs.FreeSectors.{FreeSectors, IsFree}
@@ -51,12 +51,12 @@ KeepsImage-then space d mid c first second = record {
 }
 
 -- an image that keeps another reads as it does
-pub ReadsAs-keeps : (space : FreeSectors) (uber : Uber) (rows : Rows) (pool : Pool) (d c : List ℕ) → AreFewer space (free_by uber) → KeepsImage space d c → ReadsAs uber rows pool d → ReadsAs uber rows pool c
+pub ReadsAs-keeps : {tight : Bool} (space : FreeSectors) (uber : Uber) (rows : Rows) (pool : Pool) (d c : List ℕ) → AreFewer space (free_by uber) → KeepsImage space d c → ReadsAs tight uber rows pool d → ReadsAs tight uber rows pool c
 ReadsAs-keeps space uber rows pool d c less keeps reads = record {
   stands = keeps.latest_stays ∙ reads.stands;
   fits = reads.fits;
   in_range = subst (λ (size : ℕ). InRange size uber) (sym keeps.size) reads.in_range;
-  described = Describes-grows uber rows pool (Has d (free_by uber)) (Has c (free_by uber)) (keeps.blocks (free_by uber) less) reads.described;
+  described = Describes-grows d (free_by uber) c (free_by uber) (keeps.blocks (free_by uber) less) uber rows pool reads.described;
 }
 
 -- sectors 0 to 7 aren't free by a body in its ranges
@@ -64,53 +64,53 @@ pub IsTaken-free_by : (size : ℕ) (uber : Uber) → InRange size uber → IsTak
 IsTaken-free_by size uber is = λ byte starts ends free. ⊎_elim (λ none. absurd none) (λ past. omega (arith, ends, past, is.end.0)) free
 
 -- what is written into free sectors alone leaves the reading
-pub ReadsAs-spared : (uber : Uber) (rows : Rows) (pool : Pool) (d c : List ℕ) → SparesTaken (free_by uber) d c → ReadsAs uber rows pool d → ReadsAs uber rows pool c
+pub ReadsAs-spared : {tight : Bool} (uber : Uber) (rows : Rows) (pool : Pool) (d c : List ℕ) → SparesTaken (free_by uber) d c → ReadsAs tight uber rows pool d → ReadsAs tight uber rows pool c
 ReadsAs-spared uber rows pool d c spares reads =
     ReadsAs-keeps (free_by uber) uber rows pool d c (λ sector free. free) (KeepsImage-spared (free_by uber) d c (IsTaken-free_by (length d) uber reads.in_range) spares) reads
 
-pub Rests-fills : (start now : DiskState) (space : FreeSectors) (uber : Uber) (rows : Rows) (pool : Pool) → FillsFree start (free_by uber) now space → Rests start uber rows pool → Rests now uber rows pool
+pub Rests-fills : {tight : Bool} (start now : DiskState) (space : FreeSectors) (uber : Uber) (rows : Rows) (pool : Pool) → FillsFree start (free_by uber) now space → Rests tight start uber rows pool → Rests tight now uber rows pool
 Rests-fills start now space uber rows pool fills rests = record {
   reads = ReadsAs-spared uber rows pool start.seen now.seen fills.seen rests.reads;
   each = λ c image. let was = fills.crash c image in ReadsAs-spared uber rows pool was.0 c was.2 (rests.each was.0 was.1);
 }
 
 -- the image has the blocks that a body describes, and not yet the body
-pub record IsPrepared (next : Uber) (rows : Rows) (pool : Pool) (image : List ℕ) : Type 0 where
+pub record IsPrepared (tight : Bool) (next : Uber) (rows : Rows) (pool : Pool) (image : List ℕ) : Type 0 where
   pub fits : UberFits next
   pub in_range : InRange (length image) next
-  pub described : Describes next rows pool (Has image (free_by next))
+  pub described : Describes tight next rows pool (Has image (free_by next))
 
 -- once the body stands, it reads as the pool
-prepared-reads : (next : Uber) (rows : Rows) (pool : Pool) (image c : List ℕ) → IsPrepared next rows pool image → Torn 0 4096 image c → Stands next c → ReadsAs next rows pool c
+prepared-reads : {tight : Bool} (next : Uber) (rows : Rows) (pool : Pool) (image c : List ℕ) → IsPrepared tight next rows pool image → Torn 0 4096 image c → Stands next c → ReadsAs tight next rows pool c
 prepared-reads next rows pool image c prepared torn stands = record {
   stands = stands;
   fits = prepared.fits;
   in_range = subst (λ (size : ℕ). InRange size next) (sym torn.size) prepared.in_range;
-  described = Describes-grows next rows pool (Has image (free_by next)) (Has c (free_by next)) (λ ptr bytes has. Has-head (free_by next) image c ptr bytes torn has) prepared.described;
+  described = Describes-grows image (free_by next) c (free_by next) (λ ptr bytes has. Has-head (free_by next) image c ptr bytes torn has) next rows pool prepared.described;
 }
 
-pub commit-rests : (mid new : DiskState) (next : Uber) (rows : Rows) (pool : Pool) → IsPrepared next rows pool mid.seen → WritesIn 0 4096 mid new → Stands next new.seen → IsSynced new → Rests new next rows pool
-commit-rests mid new next rows pool prepared writes stands synced =
+pub commit-rests : {tight : Bool} (mid new : DiskState) (next : Uber) (rows : Rows) (pool : Pool) → IsPrepared tight next rows pool mid.seen → WritesIn 0 4096 mid new → Stands next new.seen → IsSynced new → Rests tight new next rows pool
+commit-rests {tight = tight} mid new next rows pool prepared writes stands synced =
     let reads = prepared-reads next rows pool mid.seen new.seen prepared writes.seen stands in
-    record { reads = reads; each = λ c image. subst (ReadsAs next rows pool) (sym (synced c image)) reads }
+    record { reads = reads; each = λ c image. subst (ReadsAs tight next rows pool) (sym (synced c image)) reads }
 
 -- where free sectors alone were written, each image keeps one from before
-pub fills-moments : (old mid : DiskState) (space less : FreeSectors) (pool : Pool) → IsTaken space 0 4096 → FillsFree old space mid less → Leaves old mid (OldOrNext space old pool)
-fills-moments old mid space less pool head fills =
-    Leaves-weaker old mid (Spared space old) (OldOrNext space old pool) fills.time (λ c was. inl (was.0, was.1, KeepsImage-spared space was.0 c head was.2))
+pub fills-moments : {tight : Bool} (old mid : DiskState) (space less : FreeSectors) (pool : Pool) → IsTaken space 0 4096 → FillsFree old space mid less → Leaves old mid (OldOrNext tight space old pool)
+fills-moments {tight = tight} old mid space less pool head fills =
+    Leaves-weaker old mid (Spared space old) (OldOrNext tight space old pool) fills.time (λ c was. inl (was.0, was.1, KeepsImage-spared space was.0 c head was.2))
 
 -- and so it does once the body was committed too, or it reads as the pool
-pub commit-moments : (old mid new : DiskState) (space less : FreeSectors) (next : Uber) (rows : Rows) (pool : Pool) → IsTaken space 0 4096 → FillsFree old space mid less
-    → IsPrepared next rows pool mid.seen → Leaves mid new (HasOldOrNew next mid) → Leaves old new (OldOrNext space old pool)
-commit-moments old mid new space less next rows pool head fills prepared leaves =
-    Leaves-then old mid new (OldOrNext space old pool) (HasOldOrNew next mid) (fills-moments old mid space less pool head fills) leaves both
+pub commit-moments : {tight : Bool} (old mid new : DiskState) (space less : FreeSectors) (next : Uber) (rows : Rows) (pool : Pool) → IsTaken space 0 4096 → FillsFree old space mid less
+    → IsPrepared tight next rows pool mid.seen → Leaves mid new (HasOldOrNew next mid) → Leaves old new (OldOrNext tight space old pool)
+commit-moments {tight = tight} old mid new space less next rows pool head fills prepared leaves =
+    Leaves-then old mid new (OldOrNext tight space old pool) (HasOldOrNew next mid) (fills-moments old mid space less pool head fills) leaves both
   where
-    past : (c : List ℕ) → (d : List ℕ) × mid.images d × (latest c ≡ latest d) × Torn 0 4096 d c → OldOrNext space old pool c
+    past : (c : List ℕ) → (d : List ℕ) × mid.images d × (latest c ≡ latest d) × Torn 0 4096 d c → OldOrNext tight space old pool c
     past c is =
         let was = fills.crash is.0 is.1 in
         inl (was.0, was.1, KeepsImage-then space was.0 is.0 c (KeepsImage-spared space was.0 is.0 head was.2) (KeepsImage-head space is.0 c is.2 is.3))
 
-    both : (c : List ℕ) → HasOldOrNew next mid c → OldOrNext space old pool c
+    both : (c : List ℕ) → HasOldOrNew next mid c → OldOrNext tight space old pool c
     both c is = ⊎_elim (past c) (λ new. inr (next, rows, prepared-reads next rows pool mid.seen c prepared new.1 new.0)) is
 
 -- where a body has the end of a space, no more sectors are free by it
@@ -133,17 +133,17 @@ InRange-next size body next space is fits end sectors version id dir_levels free
     }
 
 -- the rows and the blocks of the directory describe the next pool
-pub Describes-next : (old mid : DiskState) (space less : FreeSectors) (body next : Uber) (guids : ℕ) (rows : Rows) (pool : Pool) → FillsFree old space mid less → AreFewer (free_by next) less
+pub Describes-next : {tight : Bool} (old mid : DiskState) (space less : FreeSectors) (body next : Uber) (guids : ℕ) (rows : Rows) (pool : Pool) → FillsFree old space mid less → AreFewer (free_by next) less
     → next.id ≡ body.id → next.number ≡ body.number + 1 → next.guids ≡ guids → next.free_count ≡ 0 → HasDir (Has mid.seen less) next rows
-    → NextIs (Has old.seen space) body guids rows pool → Describes next rows pool (Has mid.seen (free_by next))
+    → NextIs tight (Has old.seen space) body guids rows pool → Describes tight next rows pool (Has mid.seen (free_by next))
 Describes-next old mid space less body next guids rows pool fills fewer id number guid_counter extents directory is =
-    Describes-grows next rows pool (Has mid.seen less) (Has mid.seen (free_by next)) (λ ptr bytes has. Has-fewer mid.seen less (free_by next) ptr bytes fewer has) (record {
+    Describes-grows mid.seen less mid.seen (free_by next) (λ ptr bytes has. Has-fewer mid.seen less (free_by next) ptr bytes fewer has) next rows pool (record {
       id = is.id ∙ sym id;
       number = is.number ∙ sym number;
       guids = is.guid_counter ∙ sym guid_counter;
       extents = extents;
       directory = directory;
-      rows_are = RunsBy-grows (Has old.seen space) (Has mid.seen less) (KeepsBlocks-fills old mid space less fills) (kept_rows rows) pool is.rows_are;
+      rows_are = RunsBy-grows old.seen space mid.seen less (KeepsBlocks-fills old mid space less fills) (kept_rows rows) pool is.rows_are;
       lawful = is.lawful;
     })
 
@@ -162,22 +162,22 @@ CommitAnswer-weaker after before weaker (Ok kept) is answer = answer
 CommitAnswer-weaker after before weaker (Err fault) is answer = Stays-weaker before weaker fault is answer
 
 -- a commit on a disk where free sectors alone were written since a start
-pub Commits-over : (start old new : DiskState) (space less : FreeSectors) (uber : Uber) (rows : Rows) (pool next : Pool) (result : Result Kept CommitFault) → Rests start uber rows pool
-    → FillsFree start (free_by uber) old space → CommitsOver old space new less next result → Commits start new uber rows pool next result
-Commits-over start old new space less uber rows pool next result rests fills over = record {
-  moments = Leaves-then start old new (λ c. Reads pool c ⊎ Reads next c) (OldOrNext space old next)
-      (Leaves-weaker start old (Spared (free_by uber) start) (λ c. Reads pool c ⊎ Reads next c) fills.time (λ c was. inl (uber, rows, ReadsAs-spared uber rows pool was.0 c was.2 (rests.each was.0 was.1))))
+pub Commits-over : {tight : Bool} (start old new : DiskState) (space less : FreeSectors) (uber : Uber) (rows : Rows) (pool next : Pool) (result : Result Kept CommitFault) → Rests tight start uber rows pool
+    → FillsFree start (free_by uber) old space → CommitsOver tight old space new less next result → Commits tight start new uber rows pool next result
+Commits-over {tight = tight} start old new space less uber rows pool next result rests fills over = record {
+  moments = Leaves-then start old new (λ c. Reads tight pool c ⊎ Reads tight next c) (OldOrNext tight space old next)
+      (Leaves-weaker start old (Spared (free_by uber) start) (λ c. Reads tight pool c ⊎ Reads tight next c) fills.time (λ c was. inl (uber, rows, ReadsAs-spared uber rows pool was.0 c was.2 (rests.each was.0 was.1))))
       over.moments both;
-  answer = CommitAnswer-weaker (λ kept. Rests new kept.body kept.dir next) (FillsFree old space new less) (Rests new uber rows pool) result
+  answer = CommitAnswer-weaker (λ kept. Rests tight new kept.body kept.dir next) (FillsFree old space new less) (Rests tight new uber rows pool) result
       (λ later. Rests-fills start new less uber rows pool (FillsFree-then start old new (free_by uber) space less fills later) rests) over.answer;
 }
   where
-    past : (c : List ℕ) → (d : List ℕ) × old.images d × KeepsImage space d c → Reads pool c
+    past : (c : List ℕ) → (d : List ℕ) × old.images d × KeepsImage space d c → Reads tight pool c
     past c is =
         let was = fills.crash is.0 is.1 in
         (uber, rows, ReadsAs-keeps space uber rows pool is.0 c fills.fewer is.2 (ReadsAs-spared uber rows pool was.0 is.0 was.2 (rests.each was.0 was.1)))
 
-    both : (c : List ℕ) → OldOrNext space old next c → Reads pool c ⊎ Reads next c
+    both : (c : List ℕ) → OldOrNext tight space old next c → Reads tight pool c ⊎ Reads tight next c
     both c is = ⊎_elim (λ keeps. inl (past c keeps)) (λ new. inr new) is
 
 -- the body of the next commit is in its ranges
@@ -191,12 +191,12 @@ next_in_range has size body next less guids end levels count root rows is end_is
     (omega (arith, few, stands.leaves.least.few)) (ap (λ (u : Uber). u.free_levels) is) (subst (λ (p : Ptr). IsTrue (is_lawful p)) (sym root_is) (DirStands-lawful has levels root count rows stands)) (ap (λ (u : Uber). u.free_root) is)
 
 -- what is written before the body of the next commit is what it describes
-pub prepared : (old mid : DiskState) (space less : FreeSectors) (body next : Uber) (guids end levels count : ℕ) (root : Ptr) (rows : Rows) (pool : Pool)
+pub prepared : {tight : Bool} (old mid : DiskState) (space less : FreeSectors) (body next : Uber) (guids end levels count : ℕ) (root : Ptr) (rows : Rows) (pool : Pool)
     → next ≡ record body { number = body.number + 1; guids = guids; end = end; dir_levels = levels; dir_bytes = count; dir_root = root; free_count = 0; free_levels = 0; free_root = hole_of 0 }
     → end ≡ less.end → less.sectors ≡ space.sectors → space.sectors ≡ body.sectors
     → InRange old.size body → FillsFree old space mid less → FitsDisk mid.size less → length mid.seen ≡ mid.size → UberFits next
     → DirStands (Has mid.seen less) levels root count rows
-    → NextIs (Has old.seen space) body guids rows pool → IsPrepared next rows pool mid.seen
+    → NextIs tight (Has old.seen space) body guids rows pool → IsPrepared tight next rows pool mid.seen
 prepared old mid space less body next guids end levels count root rows pool next_is end_is sectors same_sectors in_range fills fits long next_fits stands is =
     let same_end : next.end ≡ less.end = ap (λ (u : Uber). u.end) next_is ∙ end_is in
     let directory : HasDir (Has mid.seen less) next rows = subst (λ (u : Uber). HasDir (Has mid.seen less) u rows) (sym next_is) stands in
@@ -209,7 +209,7 @@ prepared old mid space less body next guids end levels count root rows pool next
     }
 
 -- what is answered where free sectors alone were written
-pub over-refused : (old mid : DiskState) (space less : FreeSectors) (pool : Pool) (fault : CommitFault) → IsTaken space 0 4096 → FillsFree old space mid less → CommitsOver old space mid less pool (Err fault)
+pub over-refused : {tight : Bool} (old mid : DiskState) (space less : FreeSectors) (pool : Pool) (fault : CommitFault) → IsTaken space 0 4096 → FillsFree old space mid less → CommitsOver tight old space mid less pool (Err fault)
 over-refused old mid space less pool fault head fills = record {
   moments = fills-moments old mid space less pool head fills;
   answer = Stays-from (FillsFree old space mid less) fault fills;

@@ -1,6 +1,6 @@
 -- What making a pool leaves.
 use Rattle.std.specs.Prelude.{Option, None, Result, Ok, Err, IfOk, IfErr, OnOk}
-use Rattle.std.proofs.Common.{◌≡◌, ◌⊎◌, inl, inr, ⊎_elim, ℕ, ◌+◌, ◌-◌, ◌*◌, ◌<◌, ◌≤◌, ◌^◌, List, [], length, refl, sym, ◌∙◌, ap, subst, arith}
+use Rattle.std.proofs.Common.{◌≡◌, ◌⊎◌, inl, inr, ⊎_elim, ℕ, ◌+◌, ◌-◌, ◌*◌, ◌<◌, ◌≤◌, ◌^◌, List, [], length, refl, sym, ◌∙◌, ap, subst, arith, Bool}
 use Rattle.std.proofs.lemmas.List.Elements.{All-nil}
 use Rattle.zst_outside.specs.Causes.{Rose-earlier}
 use Rattle.zst_outside.specs.Images.{DiskState, Leaves, OnlyReads, Leaves-weaker, Leaves-then}
@@ -16,7 +16,7 @@ use Rattle.zst_tree.specs.Indices.{Blocks}
 use Rattle.zst_image.specs.Committing.{CommitAnswer, IsDirFull, NextIs, OldOrNext, Ready, Stays}
 use Rattle.zst_image.specs.Creating.{CreateAnswers, IsMade, IsNew, RefusedLeaves}
 use Rattle.zst_image.specs.Faults.{HasDiskCause}
-use Rattle.zst_image.specs.Reads.{Reads, RowsAre, dir_sectors, new_pool}
+use Rattle.zst_image.specs.Reads.{Reads, RowsAre, bound_of, dir_sectors, new_pool}
 use Rattle.zst_image.specs.declared.commit_fault.CommitFault.{CommitFault}
 use Rattle.zst_image.specs.declared.commit_fault.CommitFault.TheVariants as commits
 use Rattle.zst_image.specs.declared.create_fault.CreateFault.{CreateFault}
@@ -49,16 +49,16 @@ IsPool-new id is = record {
   partials = All-nil _;
 }
 
-RowsAre-new : (has : Blocks) (id : ℕ) → RowsAre has no_rows (new_pool id)
+RowsAre-new : {bound : Option ℕ} (has : Blocks) (id : ℕ) → RowsAre bound has no_rows (new_pool id)
 RowsAre-new has id = record { datasets = tt; snapshots = tt; bookmarks = tt; partials = tt }
 
 -- a directory without rows is the new pool, behind a body without a number
-pub NextIs-new : (has : Blocks) (body : Uber) (rows : Rows) (id : ℕ) → (0 < id) × (id < 2 ^ 31) → body.id ≡ id → body.number ≡ 0 → rows ≡ no_rows → NextIs has body 0 rows (new_pool id)
-NextIs-new has body rows id is same none same_rows = record {
+pub NextIs-new : {tight : Bool} (has : Blocks) (body : Uber) (rows : Rows) (id : ℕ) → (0 < id) × (id < 2 ^ 31) → body.id ≡ id → body.number ≡ 0 → rows ≡ no_rows → NextIs tight has body 0 rows (new_pool id)
+NextIs-new {tight = tight} has body rows id is same none same_rows = record {
   id = sym same;
   number = omega (arith, none);
   guid_counter = refl;
-  rows_are = subst (λ (r : Rows). RowsAre has r (new_pool id)) (sym same_rows) (RowsAre-new has id);
+  rows_are = subst (λ (r : Rows). RowsAre (bound_of tight 1) has r (new_pool id)) (sym same_rows) (RowsAre-new has id);
   lawful = IsPool-new id is;
 }
 
@@ -119,11 +119,11 @@ IfOk-commit after before (Ok kept) is = is
 IfOk-commit after before (Err fault) is = tt
 
 -- each image from the first sync on has a latest body from before it, or reads as the pool
-pub create-moments : (old mid new last : DiskState) (space : FreeSectors) (pool : Pool) → new ≡ last → OnlyReads old mid → Leaves mid new (OldOrNext space mid pool)
-    → Leaves old last (λ c. ((d : List ℕ) × old.images d × (latest c ≡ latest d)) ⊎ Reads pool c)
-create-moments old mid new last space pool same reads leaves =
-    let Fits : List ℕ → Type 0 = λ c. ((d : List ℕ) × old.images d × (latest c ≡ latest d)) ⊎ Reads pool c in
-    subst (λ (now : DiskState). Leaves old now Fits) same (Leaves-then old mid new Fits (OldOrNext space mid pool)
+pub create-moments : {tight : Bool} (old mid new last : DiskState) (space : FreeSectors) (pool : Pool) → new ≡ last → OnlyReads old mid → Leaves mid new (OldOrNext tight space mid pool)
+    → Leaves old last (λ c. ((d : List ℕ) × old.images d × (latest c ≡ latest d)) ⊎ Reads tight pool c)
+create-moments {tight = tight} old mid new last space pool same reads leaves =
+    let Fits : List ℕ → Type 0 = λ c. ((d : List ℕ) × old.images d × (latest c ≡ latest d)) ⊎ Reads tight pool c in
+    subst (λ (now : DiskState). Leaves old now Fits) same (Leaves-then old mid new Fits (OldOrNext tight space mid pool)
     (Leaves-weaker old mid old.images Fits reads.time (λ c image. inl (c, image, refl))) leaves
     (λ c is. ⊎_elim (λ past. inl (past.0, reads.crash past.0 past.1, past.2.latest_stays)) (λ next. inr next) is))
 

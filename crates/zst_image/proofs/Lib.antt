@@ -6,5 +6,6 @@ pub mod Growing
 pub mod Lasting
 pub mod One
 pub mod Opened
+pub mod Plain
 pub mod Settled
 pub mod Taking

@@ -1,5 +1,5 @@
 -- An image reads as one pool.
-use Rattle.std.proofs.Common.{◌≡◌, ℕ, ◌<◌, ◌^◌, List, [], ◌∷◌, length, filter, refl, sym, ◌∙◌, ap, subst, arith}
+use Rattle.std.proofs.Common.{◌≡◌, ℕ, ◌<◌, ◌^◌, Bool, Option, Some, None, List, [], ◌∷◌, length, filter, refl, sym, ◌∙◌, ap, subst, arith}
 use Rattle.zst_space.specs.FreeSectors.{FreeSectors}
 use Rattle.zst_block.specs.Blocks.{Has}
 use Rattle.zst_block.specs.declared.ptr.Ptr.{Ptr}
@@ -10,6 +10,7 @@ use Rattle.zst_model.specs.states.Dated.{DatedState}
 use Rattle.zst_model.specs.fields.Lists.{Runs}
 use Rattle.zst_model.specs.pools.Pool.{Pool}
 use Rattle.zst_model.specs.pools.Pool as plain
+use Rattle.zst_tree.specs.Indices.{Blocks}
 use Rattle.zst_tree.specs.declared.tree.ObjSet.{ObjSet}
 use Rattle.zst_objset.specs.Sets.{SetHolds}
 use Rattle.zst_list.specs.Standing.{HasList}
@@ -21,10 +22,10 @@ use Rattle.zst_dir.specs.declared.rows.Snapshot.{Snapshot}
 use Rattle.zst_dir.specs.declared.rows.Bookmark.{Bookmark}
 use Rattle.zst_dir.specs.declared.rows.Partial.{Partial}
 use Rattle.zst_dir.specs.Named.{Match}
-use Rattle.zst_image.specs.Reads.{DatasetIs, SnapshotIs, BookmarkIs, PartialIs, HasDir, ReadsAs, free_by}
+use Rattle.zst_image.specs.Reads.{DatasetIs, SnapshotIs, BookmarkIs, PartialIs, SetIs, HasDir, ReadsAs, RowsAre, bound_of, free_by}
 
 -- two bodies that an image has as its latest are one
-pub one_body : (uber other : Uber) (rows others : Rows) (pool another : Pool) (image : List ℕ) → ReadsAs uber rows pool image → ReadsAs other others another image → uber ≡ other
+pub one_body : {tight : Bool} (uber other : Uber) (rows others : Rows) (pool another : Pool) (image : List ℕ) → ReadsAs tight uber rows pool image → ReadsAs tight other others another image → uber ≡ other
 one_body uber other rows others pool another image first second =
     let same : body_bytes uber ≡ body_bytes other = cc (first.stands, second.stands) in
     sym (uber_at-body_bytes uber first.fits) ∙ ap uber_at same ∙ uber_at-body_bytes other second.fits
@@ -40,10 +41,10 @@ one_dir one_text one_directory uber rows others image short first second =
     one_directory rows others (dir_bytes rows) (omega (arith, short, first.count_is)) first.directory (subst (λ (bytes : List ℕ). IsDir others bytes) (sym text) second.directory)
 
 -- and so are the rows by which an image reads as a pool
-pub one_rows : RootsHaveOne → BytesAreOne → (uber other : Uber) (rows others : Rows) (pool another : Pool) (image : List ℕ) → ReadsAs uber rows pool image → ReadsAs other others another image → rows ≡ others
-one_rows one_text one_directory uber other rows others pool another image first second =
+pub one_rows : {tight : Bool} → RootsHaveOne → BytesAreOne → (uber other : Uber) (rows others : Rows) (pool another : Pool) (image : List ℕ) → ReadsAs tight uber rows pool image → ReadsAs tight other others another image → rows ≡ others
+one_rows {tight = tight} one_text one_directory uber other rows others pool another image first second =
     let body = one_body uber other rows others pool another image first second in
-    let again = subst (λ (u : Uber). ReadsAs u others another image) (sym body) second in
+    let again = subst (λ (u : Uber). ReadsAs tight u others another image) (sym body) second in
     one_dir one_text one_directory uber rows others image first.fits.trees.dir_bytes first.described.directory again.described.directory
 
 -- lists that match the same are one, where each row stands for one thing
@@ -97,37 +98,45 @@ BookmarkIs-one one image space row y z first second =
     let runs = one image space row.levels row.root row.runs y.runs z.runs first.list second.list in
     one_bookmark y z (first.named.name ∙ sym second.named.name) (first.named.guid ∙ sym second.named.guid) (first.named.time ∙ sym second.named.time) (first.named.number ∙ sym second.named.number) (first.named.redact ∙ sym second.named.redact) runs
 
-module _ (one : SetsHoldOne) (image : List ℕ) (space : FreeSectors) where
-  DatasetIs-one : (row : Dataset) (y z : plain.Dataset) → DatasetIs (Has image space) row y → DatasetIs (Has image space) row z → y ≡ z
+-- a set that is known to be of a state holds it
+pub SetIs-holds : (bound : Option ℕ) (has : Blocks) (set : ObjSet) (state : DatedState) → SetIs bound has set state → SetHolds has set state
+SetIs-holds None has set state is = is
+SetIs-holds (Some number) has set state is = is.0.holds
+
+module _ (one : SetsHoldOne) (bound : Option ℕ) (image : List ℕ) (space : FreeSectors) where
+  DatasetIs-one : (row : Dataset) (y z : plain.Dataset) → DatasetIs bound (Has image space) row y → DatasetIs bound (Has image space) row z → y ≡ z
   DatasetIs-one row y z first second =
-      let head = one row.head image space y.head z.head first.head second.head in
+      let head = one row.head image space y.head z.head (SetIs-holds bound (Has image space) row.head y.head first.head) (SetIs-holds bound (Has image space) row.head z.head second.head) in
       one_dataset y z (first.named.name ∙ sym second.named.name) (first.named.kind ∙ sym second.named.kind) (first.named.origin ∙ sym second.named.origin) head (first.named.redact ∙ sym second.named.redact)
 
-  SnapshotIs-one : (row : Snapshot) (y z : plain.Snapshot) → SnapshotIs (Has image space) row y → SnapshotIs (Has image space) row z → y ≡ z
+  SnapshotIs-one : (row : Snapshot) (y z : plain.Snapshot) → SnapshotIs bound (Has image space) row y → SnapshotIs bound (Has image space) row z → y ≡ z
   SnapshotIs-one row y z first second =
-      let objects = one row.objects image space y.objects z.objects first.objects second.objects in
+      let objects = one row.objects image space y.objects z.objects (SetIs-holds bound (Has image space) row.objects y.objects first.objects) (SetIs-holds bound (Has image space) row.objects z.objects second.objects) in
       one_snapshot y z (first.named.name ∙ sym second.named.name) (first.named.guid ∙ sym second.named.guid) (first.named.time ∙ sym second.named.time) (first.named.number ∙ sym second.named.number) objects (first.named.redact ∙ sym second.named.redact)
 
-  PartialIs-one : (row : Partial) (y z : plain.Partial) → PartialIs (Has image space) row y → PartialIs (Has image space) row z → y ≡ z
+  PartialIs-one : (row : Partial) (y z : plain.Partial) → PartialIs bound (Has image space) row y → PartialIs bound (Has image space) row z → y ≡ z
   PartialIs-one row y z first second =
-      let objects = one row.objects image space y.objects z.objects first.objects second.objects in
+      let objects = one row.objects image space y.objects z.objects (SetIs-holds bound (Has image space) row.objects y.objects first.objects) (SetIs-holds bound (Has image space) row.objects z.objects second.objects) in
       one_partial y z (first.named.target ∙ sym second.named.target) (first.named.component ∙ sym second.named.component) (first.named.keep ∙ sym second.named.keep) (first.named.header ∙ sym second.named.header) (first.named.base ∙ sym second.named.base) objects (first.named.point ∙ sym second.named.point)
 
 -- the pool by one body and these rows
-pool_by : SetsHoldOne → ListsAreOne → (uber : Uber) (rows : Rows) (pool another : Pool) (image : List ℕ) → ReadsAs uber rows pool image → ReadsAs uber rows another image → pool ≡ another
-pool_by one one_list uber rows pool another image first second =
+pool_by : {tight : Bool} → SetsHoldOne → ListsAreOne → (uber : Uber) (rows : Rows) (pool another : Pool) (image : List ℕ) → ReadsAs tight uber rows pool image → ReadsAs tight uber rows another image → pool ≡ another
+pool_by {tight = tight} one one_list uber rows pool another image first second =
     let a = first.described in
     let b = second.described in
     let space = free_by uber in
-    let datasets = Match-one (DatasetIs (Has image space)) (DatasetIs-one one image space) rows.datasets pool.datasets another.datasets a.rows_are.datasets b.rows_are.datasets in
-    let snapshots = Match-one (SnapshotIs (Has image space)) (SnapshotIs-one one image space) rows.snapshots pool.snapshots another.snapshots a.rows_are.snapshots b.rows_are.snapshots in
-    let bookmarks = Match-one (BookmarkIs (Has image space)) (BookmarkIs-one one_list image space) rows.bookmarks pool.bookmarks another.bookmarks a.rows_are.bookmarks b.rows_are.bookmarks in
-    let partials = Match-one (PartialIs (Has image space)) (PartialIs-one one image space) (filter (λ row. row.keep) rows.partials) pool.partials another.partials a.rows_are.partials b.rows_are.partials in
-    one_pool_is pool another (a.id ∙ sym b.id) (a.number ∙ sym b.number) (a.guids ∙ sym b.guids) datasets snapshots bookmarks partials
+    let number = a.number ∙ sym b.number in
+    let bound = bound_of tight pool.number in
+    let others = subst (λ (n : ℕ). RowsAre (bound_of tight n) (Has image space) rows another) (sym number) b.rows_are in
+    let datasets = Match-one (DatasetIs bound (Has image space)) (DatasetIs-one one bound image space) rows.datasets pool.datasets another.datasets a.rows_are.datasets others.datasets in
+    let snapshots = Match-one (SnapshotIs bound (Has image space)) (SnapshotIs-one one bound image space) rows.snapshots pool.snapshots another.snapshots a.rows_are.snapshots others.snapshots in
+    let bookmarks = Match-one (BookmarkIs (Has image space)) (BookmarkIs-one one_list image space) rows.bookmarks pool.bookmarks another.bookmarks a.rows_are.bookmarks others.bookmarks in
+    let partials = Match-one (PartialIs bound (Has image space)) (PartialIs-one one bound image space) (filter (λ row. row.keep) rows.partials) pool.partials another.partials a.rows_are.partials others.partials in
+    one_pool_is pool another (a.id ∙ sym b.id) number (a.guids ∙ sym b.guids) datasets snapshots bookmarks partials
 
 -- an image reads as one pool
-pub one_pool : RootsHaveOne → BytesAreOne → SetsHoldOne → ListsAreOne → (uber other : Uber) (rows others : Rows) (pool another : Pool) (image : List ℕ) → ReadsAs uber rows pool image → ReadsAs other others another image → pool ≡ another
-one_pool one_text one_directory one_state one_list uber other rows others pool another image first second =
+pub one_pool : {tight : Bool} → RootsHaveOne → BytesAreOne → SetsHoldOne → ListsAreOne → (uber other : Uber) (rows others : Rows) (pool another : Pool) (image : List ℕ) → ReadsAs tight uber rows pool image → ReadsAs tight other others another image → pool ≡ another
+one_pool {tight = tight} one_text one_directory one_state one_list uber other rows others pool another image first second =
     let body = one_body uber other rows others pool another image first second in
     let same = one_rows one_text one_directory uber other rows others pool another image first second in
-    pool_by one_state one_list uber rows pool another image first (subst (λ (u : Uber). ReadsAs u rows another image) (sym body) (subst (λ (r : Rows). ReadsAs other r another image) (sym same) second))
+    pool_by one_state one_list uber rows pool another image first (subst (λ (u : Uber). ReadsAs tight u rows another image) (sym body) (subst (λ (r : Rows). ReadsAs tight other r another image) (sym same) second))

@@ -1,6 +1,6 @@
 -- What opening a pool answers, from what its body and its directory are.
 use Rattle.std.specs.Prelude.{Option, Some, None, Result, Err}
-use Rattle.std.proofs.Common.{inl, inr, ⊎_elim, ◌≡◌, ◌≢◌, List, ℕ, length, refl, sym, subst, ◌∙◌}
+use Rattle.std.proofs.Common.{inl, inr, ⊎_elim, ◌≡◌, ◌≢◌, List, ℕ, length, refl, sym, subst, ◌∙◌, Bool}
 use Rattle.zst_bytes.specs.Bytes.{number_at}
 use Rattle.zst_outside.specs.Images.{DiskState, IsSynced, OnlyReads}
 use Rattle.zst_block.specs.Blocks.{Has}
@@ -24,7 +24,7 @@ use Rattle.zst_image.specs.declared.open_fault.OpenFault.{OpenFault}
 use Rattle.zst_image.specs.declared.open_fault.OpenFault.TheVariants.{Damaged, NoPool, BadVersion, DiskFault, OutOfMemory}
 
 -- the body by which an image reads as a pool is its latest
-pub IsLatest-reads : (size : ℕ) (uber : Uber) (rows : Rows) (pool : Pool) (image : List ℕ) → length image ≡ size → ReadsAs uber rows pool image → IsLatest size uber image
+pub IsLatest-reads : {tight : Bool} (size : ℕ) (uber : Uber) (rows : Rows) (pool : Pool) (image : List ℕ) → length image ≡ size → ReadsAs tight uber rows pool image → IsLatest size uber image
 IsLatest-reads size uber rows pool image long reads = record {
   stands = reads.stands;
   fits = reads.fits;
@@ -97,7 +97,7 @@ pub IsSynced-reads : (old new : DiskState) → OnlyReads old new → IsSynced ol
 IsSynced-reads old new reads synced c image = synced c (reads.crash c image) ∙ sym reads.seen
 
 -- a disk that reads as a pool and was opened rests as that pool, by the body that is kept of it
-pub Rests-opened : (old new : DiskState) (uber body : Uber) (rows : Rows) (pool : Pool) → ReadsAs uber rows pool old.seen → OnlyReads old new → IsSynced new → body ≡ uber → Rests new body rows pool
-Rests-opened old new uber body rows pool is reads synced same =
-    let read : ReadsAs body rows pool new.seen = rw (same, reads.seen) is in
-    record { reads = read; each = λ c image. subst (λ (bytes : List ℕ). ReadsAs body rows pool bytes) (sym (synced c image)) read }
+pub Rests-opened : {tight : Bool} (old new : DiskState) (uber body : Uber) (rows : Rows) (pool : Pool) → ReadsAs tight uber rows pool old.seen → OnlyReads old new → IsSynced new → body ≡ uber → Rests tight new body rows pool
+Rests-opened {tight = tight} old new uber body rows pool is reads synced same =
+    let read : ReadsAs tight body rows pool new.seen = rw (same, reads.seen) is in
+    record { reads = read; each = λ c image. subst (λ (bytes : List ℕ). ReadsAs tight body rows pool bytes) (sym (synced c image)) read }

@@ -1,5 +1,5 @@
 -- What the commit of a directory does: it writes into free sectors alone, and then makes what it wrote the latest.
-use Rattle.std.specs.Prelude.{◌≡◌, ◌⊎◌, ◌+◌, ◌<◌, ℕ, List, length, Result, Ok, Err}
+use Rattle.std.specs.Prelude.{◌≡◌, ◌⊎◌, ◌+◌, ◌<◌, ℕ, Bool, List, length, Result, Ok, Err}
 use Rattle.zst_outside.specs.Images.{DiskState, Leaves}
 use Rattle.zst_space.specs.FreeSectors.{FreeSectors, IsFree, largest_of}
 use Rattle.zst_block.specs.Blocks.{FillsFree, KeepsBlocks}
@@ -11,7 +11,7 @@ use Rattle.zst_model.specs.pools.Pool.{Pool, IsPool}
 use Rattle.zst_dir.specs.Rows.{Rows}
 use Rattle.zst_dir.specs.Spelling.{dir_bytes}
 use Rattle.zst_tree.specs.Indices.{Blocks}
-use Rattle.zst_image.specs.Reads.{Reads, RowsAre, Rests, dir_sectors}
+use Rattle.zst_image.specs.Reads.{Reads, RowsAre, Rests, bound_of, dir_sectors}
 use Rattle.zst_image.specs.declared.commit_fault.CommitFault.{CommitFault}
 use Rattle.zst_image.specs.declared.commit_fault.CommitFault.TheVariants.{Full, DiskFault, OutOfMemory}
 use Rattle.zst_image.specs.declared.kept.Kept.{Kept}
@@ -22,12 +22,12 @@ pub record Ready (disk : DiskState) (uber : Uber) : Type 0 where
   pub next : disk.honest → IsNext (uber.number + 1) (latest disk.seen)
   pub head : disk.honest → HeadSettled disk
 
--- these rows over these blocks are the next pool of this body, with this guid counter
-pub record NextIs (has : Blocks) (uber : Uber) (guids : ℕ) (rows : Rows) (next : Pool) : Type 0 where
+-- these rows over these blocks are the next pool of this body, with this guid counter, by tight sets where that is said
+pub record NextIs (tight : Bool) (has : Blocks) (uber : Uber) (guids : ℕ) (rows : Rows) (next : Pool) : Type 0 where
   pub id : next.id ≡ uber.id
   pub number : next.number ≡ uber.number + 1
   pub guid_counter : next.guids ≡ guids
-  pub rows_are : RowsAre has rows next
+  pub rows_are : RowsAre (bound_of tight next.number) has rows next
   pub lawful : IsPool next
 
 -- E24 of a directory with these rows: the 16 sectors of a block of it are longer than what is free then, and before it no run was free of as many as it may take
@@ -55,15 +55,15 @@ pub record KeepsImage (space : FreeSectors) (old new : List ℕ) : Type 0 where
   pub blocks : (more : FreeSectors) → ((sector : ℕ) → IsFree space sector → IsFree more sector) → KeepsBlocks old more new more
 
 -- an image that keeps one from before a commit, or one that reads as the pool that the commit makes
-abbrev pub OldOrNext : FreeSectors → DiskState → Pool → List ℕ → Type 0
-OldOrNext space old next c = ((d : List ℕ) × old.images d × KeepsImage space d c) ⊎ Reads next c
+abbrev pub OldOrNext : (tight : Bool) → FreeSectors → DiskState → Pool → List ℕ → Type 0
+OldOrNext tight space old next c = ((d : List ℕ) × old.images d × KeepsImage space d c) ⊎ Reads tight next c
 
 -- a commit of a pool, whatever stood before: inside it each image keeps one from before or reads as the pool; after a refusal that isn't the disk's, free sectors alone were written
-pub record CommitsOver (old : DiskState) (old_space : FreeSectors) (new : DiskState) (new_space : FreeSectors) (next : Pool) (result : Result Kept CommitFault) : Type 0 where
-  pub moments : Leaves old new (OldOrNext old_space old next)
-  pub answer : CommitAnswer (λ kept. Rests new kept.body kept.dir next) (FillsFree old old_space new new_space) result
+pub record CommitsOver (tight : Bool) (old : DiskState) (old_space : FreeSectors) (new : DiskState) (new_space : FreeSectors) (next : Pool) (result : Result Kept CommitFault) : Type 0 where
+  pub moments : Leaves old new (OldOrNext tight old_space old next)
+  pub answer : CommitAnswer (λ kept. Rests tight new kept.body kept.dir next) (FillsFree old old_space new new_space) result
 
 -- a commit of the next pool: inside it each image reads as the pool before or as the next, and then by its answer
-pub record Commits (start now : DiskState) (uber : Uber) (rows : Rows) (pool next : Pool) (result : Result Kept CommitFault) : Type 0 where
-  pub moments : Leaves start now (λ c. Reads pool c ⊎ Reads next c)
-  pub answer : CommitAnswer (λ kept. Rests now kept.body kept.dir next) (Rests now uber rows pool) result
+pub record Commits (tight : Bool) (start now : DiskState) (uber : Uber) (rows : Rows) (pool next : Pool) (result : Result Kept CommitFault) : Type 0 where
+  pub moments : Leaves start now (λ c. Reads tight pool c ⊎ Reads tight next c)
+  pub answer : CommitAnswer (λ kept. Rests tight now kept.body kept.dir next) (Rests tight now uber rows pool) result

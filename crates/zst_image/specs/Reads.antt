@@ -1,5 +1,5 @@
 -- What an image reads as: the pool that its latest body, its directory and its object sets describe.
-use Rattle.std.specs.Prelude.{◌≡◌, ◌+◌, ◌*◌, ◌/◌, ℕ, List, [], length, filter}
+use Rattle.std.specs.Prelude.{◌≡◌, ◌+◌, ◌*◌, ◌/◌, ℕ, Bool, true, false, List, [], length, filter, Option, Some, None}
 use Rattle.zst_outside.specs.Images.{DiskState}
 use Rattle.zst_space.specs.FreeSectors.{FreeSectors}
 use Rattle.zst_block.specs.Blocks.{Has}
@@ -9,6 +9,8 @@ use Rattle.zst_uber.specs.Slots.{Stands}
 use Rattle.zst_uber.specs.declared.uber.Uber.{Uber}
 use Rattle.zst_model.specs.pools.Pool.{Pool, IsPool}
 use Rattle.zst_model.specs.pools.Pool as plain
+use Rattle.zst_model.specs.pools.Sound.{DatedUpTo}
+use Rattle.zst_model.specs.states.Dated.{DatedState}
 use Rattle.zst_tree.specs.Indices.{Blocks}
 use Rattle.zst_leaves.specs.Leaves.{HasLeaves, leaves_for}
 use Rattle.zst_list.specs.Standing.{HasList}
@@ -20,26 +22,38 @@ use Rattle.zst_dir.specs.declared.rows.Snapshot.{Snapshot}
 use Rattle.zst_dir.specs.declared.rows.Bookmark.{Bookmark}
 use Rattle.zst_dir.specs.declared.rows.Partial.{Partial}
 use Rattle.zst_objset.specs.Sets.{SetHolds}
+use Rattle.zst_objset.specs.Tight.{SetIsTight}
+use Rattle.zst_tree.specs.declared.tree.ObjSet.{ObjSet}
 
--- a dataset's row stands for this dataset: it names it, and its set holds the head
-pub record DatasetIs (has : Blocks) (row : Dataset) (dataset : plain.Dataset) : Type 0 where
+-- how well a set is known: with None it holds the state; with a number it is tight besides, and no date of the state is above the number
+abbrev pub SetIs : Option ℕ → Blocks → ObjSet → DatedState → Type 0
+SetIs None has set state = SetHolds has set state
+SetIs (Some number) has set state = SetIsTight has set state × DatedUpTo number state
+
+-- how well the sets of a pool with this number are known, where they are tight and where that isn't said
+abbrev pub bound_of : (tight : Bool) → (number : ℕ) → Option ℕ
+bound_of true number = Some number
+bound_of false number = None
+
+-- a dataset's row stands for this dataset: it names it, and its set is of the head
+pub record DatasetIs (bound : Option ℕ) (has : Blocks) (row : Dataset) (dataset : plain.Dataset) : Type 0 where
   pub named : NamesDataset row dataset
-  pub head : SetHolds has row.head dataset.head
+  pub head : SetIs bound has row.head dataset.head
 
--- a snapshot's row stands for this snapshot: it names it, and its set holds the objects
-pub record SnapshotIs (has : Blocks) (row : Snapshot) (snapshot : plain.Snapshot) : Type 0 where
+-- a snapshot's row stands for this snapshot: it names it, and its set is of the objects
+pub record SnapshotIs (bound : Option ℕ) (has : Blocks) (row : Snapshot) (snapshot : plain.Snapshot) : Type 0 where
   pub named : NamesSnapshot row snapshot
-  pub objects : SetHolds has row.objects snapshot.objects
+  pub objects : SetIs bound has row.objects snapshot.objects
 
 -- a bookmark's row stands for this bookmark: it names it, and its leaves have its list
 pub record BookmarkIs (has : Blocks) (row : Bookmark) (bookmark : plain.Bookmark) : Type 0 where
   pub named : NamesBookmark row bookmark
   pub list : HasList has row.levels row.root row.runs bookmark.runs
 
--- a partial state's row stands for this partial state: it names it, and its set holds the objects
-pub record PartialIs (has : Blocks) (row : Partial) (partial : plain.Partial) : Type 0 where
+-- a partial state's row stands for this partial state: it names it, and its set is of the objects
+pub record PartialIs (bound : Option ℕ) (has : Blocks) (row : Partial) (partial : plain.Partial) : Type 0 where
   pub named : NamesPartial row partial
-  pub objects : SetHolds has row.objects partial.objects
+  pub objects : SetIs bound has row.objects partial.objects
 
 -- the body has the pool's id, number and guid counter, and the rows name what the pool lists
 pub record IsNamedBy (uber : Uber) (rows : Rows) (pool : Pool) : Type 0 where
@@ -49,19 +63,19 @@ pub record IsNamedBy (uber : Uber) (rows : Rows) (pool : Pool) : Type 0 where
   pub are_named : AreNamed rows pool
 
 -- the rows stand for what a pool that runs lists, also for its partial states that last no longer than their sessions
-pub record RunsBy (has : Blocks) (rows : Rows) (running : Pool) : Type 0 where
-  pub datasets : Match (DatasetIs has) rows.datasets running.datasets
-  pub snapshots : Match (SnapshotIs has) rows.snapshots running.snapshots
+pub record RunsBy (bound : Option ℕ) (has : Blocks) (rows : Rows) (running : Pool) : Type 0 where
+  pub datasets : Match (DatasetIs bound has) rows.datasets running.datasets
+  pub snapshots : Match (SnapshotIs bound has) rows.snapshots running.snapshots
   pub bookmarks : Match (BookmarkIs has) rows.bookmarks running.bookmarks
-  pub partials : Match (PartialIs has) rows.partials running.partials
+  pub partials : Match (PartialIs bound has) rows.partials running.partials
 
 -- the rows that last: all but those of partial states without `keep`
 abbrev pub kept_rows : Rows → Rows
 kept_rows rows = record rows { partials = filter (λ row. row.keep) rows.partials }
 
 -- the rows that last stand for what the pool lists
-abbrev pub RowsAre : Blocks → Rows → Pool → Type 0
-RowsAre has rows pool = RunsBy has (kept_rows rows) pool
+abbrev pub RowsAre : Option ℕ → Blocks → Rows → Pool → Type 0
+RowsAre bound has rows pool = RunsBy bound has (kept_rows rows) pool
 
 -- so many sectors a directory of so many bytes takes at most: 16 for each leaf, and for each of the nodes above
 abbrev pub dir_sectors : ℕ → ℕ
@@ -77,14 +91,14 @@ pub record DirStands (has : Blocks) (levels : ℕ) (root : Ptr) (count : ℕ) (r
 abbrev pub HasDir : Blocks → Uber → Rows → Type 0
 HasDir has uber rows = DirStands has uber.dir_levels uber.dir_root uber.dir_bytes rows
 
--- the body, the rows of the directory and the blocks describe this pool; as long as no sector is freed there are no free extents
-pub record Describes (uber : Uber) (rows : Rows) (pool : Pool) (has : Blocks) : Type 0 where
+-- the body, the rows of the directory and the blocks describe this pool, by tight sets where that is said; as long as no sector is freed there are no free extents
+pub record Describes (tight : Bool) (uber : Uber) (rows : Rows) (pool : Pool) (has : Blocks) : Type 0 where
   pub id : pool.id ≡ uber.id
   pub number : pool.number ≡ uber.number
   pub guids : pool.guids ≡ uber.guids
   pub extents : uber.free_count ≡ 0
   pub directory : HasDir has uber rows
-  pub rows_are : RowsAre has rows pool
+  pub rows_are : RowsAre (bound_of tight pool.number) has rows pool
   pub lawful : IsPool pool
 
 -- the sectors that are free by a body: those from its end on
@@ -92,20 +106,20 @@ abbrev pub free_by : Uber → FreeSectors
 free_by uber = record { end = uber.end; sectors = uber.sectors; free = [] }
 
 -- the image reads as this pool by its latest body, which is in its ranges, and by these rows
-pub record ReadsAs (uber : Uber) (rows : Rows) (pool : Pool) (image : List ℕ) : Type 0 where
+pub record ReadsAs (tight : Bool) (uber : Uber) (rows : Rows) (pool : Pool) (image : List ℕ) : Type 0 where
   pub stands : Stands uber image
   pub fits : UberFits uber
   pub in_range : InRange (length image) uber
-  pub described : Describes uber rows pool (Has image (free_by uber))
+  pub described : Describes tight uber rows pool (Has image (free_by uber))
 
--- the image reads as this pool
-abbrev pub Reads : Pool → List ℕ → Type 0
-Reads pool image = (uber : Uber) × (rows : Rows) × ReadsAs uber rows pool image
+-- the image reads as this pool: whatever its object sets are that hold its states, or by tight ones, as each image does that commands made
+abbrev pub Reads : (tight : Bool) → Pool → List ℕ → Type 0
+Reads tight pool image = (uber : Uber) × (rows : Rows) × ReadsAs tight uber rows pool image
 
 -- a read of the disk gives this pool by this body and these rows, and so does each image that a crash may leave
-pub record Rests (disk : DiskState) (uber : Uber) (rows : Rows) (pool : Pool) : Type 0 where
-  pub reads : ReadsAs uber rows pool disk.seen
-  pub each : (c : List ℕ) → disk.images c → ReadsAs uber rows pool c
+pub record Rests (tight : Bool) (disk : DiskState) (uber : Uber) (rows : Rows) (pool : Pool) : Type 0 where
+  pub reads : ReadsAs tight uber rows pool disk.seen
+  pub each : (c : List ℕ) → disk.images c → ReadsAs tight uber rows pool c
 
 -- a new pool: its first commit, and nothing in it
 abbrev pub new_pool : ℕ → Pool

@@ -1,5 +1,5 @@
 // The commit of a directory: the one commit of an event.
-ghost use Rattle.std.specs.Prelude.{◌≡◌, ◌+◌, ◌<◌, ◌≤◌, ◌^◌, ◌||◌, false, ℕ, List, [], length, IfOk, IfErr, OnOk, OnErr, Err};
+ghost use Rattle.std.specs.Prelude.{◌≡◌, ◌+◌, ◌<◌, ◌≤◌, ◌^◌, ◌||◌, false, ℕ, Bool, List, [], length, IfOk, IfErr, OnOk, OnErr, Err};
 ghost use Rattle.zst_space.specs.FreeSectors.{room};
 ghost use Rattle.zst_block.specs.Blocks.{FitsDisk, FillsFree, Has, KeepsBlocks};
 ghost use Rattle.zst_block.specs.Ptr.{hole_of};
@@ -41,13 +41,13 @@ pub fn commit_dir<D: Disk>(
     requires sectors { io.old.space.sectors ≡ body.now.sectors }
     requires ready { Ready (D.state io.old.disk.now) body.now }
     requires number { body.now.number < 2 ^ 63 }
-    ensures commits { (start : D) (rows : Rows) (pool next : Pool) → (D.state io.new.disk.now).honest → Rests (D.state start) body.now rows pool
+    ensures commits { (tight : Bool) (start : D) (rows : Rows) (pool next : Pool) → (D.state io.new.disk.now).honest → Rests tight (D.state start) body.now rows pool
         → FillsFree (D.state start) (free_by body.now) (D.state io.old.disk.now) io.old.space
-        → NextIs (Has (D.state io.old.disk.now).seen io.old.space) body.now guids dir next
-        → Commits (D.state start) (D.state io.new.disk.now) body.now rows pool next result }
+        → NextIs tight (Has (D.state io.old.disk.now).seen io.old.space) body.now guids dir next
+        → Commits tight (D.state start) (D.state io.new.disk.now) body.now rows pool next result }
     // A pool's first commit has none before it.
-    ensures over { (next : Pool) → (D.state io.new.disk.now).honest → NextIs (Has (D.state io.old.disk.now).seen io.old.space) body.now guids dir next
-        → CommitsOver (D.state io.old.disk.now) io.old.space (D.state io.new.disk.now) io.new.space next result }
+    ensures over { (tight : Bool) (next : Pool) → (D.state io.new.disk.now).honest → NextIs tight (Has (D.state io.old.disk.now).seen io.old.space) body.now guids dir next
+        → CommitsOver tight (D.state io.old.disk.now) io.old.space (D.state io.new.disk.now) io.new.space next result }
     ensures number { IfOk result (λ kept. kept.body.number ≡ body.now.number + 1) }
     ensures dir { IfOk result (λ kept. kept.dir ≡ dir) }
     // The blocks that were there still are, over the sectors that the new body leaves free.

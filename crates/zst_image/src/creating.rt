@@ -1,5 +1,5 @@
 // How a pool is made in an image.
-ghost use Rattle.std.specs.Prelude.{◌≡◌, ◌⊎◌, ◌<◌, ◌≤◌, ◌^◌, ℕ, List, OnOk, IfOk, IfErr, Err};
+ghost use Rattle.std.specs.Prelude.{◌≡◌, ◌⊎◌, ◌<◌, ◌≤◌, ◌^◌, ℕ, Bool, List, OnOk, IfOk, IfErr, Err};
 ghost use Rattle.zst_outside.specs.Images.{Leaves, OnlyReads};
 ghost use Rattle.zst_block.specs.Ptr.{hole_of};
 ghost use Rattle.zst_uber.specs.Commit.{HeadSettled};
@@ -35,11 +35,11 @@ impl Kept {
         requires sectors { (128 ≤ sectors) × (sectors ≤ 2 ^ 31) }
         requires id { (0 < id) × (id < 2 ^ 31) }
         ensures answer { (D.state disk.new).honest → CreateAnswers (D.state disk.old).size (latest_of (D.state disk.old).seen) sectors result }
-        ensures made { (D.state disk.new).honest → IfOk result (λ kept. Rests (D.state disk.new) kept.body kept.dir (new_pool id)) }
+        ensures made { (tight : Bool) → (D.state disk.new).honest → IfOk result (λ kept. Rests tight (D.state disk.new) kept.body kept.dir (new_pool id)) }
         ensures new { IfOk result (IsNew sectors) }
         ensures ready { IfOk result (λ kept. Ready (D.state disk.new) kept.body) }
         // At every moment each image has the latest body that one had before, or reads as the new pool.
-        ensures moments { (D.state disk.new).honest → Leaves (D.state disk.old) (D.state disk.new) (λ c. ((d : List ℕ) × (D.state disk.old).images d × (latest_of c ≡ latest_of d)) ⊎ Reads (new_pool id) c) }
+        ensures moments { (tight : Bool) → (D.state disk.new).honest → Leaves (D.state disk.old) (D.state disk.new) (λ c. ((d : List ℕ) × (D.state disk.old).images d × (latest_of c ≡ latest_of d)) ⊎ Reads tight (new_pool id) c) }
         ensures refused { IfErr result (RefusedLeaves (D.state disk.old) (D.state disk.new)) }
         ensures cause { HasDiskCause CreateFault.DiskFault (D.state disk.old).faults (D.state disk.new).faults result }
         ensures honest { (D.state disk.new).honest → (D.state disk.old).honest }

@@ -16,5 +16,5 @@ pub use commit_fault::CommitFault;
 pub use committing::commit_dir;
 pub use create_fault::CreateFault;
 pub use kept::Kept;
-pub use laws::{images_keep_partials, reads_are_kept, reads_as_one};
+pub use laws::{images_keep_partials, reads_are_kept, reads_as_one, tight_sets_hold};
 pub use open_fault::OpenFault;

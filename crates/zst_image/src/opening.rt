@@ -1,5 +1,5 @@
 // How the pool of an image is opened.
-ghost use Rattle.std.specs.Prelude.{◌≡◌, ℕ, List, length, IfOk, IfErr, Err};
+ghost use Rattle.std.specs.Prelude.{◌≡◌, ℕ, Bool, List, length, IfOk, IfErr, Err};
 ghost use Rattle.zst_outside.specs.Images.{IsSynced, OnlyReads};
 ghost use Rattle.zst_block.specs.Blocks.{Has};
 ghost use Rattle.zst_uber.specs.Body.{InRange};
@@ -31,10 +31,10 @@ impl Kept {
     /// with both sums alike.
     pub fn open<D: Disk>(alloc: Global, disk: &mut D) -> Result<Kept, OpenFault>
         // An image that reads as a pool is opened as it, unless the disk or the memory fails.
-        ensures there { (uber : Uber) (rows : Rows) (pool : Pool) → (D.state disk.new).honest → ReadsAs uber rows pool (D.state disk.old).seen → GivesPool uber rows result }
+        ensures there { (tight : Bool) (uber : Uber) (rows : Rows) (pool : Pool) → (D.state disk.new).honest → ReadsAs tight uber rows pool (D.state disk.old).seen → GivesPool uber rows result }
         ensures answer { (D.state disk.new).honest → OpenAnswers (D.state disk.old) result }
         // And of the one image that there is now it is what stands.
-        ensures rests { (uber : Uber) (rows : Rows) (pool : Pool) → (D.state disk.new).honest → ReadsAs uber rows pool (D.state disk.old).seen → IfOk result (λ kept. Rests (D.state disk.new) kept.body rows pool) }
+        ensures rests { (tight : Bool) (uber : Uber) (rows : Rows) (pool : Pool) → (D.state disk.new).honest → ReadsAs tight uber rows pool (D.state disk.old).seen → IfOk result (λ kept. Rests tight (D.state disk.new) kept.body rows pool) }
         ensures ready { IfOk result (λ kept. Ready (D.state disk.new) kept.body) }
         ensures synced { ¬ (result ≡ Err OpenFault.DiskFault) → IsSynced (D.state disk.new) }
         ensures reads { OnlyReads (D.state disk.old) (D.state disk.new) }

@@ -1,5 +1,5 @@
 -- The lines of rows are those of the pool that the rows stand for.
-use Rattle.std.proofs.Common.{◌≡◌, ℕ, suc, ◌<◌, Bool, true, false, cond, not, ◌==◌, List, [], ◌∷◌, length, get_or, filter, map, Some, is_some, refl, sym, subst, ap, ◌∙◌, arith}
+use Rattle.std.proofs.Common.{◌≡◌, ℕ, suc, ◌<◌, Bool, true, false, cond, not, ◌==◌, List, [], ◌∷◌, length, get_or, filter, map, Some, is_some, refl, sym, subst, ap, ◌∙◌, arith, Option}
 use Rattle.std.specs.List.{AllPairs, find, flat_map}
 use Rattle.std.specs.Str.{bytes_eq}
 use Rattle.std.proofs.lemmas.Bool.{false_from_ne_true}
@@ -113,55 +113,55 @@ rising-once key name rows rises i j d below inside = λ first.
     not_before_itself (at i) (subst (λ n. is_before (at i) n ≡ true) (sym one) (rises i j d below inside)))
 
 -- the line of a row is that of what it stands for
-dataset-line : (has : Blocks) (row : Dataset) (dataset : pool.Dataset) → DatasetIs has row dataset → dataset_line row ≡ plain.dataset_line dataset
+dataset-line : {bound : Option ℕ} (has : Blocks) (row : Dataset) (dataset : pool.Dataset) → DatasetIs bound has row dataset → dataset_line row ≡ plain.dataset_line dataset
 dataset-line has row dataset is = rw (is.named.name, is.named.kind, is.named.origin) refl
 
-snapshot-line : (has : Blocks) (row : Snapshot) (snapshot : pool.Snapshot) → SnapshotIs has row snapshot → snapshot_line row ≡ plain.snapshot_line snapshot
+snapshot-line : {bound : Option ℕ} (has : Blocks) (row : Snapshot) (snapshot : pool.Snapshot) → SnapshotIs bound has row snapshot → snapshot_line row ≡ plain.snapshot_line snapshot
 snapshot-line has row snapshot is = rw (is.named.name, is.named.guid, is.named.time, is.named.number, is.named.redact) refl
 
 bookmark-line : (has : Blocks) (row : Bookmark) (bookmark : pool.Bookmark) → BookmarkIs has row bookmark → bookmark_line row ≡ plain.bookmark_line bookmark
 bookmark-line has row bookmark is = rw (is.named.name, is.named.guid, is.named.number, is.named.redact, is.list.count_is) refl
 
-partial-line : (has : Blocks) (row : Partial) (partial : pool.Partial) → PartialIs has row partial → partial_line row ≡ plain.partial_line partial
+partial-line : {bound : Option ℕ} (has : Blocks) (row : Partial) (partial : pool.Partial) → PartialIs bound has row partial → partial_line row ≡ plain.partial_line partial
 partial-line has row partial is = rw (is.named.target, is.named.header, is.named.point) refl
 
 -- the lines of a name are those of the pool
-lines-of : (has : Blocks) (rows : Rows) (running : Pool) → IsLawful rows → RunsBy has rows running → (name : List ℕ) → lines_of rows name ≡ plain.lines_of running name
+lines-of : {bound : Option ℕ} (has : Blocks) (rows : Rows) (running : Pool) → IsLawful rows → RunsBy bound has rows running → (name : List ℕ) → lines_of rows name ≡ plain.lines_of running name
 unfolding lines_of
-lines-of has rows running lawful runs name =
+lines-of {bound = bound} has rows running lawful runs name =
     rw (
-      line-Match (DatasetIs has) (λ row. bytes_eq row.name name) (λ dataset. bytes_eq dataset.name name) dataset_line plain.dataset_line
+      line-Match (DatasetIs bound has) (λ row. bytes_eq row.name name) (λ dataset. bytes_eq dataset.name name) dataset_line plain.dataset_line
           (λ row dataset is. ap (λ n. bytes_eq n name) (sym is.named.name)) (dataset-line has) rows.datasets running.datasets
           (rising-once (λ row. row.name) name rows.datasets lawful.ordered.datasets) runs.datasets,
-      lines-Match (SnapshotIs has) (λ row. bytes_eq (dataset_of 64 row.name) name) (λ snapshot. bytes_eq (dataset_of_snapshot snapshot) name) snapshot_line plain.snapshot_line
+      lines-Match (SnapshotIs bound has) (λ row. bytes_eq (dataset_of 64 row.name) name) (λ snapshot. bytes_eq (dataset_of_snapshot snapshot) name) snapshot_line plain.snapshot_line
           (λ row snapshot is. ap (λ n. bytes_eq (dataset_of 64 n) name) (sym is.named.name)) (snapshot-line has) rows.snapshots running.snapshots runs.snapshots,
       lines-Match (BookmarkIs has) (λ row. bytes_eq (dataset_of 35 row.name) name) (λ bookmark. bytes_eq (dataset_of_bookmark bookmark) name) bookmark_line plain.bookmark_line
           (λ row bookmark is. ap (λ n. bytes_eq (dataset_of 35 n) name) (sym is.named.name)) (bookmark-line has) rows.bookmarks running.bookmarks runs.bookmarks,
-      line-Match (PartialIs has) (λ row. bytes_eq row.target name) (λ partial. bytes_eq partial.target name) partial_line plain.partial_line
+      line-Match (PartialIs bound has) (λ row. bytes_eq row.target name) (λ partial. bytes_eq partial.target name) partial_line plain.partial_line
           (λ row partial is. ap (λ n. bytes_eq n name) (sym is.named.target)) (partial-line has) rows.partials running.partials
           (rising-once (λ row. row.target) name rows.partials lawful.ordered.partials) runs.partials,
     ) refl
 
 -- a target that no row of a dataset has is one that no dataset has
-missing-Match : (has : Blocks) (rows : Rows) (running : Pool) → RunsBy has rows running → (row : Partial) (partial : pool.Partial) → PartialIs has row partial
+missing-Match : {bound : Option ℕ} (has : Blocks) (rows : Rows) (running : Pool) → RunsBy bound has rows running → (row : Partial) (partial : pool.Partial) → PartialIs bound has row partial
     → is_missing rows row.target ≡ not (is_some (dataset_named partial.target running))
-missing-Match has rows running runs row partial is =
-    none-Match (DatasetIs has) (λ dataset. bytes_eq dataset.name row.target) (λ dataset. bytes_eq dataset.name row.target)
+missing-Match {bound = bound} has rows running runs row partial is =
+    none-Match (DatasetIs bound has) (λ dataset. bytes_eq dataset.name row.target) (λ dataset. bytes_eq dataset.name row.target)
     (λ dataset other same. ap (λ n. bytes_eq n row.target) (sym same.named.name)) rows.datasets running.datasets runs.datasets
     ∙ ap (λ n. not (is_some (dataset_named n running))) (sym is.named.target)
 
 -- so the lines of all the names are those of the pool
-pub lines_are : (image : List ℕ) (space : FreeSectors) (rows : Rows) (running : Pool) → IsLawful rows → RunsBy (Has image space) rows running → all_lines rows ≡ plain.pool_lines running
+pub lines_are : {bound : Option ℕ} (image : List ℕ) (space : FreeSectors) (rows : Rows) (running : Pool) → IsLawful rows → RunsBy bound (Has image space) rows running → all_lines rows ≡ plain.pool_lines running
 unfolding plain.pool_lines
-lines_are image space rows running lawful runs =
+lines_are {bound = bound} image space rows running lawful runs =
     let has = Has image space in
     let targets = map (λ (row : Partial). row.target) rows.partials in
     let names = map (λ (row : Dataset). row.name) rows.datasets in
     let placed = merged-places (is_missing rows) targets names
     (AllPairs-map (λ (a b : Partial). is_before a.target b.target ≡ true) (λ a b. is_before a b ≡ true) (λ (row : Partial). row.target) (λ a b h. h) rows.partials lawful.ordered.partials) in
-    let listed = targets-Match (PartialIs has) (is_missing rows) (λ partial. not (is_some (dataset_named partial.target running))) names
+    let listed = targets-Match (PartialIs bound has) (is_missing rows) (λ partial. not (is_some (dataset_named partial.target running))) names
     (missing-Match has rows running runs) (λ row partial is. is.named.target) rows.partials running.partials runs.partials in
-    let named = names-Match (DatasetIs has) (λ (row : Dataset). row.name) (λ dataset. dataset.name) (λ row dataset is. is.named.name) rows.datasets running.datasets runs.datasets in
+    let named = names-Match (DatasetIs bound has) (λ (row : Dataset). row.name) (λ dataset. dataset.name) (λ row dataset is. is.named.name) rows.datasets running.datasets runs.datasets in
     ap (flat_map (lines_of rows)) (placed ∙ sym listed)
     ∙ flat_map-same (lines_of rows) (plain.lines_of running) (lines-of has rows running lawful runs) _
     ∙ ap (λ ns. flat_map (plain.lines_of running) (plain.with_targets (filter (λ partial. not (is_some (dataset_named partial.target running))) running.partials) ns)) (sym named)

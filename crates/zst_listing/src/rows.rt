@@ -1,5 +1,5 @@
 //! The lines of the rows of a directory.
-ghost use Rattle.std.specs.Prelude.{◌≡◌, ◌++◌, ℕ, List, [], map, if◌then◌else◌, length, ◌==◌, IfOk, OnOk};
+ghost use Rattle.std.specs.Prelude.{◌≡◌, ◌++◌, ℕ, List, None, [], map, if◌then◌else◌, length, ◌==◌, IfOk, OnOk};
 ghost use Rattle.std.specs.List.{flat_map};
 ghost use Rattle.zst_block.specs.Blocks.{Has};
 ghost use Rattle.zst_image.specs.Reads.{RunsBy};
@@ -111,7 +111,7 @@ fn push_target(
 /// The lines of the pool that the rows of a directory stand for. Names are looked for in order:
 /// each target stands behind the datasets that it doesn't come before.
 pub fn list_rows(alloc: Global, dir: &Dir) -> Result<Reply, AllocError>
-    ensures { IfOk result (λ reply. (image : List ℕ) (space : FreeSectors) (pool : Pool) → RunsBy (Has image space) dir.now pool → reply ≡ pool_lines pool) }
+    ensures { IfOk result (λ reply. (image : List ℕ) (space : FreeSectors) (pool : Pool) → RunsBy None (Has image space) dir.now pool → reply ≡ pool_lines pool) }
 {
     let mut lines = Vec::new(alloc);
     let mut datasets = dir.datasets();

@@ -1,6 +1,6 @@
 -- A command that only answers leaves a pool as it was.
 use Rattle.std.specs.Prelude.{Some, Result, Ok, Err, OnErr}
-use Rattle.std.proofs.Common.{◌≡◌, inl, ℕ, List, refl, ap, arith}
+use Rattle.std.proofs.Common.{◌≡◌, inl, ℕ, List, refl, ap, arith, Bool}
 use Rattle.zst_outside.specs.Images.{DiskState, Leaves, Leaves-weaker, OnlyReads}
 use Rattle.zst_space.specs.FreeSectors.{FreeSectors}
 use Rattle.zst_block.specs.Blocks.{FillsFree, SparesTaken}
@@ -34,21 +34,21 @@ module _ (old new : DiskState) (kept : Kept) (reads : OnlyReads old new) where
   pub ready_read : Ready old kept.body → Ready new kept.body
   ready_read ready = ready_after old new (free_by kept.body) (free_by kept.body) kept.body refl fills ready
 
-  module _ (running : Pool) (rested : IsAtRest old kept running) where
-    under_way : IsUnderWay old new (free_by kept.body) kept running
+  module _ {tight : Bool} (running : Pool) (rested : IsAtRest tight old kept running) where
+    under_way : IsUnderWay tight old new (free_by kept.body) kept running
     under_way = record { rested = rested; fills = fills }
 
-    pub rests_read : IsAtRest new kept running
+    pub rests_read : IsAtRest tight new kept running
     rests_read = rests_on old new (free_by kept.body) kept running under_way
 
-    pub since_read : (after : Result Stepped Refusal) → Leaves old new (BeforeOrAfter running after)
-    since_read after = Leaves-weaker old new (Reads (kept_of running)) (BeforeOrAfter running after) (since old new (free_by kept.body) kept running under_way) (λ c is. inl is)
+    pub since_read : (after : Result Stepped Refusal) → Leaves old new (BeforeOrAfter tight running after)
+    since_read after = Leaves-weaker old new (Reads tight (kept_of running)) (BeforeOrAfter tight running after) (since old new (free_by kept.body) kept running under_way) (λ c is. inl is)
 
 -- what is told is the definition's answer, and the pool as it was is at rest
-pub told_rests : (now : DiskState) (kept : Kept) (running : Pool) (definition : Result Stepped Refusal) (result : Result (List (List ℕ)) PoolFault) → IsAtRest now kept running → TellsAnswer running definition result
-    → StepAnswer now kept running definition result
-told_rests now kept running definition (Ok reply) rested told = (record { reply = reply; pool = running }, told, refl, rested)
-told_rests now kept running definition (Err fault) rested told = keeps (IsAtRest now kept running) definition rested fault told
+pub told_rests : {tight : Bool} (now : DiskState) (kept : Kept) (running : Pool) (definition : Result Stepped Refusal) (result : Result (List (List ℕ)) PoolFault) → IsAtRest tight now kept running → TellsAnswer running definition result
+    → StepAnswer tight now kept running definition result
+told_rests {tight = tight} now kept running definition (Ok reply) rested told = (record { reply = reply; pool = running }, told, refl, rested)
+told_rests {tight = tight} now kept running definition (Err fault) rested told = keeps (IsAtRest tight now kept running) definition rested fault told
 
 -- what holds does so after each refusal
 pub on_err : {T : Type 0} {P : Type 0} (result : Result T PoolFault) → P → OnErr result P

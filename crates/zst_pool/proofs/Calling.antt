@@ -1,6 +1,6 @@
 -- What a call of a receive did, from what its commit did.
 use Rattle.std.specs.Prelude.{Result, Ok, Err, IfOk, OnOk, OnErr}
-use Rattle.std.proofs.Common.{◌≡◌, ◌⊎◌, inl, inr, ⊎_elim, ℕ, ◌+◌, ◌<◌, List, refl, sym, ap, subst, ◌∙◌}
+use Rattle.std.proofs.Common.{◌≡◌, ◌⊎◌, inl, inr, ⊎_elim, ℕ, ◌+◌, ◌<◌, List, refl, sym, ap, subst, ◌∙◌, Bool}
 use Rattle.zst_outside.specs.Images.{DiskState, Leaves, Leaves-weaker}
 use Rattle.zst_space.specs.FreeSectors.{FreeSectors}
 use Rattle.zst_model.specs.declared.refusals.refusal.Refusal.{Refusal}
@@ -19,8 +19,8 @@ use Rattle.zst_image.specs.declared.kept.Kept.{Kept}
 use Rattle.zst_pool.proofs.Resting.{rests_on, since}
 
 -- an image reads as what is kept of the pool before a call, or of the one that its definition makes
-abbrev EitherReads : Pool → Result Pool Refusal → List ℕ → Type 0
-EitherReads running definition c = Reads (kept_of running) c ⊎ ((next : Pool) × (definition ≡ Ok next) × Reads (kept_of next) c)
+abbrev EitherReads : (tight : Bool) → Pool → Result Pool Refusal → List ℕ → Type 0
+EitherReads tight running definition c = Reads tight (kept_of running) c ⊎ ((next : Pool) × (definition ≡ Ok next) × Reads tight (kept_of next) c)
 
 -- where the pool still stands, it does after each fault that came before the commit
 fell_still : (before : Type 0) (definition : Result Pool Refusal) → before → (fault : PoolFault) → CallFault (Unit {0}) definition fault → CallFault before definition fault
@@ -34,23 +34,23 @@ fell_still before definition is Failed fell = fell
 fell_still before definition is OutOfMemory fell = is
 
 -- a call that fell before its commit
-pub call_fell : (start now : DiskState) (space : FreeSectors) (kept : Kept) (running : Pool) (definition : Result Pool Refusal) (fault : PoolFault) → IsUnderWay start now space kept running
-    → CallFault (Unit {0}) definition fault → CallDid start now kept running definition (Err fault)
-call_fell start now space kept running definition fault way fell = record {
-  moments = Leaves-weaker start now (Reads (kept_of running)) (EitherReads running definition) (since start now space kept running way) (λ c reads. inl reads);
-  answer = fell_still (IsAtRest now kept running) definition (rests_on start now space kept running way) fault fell;
+pub call_fell : {tight : Bool} (start now : DiskState) (space : FreeSectors) (kept : Kept) (running : Pool) (definition : Result Pool Refusal) (fault : PoolFault) → IsUnderWay tight start now space kept running
+    → CallFault (Unit {0}) definition fault → CallDid tight start now kept running definition (Err fault)
+call_fell {tight = tight} start now space kept running definition fault way fell = record {
+  moments = Leaves-weaker start now (Reads tight (kept_of running)) (EitherReads tight running definition) (since start now space kept running way) (λ c reads. inl reads);
+  answer = fell_still (IsAtRest tight now kept running) definition (rests_on start now space kept running way) fault fell;
 }
 
 -- one that came to it
 module _ (start now : DiskState) (kept : Kept) (rows : Rows) (running next : Pool) (definition : Result Pool Refusal) (is : definition ≡ Ok next) where
-  moments_of : (made : Result Kept CommitFault) → Commits start now kept.body rows (kept_of running) (kept_of next) made → Leaves start now (EitherReads running definition)
-  moments_of made event =
-      Leaves-weaker start now (λ c. Reads (kept_of running) c ⊎ Reads (kept_of next) c) (EitherReads running definition) event.moments
+  moments_of : {tight : Bool} (made : Result Kept CommitFault) → Commits tight start now kept.body rows (kept_of running) (kept_of next) made → Leaves start now (EitherReads tight running definition)
+  moments_of {tight = tight} made event =
+      Leaves-weaker start now (λ c. Reads tight (kept_of running) c ⊎ Reads tight (kept_of next) c) (EitherReads tight running definition) event.moments
       (λ c either. ⊎_elim (λ before. inl before) (λ after. inr (next, is, after)) either)
 
-  pub call_did : (made : Result Kept CommitFault) → ((need largest : ℕ) → made ≡ Err (commits.Full need largest) → largest < need) → Commits start now kept.body rows (kept_of running) (kept_of next) made
-      → IfOk made (λ after. after.body.number ≡ next.number) → IfOk made (λ after. IsAtRest now after next) → (¬ (made ≡ Err commits.DiskFault) → OnErr made (IsAtRest now kept running))
-      → CallDid start now kept running definition (of_committed made)
+  pub call_did : {tight : Bool} (made : Result Kept CommitFault) → ((need largest : ℕ) → made ≡ Err (commits.Full need largest) → largest < need) → Commits tight start now kept.body rows (kept_of running) (kept_of next) made
+      → IfOk made (λ after. after.body.number ≡ next.number) → IfOk made (λ after. IsAtRest tight now after next) → (¬ (made ≡ Err commits.DiskFault) → OnErr made (IsAtRest tight now kept running))
+      → CallDid tight start now kept running definition (of_committed made)
   call_did (Ok after) shorter event number rests before = record { moments = moments_of (Ok after) event; answer = (next, is, number, rests) }
   call_did (Err (commits.Full need largest)) shorter event number rests before = record {
     moments = moments_of (Err (commits.Full need largest)) event;

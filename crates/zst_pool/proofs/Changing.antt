@@ -160,7 +160,7 @@ put_fault number k head bonus None old fault is = is
 put_fault number k head bonus (Some bytes) old fault is = first_fault (object_put number k head bonus false old) (spill_put number k bytes) (put_then number k head bonus bytes old) fault is
 
 -- where it was put, what is made of it then
-pub then_spilled : (has : Blocks) (set : ObjSet) (number k : ℕ) (head : ObjectHead) (bonus bytes : List ℕ) (old mid : DatedState) (answer : Result (Unit {0}) HeadFault)
-    → object_put number k head bonus false old ≡ Ok mid → ChangesHead has set (spill_put number k bytes mid) answer → ChangesHead has set (object_made number k head bonus (Some bytes) old) answer
-then_spilled has set number k head bonus bytes old mid answer put is =
-    subst (λ (r : Result DatedState Refusal). ChangesHead has set r answer) (sym (ap (λ (r : Result DatedState Refusal). r >>= spill_put number k bytes) put)) is
+pub then_spilled : (bound : Option ℕ) (has : Blocks) (set : ObjSet) (number k : ℕ) (head : ObjectHead) (bonus bytes : List ℕ) (old mid : DatedState) (answer : Result (Unit {0}) HeadFault)
+    → object_put number k head bonus false old ≡ Ok mid → ChangesHead bound has set (spill_put number k bytes mid) answer → ChangesHead bound has set (object_made number k head bonus (Some bytes) old) answer
+then_spilled bound has set number k head bonus bytes old mid answer put is =
+    subst (λ (r : Result DatedState Refusal). ChangesHead bound has set r answer) (sym (ap (λ (r : Result DatedState Refusal). r >>= spill_put number k bytes) put)) is

@@ -1,6 +1,6 @@
 -- What a command did, from what its parts did.
 use Rattle.std.specs.Prelude.{Result, Ok, Err, IfOk, OnErr}
-use Rattle.std.proofs.Common.{◌≡◌, ◌⊎◌, inl, inr, ⊎_elim, ℕ, ◌<◌, ◌^◌}
+use Rattle.std.proofs.Common.{◌≡◌, ◌⊎◌, inl, inr, ⊎_elim, ℕ, ◌<◌, ◌^◌, Bool}
 use Rattle.zst_outside.specs.Images.{DiskState, Leaves, Leaves-weaker}
 use Rattle.zst_space.specs.FreeSectors.{FreeSectors}
 use Rattle.zst_block.specs.Blocks.{FillsFree, Has, KeepsBlocks}
@@ -36,33 +36,33 @@ keeps before definition still Failed is = is
 keeps before definition still OutOfMemory is = still
 
 -- a command that fell before its commit
-pub fell : (start now : DiskState) (space : FreeSectors) (kept : Kept) (running : Pool) → IsUnderWay start now space kept running → (definition : Result Stepped Refusal) (fault : PoolFault) → StepFault (Unit {0}) definition fault
-    → Did start now kept running definition (Err fault)
-fell start now space kept running way definition fault is = record {
-  moments = Leaves-weaker start now (Reads (kept_of running)) (BeforeOrAfter running definition) (since start now space kept running way) (λ c reads. inl reads);
-  answer = keeps (IsAtRest now kept running) definition (rests_on start now space kept running way) fault is;
+pub fell : {tight : Bool} (start now : DiskState) (space : FreeSectors) (kept : Kept) (running : Pool) → IsUnderWay tight start now space kept running → (definition : Result Stepped Refusal) (fault : PoolFault) → StepFault (Unit {0}) definition fault
+    → Did tight start now kept running definition (Err fault)
+fell {tight = tight} start now space kept running way definition fault is = record {
+  moments = Leaves-weaker start now (Reads tight (kept_of running)) (BeforeOrAfter tight running definition) (since start now space kept running way) (λ c reads. inl reads);
+  answer = keeps (IsAtRest tight now kept running) definition (rests_on start now space kept running way) fault is;
 }
 
 -- a command that came to the commit of what its definition makes
 module _ (start now : DiskState) (kept : Kept) (rows : Rows) (running : Pool) (definition : Result Stepped Refusal) (done : Stepped) (is : definition ≡ Ok done) where
-  moments_of : (made : Result Kept CommitFault) → Commits start now kept.body rows (kept_of running) (kept_of done.pool) made → Leaves start now (BeforeOrAfter running definition)
-  moments_of made event =
-      Leaves-weaker start now (λ c. Reads (kept_of running) c ⊎ Reads (kept_of done.pool) c) (BeforeOrAfter running definition) event.moments
+  moments_of : {tight : Bool} (made : Result Kept CommitFault) → Commits tight start now kept.body rows (kept_of running) (kept_of done.pool) made → Leaves start now (BeforeOrAfter tight running definition)
+  moments_of {tight = tight} made event =
+      Leaves-weaker start now (λ c. Reads tight (kept_of running) c ⊎ Reads tight (kept_of done.pool) c) (BeforeOrAfter tight running definition) event.moments
       (λ c either. ⊎_elim (λ before. inl before) (λ after. inr (done, is, after)) either)
 
-  pub did : (made : Result Kept CommitFault) → Commits start now kept.body rows (kept_of running) (kept_of done.pool) made → IfOk made (λ next. IsAtRest now next done.pool)
-      → (¬ (made ≡ Err commits.DiskFault) → OnErr made (IsAtRest now kept running)) → Did start now kept running definition (of_committed made)
+  pub did : {tight : Bool} (made : Result Kept CommitFault) → Commits tight start now kept.body rows (kept_of running) (kept_of done.pool) made → IfOk made (λ next. IsAtRest tight now next done.pool)
+      → (¬ (made ≡ Err commits.DiskFault) → OnErr made (IsAtRest tight now kept running)) → Did tight start now kept running definition (of_committed made)
   did (Ok next) event after before = record { moments = moments_of (Ok next) event; answer = (done, is, after) }
   did (Err (commits.Full need largest)) event after before = record { moments = moments_of (Err (commits.Full need largest)) event; answer = ((done, is), before (λ disk. cc)) }
   did (Err commits.DiskFault) event after before = record { moments = moments_of (Err commits.DiskFault) event; answer = tt }
   did (Err commits.OutOfMemory) event after before = record { moments = moments_of (Err commits.OutOfMemory) event; answer = before (λ disk. cc) }
 
 -- a command that came to the commit of the rows that its definition makes
-pub did_rows : (start old new : DiskState) (space less : FreeSectors) (kept : Kept) (running : Pool) (definition : Result Stepped Refusal) (guids : ℕ) (dir : Rows) (made : Result Kept CommitFault)
-    → (way : IsUnderWay start old space kept running) → MakesRows (Has old.seen space) definition running guids dir → IsLawful dir → kept.body.number < 2 ^ 63
-    → ((next : Pool) → NextIs (Has old.seen space) kept.body guids dir next → Commits start new kept.body way.rested.rows (kept_of running) next made)
+pub did_rows : {tight : Bool} (start old new : DiskState) (space less : FreeSectors) (kept : Kept) (running : Pool) (definition : Result Stepped Refusal) (guids : ℕ) (dir : Rows) (made : Result Kept CommitFault)
+    → (way : IsUnderWay tight start old space kept running) → MakesRows tight (Has old.seen space) definition running guids dir → IsLawful dir → kept.body.number < 2 ^ 63
+    → ((next : Pool) → NextIs tight (Has old.seen space) kept.body guids dir next → Commits tight start new kept.body way.rested.rows (kept_of running) next made)
     → IfOk made (λ after. after.dir ≡ dir) → IfOk made (λ after. KeepsBlocks old.seen space new.seen (free_by after.body)) → (¬ (made ≡ Err commits.DiskFault) → OnErr made (FillsFree old space new less))
-    → Did start new kept running definition (of_committed made)
+    → Did tight start new kept running definition (of_committed made)
 did_rows start old new space less kept running definition guids dir made way makes lawful below commit same blocks fills =
     let runs = way_runs start old space kept running way in
     let next = makes.next in
@@ -70,4 +70,4 @@ did_rows start old new space less kept running definition guids dir made way mak
     let after = next_lawful (Has old.seen space) kept running next guids dir lawful runs makes.id makes.number makes.guid_counter makes.few below makes.runs_by in
     let committed = commit (kept_of (next_of next).pool) is in
     did start new kept way.rested.rows running definition (next_of next) makes.made made committed
-    (rests_next start old new space kept way.rested.rows dir running next made committed makes.runs_by after same blocks) (rests_unless start old new space less kept running made way fills)
+    (rests_next start old new space kept way.rested.rows dir running next made committed makes.number makes.runs_by after same blocks) (rests_unless start old new space less kept running made way fills)

@@ -1,5 +1,5 @@
 -- What is found among the rows of a directory holds what is found in the pool that they stand for.
-use Rattle.std.proofs.Common.{◌≡◌, ℕ, Bool, true, false, cond, List, [], ◌∷◌, Some, option_map, refl, sym, ap}
+use Rattle.std.proofs.Common.{◌≡◌, ℕ, Bool, true, false, cond, List, [], ◌∷◌, Option, Some, None, option_map, refl, sym, ap}
 use Rattle.std.specs.Prelude.{Option, None, is_some}
 use Rattle.std.specs.List.{find}
 use Rattle.std.specs.Str.{bytes_eq}
@@ -31,15 +31,15 @@ finds {A = A} {B = B} has Is p q set state same holds xs ys m = go (find p xs) (
     go (Some x) None is = absurd is
     go (Some x) (Some y) is = holds x y is
 
-module _ (has : Blocks) (rows : Rows) (pool : Pool) (are : RunsBy has rows pool) where
+module _ (has : Blocks) (rows : Rows) (pool : Pool) (are : RunsBy None has rows pool) where
   pub finds_head : (name : List ℕ) → FindsState has (state_named (names.Dataset name) pool) (set_named (names.Dataset name) rows)
   finds_head name =
-      finds has (DatasetIs has) (λ d. bytes_eq d.name name) (λ d. bytes_eq d.name name) (λ d. d.head) (λ d. d.head) (λ x y is. ap (λ n. bytes_eq n name) (sym is.named.name)) (λ x y is. is.head)
+      finds has (DatasetIs None has) (λ d. bytes_eq d.name name) (λ d. bytes_eq d.name name) (λ d. d.head) (λ d. d.head) (λ x y is. ap (λ n. bytes_eq n name) (sym is.named.name)) (λ x y is. is.head)
       rows.datasets pool.datasets are.datasets
 
   pub finds_objects : (name : List ℕ) → FindsState has (state_named (names.Snapshot name) pool) (set_named (names.Snapshot name) rows)
   finds_objects name =
-      finds has (SnapshotIs has) (λ s. bytes_eq s.name name) (λ s. bytes_eq s.name name) (λ s. s.objects) (λ s. s.objects) (λ x y is. ap (λ n. bytes_eq n name) (sym is.named.name)) (λ x y is. is.objects)
+      finds has (SnapshotIs None has) (λ s. bytes_eq s.name name) (λ s. bytes_eq s.name name) (λ s. s.objects) (λ s. s.objects) (λ x y is. ap (λ n. bytes_eq n name) (sym is.named.name)) (λ x y is. is.objects)
       rows.snapshots pool.snapshots are.snapshots
 
 -- what is found at a number, and what isn't

@@ -1,5 +1,5 @@
 -- What a receive makes of rows when it has all of its stream.
-use Rattle.std.proofs.Common.{◌≡◌, ℕ, suc, ◌+◌, ◌||◌, Bool, true, false, List, [], ◌∷◌, ◌++◌, map, is_some, if◌then◌else◌, refl, sym, ap, ◌∙◌, subst, arith}
+use Rattle.std.proofs.Common.{◌≡◌, ℕ, suc, ◌+◌, ◌||◌, Bool, true, false, List, [], ◌∷◌, ◌++◌, map, is_some, if◌then◌else◌, refl, sym, ap, ◌∙◌, subst, arith, Option}
 use Rattle.std.specs.List.{Contains, list_any, position}
 use Rattle.std.specs.Str.{bytes_eq}
 use Rattle.std.proofs.lemmas.Bool.{false≢true}
@@ -54,9 +54,9 @@ target_is_there partial rows = go (is_some (position (λ dataset. bytes_eq datas
         (change found.0, contains-map change rows.datasets found.0 found.1, name_stays partial.target partial.objects partial.header.redact found.0 ∙ found.2)
     go false none = (dataset_row_from partial, inserted_has_row (λ a b. is_before a.name b.name) (dataset_row_from partial) rows.datasets, refl)
 
-module _ (has : Blocks) (rows : Rows) (running : Pool) (runs : RunsBy has rows running) (row : Partial) (partial : plain.Partial) (is : PartialIs has row partial) where
+module _ {bound : Option ℕ} (has : Blocks) (rows : Rows) (running : Pool) (runs : RunsBy bound has rows running) (row : Partial) (partial : plain.Partial) (is : PartialIs bound has row partial) where
   -- the rows of its snapshot and its dataset stand for these
-  snapshot_is : (number : ℕ) → running.number + 1 ≡ number → SnapshotIs has (snapshot_row_from number row) (snapshot_from partial running)
+  snapshot_is : (number : ℕ) → running.number + 1 ≡ number → SnapshotIs bound has (snapshot_row_from number row) (snapshot_from partial running)
   snapshot_is number next = record {
     named = record {
       name = ap (λ (t : List ℕ). t ++ 64 ∷ partial.component) is.named.target ∙ ap (λ (c : List ℕ). row.target ++ 64 ∷ c) is.named.component;
@@ -68,7 +68,7 @@ module _ (has : Blocks) (rows : Rows) (running : Pool) (runs : RunsBy has rows r
     objects = is.objects;
   }
 
-  dataset_is : DatasetIs has (dataset_row_from row) (dataset_from partial)
+  dataset_is : DatasetIs bound has (dataset_row_from row) (dataset_from partial)
   dataset_is = record {
     named = record {
       name = is.named.target;
@@ -83,40 +83,40 @@ module _ (has : Blocks) (rows : Rows) (running : Pool) (runs : RunsBy has rows r
   found_alike : is_some (position (λ dataset. bytes_eq dataset.name row.target) rows.datasets) ≡ is_some (dataset_named partial.target running)
   found_alike =
       is_some-position (λ (d : Dataset). bytes_eq d.name row.target) rows.datasets
-      ∙ list_any-Match (DatasetIs has) (λ d. bytes_eq d.name row.target) (λ d. bytes_eq d.name row.target) (λ x y xy. ap (λ (n : List ℕ). bytes_eq n row.target) (sym xy.named.name))
+      ∙ list_any-Match (DatasetIs bound has) (λ d. bytes_eq d.name row.target) (λ d. bytes_eq d.name row.target) (λ x y xy. ap (λ (n : List ℕ). bytes_eq n row.target) (sym xy.named.name))
       rows.datasets running.datasets runs.datasets
       ∙ ap (λ (t : List ℕ). is_some (dataset_named t running)) (sym is.named.target)
 
-  changed_match : Match (DatasetIs has) (with_objects row.target row.objects row.header.redact rows.datasets) (map (changed_at partial.target (head_from partial)) running.datasets)
+  changed_match : Match (DatasetIs bound has) (with_objects row.target row.objects row.header.redact rows.datasets) (map (changed_at partial.target (head_from partial)) running.datasets)
   changed_match =
-      subst (λ (t : List ℕ). Match (DatasetIs has) (with_objects row.target row.objects row.header.redact rows.datasets) (map (changed_at t (head_from partial)) running.datasets)) (sym is.named.target)
-      (map-Match (DatasetIs has) (with_objects_at row.target row.objects row.header.redact) (changed_at row.target (head_from partial))
+      subst (λ (t : List ℕ). Match (DatasetIs bound has) (with_objects row.target row.objects row.header.redact rows.datasets) (map (changed_at t (head_from partial)) running.datasets)) (sym is.named.target)
+      (map-Match (DatasetIs bound has) (with_objects_at row.target row.objects row.header.redact) (changed_at row.target (head_from partial))
       (λ x y xy. objects_at_is has row.target (snapshot_row_from (running.number + 1) row) (snapshot_from partial running) x y (snapshot_is (running.number + 1) refl) xy)
       rows.datasets running.datasets runs.datasets)
 
-  made_match : Match (DatasetIs has) (inserted (λ a b. is_before a.name b.name) (dataset_row_from row) rows.datasets) (inserted (λ a b. is_before a.name b.name) (dataset_from partial) running.datasets)
+  made_match : Match (DatasetIs bound has) (inserted (λ a b. is_before a.name b.name) (dataset_row_from row) rows.datasets) (inserted (λ a b. is_before a.name b.name) (dataset_from partial) running.datasets)
   made_match =
-      inserted-Match (DatasetIs has) (λ a b. is_before a.name b.name) (λ a b. is_before a.name b.name) (dataset_row_from row) (dataset_from partial)
+      inserted-Match (DatasetIs bound has) (λ a b. is_before a.name b.name) (λ a b. is_before a.name b.name) (dataset_row_from row) (dataset_from partial)
       (λ x y xy. ap (λ (n : List ℕ). is_before n x.name) (sym is.named.target) ∙ ap (λ (n : List ℕ). is_before partial.target n) (sym xy.named.name)) dataset_is
       rows.datasets running.datasets runs.datasets
 
-  targets_match : Match (DatasetIs has) (rows_with_target row rows.datasets) (with_finished partial running).datasets
+  targets_match : Match (DatasetIs bound has) (rows_with_target row rows.datasets) (with_finished partial running).datasets
   targets_match =
-      subst (λ (b : Bool). Match (DatasetIs has) (rows_with_target row rows.datasets)
+      subst (λ (b : Bool). Match (DatasetIs bound has) (rows_with_target row rows.datasets)
       (if b then map (changed_at partial.target (head_from partial)) running.datasets else inserted (λ a b. is_before a.name b.name) (dataset_from partial) running.datasets)) found_alike
       (go (is_some (position (λ dataset. bytes_eq dataset.name row.target) rows.datasets)))
     where
-      go : (b : Bool) → Match (DatasetIs has) (if b then with_objects row.target row.objects row.header.redact rows.datasets else inserted (λ a b. is_before a.name b.name) (dataset_row_from row) rows.datasets)
+      go : (b : Bool) → Match (DatasetIs bound has) (if b then with_objects row.target row.objects row.header.redact rows.datasets else inserted (λ a b. is_before a.name b.name) (dataset_row_from row) rows.datasets)
           (if b then map (changed_at partial.target (head_from partial)) running.datasets else inserted (λ a b. is_before a.name b.name) (dataset_from partial) running.datasets)
       go true = changed_match
       go false = made_match
 
   -- so the rows with what a partial state becomes stand for the pool with it
-  pub partial_is_finished : (number : ℕ) → running.number + 1 ≡ number → RunsBy has (rows_with_finished number row rows) (with_finished partial running)
+  pub partial_is_finished : (number : ℕ) → running.number + 1 ≡ number → RunsBy bound has (rows_with_finished number row rows) (with_finished partial running)
   partial_is_finished number next = record {
     datasets = targets_match;
     snapshots =
-        inserted-Match (SnapshotIs has) dir_rows.snapshot_is_before plain.snapshot_is_before (snapshot_row_from number row) (snapshot_from partial running)
+        inserted-Match (SnapshotIs bound has) dir_rows.snapshot_is_before plain.snapshot_is_before (snapshot_row_from number row) (snapshot_from partial running)
         (λ x y xy. sym (stand_alike has x (snapshot_row_from number row) y (snapshot_from partial running) xy (snapshot_is number next))) (snapshot_is number next)
         rows.snapshots running.snapshots runs.snapshots;
     bookmarks = runs.bookmarks;

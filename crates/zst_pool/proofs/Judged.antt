@@ -87,10 +87,10 @@ module _ (has : Blocks) (set : ObjSet) (name : List ℕ) (pool : Pool) (change :
   refused_as (Set (Block DiskFault)) apart is = tt
   refused_as Memory apart is = tt
 
-  pub judged_refused : (changed : Result (Unit {0}) HeadFault) (answer : Result (Unit {0}) PoolFault) → answer ≡ of_change changed → is_accepted changed ≡ false → ChangesHead has set change changed → JudgesHead has set name pool change answer
-  judged_refused changed answer same apart is = subst (JudgesHead has set name pool change) (sym same) (go changed apart is)
+  pub judged_refused : (bound : Option ℕ) (changed : Result (Unit {0}) HeadFault) (answer : Result (Unit {0}) PoolFault) → answer ≡ of_change changed → is_accepted changed ≡ false → ChangesHead bound has set change changed → JudgesHead bound has set name pool change answer
+  judged_refused bound changed answer same apart is = subst (JudgesHead bound has set name pool change) (sym same) (go changed apart is)
     where
-      go : (c : Result (Unit {0}) HeadFault) → is_accepted c ≡ false → ChangesHead has set change c → JudgesHead has set name pool change (of_change c)
+      go : (c : Result (Unit {0}) HeadFault) → is_accepted c ≡ false → ChangesHead bound has set change c → JudgesHead bound has set name pool change (of_change c)
       go (Ok done) apart is = absurd (cc)
       go (Err fault) apart is = refused_as fault apart is
 
@@ -108,10 +108,10 @@ module _ (has : Blocks) (set : ObjSet) (name : List ℕ) (pool : Pool) (change :
     full_as (Set (Block DiskFault)) accepted is = absurd (cc)
     full_as Memory accepted is = absurd (cc)
 
-    pub judged_accepted : (changed : Result (Unit {0}) HeadFault) (answer : Result (Unit {0}) PoolFault) → answer ≡ of_change changed → is_accepted changed ≡ true → ChangesHead has set change changed → JudgesHead has set name pool change answer
-    judged_accepted changed answer same accepted is = subst (JudgesHead has set name pool change) (sym same) (go changed accepted is)
+    pub judged_accepted : (bound : Option ℕ) (changed : Result (Unit {0}) HeadFault) (answer : Result (Unit {0}) PoolFault) → answer ≡ of_change changed → is_accepted changed ≡ true → ChangesHead bound has set change changed → JudgesHead bound has set name pool change answer
+    judged_accepted bound changed answer same accepted is = subst (JudgesHead bound has set name pool change) (sym same) (go changed accepted is)
       where
-        go : (c : Result (Unit {0}) HeadFault) → is_accepted c ≡ true → ChangesHead has set change c → JudgesHead has set name pool change (of_change c)
+        go : (c : Result (Unit {0}) HeadFault) → is_accepted c ≡ true → ChangesHead bound has set change c → JudgesHead bound has set name pool change (of_change c)
         go (Ok done) accepted is = (is.0, is.1, is.2, left is.0)
         go (Err fault) accepted is = full_as fault accepted is
 
@@ -119,16 +119,16 @@ module _ (has : Blocks) (set : ObjSet) (name : List ℕ) (pool : Pool) (change :
   last_number : (refusal : Refusal) → ((after : DatedState) → committed (with_head_of name after pool) ≡ Err refusal) → (after : DatedState) → change ≡ Ok after → (change >>= next) ≡ Err refusal
   last_number refusal none after is = ap (λ (r : Result DatedState Refusal). r >>= next) is ∙ none after
 
-  pub judged_last : (plan : PlanFault) → ((after : DatedState) → committed (with_head_of name after pool) ≡ Err (refusal_of plan)) → (changed : Result (Unit {0}) HeadFault) → is_accepted changed ≡ true → ChangesHead has set change changed
+  pub judged_last : (bound : Option ℕ) (plan : PlanFault) → ((after : DatedState) → committed (with_head_of name after pool) ≡ Err (refusal_of plan)) → (changed : Result (Unit {0}) HeadFault) → is_accepted changed ≡ true → ChangesHead bound has set change changed
       → StepFault (Unit {0}) (change >>= next) (faults.Plan plan)
-  judged_last plan none (Ok done) accepted is = (last_number (refusal_of plan) none is.0 is.1, tt)
-  judged_last plan none (Err (Set (CannotApply fault))) accepted is = absurd (cc)
-  judged_last plan none (Err (Set (Redacted object block))) accepted is = absurd (cc)
-  judged_last plan none (Err (Set (Limit which number))) accepted is = absurd (cc)
-  judged_last plan none (Err (Set (Block (Full need largest)))) accepted is = (last_number (refusal_of plan) none is.0 is.1, tt)
-  judged_last plan none (Err (Set (Block (Damaged sector stated found)))) accepted is = absurd (cc)
-  judged_last plan none (Err (Set (Block DiskFault))) accepted is = absurd (cc)
-  judged_last plan none (Err Memory) accepted is = absurd (cc)
+  judged_last bound plan none (Ok done) accepted is = (last_number (refusal_of plan) none is.0 is.1, tt)
+  judged_last bound plan none (Err (Set (CannotApply fault))) accepted is = absurd (cc)
+  judged_last bound plan none (Err (Set (Redacted object block))) accepted is = absurd (cc)
+  judged_last bound plan none (Err (Set (Limit which number))) accepted is = absurd (cc)
+  judged_last bound plan none (Err (Set (Block (Full need largest)))) accepted is = (last_number (refusal_of plan) none is.0 is.1, tt)
+  judged_last bound plan none (Err (Set (Block (Damaged sector stated found)))) accepted is = absurd (cc)
+  judged_last bound plan none (Err (Set (Block DiskFault))) accepted is = absurd (cc)
+  judged_last bound plan none (Err Memory) accepted is = absurd (cc)
 
 -- where the answer is no refusal, none was the change's
 pub answer_well : (changed : Result (Unit {0}) HeadFault) (answer : Result (Unit {0}) PoolFault) → answer ≡ of_change changed → OnOk answer (is_ok changed ≡ true)

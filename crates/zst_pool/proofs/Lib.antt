@@ -1,4 +1,5 @@
 pub mod Answering
+pub mod Bounds
 pub mod Calling
 pub mod Changing
 pub mod Committed
@@ -11,6 +12,7 @@ pub mod FinishedRows
 pub mod Found
 pub mod Judged
 pub mod Judging
+pub mod Known
 pub mod Latest
 pub mod Least
 pub mod LawfulPools

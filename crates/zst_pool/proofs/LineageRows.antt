@@ -1,5 +1,5 @@
 -- The rows of a directory with a clone or a bookmark, or without what goes, stand for the pool that the definition makes.
-use Rattle.std.proofs.Common.{◌≡◌, Bool, true, false, cond, not, ◌&&◌, ℕ, nat_lt, List, [], ◌∷◌, filter, bytes_eq, Some, refl, sym, ap, ◌∙◌, subst, arith}
+use Rattle.std.proofs.Common.{◌≡◌, Bool, true, false, cond, not, ◌&&◌, ℕ, nat_lt, List, [], ◌∷◌, filter, bytes_eq, Some, refl, sym, ap, ◌∙◌, subst, arith, Option}
 use Rattle.zst_names.specs.Names.{dataset_of}
 use Rattle.zst_model.specs.pools.Pool.{Pool, inserted, is_before}
 use Rattle.zst_model.specs.pools.Pool as plain
@@ -25,39 +25,39 @@ all_stay stays (x ∷ xs) each = ap (λ b. cond b (x ∷ filter stays xs) (filte
 abbrev newer : ℕ → List ℕ → ℕ → List ℕ → ℕ → Bool
 newer mark dataset number name other = bytes_eq (dataset_of mark name) dataset && nat_lt number other
 
-module _ (has : Blocks) (rows : Rows) (pool : Pool) (runs : RunsBy has rows pool) where
+module _ {bound : Option ℕ} (has : Blocks) (rows : Rows) (pool : Pool) (runs : RunsBy bound has rows pool) where
   -- where no row of a list goes, it matches as it did
   all_match : {A B : Type 0} (Is : A → B → Type 0) (stays : A → Bool) (xs : List A) (ys : List B) → ((x : A) → stays x ≡ true) → Match Is xs ys → Match Is (filter stays xs) ys
   all_match Is stays xs ys each m = subst (λ l. Match Is l ys) (sym (all_stay stays xs each)) m
 
   -- the rows without what goes stand for the pool without it
-  pub left_runs : (going : Going) → RunsBy has (without going rows) (pool_without going pool)
+  pub left_runs : (going : Going) → RunsBy bound has (without going rows) (pool_without going pool)
   left_runs (goes.Dataset name) = record {
-    datasets = filter-Match (DatasetIs has) (λ d. not (bytes_eq d.name name)) (λ d. not (bytes_eq d.name name))
+    datasets = filter-Match (DatasetIs bound has) (λ d. not (bytes_eq d.name name)) (λ d. not (bytes_eq d.name name))
         (λ x y is. ap (λ n. not (bytes_eq n name)) (sym is.named.name)) rows.datasets pool.datasets runs.datasets;
-    snapshots = filter-Match (SnapshotIs has) (λ s. not (bytes_eq (dataset_of 64 s.name) name)) (λ s. not (bytes_eq (dataset_of 64 s.name) name))
+    snapshots = filter-Match (SnapshotIs bound has) (λ s. not (bytes_eq (dataset_of 64 s.name) name)) (λ s. not (bytes_eq (dataset_of 64 s.name) name))
         (λ x y is. ap (λ n. not (bytes_eq (dataset_of 64 n) name)) (sym is.named.name)) rows.snapshots pool.snapshots runs.snapshots;
     bookmarks = filter-Match (BookmarkIs has) (λ b. not (bytes_eq (dataset_of 35 b.name) name)) (λ b. not (bytes_eq (dataset_of 35 b.name) name))
         (λ x y is. ap (λ n. not (bytes_eq (dataset_of 35 n) name)) (sym is.named.name)) rows.bookmarks pool.bookmarks runs.bookmarks;
     partials = runs.partials;
   }
   left_runs (goes.Snapshot name) = record {
-    datasets = all_match (DatasetIs has) (λ d. not false) rows.datasets pool.datasets (λ d. refl) runs.datasets;
-    snapshots = filter-Match (SnapshotIs has) (λ s. not (bytes_eq s.name name)) (λ s. not (bytes_eq s.name name))
+    datasets = all_match (DatasetIs bound has) (λ d. not false) rows.datasets pool.datasets (λ d. refl) runs.datasets;
+    snapshots = filter-Match (SnapshotIs bound has) (λ s. not (bytes_eq s.name name)) (λ s. not (bytes_eq s.name name))
         (λ x y is. ap (λ n. not (bytes_eq n name)) (sym is.named.name)) rows.snapshots pool.snapshots runs.snapshots;
     bookmarks = all_match (BookmarkIs has) (λ b. not false) rows.bookmarks pool.bookmarks (λ b. refl) runs.bookmarks;
     partials = runs.partials;
   }
   left_runs (goes.Bookmark name) = record {
-    datasets = all_match (DatasetIs has) (λ d. not false) rows.datasets pool.datasets (λ d. refl) runs.datasets;
-    snapshots = all_match (SnapshotIs has) (λ s. not false) rows.snapshots pool.snapshots (λ s. refl) runs.snapshots;
+    datasets = all_match (DatasetIs bound has) (λ d. not false) rows.datasets pool.datasets (λ d. refl) runs.datasets;
+    snapshots = all_match (SnapshotIs bound has) (λ s. not false) rows.snapshots pool.snapshots (λ s. refl) runs.snapshots;
     bookmarks = filter-Match (BookmarkIs has) (λ b. not (bytes_eq b.name name)) (λ b. not (bytes_eq b.name name))
         (λ x y is. ap (λ n. not (bytes_eq n name)) (sym is.named.name)) rows.bookmarks pool.bookmarks runs.bookmarks;
     partials = runs.partials;
   }
   left_runs (goes.Newer name number) = record {
-    datasets = all_match (DatasetIs has) (λ d. not false) rows.datasets pool.datasets (λ d. refl) runs.datasets;
-    snapshots = filter-Match (SnapshotIs has) (λ s. not (newer 64 name number s.name s.number)) (λ s. not (newer 64 name number s.name s.number))
+    datasets = all_match (DatasetIs bound has) (λ d. not false) rows.datasets pool.datasets (λ d. refl) runs.datasets;
+    snapshots = filter-Match (SnapshotIs bound has) (λ s. not (newer 64 name number s.name s.number)) (λ s. not (newer 64 name number s.name s.number))
         (λ x y is. ap (λ n. not (newer 64 name number n x.number)) (sym is.named.name) ∙ ap (λ k. not (newer 64 name number y.name k)) (sym is.named.number)) rows.snapshots pool.snapshots runs.snapshots;
     bookmarks = filter-Match (BookmarkIs has) (λ b. not (newer 35 name number b.name b.number)) (λ b. not (newer 35 name number b.name b.number))
         (λ x y is. ap (λ n. not (newer 35 name number n x.number)) (sym is.named.name) ∙ ap (λ k. not (newer 35 name number y.name k)) (sym is.named.number)) rows.bookmarks pool.bookmarks runs.bookmarks;
@@ -67,10 +67,10 @@ module _ (has : Blocks) (rows : Rows) (pool : Pool) (runs : RunsBy has rows pool
   -- the row of a clone stands for the clone
   pub clone_row_is : (name : List ℕ) (source : Dataset) (snapshot : Snapshot) (dataset : plain.Dataset) (taken : plain.Snapshot)
       → StandAlike rows.datasets pool.datasets source dataset → StandAlike rows.snapshots pool.snapshots snapshot taken
-      → DatasetIs has (clone_row name source snapshot) (clone_of name dataset taken)
+      → DatasetIs bound has (clone_row name source snapshot) (clone_of name dataset taken)
   clone_row_is name source snapshot dataset taken of at =
-      let one = Match-alike (DatasetIs has) rows.datasets pool.datasets source dataset runs.datasets of in
-      let other = Match-alike (SnapshotIs has) rows.snapshots pool.snapshots snapshot taken runs.snapshots at in
+      let one = Match-alike (DatasetIs bound has) rows.datasets pool.datasets source dataset runs.datasets of in
+      let other = Match-alike (SnapshotIs bound has) rows.snapshots pool.snapshots snapshot taken runs.snapshots at in
       record {
         named = record { name = refl; kind = one.named.kind; origin = ap (λ n. Some n) other.named.name; redact = other.named.redact };
         head = other.objects;
@@ -78,9 +78,9 @@ module _ (has : Blocks) (rows : Rows) (pool : Pool) (runs : RunsBy has rows pool
 
   -- the rows with that of a new bookmark
   pub bookmark_runs : (name : List ℕ) (snapshot : Snapshot) (taken : plain.Snapshot) → StandAlike rows.snapshots pool.snapshots snapshot taken
-      → RunsBy has (record rows { bookmarks = inserted (λ a b. is_before a.name b.name) (bookmark_row name snapshot) rows.bookmarks }) (with_marked (bookmark_of name taken) pool)
+      → RunsBy bound has (record rows { bookmarks = inserted (λ a b. is_before a.name b.name) (bookmark_row name snapshot) rows.bookmarks }) (with_marked (bookmark_of name taken) pool)
   bookmark_runs name snapshot taken at =
-      let is = Match-alike (SnapshotIs has) rows.snapshots pool.snapshots snapshot taken runs.snapshots at in
+      let is = Match-alike (SnapshotIs bound has) rows.snapshots pool.snapshots snapshot taken runs.snapshots at in
       record {
         datasets = runs.datasets;
         snapshots = runs.snapshots;

@@ -41,7 +41,7 @@ row_told end image size row (Err made) Memory is told = λ sector stated found s
 
 module _ (has : Blocks) where
   -- where the rows stand for a pool, the row of a bookmark stands for its bookmark, or both are missing
-  pub bookmark_alike : (rows : Rows) (pool : Pool) (name : List ℕ) → RunsBy has rows pool → FoundAlike (BookmarkIs has) (row_named name rows) (bookmark_named name pool)
+  pub bookmark_alike : {bound : Option ℕ} (rows : Rows) (pool : Pool) (name : List ℕ) → RunsBy bound has rows pool → FoundAlike (BookmarkIs has) (row_named name rows) (bookmark_named name pool)
   bookmark_alike rows pool name are =
       found-Match (BookmarkIs has) (λ b. bytes_eq b.name name) (λ b. bytes_eq b.name name) (λ x y is. ap (λ n. bytes_eq n name) (sym is.named.name)) rows.bookmarks pool.bookmarks are.bookmarks
 

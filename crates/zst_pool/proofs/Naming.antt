@@ -1,5 +1,5 @@
 -- What stands for a pool names it.
-use Rattle.std.proofs.Common.{◌≡◌, suc, List, [], ◌∷◌, map, refl, arith}
+use Rattle.std.proofs.Common.{◌≡◌, suc, List, [], ◌∷◌, map, refl, arith, Option, ℕ}
 use Rattle.std.specs.List.{All}
 use Rattle.zst_uber.specs.declared.uber.Uber.{Uber}
 use Rattle.zst_model.specs.pools.Pool.{Pool}
@@ -17,12 +17,12 @@ each_named Is Named of (x ∷ xs) [] is = is
 each_named Is Named of (x ∷ xs) (y ∷ ys) is = (of x y is.0, each_named Is Named of xs ys is.1)
 
 -- rows that stand for what a pool lists name it
-pub rows_named : (has : Blocks) (rows : Rows) (pool : Pool) → RunsBy has rows pool → AreNamed rows pool
-rows_named has rows pool is = record {
-  datasets = each_named (DatasetIs has) NamesDataset (λ row dataset stands. stands.named) rows.datasets pool.datasets is.datasets;
-  snapshots = each_named (SnapshotIs has) NamesSnapshot (λ row snapshot stands. stands.named) rows.snapshots pool.snapshots is.snapshots;
+pub rows_named : {bound : Option ℕ} (has : Blocks) (rows : Rows) (pool : Pool) → RunsBy bound has rows pool → AreNamed rows pool
+rows_named {bound = bound} has rows pool is = record {
+  datasets = each_named (DatasetIs bound has) NamesDataset (λ row dataset stands. stands.named) rows.datasets pool.datasets is.datasets;
+  snapshots = each_named (SnapshotIs bound has) NamesSnapshot (λ row snapshot stands. stands.named) rows.snapshots pool.snapshots is.snapshots;
   bookmarks = each_named (BookmarkIs has) NamesBookmark (λ row bookmark stands. stands.named) rows.bookmarks pool.bookmarks is.bookmarks;
-  partials = each_named (PartialIs has) NamesPartial (λ row partial stands. stands.named) rows.partials pool.partials is.partials;
+  partials = each_named (PartialIs bound has) NamesPartial (λ row partial stands. stands.named) rows.partials pool.partials is.partials;
 }
 
 -- rows name what is made of each of them

@@ -1,5 +1,5 @@
 -- The rows of the next directory stand for the next pool.
-use Rattle.std.proofs.Common.{◌≡◌, ℕ, ◌+◌, ◌*◌, ◌^◌, List, [], ◌∷◌, ◌++◌, ◌&&◌, ◌||◌, Bool, true, false, not, None, nat_lt, get_or, if◌then◌else◌, refl, sym, ap, ◌∙◌, subst}
+use Rattle.std.proofs.Common.{◌≡◌, ℕ, ◌+◌, ◌*◌, ◌^◌, List, [], ◌∷◌, ◌++◌, ◌&&◌, ◌||◌, Bool, true, false, not, None, nat_lt, get_or, if◌then◌else◌, refl, sym, ap, ◌∙◌, subst, Option, Some, arith}
 use Rattle.std.specs.List.{filter, list_any, All}
 use Rattle.std.proofs.lemmas.List.Elements.{All-filter, filter_passes}
 use Rattle.std.specs.Str.{bytes_eq}
@@ -11,7 +11,7 @@ use Rattle.zst_names.specs.Marks.{at_is_mark}
 use Rattle.zst_names.proofs.Marked.{join_is_name}
 use Rattle.zst_uber.specs.declared.uber.Uber.{Uber}
 use Rattle.zst_model.specs.states.Dated.{DatedState}
-use Rattle.zst_model.specs.pools.Pool.{Pool, is_before, snapshot_is_before, inserted}
+use Rattle.zst_model.specs.pools.Pool.{Pool, is_before, snapshot_is_before, inserted, untouched}
 use Rattle.zst_model.specs.pools.Pool as plain
 use Rattle.zst_model.specs.pools.Step.{new_dataset, with_head_at, snapshot_of}
 use Rattle.zst_tree.specs.Sets as sets
@@ -20,11 +20,13 @@ use Rattle.zst_pool.specs.Checks.{with_head_of, with_new, with_taken}
 use Rattle.zst_pool.specs.Making.{RunsAs}
 use Rattle.zst_dir.specs.Rows.{Rows, IsPartialRow}
 use Rattle.zst_dir.specs.Rows as dir_rows
-use Rattle.zst_image.specs.Reads.{DatasetIs, RunsBy, SnapshotIs}
+use Rattle.zst_image.specs.Reads.{DatasetIs, RunsBy, SetIs, SnapshotIs, bound_of}
 use Rattle.zst_image.specs.declared.kept.Kept.{Kept}
 use Rattle.zst_tree.specs.Indices.{Blocks}
-use Rattle.zst_objset.specs.Sets.{SetHolds}
 use Rattle.zst_objset.proofs.SetLaws.{empty}
+use Rattle.zst_objset.proofs.TightLaws.{tight_empty}
+use Rattle.zst_space.specs.FreeSectors.{FreeSectors}
+use Rattle.zst_block.specs.Blocks.{Has}
 use Rattle.zst_dir.specs.declared.rows.Dataset.{Dataset}
 use Rattle.zst_dir.specs.declared.rows.Partial.{Partial}
 use Rattle.zst_dir.specs.declared.rows.Snapshot.{Snapshot}
@@ -34,18 +36,23 @@ use Rattle.zst_dir.proofs.Matching.{inserted-Match, map-Match}
 abbrev pub new_row : ℕ → List ℕ → Dataset
 new_row kind name = record { name = name; kind = kind; origin = None; head = sets.no_objects; redact = [] }
 
-pub new_row_is_new : (has : Blocks) (kind : ℕ) (name : List ℕ) → DatasetIs has (new_row kind name) (new_dataset kind name)
-new_row_is_new has kind name = record {
+-- a set of no objects is known up to each number
+empty_is : (bound : Option ℕ) (image : List ℕ) (space : FreeSectors) → SetIs bound (Has image space) sets.no_objects untouched
+empty_is None image space = empty (Has image space)
+empty_is (Some number) image space = (tight_empty image space, record { numbers = λ k. omega arith; indices = λ k i. omega arith })
+
+pub new_row_is_new : (bound : Option ℕ) (image : List ℕ) (space : FreeSectors) (kind : ℕ) (name : List ℕ) → DatasetIs bound (Has image space) (new_row kind name) (new_dataset kind name)
+new_row_is_new bound image space kind name = record {
   named = record { name = refl; kind = refl; origin = refl; redact = refl };
-  head = empty has;
+  head = empty_is bound image space;
 }
 
 -- the rows with that of a new dataset
-pub dataset_runs : (has : Blocks) (rows : Rows) (running : Pool) (row : Dataset) (dataset : plain.Dataset) → RunsBy has rows running → DatasetIs has row dataset
-    → RunsBy has (record rows { datasets = inserted (λ a b. is_before a.name b.name) row rows.datasets }) (with_new dataset running)
-dataset_runs has rows running row dataset is new = record {
+pub dataset_runs : {bound : Option ℕ} (has : Blocks) (rows : Rows) (running : Pool) (row : Dataset) (dataset : plain.Dataset) → RunsBy bound has rows running → DatasetIs bound has row dataset
+    → RunsBy bound has (record rows { datasets = inserted (λ a b. is_before a.name b.name) row rows.datasets }) (with_new dataset running)
+dataset_runs {bound = bound} has rows running row dataset is new = record {
   datasets =
-      inserted-Match (DatasetIs has) (λ a b. is_before a.name b.name) (λ a b. is_before a.name b.name) row dataset
+      inserted-Match (DatasetIs bound has) (λ a b. is_before a.name b.name) (λ a b. is_before a.name b.name) row dataset
       (λ x y matches. ap (λ (n : List ℕ). is_before n x.name) (sym new.named.name) ∙ ap (is_before dataset.name) (sym matches.named.name)) new rows.datasets running.datasets is.datasets;
   snapshots = is.snapshots;
   bookmarks = is.bookmarks;
@@ -60,8 +67,8 @@ taken_row uber now name row = record { name = name; guid = uber.id * 2 ^ 32 + (u
 stands_before : List ℕ → ℕ → List ℕ → ℕ → Bool
 stands_before n k m l = is_before (dataset_of 64 n) (dataset_of 64 m) || (bytes_eq (dataset_of 64 n) (dataset_of 64 m) && nat_lt k l)
 
-taken_row_is_taken : (has : Blocks) (kept : Kept) (running : Pool) (now : ℕ) (name : List ℕ) (row : Dataset) (dataset : plain.Dataset)
-    → RunsAs has kept running → DatasetIs has row dataset → SnapshotIs has (taken_row kept.body now name row) (snapshot_of now name running dataset)
+taken_row_is_taken : {tight : Bool} (has : Blocks) (kept : Kept) (running : Pool) (now : ℕ) (name : List ℕ) (row : Dataset) (dataset : plain.Dataset)
+    → RunsAs tight has kept running → DatasetIs (bound_of tight running.number) has row dataset → SnapshotIs (bound_of tight running.number) has (taken_row kept.body now name row) (snapshot_of now name running dataset)
 taken_row_is_taken has kept running now name row dataset is matches = record {
   named = record {
     name = refl;
@@ -73,8 +80,8 @@ taken_row_is_taken has kept running now name row dataset is matches = record {
   objects = matches.head;
 }
 
-taken_stands_alike : (has : Blocks) (uber : Uber) (pool : Pool) (now : ℕ) (name : List ℕ) (row : Dataset) (dataset : plain.Dataset) (x : Snapshot) (y : plain.Snapshot)
-    → pool.number ≡ uber.number → SnapshotIs has x y → dir_rows.snapshot_is_before (taken_row uber now name row) x ≡ snapshot_is_before (snapshot_of now name pool dataset) y
+taken_stands_alike : {bound : Option ℕ} (has : Blocks) (uber : Uber) (pool : Pool) (now : ℕ) (name : List ℕ) (row : Dataset) (dataset : plain.Dataset) (x : Snapshot) (y : plain.Snapshot)
+    → pool.number ≡ uber.number → SnapshotIs bound has x y → dir_rows.snapshot_is_before (taken_row uber now name row) x ≡ snapshot_is_before (snapshot_of now name pool dataset) y
 unfolding stands_before
 taken_stands_alike has uber pool now name row dataset x y number is =
     ap (λ (k : ℕ). stands_before name (k + 1) x.name x.number) (sym number)
@@ -82,12 +89,12 @@ taken_stands_alike has uber pool now name row dataset x y number is =
     ∙ ap (λ (k : ℕ). stands_before name (pool.number + 1) y.name k) (sym is.named.number)
 
 -- the rows with that of a new snapshot
-pub snapshot_runs : (has : Blocks) (kept : Kept) (running : Pool) (now : ℕ) (name : List ℕ) (row : Dataset) (dataset : plain.Dataset) → RunsAs has kept running → DatasetIs has row dataset
-    → RunsBy has (record kept.dir { snapshots = inserted dir_rows.snapshot_is_before (taken_row kept.body now name row) kept.dir.snapshots }) (with_taken now name dataset running)
-snapshot_runs has kept running now name row dataset is matches = record {
+pub snapshot_runs : {tight : Bool} (has : Blocks) (kept : Kept) (running : Pool) (now : ℕ) (name : List ℕ) (row : Dataset) (dataset : plain.Dataset) → RunsAs tight has kept running → DatasetIs (bound_of tight running.number) has row dataset
+    → RunsBy (bound_of tight running.number) has (record kept.dir { snapshots = inserted dir_rows.snapshot_is_before (taken_row kept.body now name row) kept.dir.snapshots }) (with_taken now name dataset running)
+snapshot_runs {tight = tight} has kept running now name row dataset is matches = record {
   datasets = is.runs_by.datasets;
   snapshots =
-      inserted-Match (SnapshotIs has) dir_rows.snapshot_is_before snapshot_is_before (taken_row kept.body now name row) (snapshot_of now name running dataset)
+      inserted-Match (SnapshotIs (bound_of tight running.number) has) dir_rows.snapshot_is_before snapshot_is_before (taken_row kept.body now name row) (snapshot_of now name running dataset)
       (λ x y there. taken_stands_alike has kept.body running now name row dataset x y is.number there) (taken_row_is_taken has kept running now name row dataset is matches)
       kept.dir.snapshots running.snapshots is.runs_by.snapshots;
   bookmarks = is.runs_by.bookmarks;
@@ -117,21 +124,21 @@ none_becomes rows name lawful free k d below same =
     true≢false (sym (list_any_at (λ (partial : Partial). bytes_eq partial.target (dataset_of 64 name)) rows.partials k d below equal) ∙ free)
 
 -- a row with another head stands for the dataset with another head
-head_at_is : (has : Blocks) (name : List ℕ) (set : ObjSet) (head : DatedState) (x : Dataset) (y : plain.Dataset) → SetHolds has set head → DatasetIs has x y
-    → DatasetIs has (dir_rows.with_head_at name set x) (with_head_at name head y)
-head_at_is has name set head x y is_head is =
-    subst (λ (n : List ℕ). DatasetIs has (dir_rows.with_head_at name set x) (if bytes_eq n name then record y { head = head } else y)) (sym is.named.name) (go (bytes_eq x.name name))
+head_at_is : {bound : Option ℕ} (has : Blocks) (name : List ℕ) (set : ObjSet) (head : DatedState) (x : Dataset) (y : plain.Dataset) → SetIs bound has set head → DatasetIs bound has x y
+    → DatasetIs bound has (dir_rows.with_head_at name set x) (with_head_at name head y)
+head_at_is {bound = bound} has name set head x y is_head is =
+    subst (λ (n : List ℕ). DatasetIs bound has (dir_rows.with_head_at name set x) (if bytes_eq n name then record y { head = head } else y)) (sym is.named.name) (go (bytes_eq x.name name))
   where
-    go : (b : Bool) → DatasetIs has (if b then record x { head = set } else x) (if b then record y { head = head } else y)
+    go : (b : Bool) → DatasetIs bound has (if b then record x { head = set } else x) (if b then record y { head = head } else y)
     go true = record { named = record { name = is.named.name; kind = is.named.kind; origin = is.named.origin; redact = is.named.redact }; head = is_head }
     go false = is
 
 -- the rows with another head of a dataset
-pub head_runs : (has : Blocks) (rows : Rows) (running : Pool) (name : List ℕ) (set : ObjSet) (head : DatedState) → RunsBy has rows running → SetHolds has set head
-    → RunsBy has (record rows { datasets = dir_rows.with_head name set rows.datasets }) (with_head_of name head running)
-head_runs has rows running name set head is is_head = record {
+pub head_runs : {bound : Option ℕ} (has : Blocks) (rows : Rows) (running : Pool) (name : List ℕ) (set : ObjSet) (head : DatedState) → RunsBy bound has rows running → SetIs bound has set head
+    → RunsBy bound has (record rows { datasets = dir_rows.with_head name set rows.datasets }) (with_head_of name head running)
+head_runs {bound = bound} has rows running name set head is is_head = record {
   datasets =
-      map-Match (DatasetIs has) (dir_rows.with_head_at name set) (with_head_at name head) (λ x y matches. head_at_is has name set head x y is_head matches)
+      map-Match (DatasetIs bound has) (dir_rows.with_head_at name set) (with_head_at name head) (λ x y matches. head_at_is has name set head x y is_head matches)
       rows.datasets running.datasets is.datasets;
   snapshots = is.snapshots;
   bookmarks = is.bookmarks;

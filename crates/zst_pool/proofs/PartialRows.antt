@@ -36,48 +36,48 @@ has_snapshot_still rows next (Some name) same has = (has.0, subst (λ (l : _). C
 
 module _ (has : Blocks) where
   -- a dataset with the objects and the redaction guids of a snapshot
-  pub objects_at_is : (name : List ℕ) (row : Snapshot) (snapshot : plain.Snapshot) (x : Dataset) (y : plain.Dataset) → SnapshotIs has row snapshot → DatasetIs has x y
-      → DatasetIs has (with_objects_at name row.objects row.redact x) (changed_at name (rolled_to snapshot) y)
-  objects_at_is name row snapshot x y of is =
-      subst (λ (n : List ℕ). DatasetIs has (with_objects_at name row.objects row.redact x) (if bytes_eq n name then rolled_to snapshot y else y)) (sym is.named.name) (go (bytes_eq x.name name))
+  pub objects_at_is : {bound : Option ℕ} (name : List ℕ) (row : Snapshot) (snapshot : plain.Snapshot) (x : Dataset) (y : plain.Dataset) → SnapshotIs bound has row snapshot → DatasetIs bound has x y
+      → DatasetIs bound has (with_objects_at name row.objects row.redact x) (changed_at name (rolled_to snapshot) y)
+  objects_at_is {bound = bound} name row snapshot x y of is =
+      subst (λ (n : List ℕ). DatasetIs bound has (with_objects_at name row.objects row.redact x) (if bytes_eq n name then rolled_to snapshot y else y)) (sym is.named.name) (go (bytes_eq x.name name))
     where
-      go : (b : Bool) → DatasetIs has (if b then record x { head = row.objects; redact = row.redact } else x) (if b then rolled_to snapshot y else y)
+      go : (b : Bool) → DatasetIs bound has (if b then record x { head = row.objects; redact = row.redact } else x) (if b then rolled_to snapshot y else y)
       go true = record { named = record { name = is.named.name; kind = is.named.kind; origin = is.named.origin; redact = of.named.redact }; head = of.objects }
       go false = is
 
-  module _ (rows : Rows) (running : Pool) (runs : RunsBy has rows running) where
+  module _ {bound : Option ℕ} (rows : Rows) (running : Pool) (runs : RunsBy bound has rows running) where
     -- the datasets of which one is rolled back
-    rolled_match : (name : List ℕ) → Match (DatasetIs has) (rolled_rows name (latest_row name rows) rows.datasets) (rolled_back name running)
+    rolled_match : (name : List ℕ) → Match (DatasetIs bound has) (rolled_rows name (latest_row name rows) rows.datasets) (rolled_back name running)
     rolled_match name =
         go (latest_row name rows) (latest_snapshot name running)
-        (last-Match (SnapshotIs has) (λ s. bytes_eq (dataset_of 64 s.name) name) (λ s. bytes_eq (dataset_of 64 s.name) name) (λ x y is. ap (λ (n : List ℕ). bytes_eq (dataset_of 64 n) name) (sym is.named.name))
+        (last-Match (SnapshotIs bound has) (λ s. bytes_eq (dataset_of 64 s.name) name) (λ s. bytes_eq (dataset_of 64 s.name) name) (λ x y is. ap (λ (n : List ℕ). bytes_eq (dataset_of 64 n) name) (sym is.named.name))
         rows.snapshots running.snapshots runs.snapshots)
       where
-        go : (o : Option Snapshot) (p : Option plain.Snapshot) → MatchIf (SnapshotIs has) o p → Match (DatasetIs has) (rolled_rows name o rows.datasets) (rolled name p running.datasets)
+        go : (o : Option Snapshot) (p : Option plain.Snapshot) → MatchIf (SnapshotIs bound has) o p → Match (DatasetIs bound has) (rolled_rows name o rows.datasets) (rolled name p running.datasets)
         go None None is = runs.datasets
         go None (Some y) is = absurd is
         go (Some x) None is = absurd is
         go (Some x) (Some y) is =
-            map-Match (DatasetIs has) (with_objects_at name x.objects x.redact) (changed_at name (rolled_to y)) (λ d e de. objects_at_is name x y d e is de) rows.datasets running.datasets runs.datasets
+            map-Match (DatasetIs bound has) (with_objects_at name x.objects x.redact) (changed_at name (rolled_to y)) (λ d e de. objects_at_is name x y d e is de) rows.datasets running.datasets runs.datasets
 
-    module _ (row : Partial) (partial : plain.Partial) (is : PartialIs has row partial) where
+    module _ (row : Partial) (partial : plain.Partial) (is : PartialIs bound has row partial) where
       -- the partial states of other targets
-      pub others_match : Match (PartialIs has) (filter (λ other. not (is_for row.target other)) rows.partials) (partials_of_others partial.target running)
+      pub others_match : Match (PartialIs bound has) (filter (λ other. not (is_for row.target other)) rows.partials) (partials_of_others partial.target running)
       others_match =
-          filter-Match (PartialIs has) (λ other. not (is_for row.target other)) (λ other. not (bytes_eq other.target partial.target))
+          filter-Match (PartialIs bound has) (λ other. not (is_for row.target other)) (λ other. not (bytes_eq other.target partial.target))
           (λ x y xy. ap (λ (t : List ℕ). not (bytes_eq t row.target)) (sym xy.named.target) ∙ ap (λ (t : List ℕ). not (bytes_eq y.target t)) (sym is.named.target)) rows.partials running.partials runs.partials
 
-      put_match : Match (PartialIs has) (with_partial row (filter (λ other. not (is_for row.target other)) rows.partials))
+      put_match : Match (PartialIs bound has) (with_partial row (filter (λ other. not (is_for row.target other)) rows.partials))
           (inserted (λ a b. is_before a.target b.target) partial (partials_of_others partial.target running))
       put_match =
-          inserted-Match (PartialIs has) (λ a b. is_before a.target b.target) (λ a b. is_before a.target b.target) row partial
+          inserted-Match (PartialIs bound has) (λ a b. is_before a.target b.target) (λ a b. is_before a.target b.target) row partial
           (λ x y xy. ap (λ (t : List ℕ). is_before t x.target) (sym is.named.target) ∙ ap (λ (t : List ℕ). is_before partial.target t) (sym xy.named.target)) is
           (filter (λ other. not (is_for row.target other)) rows.partials) (partials_of_others partial.target running) others_match
 
       -- so the rows with a partial state stand for the pool with it
-      pub partial_is_put : (roll : Bool) → RunsBy has (rows_with_partial roll row rows) (plains.with_partial roll partial running)
+      pub partial_is_put : (roll : Bool) → RunsBy bound has (rows_with_partial roll row rows) (plains.with_partial roll partial running)
       partial_is_put true = record {
-        datasets = subst (λ (t : List ℕ). Match (DatasetIs has) (rolled_rows row.target (latest_row row.target rows) rows.datasets) (rolled_back t running)) (sym is.named.target) (rolled_match row.target);
+        datasets = subst (λ (t : List ℕ). Match (DatasetIs bound has) (rolled_rows row.target (latest_row row.target rows) rows.datasets) (rolled_back t running)) (sym is.named.target) (rolled_match row.target);
         snapshots = runs.snapshots;
         bookmarks = runs.bookmarks;
         partials = put_match;
@@ -85,14 +85,14 @@ module _ (has : Blocks) where
       partial_is_put false = record { datasets = runs.datasets; snapshots = runs.snapshots; bookmarks = runs.bookmarks; partials = put_match }
 
 -- the rows without a partial state that isn't kept
-pub unkept_dropped : (has : Blocks) (rows : Rows) (running : Pool) (target : List ℕ) → RunsBy has rows running
-    → RunsBy has (record rows { partials = filter (λ partial. not (is_unkept_for target partial)) rows.partials }) (plains.without_unkept target running)
-unkept_dropped has rows running target runs = record {
+pub unkept_dropped : {bound : Option ℕ} (has : Blocks) (rows : Rows) (running : Pool) (target : List ℕ) → RunsBy bound has rows running
+    → RunsBy bound has (record rows { partials = filter (λ partial. not (is_unkept_for target partial)) rows.partials }) (plains.without_unkept target running)
+unkept_dropped {bound = bound} has rows running target runs = record {
   datasets = runs.datasets;
   snapshots = runs.snapshots;
   bookmarks = runs.bookmarks;
   partials =
-      filter-Match (PartialIs has) (λ partial. not (is_unkept_for target partial)) (λ partial. not (bytes_eq partial.target target && not partial.keep))
+      filter-Match (PartialIs bound has) (λ partial. not (is_unkept_for target partial)) (λ partial. not (bytes_eq partial.target target && not partial.keep))
       (λ x y xy. ap (λ (t : List ℕ). not (bytes_eq t target && not x.keep)) (sym xy.named.target) ∙ ap (λ (k : Bool). not (bytes_eq y.target target && not k)) (sym xy.named.keep))
       rows.partials running.partials runs.partials;
 }

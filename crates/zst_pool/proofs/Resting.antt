@@ -1,6 +1,6 @@
 -- A pool stays at rest while blocks alone are written, and comes to rest as the next one after a commit.
 use Rattle.std.specs.Prelude.{Result, Ok, Err, IfOk, OnErr}
-use Rattle.std.proofs.Common.{◌≡◌, ℕ, ◌+◌, ◌≤◌, ◌<◌, ◌^◌, Bool, true, cond, List, [], ◌∷◌, filter, refl, sym, ap, ◌∙◌, subst, arith}
+use Rattle.std.proofs.Common.{◌≡◌, ℕ, ◌+◌, ◌≤◌, ◌<◌, ◌^◌, Bool, true, false, cond, Option, List, [], ◌∷◌, filter, refl, sym, ap, ◌∙◌, subst, arith}
 use Rattle.std.specs.List.{All}
 use Rattle.std.proofs.lemmas.List.Elements.{All-head, All-tail}
 use Rattle.zst_outside.specs.Images.{DiskState, Leaves, Leaves-weaker, OnlyReads-none}
@@ -19,9 +19,10 @@ use Rattle.zst_image.specs.declared.commit_fault.CommitFault.{CommitFault}
 use Rattle.zst_image.specs.declared.commit_fault.CommitFault.TheVariants as commits
 use Rattle.zst_image.specs.declared.kept.Kept.{Kept}
 use Rattle.zst_image.specs.Committing.{Commits, NextIs, Ready}
-use Rattle.zst_image.specs.Reads.{IsNamedBy, PartialIs, Reads, Rests, RowsAre, RunsBy, free_by, kept_rows}
+use Rattle.zst_image.specs.Reads.{IsNamedBy, PartialIs, Reads, Rests, RowsAre, RunsBy, bound_of, free_by, kept_rows}
 use Rattle.zst_image.proofs.Committed.{IsTaken-free_by, ReadsAs-spared, Ready-fills, Rests-fills}
 use Rattle.zst_image.proofs.Growing.{RunsBy-grows}
+use Rattle.zst_image.proofs.Plain.{Rests-plain, RunsBy-plain}
 use Rattle.zst_image.proofs.Lasting.{images_keep}
 use Rattle.zst_pool.specs.Calls.{CanCommit, IsAtRest, IsUnderWay}
 use Rattle.zst_pool.specs.Checks.{next_of}
@@ -48,7 +49,7 @@ pub commit_next_of : (disk : DiskState) (space : FreeSectors) (uber : Uber) → 
 commit_next_of disk space uber free ready = record { fits = subst (FitsDisk disk.size) (sym free) (free_by_fits disk.size uber ready.in_range); sectors = ap (λ (s : FreeSectors). s.sectors) free; ready = ready }
 
 -- what is kept names the pool that it stands for, and counts its guids
-module _ (has : Blocks) (kept : Kept) (running : Pool) (runs : RunsAs has kept running) where
+module _ {tight : Bool} (has : Blocks) (kept : Kept) (running : Pool) (runs : RunsAs tight has kept running) where
   pub runs_named : IsNamedBy kept.body kept.dir running
   runs_named = record { id = runs.id; number = runs.number; guids = runs.guids; are_named = rows_named has kept.dir running runs.runs_by }
 
@@ -56,65 +57,65 @@ module _ (has : Blocks) (kept : Kept) (running : Pool) (runs : RunsAs has kept r
   few_guids = subst (λ (n : ℕ). n ≤ last_guid) runs.guids runs.lawful.guids
 
 -- what is kept stands for the pool at rest, and names it
-module _ (now : DiskState) (kept : Kept) (running : Pool) (rested : IsAtRest now kept running) where
-  pub rest_runs : RunsAs (Has now.seen (free_by kept.body)) kept running
+module _ {tight : Bool} (now : DiskState) (kept : Kept) (running : Pool) (rested : IsAtRest tight now kept running) where
+  pub rest_runs : RunsAs tight (Has now.seen (free_by kept.body)) kept running
   rest_runs = let is = rested.rests.reads.described in record { id = is.id; number = is.number; guids = is.guids; runs_by = rested.runs_by; lawful = rested.lawful }
 
   pub rest_named : IsNamedBy kept.body kept.dir running
   rest_named = runs_named (Has now.seen (free_by kept.body)) kept running rest_runs
 
   -- an event begins
-  pub begun : (space : FreeSectors) → space ≡ free_by kept.body → IsUnderWay now now space kept running
+  pub begun : (space : FreeSectors) → space ≡ free_by kept.body → IsUnderWay tight now now space kept running
   begun space free = record { rested = rested; fills = fills_none now space kept.body free }
 
-module _ (start now : DiskState) (space : FreeSectors) (kept : Kept) (running : Pool) (way : IsUnderWay start now space kept running) where
+module _ {tight : Bool} (start now : DiskState) (space : FreeSectors) (kept : Kept) (running : Pool) (way : IsUnderWay tight start now space kept running) where
   -- the blocks that the rows name are still there
-  pub way_runs : RunsAs (Has now.seen space) kept running
+  pub way_runs : RunsAs tight (Has now.seen space) kept running
   way_runs =
       let is = way.rested.rests.reads.described in
       record {
         id = is.id;
         number = is.number;
         guids = is.guids;
-        runs_by = RunsBy-grows (Has start.seen (free_by kept.body)) (Has now.seen space) (KeepsBlocks-fills start now (free_by kept.body) space way.fills) kept.dir running way.rested.runs_by;
+        runs_by = RunsBy-grows start.seen (free_by kept.body) now.seen space (KeepsBlocks-fills start now (free_by kept.body) space way.fills) kept.dir running way.rested.runs_by;
         lawful = way.rested.lawful;
       }
 
   -- so the pool is at rest as it was, and each image between reads as what is kept of it
-  pub rests_on : IsAtRest now kept running
+  pub rests_on : IsAtRest tight now kept running
   rests_on = record {
     rows = way.rested.rows;
     rests = Rests-fills start now space kept.body way.rested.rows (kept_of running) way.fills way.rested.rests;
     runs_by =
-        RunsBy-grows (Has start.seen (free_by kept.body)) (Has now.seen (free_by kept.body)) (λ ptr bytes has. Has-spared (free_by kept.body) start.seen now.seen ptr bytes way.fills.seen has) kept.dir running way.rested.runs_by;
+        RunsBy-grows start.seen (free_by kept.body) now.seen (free_by kept.body) (λ ptr bytes has. Has-spared (free_by kept.body) start.seen now.seen ptr bytes way.fills.seen has) kept.dir running way.rested.runs_by;
     lawful = way.rested.lawful;
   }
 
-  pub since : Leaves start now (Reads (kept_of running))
+  pub since : Leaves start now (Reads tight (kept_of running))
   since =
-      Leaves-weaker start now (Spared (free_by kept.body) start) (Reads (kept_of running)) way.fills.time
+      Leaves-weaker start now (Spared (free_by kept.body) start) (Reads tight (kept_of running)) way.fills.time
       (λ c from. (kept.body, way.rested.rows, ReadsAs-spared kept.body way.rested.rows (kept_of running) from.0 c from.2 (way.rested.rests.each from.0 from.1)))
 
   -- what else was written into free sectors leaves it so
-  pub rests_still : (new : DiskState) (less : FreeSectors) → FillsFree now space new less → IsUnderWay start new less kept running
+  pub rests_still : (new : DiskState) (less : FreeSectors) → FillsFree now space new less → IsUnderWay tight start new less kept running
   rests_still new less fills = record { rested = way.rested; fills = FillsFree-then start now new (free_by kept.body) space less way.fills fills }
 
 -- the rows stand for the pool of the next commit as for this one
-pub RunsBy-next : (has : Blocks) (rows : Rows) (next : Pool) (number : ℕ) → RunsBy has rows next → RunsBy has rows (record next { number = number })
+pub RunsBy-next : {bound : Option ℕ} (has : Blocks) (rows : Rows) (next : Pool) (number : ℕ) → RunsBy bound has rows next → RunsBy bound has rows (record next { number = number })
 RunsBy-next has rows next number is = record { datasets = is.datasets; snapshots = is.snapshots; bookmarks = is.bookmarks; partials = is.partials }
 
 -- the rows of a pool that runs stand for what is kept of it
-pub kept_are : (has : Blocks) (rows : Rows) (running : Pool) → RunsBy has rows running → RowsAre has rows (kept_of running)
-kept_are has rows running runs = record {
+pub kept_are : {bound : Option ℕ} (has : Blocks) (rows : Rows) (running : Pool) → RunsBy bound has rows running → RowsAre bound has rows (kept_of running)
+kept_are {bound = bound} has rows running runs = record {
   datasets = runs.datasets;
   snapshots = runs.snapshots;
   bookmarks = runs.bookmarks;
-  partials = filter-Match (PartialIs has) (λ row. row.keep) (λ partial. partial.keep) (λ x y is. sym is.named.keep) rows.partials running.partials runs.partials;
+  partials = filter-Match (PartialIs bound has) (λ row. row.keep) (λ partial. partial.keep) (λ x y is. sym is.named.keep) rows.partials running.partials runs.partials;
 }
 
 -- the next pool, of which these lawful rows are to be committed
-module _ (has : Blocks) (kept : Kept) (running next : Pool) (guids : ℕ) (dir : Rows) (lawful : IsLawful dir) (runs : RunsAs has kept running) (id : next.id ≡ running.id) (number : next.number ≡ running.number)
-    (counter : next.guids ≡ guids) (few : guids ≤ last_guid) (below : kept.body.number < 2 ^ 63) (runs_by : RunsBy has dir next) where
+module _ {tight : Bool} (has : Blocks) (kept : Kept) (running next : Pool) (guids : ℕ) (dir : Rows) (lawful : IsLawful dir) (runs : RunsAs tight has kept running) (id : next.id ≡ running.id) (number : next.number ≡ running.number)
+    (counter : next.guids ≡ guids) (few : guids ≤ last_guid) (below : kept.body.number < 2 ^ 63) (runs_by : RunsBy (bound_of tight (running.number + 1)) has dir next) where
   -- it is lawful
   pub next_lawful : IsPool (next_of next).pool
   unfolding last_number
@@ -123,10 +124,10 @@ module _ (has : Blocks) (kept : Kept) (running next : Pool) (guids : ℕ) (dir :
       rows_make_pools has dir (next_of next).pool lawful (RunsBy-next has dir next (next.number + 1) runs_by) (omega (arith, id, is.0), omega (arith, id, is.1)) (omega (arith, number, runs.number, below)) (omega (arith, counter, few))
 
   -- and what is kept of it is the next pool of the body
-  pub kept_is_next : NextIs has kept.body guids dir (kept_of (next_of next).pool)
+  pub kept_is_next : NextIs tight has kept.body guids dir (kept_of (next_of next).pool)
   kept_is_next =
       let done = (next_of next).pool in
-      let rows = kept_are has dir done (RunsBy-next has dir next (next.number + 1) runs_by) in
+      let rows = kept_are has dir done (RunsBy-next has dir next (next.number + 1) (subst (λ (n : ℕ). RunsBy (bound_of tight (n + 1)) has dir next) (sym number) runs_by)) in
       record {
         id = id ∙ runs.id;
         number = ap (λ n. n + 1) (number ∙ runs.number);
@@ -136,27 +137,28 @@ module _ (has : Blocks) (kept : Kept) (running next : Pool) (guids : ℕ) (dir :
       }
 
 -- what was committed holds the pool's blocks
-runs_after : (old new : DiskState) (space : FreeSectors) (dir : Rows) (next : Pool) (made : Result Kept CommitFault) → RunsBy (Has old.seen space) dir next
-    → IfOk made (λ kept. kept.dir ≡ dir) → IfOk made (λ kept. KeepsBlocks old.seen space new.seen (free_by kept.body)) → IfOk made (λ kept. RunsBy (Has new.seen (free_by kept.body)) kept.dir next)
-runs_after old new space dir next (Ok kept) runs same keeps =
-    subst (λ (r : Rows). RunsBy (Has new.seen (free_by kept.body)) r next) (sym same) (RunsBy-grows (Has old.seen space) (Has new.seen (free_by kept.body)) keeps dir next runs)
-runs_after old new space dir next (Err fault) runs same keeps = tt
+runs_after : {bound : Option ℕ} (old new : DiskState) (space : FreeSectors) (dir : Rows) (next : Pool) (made : Result Kept CommitFault) → RunsBy bound (Has old.seen space) dir next
+    → IfOk made (λ kept. kept.dir ≡ dir) → IfOk made (λ kept. KeepsBlocks old.seen space new.seen (free_by kept.body)) → IfOk made (λ kept. RunsBy bound (Has new.seen (free_by kept.body)) kept.dir next)
+runs_after {bound = bound} old new space dir next (Ok kept) runs same keeps =
+    subst (λ (r : Rows). RunsBy bound (Has new.seen (free_by kept.body)) r next) (sym same) (RunsBy-grows old.seen space new.seen (free_by kept.body) keeps dir next runs)
+runs_after {bound = bound} old new space dir next (Err fault) runs same keeps = tt
 
 -- so after a commit the next pool is at rest
-pub rests_next : (start old new : DiskState) (space : FreeSectors) (kept : Kept) (rows dir : Rows) (running next : Pool) (made : Result Kept CommitFault) → Commits start new kept.body rows (kept_of running) (kept_of (next_of next).pool) made
-    → RunsBy (Has old.seen space) dir next → IsPool (next_of next).pool → IfOk made (λ kept. kept.dir ≡ dir) → IfOk made (λ kept. KeepsBlocks old.seen space new.seen (free_by kept.body))
-    → IfOk made (λ kept. IsAtRest new kept (next_of next).pool)
-rests_next start old new space kept rows dir running next made commits runs lawful same keeps =
-    go made commits (runs_after old new space dir (next_of next).pool made (RunsBy-next (Has old.seen space) dir next (next.number + 1) runs) same keeps)
+pub rests_next : {tight : Bool} (start old new : DiskState) (space : FreeSectors) (kept : Kept) (rows dir : Rows) (running next : Pool) (made : Result Kept CommitFault) → Commits tight start new kept.body rows (kept_of running) (kept_of (next_of next).pool) made
+    → next.number ≡ running.number → RunsBy (bound_of tight (running.number + 1)) (Has old.seen space) dir next → IsPool (next_of next).pool → IfOk made (λ kept. kept.dir ≡ dir) → IfOk made (λ kept. KeepsBlocks old.seen space new.seen (free_by kept.body))
+    → IfOk made (λ kept. IsAtRest tight new kept (next_of next).pool)
+rests_next {tight = tight} start old new space kept rows dir running next made commits number runs lawful same keeps =
+    let over = subst (λ (n : ℕ). RunsBy (bound_of tight (n + 1)) (Has old.seen space) dir next) (sym number) runs in
+    go made commits (runs_after old new space dir (next_of next).pool made (RunsBy-next (Has old.seen space) dir next (next.number + 1) over) same keeps)
   where
-    go : (r : Result Kept CommitFault) → Commits start new kept.body rows (kept_of running) (kept_of (next_of next).pool) r → IfOk r (λ kept. RunsBy (Has new.seen (free_by kept.body)) kept.dir (next_of next).pool)
-        → IfOk r (λ kept. IsAtRest new kept (next_of next).pool)
+    go : (r : Result Kept CommitFault) → Commits tight start new kept.body rows (kept_of running) (kept_of (next_of next).pool) r → IfOk r (λ kept. RunsBy (bound_of tight (next.number + 1)) (Has new.seen (free_by kept.body)) kept.dir (next_of next).pool)
+        → IfOk r (λ kept. IsAtRest tight new kept (next_of next).pool)
     go (Ok after) commits runs = record { rows = after.dir; rests = commits.answer; runs_by = runs; lawful = lawful }
     go (Err fault) commits runs = tt
 
 -- and after a refusal that isn't the disk's the one before is
-pub rests_unless : (start old new : DiskState) (space less : FreeSectors) (kept : Kept) (running : Pool) (made : Result Kept CommitFault) → IsUnderWay start old space kept running
-    → (¬ (made ≡ Err commits.DiskFault) → OnErr made (FillsFree old space new less)) → ¬ (made ≡ Err commits.DiskFault) → OnErr made (IsAtRest new kept running)
+pub rests_unless : {tight : Bool} (start old new : DiskState) (space less : FreeSectors) (kept : Kept) (running : Pool) (made : Result Kept CommitFault) → IsUnderWay tight start old space kept running
+    → (¬ (made ≡ Err commits.DiskFault) → OnErr made (FillsFree old space new less)) → ¬ (made ≡ Err commits.DiskFault) → OnErr made (IsAtRest tight new kept running)
 rests_unless start old new space less kept running (Ok after) way fills apart = tt
 rests_unless start old new space less kept running (Err fault) way fills apart = rests_on start new less kept running (rests_still start old space kept running way new less (fills apart))
 
@@ -171,10 +173,19 @@ pub kept_same : (pool : Pool) → KeepsAll pool → kept_of pool ≡ pool
 kept_same pool all = ap (λ (l : List Partial). record pool { partials = l }) (all_stay pool.partials all)
 
 -- so a pool that was just opened is at rest
-pub rests_opened : (disk : DiskState) (kept : Kept) (rows : Rows) (pool : Pool) → Rests disk kept.body rows pool → kept.dir ≡ kept_rows rows → IsAtRest disk kept pool
-rests_opened disk kept rows pool rests same = record {
+pub rests_opened : {tight : Bool} (disk : DiskState) (kept : Kept) (rows : Rows) (pool : Pool) → Rests tight disk kept.body rows pool → kept.dir ≡ kept_rows rows → IsAtRest tight disk kept pool
+rests_opened {tight = tight} disk kept rows pool rests same = record {
   rows = rows;
-  rests = subst (λ (p : Pool). Rests disk kept.body rows p) (sym (kept_same pool (images_keep kept.body rows pool disk.seen rests.reads))) rests;
-  runs_by = subst (λ (r : Rows). RunsBy (Has disk.seen (free_by kept.body)) r pool) (sym same) rests.reads.described.rows_are;
+  rests = subst (λ (p : Pool). Rests tight disk kept.body rows p) (sym (kept_same pool (images_keep kept.body rows pool disk.seen rests.reads))) rests;
+  runs_by = subst (λ (r : Rows). RunsBy (bound_of tight pool.number) (Has disk.seen (free_by kept.body)) r pool) (sym same) rests.reads.described.rows_are;
   lawful = rests.reads.described.lawful;
+}
+
+-- and a pool at rest by tight sets is at rest
+pub rest_plain : {tight : Bool} (now : DiskState) (kept : Kept) (running : Pool) → IsAtRest tight now kept running → IsAtRest false now kept running
+rest_plain now kept running rested = record {
+  rows = rested.rows;
+  rests = Rests-plain now kept.body rested.rows (kept_of running) rested.rests;
+  runs_by = RunsBy-plain (Has now.seen (free_by kept.body)) kept.dir running rested.runs_by;
+  lawful = rested.lawful;
 }

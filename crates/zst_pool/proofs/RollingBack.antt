@@ -143,16 +143,16 @@ rolls_to destroys name pool taken found =
     ap (λ o. or_else (no_such (names.Snapshot name)) o (λ snapshot. if_rolls_back destroys snapshot pool (committed (rolled_back snapshot pool)))) found
 
 -- the rows of a directory that is rolled back stand for the pool that the definition makes
-pub rolled_runs : (has : Blocks) (rows : Rows) (pool : Pool) → RunsBy has rows pool → (row : Snapshot) (taken : plain.Snapshot) → StandAlike rows.snapshots pool.snapshots row taken
-    → RunsBy has (rows_rolled_back row rows) (rolled_back taken pool)
-rolled_runs has rows pool runs row taken at =
-    let of = Match-alike (SnapshotIs has) rows.snapshots pool.snapshots row taken runs.snapshots at in
-    let left : RunsBy has (without (newer_than row) rows) (pool_without (newer_in_pool taken) pool) =
-    subst (λ (g : Going). RunsBy has (without (newer_than row) rows) (pool_without g pool)) (newer_is row taken of.named) (left_runs has rows pool runs (newer_than row)) in
+pub rolled_runs : {bound : Option ℕ} (has : Blocks) (rows : Rows) (pool : Pool) → RunsBy bound has rows pool → (row : Snapshot) (taken : plain.Snapshot) → StandAlike rows.snapshots pool.snapshots row taken
+    → RunsBy bound has (rows_rolled_back row rows) (rolled_back taken pool)
+rolled_runs {bound = bound} has rows pool runs row taken at =
+    let of = Match-alike (SnapshotIs bound has) rows.snapshots pool.snapshots row taken runs.snapshots at in
+    let left : RunsBy bound has (without (newer_than row) rows) (pool_without (newer_in_pool taken) pool) =
+    subst (λ (g : Going). RunsBy bound has (without (newer_than row) rows) (pool_without g pool)) (newer_is row taken of.named) (left_runs has rows pool runs (newer_than row)) in
     record {
       datasets =
-          subst (λ (n : List ℕ). Match (DatasetIs has) (rows_rolled_back row rows).datasets (map (λ (d : plain.Dataset). cond (bytes_eq d.name (dataset_of 64 n)) (rolled_to taken d) d) pool.datasets)) (sym of.named.name)
-          (map-Match (DatasetIs has) (with_objects_at (dataset_of 64 row.name) row.objects row.redact) (λ d. cond (bytes_eq d.name (dataset_of 64 row.name)) (rolled_to taken d) d)
+          subst (λ (n : List ℕ). Match (DatasetIs bound has) (rows_rolled_back row rows).datasets (map (λ (d : plain.Dataset). cond (bytes_eq d.name (dataset_of 64 n)) (rolled_to taken d) d) pool.datasets)) (sym of.named.name)
+          (map-Match (DatasetIs bound has) (with_objects_at (dataset_of 64 row.name) row.objects row.redact) (λ d. cond (bytes_eq d.name (dataset_of 64 row.name)) (rolled_to taken d) d)
           (λ x y is. objects_at_is has (dataset_of 64 row.name) row taken x y of is) (without (newer_than row) rows).datasets pool.datasets left.datasets);
       snapshots = left.snapshots;
       bookmarks = left.bookmarks;

@@ -32,7 +32,7 @@ use Rattle.zst_pool.proofs.Judged.{memory_stops, plan_stops}
 use Rattle.zst_pool.specs.Faults.{StepFault, is_disk_fault, of_committed}
 use Rattle.zst_pool.specs.Heads.{ChangedHead, ChangesHead, Stops, Works, stop_of}
 use Rattle.zst_dir.specs.Named.{AreNamed}
-use Rattle.zst_image.specs.Reads.{DatasetIs, RunsBy, dir_sectors, free_by}
+use Rattle.zst_image.specs.Reads.{DatasetIs, RunsBy, SetIs, bound_of, dir_sectors, free_by}
 use Rattle.zst_image.specs.Committing.{IsDirFull}
 use Rattle.zst_pool.specs.Runs.{Did, Ran, Runs, as_kept}
 use Rattle.zst_image.specs.Committing.{Ready}
@@ -44,8 +44,9 @@ use Rattle.zst_image.specs.Faults.{stop_of_commit}
 use Rattle.zst_image.specs.declared.commit_fault.CommitFault.{CommitFault}
 use Rattle.zst_image.specs.declared.commit_fault.CommitFault.TheVariants as commits
 use Rattle.zst_image.specs.declared.kept.Kept.{Kept}
+use Rattle.zst_pool.proofs.Bounds.{SetIs-later}
 use Rattle.zst_pool.proofs.Doing.{fell}
-use Rattle.zst_pool.proofs.Resting.{begun, free_by_fits, way_runs}
+use Rattle.zst_pool.proofs.Resting.{begun, free_by_fits, rest_plain, way_runs}
 use Rattle.zst_pool.proofs.Committed.{committed_cause, committed_err, committed_fails, committed_ok, committed_open}
 use Rattle.zst_dir.proofs.Matching.{Match-alike}
 use Rattle.zst_pool.proofs.Naming.{rows_named}
@@ -57,18 +58,18 @@ use Rattle.zst_pool.proofs.Taking.{works_none}
 abbrev pub Wrote : Kept → Cost → DiskState → Bool → DiskState → FreeSectors → Bool → Option BlockFault → Type 0
 Wrote kept cost old old_failed new less new_failed stop =
     ((block : ℕ) × (block ≤ cost.most) × Works cost.cells block old (free_by kept.body) old_failed new less new_failed stop)
-    × ((running : Pool) → new.honest → IsAtRest old kept running → Works cost.cells (cost.block running) old (free_by kept.body) old_failed new less new_failed stop)
+    × ((running : Pool) → new.honest → IsAtRest false old kept running → Works cost.cells (cost.block running) old (free_by kept.body) old_failed new less new_failed stop)
 
 module _ (definition : Pool → Result Stepped Refusal) (cost : Cost) (kept : Kept) where
   -- a command that fell once it had written into free sectors alone
   pub runs_fell : {old : DiskState} {old_failed : Bool} {new : DiskState} {less : FreeSectors} {new_failed : Bool} {stop : Option BlockFault} (fault : PoolFault) {answer : Result Kept PoolFault} → answer ≡ Err fault → Ready new kept.body
       → Stops stop fault → Wrote kept cost old old_failed new less new_failed stop
-      → ((running : Pool) → new.honest → IsAtRest old kept running → StepFault (Unit {0}) (definition running) fault) → Ran definition cost kept old old_failed new less new_failed answer
+      → ((running : Pool) → new.honest → IsAtRest false old kept running → StepFault (Unit {0}) (definition running) fault) → Ran definition cost kept old old_failed new less new_failed answer
   runs_fell {old = old} {old_failed = old_failed} {new = new} {less = less} {new_failed = new_failed} {stop = stop} fault same ready stops wrote refused =
       let one = wrote.0 in
       let works = one.2 in
       let fell_so : Ran definition cost kept old old_failed new less new_failed (Err fault) = record {
-        did = λ running told rested. fell old new less kept running (record { rested = rested; fills = works.fills }) (definition running) fault (refused running told rested);
+        did = λ tight running told rested. fell old new less kept running (record { rested = rested; fills = works.fills }) (definition running) fault (refused running told (rest_plain old kept running rested));
         open_still = λ is. stops.open_still (cc);
         spends = (one.0, one.1, spends_fell kept cost.cells one.0 fault stops works);
         exact = λ running told rested. spends_fell kept cost.cells (cost.block running) fault stops (wrote.1 running told rested);
@@ -84,7 +85,7 @@ module _ (definition : Pool → Result Stepped Refusal) (cost : Cost) (kept : Ke
   -- one that came to its commit
   pub runs_committed : {old : DiskState} {old_failed : Bool} {new : DiskState} {less : FreeSectors} {new_failed : Bool} {last : DiskState} {least : FreeSectors} {last_failed : Bool} (dir : Rows) (made : Result Kept CommitFault) {answer : Result Kept PoolFault} → answer ≡ of_committed made
       → Ready new kept.body → Wrote kept cost old old_failed new less new_failed None
-      → ((running : Pool) → last.honest → IsAtRest old kept running → Did old last kept running (definition running) (of_committed made))
+      → ((tight : Bool) (running : Pool) → last.honest → IsAtRest tight old kept running → Did tight old last kept running (definition running) (of_committed made))
       → length (dir_bytes dir) ≤ length (dir_bytes kept.dir) + 1024
       → ((need largest : ℕ) → made ≡ Err (commits.Full need largest) → IsDirFull less least dir need largest)
       → TakesAtMost (dir_sectors (length (dir_bytes dir))) less least → IfOk made (λ next. (next.body.end ≡ least.end) × (next.body.sectors ≡ kept.body.sectors))
@@ -147,7 +148,7 @@ idle_wrote kept cost disk space failed stop none free ready =
 module _ (definition : Pool → Result Stepped Refusal) (cost : Cost) (kept : Kept) where
   -- one that fell before it did anything
   pub runs_idle : {disk : DiskState} {space : FreeSectors} {failed : Bool} (fault : PoolFault) {answer : Result Kept PoolFault} → answer ≡ Err fault → space ≡ free_by kept.body → Ready disk kept.body → Stops None fault
-      → ((running : Pool) → IsAtRest disk kept running → StepFault (Unit {0}) (definition running) fault) → Ran definition cost kept disk failed disk space failed answer
+      → ((running : Pool) → IsAtRest false disk kept running → StepFault (Unit {0}) (definition running) fault) → Ran definition cost kept disk failed disk space failed answer
   runs_idle {disk = disk} {space = space} {failed = failed} fault same free ready stops refused =
       runs_fell definition cost kept fault same ready stops (idle_wrote kept cost disk space failed None refl free ready) (λ running told rested. refused running rested)
 
@@ -164,7 +165,7 @@ module _ (definition : Pool → Result Stepped Refusal) (cost : Cost) (damage : 
 
   -- one that fell before it did anything, for a plan or for memory
   pub runs_planned : {disk : DiskState} {space : FreeSectors} {failed : Bool} (plan : PlanFault) {answer : Result Kept PoolFault} → answer ≡ Err (Plan plan) → space ≡ free_by kept.body → Ready disk kept.body
-      → ((running : Pool) → IsAtRest disk kept running → definition running ≡ Err (refusal_of plan)) → Runs definition cost damage kept disk failed disk space failed answer
+      → ((running : Pool) → IsAtRest false disk kept running → definition running ≡ Err (refusal_of plan)) → Runs definition cost damage kept disk failed disk space failed answer
   runs_planned plan {answer = answer} same free ready refused =
       runs_sound answer (λ sector stated found is. cc) (runs_idle definition cost kept (Plan plan) same free ready (plan_stops None plan refl) (λ running rested. (refused running rested, tt)))
 
@@ -191,34 +192,43 @@ unfolding last_number
 number_is number next pool lawful same is = let le : number ≤ 2 ^ 63 = omega (arith, same, lawful.number) in omega (arith, same, is le)
 
 -- what a set holds that was opened
-head_there : (kept : Kept) (name : List ℕ) (old : DiskState) (space : FreeSectors) (was : ObjSet) (pool : Pool) → RunsBy (Has old.seen space) kept.dir pool → FindsHead kept.dir name pool (Ok was)
-    → (head : DatedState) × SetHolds (Has old.seen space) was head × ((change : DatedState → Result DatedState Refusal) → on_head name pool change ≡ (change head >>= λ after. committed (with_head_of name after pool)))
-head_there kept name old space was pool runs_by there =
+head_there : {bound : Option ℕ} (kept : Kept) (name : List ℕ) (old : DiskState) (space : FreeSectors) (was : ObjSet) (pool : Pool) → RunsBy bound (Has old.seen space) kept.dir pool → FindsHead kept.dir name pool (Ok was)
+    → (head : DatedState) × SetIs bound (Has old.seen space) was head × ((change : DatedState → Result DatedState Refusal) → on_head name pool change ≡ (change head >>= λ after. committed (with_head_of name after pool)))
+head_there {bound = bound} kept name old space was pool runs_by there =
     let has = Has old.seen space in
-    let stands = Match-alike (DatasetIs has) kept.dir.datasets pool.datasets there.0 there.1 runs_by.datasets there.2 in
-    (there.1.head, subst (λ (set : ObjSet). SetHolds has set there.1.head) there.3 stands.head, there.4)
+    let stands = Match-alike (DatasetIs bound has) kept.dir.datasets pool.datasets there.0 there.1 runs_by.datasets there.2 in
+    (there.1.head, subst (λ (set : ObjSet). SetIs bound has set there.1.head) there.3 stands.head, there.4)
 
 -- a head that was opened and changed
 pub changed_head : (kept : Kept) (name : List ℕ) (make : Pool → DatedState → Result DatedState Refusal) (cost : Cost) {number : ℕ} {old : DiskState} {space : FreeSectors} {old_failed : Bool} {new : DiskState} {less : FreeSectors} {new_failed : Bool} {was set : ObjSet} {changed : Result (Unit {0}) HeadFault}
     → space ≡ free_by kept.body → (kept.body.number ≤ 2 ^ 63 → number ≡ kept.body.number + 1)
     → ((pool : Pool) → AreNamed kept.dir pool → FindsHead kept.dir name pool (Ok was))
-    → ((pool : Pool) (head : DatedState) → new.honest → pool.number + 1 ≡ number → SetHolds (Has old.seen space) was head → ChangesHead (Has new.seen less) set (make pool head) changed)
+    → ((tight : Bool) (pool : Pool) (head : DatedState) → new.honest → pool.number + 1 ≡ number → SetIs (bound_of tight number) (Has old.seen space) was head → ChangesHead (bound_of tight number) (Has new.seen less) set (make pool head) changed)
     → ((block : ℕ) × (block ≤ cost.most) × Works cost.cells block old space old_failed new less new_failed (stop_of changed))
     → ((pool : Pool) (head : DatedState) → new.honest → SetHolds (Has old.seen space) was head
     → ((change : DatedState → Result DatedState Refusal) → on_head name pool change ≡ (change head >>= λ after. committed (with_head_of name after pool)))
     → Works cost.cells (cost.block pool) old space old_failed new less new_failed (stop_of changed))
     → ChangedHead kept name make cost old old_failed new less new_failed set changed
-changed_head kept name make cost {number = number} {old = old} {space = space} {old_failed = old_failed} {new = new} {less = less} {new_failed = new_failed} {was = was} {changed = changed} free next found changes works exact =
+changed_head kept name make cost {number = number} {old = old} {space = space} {old_failed = old_failed} {new = new} {less = less} {new_failed = new_failed} {was = was} {set = set} {changed = changed} free next found changes works exact =
     let over = λ (block : ℕ) (w : Works cost.cells block old space old_failed new less new_failed (stop_of changed)).
     subst (λ (s : FreeSectors). Works cost.cells block old s old_failed new less new_failed (stop_of changed)) free w in
     record {
-      made = λ running told rested.
-          let runs = way_runs old old space kept running (begun old kept running rested space free) in
-          let there = head_there kept name old space was running runs.runs_by (found running (rows_named (Has old.seen space) kept.dir running runs.runs_by)) in
-          (there.0, changes running there.0 told (number_is kept.body.number number running runs.lawful runs.number next) there.1, there.2 (make running));
+      made = made_so;
       works = (works.0, works.1, over works.0 works.2);
       exact = λ running told rested.
           let runs = way_runs old old space kept running (begun old kept running rested space free) in
           let there = head_there kept name old space was running runs.runs_by (found running (rows_named (Has old.seen space) kept.dir running runs.runs_by)) in
           over (cost.block running) (exact running there.0 told there.1 there.2);
     }
+  where
+    made_so : {tight : Bool} (running : Pool) → new.honest → IsAtRest tight old kept running
+        → (head : DatedState) × ChangesHead (bound_of tight (running.number + 1)) (Has new.seen less) set (make running head) changed
+        × (on_head name running (make running) ≡ (make running head >>= λ after. committed (with_head_of name after running)))
+    made_so {tight = tight} running told rested =
+        let has = Has old.seen space in
+        let runs = way_runs old old space kept running (begun old kept running rested space free) in
+        let there = head_there kept name old space was running runs.runs_by (found running (rows_named has kept.dir running runs.runs_by)) in
+        let is = number_is kept.body.number number running runs.lawful runs.number next in
+        let known = SetIs-later tight running.number number (omega (arith, is)) has was there.0 there.1 in
+        let changed_so = changes tight running there.0 told is known in
+        (there.0, subst (λ (n : ℕ). ChangesHead (bound_of tight n) (Has new.seen less) set (make running there.0) changed) (sym is) changed_so, there.2 (make running))

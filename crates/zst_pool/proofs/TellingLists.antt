@@ -73,7 +73,7 @@ list_pool now pool = refl
 
 -- a command that looks at nothing but the rows
 module _ (definition : Pool → Result Stepped Refusal) (damage : DamageFact) (kept : Kept) (disk : DiskState) (space : FreeSectors) (failed : Bool) where
-  pub tells_rows : (reply : List (List ℕ)) → ((pool : Pool) → RunsBy (Has disk.seen space) kept.dir pool → definition pool ≡ answered pool reply) → Tells definition damage kept disk space failed disk space failed (Ok reply)
+  pub tells_rows : (reply : List (List ℕ)) → ((pool : Pool) → RunsBy None (Has disk.seen space) kept.dir pool → definition pool ≡ answered pool reply) → Tells definition damage kept disk space failed disk space failed (Ok reply)
   tells_rows reply is = record { told = λ pool honest runs. is pool runs; looks = Looks-none disk space failed; open_still = λ same. absurd (cc); damaged = λ honest. tt }
 
   pub tells_no_memory : Tells definition damage kept disk space failed disk space failed (Err faults.OutOfMemory)

@@ -1,6 +1,6 @@
 -- What a call of an object set does, as a part of a command.
 use Rattle.std.specs.Prelude.{Result, Ok, Err, OnOk}
-use Rattle.std.proofs.Common.{◌≡◌, ℕ, Bool, refl, sym, ap, ◌∙◌, subst}
+use Rattle.std.proofs.Common.{◌≡◌, ℕ, Bool, Option, refl, sym, ap, ◌∙◌, subst}
 use Rattle.zst_outside.specs.Images.{DiskState}
 use Rattle.zst_space.specs.FreeSectors.{FreeSectors}
 use Rattle.zst_block.specs.Working as blocks
@@ -10,7 +10,7 @@ use Rattle.zst_model.specs.states.Dated.{DatedState}
 use Rattle.zst_tree.specs.Indices.{Blocks}
 use Rattle.zst_tree.specs.declared.tree.ObjSet.{ObjSet}
 use Rattle.zst_objset.specs.Answers as sets
-use Rattle.zst_objset.specs.Sets.{SetHolds}
+use Rattle.zst_image.specs.Reads.{SetIs}
 use Rattle.zst_objset.specs.declared.fault.ObjFault.{ObjFault}
 use Rattle.zst_objset.specs.declared.fault.ObjFault.TheVariants as set_faults
 use Rattle.zst_pool.specs.Heads.{ChangeFault, ChangesHead, of_call, stop_of}
@@ -48,10 +48,10 @@ module _ (called : Result (Unit {0}) ObjFault) (answer : Result (Unit {0}) HeadF
   call_works {most = most} {block = block} {old = old} {space = space} {failed = failed} {new = new} {less = less} {now = now} does = subst (blocks.Works most block old space failed new less now) stopped does
 
   -- and changes the head as its definition says
-  pub call_changes : (has : Blocks) (set : ObjSet) (definition : Result DatedState Refusal) → sets.Changes (SetHolds has set) definition called → ChangesHead has set definition answer
-  call_changes has set definition is = subst (ChangesHead has set definition) (sym same) (go called is)
+  pub call_changes : (bound : Option ℕ) (has : Blocks) (set : ObjSet) (definition : Result DatedState Refusal) → sets.Changes (SetIs bound has set) definition called → ChangesHead bound has set definition answer
+  call_changes bound has set definition is = subst (ChangesHead bound has set definition) (sym same) (go called is)
     where
-      go : (c : Result (Unit {0}) ObjFault) → sets.Changes (SetHolds has set) definition c → ChangesHead has set definition (of_call c)
+      go : (c : Result (Unit {0}) ObjFault) → sets.Changes (SetIs bound has set) definition c → ChangesHead bound has set definition (of_call c)
       go (Ok done) is = is
       go (Err fault) is = is
 

@@ -1,5 +1,5 @@
 -- What a call of a receive does to a pool that runs.
-use Rattle.std.specs.Prelude.{◌≡◌, ◌⊎◌, ◌+◌, ◌<◌, ℕ, length, Result, Ok, Err}
+use Rattle.std.specs.Prelude.{◌≡◌, ◌⊎◌, ◌+◌, ◌<◌, ℕ, Bool, length, Result, Ok, Err}
 use Rattle.zst_outside.specs.Images.{DiskState, Leaves}
 use Rattle.zst_space.specs.FreeSectors.{FreeSectors, largest_of}
 use Rattle.zst_block.specs.Blocks.{FillsFree, FitsDisk, Has}
@@ -13,7 +13,7 @@ use Rattle.zst_model.specs.pools.Kept.{kept_of}
 use Rattle.zst_model.specs.pools.Pool.{Pool, IsPool}
 use Rattle.zst_dir.specs.Rows.{Rows}
 use Rattle.zst_dir.specs.Spelling.{dir_bytes}
-use Rattle.zst_image.specs.Reads.{Reads, Rests, RunsBy, dir_sectors, free_by}
+use Rattle.zst_image.specs.Reads.{Reads, Rests, RunsBy, bound_of, dir_sectors, free_by}
 use Rattle.zst_image.specs.Committing.{Ready}
 use Rattle.zst_pool.specs.declared.fault.PoolFault.{PoolFault}
 use Rattle.zst_pool.specs.declared.fault.PoolFault.TheVariants.{Plan, CannotApply, Redacted, Full, Damaged, DiskFault, Failed, OutOfMemory}
@@ -31,16 +31,16 @@ pub record ListsAnew (running next : Pool) : Type 0 where
   pub number : next.number ≡ running.number
   pub guids : next.guids ≡ running.guids
 
--- between its events: the disk rests, by its rows, as what is kept of this pool, and the rows in memory stand for the lawful pool that runs
-pub record IsAtRest (now : DiskState) (kept : Kept) (running : Pool) : Type 0 where
+-- between its events: the disk rests, by its rows, as what is kept of this pool, and the rows in memory stand for the lawful pool that runs, by tight sets where that is said
+pub record IsAtRest (tight : Bool) (now : DiskState) (kept : Kept) (running : Pool) : Type 0 where
   pub rows : Rows
-  pub rests : Rests now kept.body rows (kept_of running)
-  pub runs_by : RunsBy (Has now.seen (free_by kept.body)) kept.dir running
+  pub rests : Rests tight now kept.body rows (kept_of running)
+  pub runs_by : RunsBy (bound_of tight running.number) (Has now.seen (free_by kept.body)) kept.dir running
   pub lawful : IsPool running
 
 -- within an event: at a start the pool was at rest, and since then blocks alone were written
-pub record IsUnderWay (start now : DiskState) (space : FreeSectors) (kept : Kept) (running : Pool) : Type 0 where
-  pub rested : IsAtRest start kept running
+pub record IsUnderWay (tight : Bool) (start now : DiskState) (space : FreeSectors) (kept : Kept) (running : Pool) : Type 0 where
+  pub rested : IsAtRest tight start kept running
   pub fills : FillsFree start (free_by kept.body) now space
 
 -- why a call is refused, and what then stands: a limit where the definition says so, and a full disk only where it accepts
@@ -66,14 +66,14 @@ IsCallFault Failed = ⊥
 IsCallFault OutOfMemory = Unit {0}
 
 -- what stands after a call's answer: what the definition makes of the pool, or the pool as it was
-abbrev pub CallAnswer : DiskState → Kept → Pool → Result Pool Refusal → Result Kept PoolFault → Type 0
-CallAnswer now old running definition (Ok kept) = (next : Pool) × (definition ≡ Ok next) × (kept.body.number ≡ next.number) × IsAtRest now kept next
-CallAnswer now old running definition (Err fault) = CallFault (IsAtRest now old running) definition fault
+abbrev pub CallAnswer : (tight : Bool) → DiskState → Kept → Pool → Result Pool Refusal → Result Kept PoolFault → Type 0
+CallAnswer tight now old running definition (Ok kept) = (next : Pool) × (definition ≡ Ok next) × (kept.body.number ≡ next.number) × IsAtRest tight now kept next
+CallAnswer tight now old running definition (Err fault) = CallFault (IsAtRest tight now old running) definition fault
 
 -- a call that commits: inside it each image reads as what is kept of the pool before, or of the one that the definition makes, and then by its answer
-pub record CallDid (start now : DiskState) (kept : Kept) (running : Pool) (definition : Result Pool Refusal) (result : Result Kept PoolFault) : Type 0 where
-  pub moments : Leaves start now (λ c. Reads (kept_of running) c ⊎ ((next : Pool) × (definition ≡ Ok next) × Reads (kept_of next) c))
-  pub answer : CallAnswer now kept running definition result
+pub record CallDid (tight : Bool) (start now : DiskState) (kept : Kept) (running : Pool) (definition : Result Pool Refusal) (result : Result Kept PoolFault) : Type 0 where
+  pub moments : Leaves start now (λ c. Reads tight (kept_of running) c ⊎ ((next : Pool) × (definition ≡ Ok next) × Reads tight (kept_of next) c))
+  pub answer : CallAnswer tight now kept running definition result
 
 -- a call's answer with what the pool then keeps
 abbrev pub keeping : Kept → Result ℕ PoolFault → Result Kept PoolFault

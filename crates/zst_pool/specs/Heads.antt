@@ -14,13 +14,12 @@ use Rattle.zst_model.specs.pools.Step.{committed, on_head}
 use Rattle.zst_tree.specs.Indices.{Blocks}
 use Rattle.zst_tree.specs.declared.tree.ObjSet.{ObjSet}
 use Rattle.zst_objset.specs.Answers as sets
-use Rattle.zst_objset.specs.Sets.{SetHolds}
 use Rattle.zst_objset.specs.declared.fault.ObjFault.{ObjFault}
 use Rattle.zst_objset.specs.declared.fault.ObjFault.TheVariants as set_faults
 use Rattle.zst_pool.specs.Checks.{next_of, with_head_of}
 use Rattle.zst_pool.specs.Cost.{Cost}
 use Rattle.zst_pool.specs.Faults.{StepFault, of_set, is_disk_fault}
-use Rattle.zst_image.specs.Reads.{free_by}
+use Rattle.zst_image.specs.Reads.{SetIs, bound_of, free_by}
 use Rattle.zst_pool.specs.Calls.{IsAtRest}
 use Rattle.zst_pool.specs.declared.fault.PoolFault.{PoolFault}
 use Rattle.zst_pool.specs.declared.fault.PoolFault.TheVariants as faults
@@ -59,10 +58,10 @@ abbrev pub FindsSize : Result DatedState Refusal → ℕ → Result ℕ HeadFaul
 FindsSize change size (Ok found) = found ≡ size
 FindsSize change size (Err fault) = ChangeFault change fault
 
--- the set holds what the definition makes of a head, or the head isn't changed
-abbrev pub ChangesHead : Blocks → ObjSet → Result DatedState Refusal → Result (Unit {0}) HeadFault → Type 0
-ChangesHead has set change (Ok done) = (after : DatedState) × (change ≡ Ok after) × SetHolds has set after
-ChangesHead has set change (Err fault) = ChangeFault change fault
+-- the set is of what the definition makes of a head, known as well as its bound says, or the head isn't changed
+abbrev pub ChangesHead : (bound : Option ℕ) → Blocks → ObjSet → Result DatedState Refusal → Result (Unit {0}) HeadFault → Type 0
+ChangesHead bound has set change (Ok done) = (after : DatedState) × (change ≡ Ok after) × SetIs bound has set after
+ChangesHead bound has set change (Err fault) = ChangeFault change fault
 
 -- whether the definition accepts a change with this answer: also where no room was found
 abbrev pub is_accepted : Result (Unit {0}) HeadFault → Bool
@@ -82,12 +81,12 @@ pub record Stops (stop : Option BlockFault) (fault : PoolFault) : Type 0 where
   pub full : (need largest : ℕ) → fault ≡ faults.Full need largest → stop ≡ Some (block_faults.Full need largest)
   pub open_still : ¬ (fault ≡ faults.Failed)
 
--- the set holds a changed head that can be committed, or what the command is refused for
-abbrev pub JudgesHead : Blocks → ObjSet → List ℕ → Pool → Result DatedState Refusal → Result (Unit {0}) PoolFault → Type 0
-JudgesHead has set name pool change (Ok done) =
-    (after : DatedState) × (change ≡ Ok after) × SetHolds has set after
+-- the set is of a changed head that can be committed, or what the command is refused for
+abbrev pub JudgesHead : (bound : Option ℕ) → Blocks → ObjSet → List ℕ → Pool → Result DatedState Refusal → Result (Unit {0}) PoolFault → Type 0
+JudgesHead bound has set name pool change (Ok done) =
+    (after : DatedState) × (change ≡ Ok after) × SetIs bound has set after
     × (committed (with_head_of name after pool) ≡ Ok (next_of (with_head_of name after pool)))
-JudgesHead has set name pool change (Err fault) = StepFault (Unit {0}) (change >>= λ after. committed (with_head_of name after pool)) fault
+JudgesHead bound has set name pool change (Err fault) = StepFault (Unit {0}) (change >>= λ after. committed (with_head_of name after pool)) fault
 
 -- a change that touches so many cells, and writes one block of so many sectors beside those of the trees
 abbrev pub Works : ℕ → ℕ → DiskState → FreeSectors → Bool → DiskState → FreeSectors → Bool → Option BlockFault → Type 0
@@ -95,9 +94,9 @@ Works cells block old old_space old_failed new new_space new_failed stop = block
 
 -- Since a start at which a pool was at rest a command changed the head of a dataset as `make` says, or could not: what stands then, and what was answered.
 pub record ChangedHead (kept : Kept) (name : List ℕ) (make : Pool → DatedState → Result DatedState Refusal) (cost : Cost) (start : DiskState) (start_failed : Bool) (now : DiskState) (space : FreeSectors) (failed : Bool) (set : ObjSet) (changed : Result (Unit {0}) HeadFault) : Type 0 where
-  pub made : (running : Pool) → now.honest → IsAtRest start kept running
-      → (head : DatedState) × ChangesHead (Has now.seen space) set (make running head) changed
+  pub made : {tight : Bool} (running : Pool) → now.honest → IsAtRest tight start kept running
+      → (head : DatedState) × ChangesHead (bound_of tight (running.number + 1)) (Has now.seen space) set (make running head) changed
       × (on_head name running (make running) ≡ (make running head >>= λ after. committed (with_head_of name after running)))
   -- whatever is there, and where a pool was at rest
   pub works : (block : ℕ) × (block ≤ cost.most) × Works cost.cells block start (free_by kept.body) start_failed now space failed (stop_of changed)
-  pub exact : (running : Pool) → now.honest → IsAtRest start kept running → Works cost.cells (cost.block running) start (free_by kept.body) start_failed now space failed (stop_of changed)
+  pub exact : (running : Pool) → now.honest → IsAtRest false start kept running → Works cost.cells (cost.block running) start (free_by kept.body) start_failed now space failed (stop_of changed)

@@ -19,14 +19,14 @@ use Rattle.zst_pool.specs.declared.fault.PoolFault.TheVariants.{DiskFault, Faile
 use Rattle.zst_image.specs.declared.kept.Kept.{Kept}
 
 -- what stands after a command's answer: what the definition makes of the pool, or the pool as it was
-abbrev pub DidAnswer : DiskState → Kept → Pool → Result Stepped Refusal → Result Kept PoolFault → Type 0
-DidAnswer now old running definition (Ok kept) = (done : Stepped) × (definition ≡ Ok done) × IsAtRest now kept done.pool
-DidAnswer now old running definition (Err fault) = StepFault (IsAtRest now old running) definition fault
+abbrev pub DidAnswer : (tight : Bool) → DiskState → Kept → Pool → Result Stepped Refusal → Result Kept PoolFault → Type 0
+DidAnswer tight now old running definition (Ok kept) = (done : Stepped) × (definition ≡ Ok done) × IsAtRest tight now kept done.pool
+DidAnswer tight now old running definition (Err fault) = StepFault (IsAtRest tight now old running) definition fault
 
 -- a command that commits: inside it each image reads as what is kept of the pool before or of what the definition makes of it, and then by its answer
-pub record Did (start now : DiskState) (kept : Kept) (running : Pool) (definition : Result Stepped Refusal) (result : Result Kept PoolFault) : Type 0 where
-  pub moments : Leaves start now (BeforeOrAfter running definition)
-  pub answer : DidAnswer now kept running definition result
+pub record Did (tight : Bool) (start now : DiskState) (kept : Kept) (running : Pool) (definition : Result Stepped Refusal) (result : Result Kept PoolFault) : Type 0 where
+  pub moments : Leaves start now (BeforeOrAfter tight running definition)
+  pub answer : DidAnswer tight now kept running definition result
 
 -- what is kept after a command that went well is what it answers
 abbrev pub as_kept : Kept → Kept
@@ -34,11 +34,11 @@ as_kept kept = kept
 
 -- what a command at this cost did: by its definition where a pool was at rest, and what stands then whatever the image was
 pub record Ran (definition : Pool → Result Stepped Refusal) (cost : Cost) (kept : Kept) (old : DiskState) (old_failed : Bool) (new : DiskState) (left : FreeSectors) (new_failed : Bool) (result : Result Kept PoolFault) : Type 0 where
-  pub did : (running : Pool) → new.honest → IsAtRest old kept running → Did old new kept running (definition running) result
+  pub did : (tight : Bool) (running : Pool) → new.honest → IsAtRest tight old kept running → Did tight old new kept running (definition running) result
   pub open_still : ¬ (result ≡ Err Failed)
   -- it takes no more than the cost at most, and no more than the cost in the pool
   pub spends : (block : ℕ) × (block ≤ cost.most) × Spends cost.cells block kept left as_kept result
-  pub exact : (running : Pool) → new.honest → IsAtRest old kept running → Spends cost.cells (cost.block running) kept left as_kept result
+  pub exact : (running : Pool) → new.honest → IsAtRest false old kept running → Spends cost.cells (cost.block running) kept left as_kept result
   -- where it is refused, unless the disk failed, free sectors alone were written
   pub spares : ¬ (result ≡ Err DiskFault) → OnErr result (SparesTaken (free_by kept.body) old.seen new.seen)
   pub ready : IfOk result (λ kept. Ready new kept.body)

@@ -41,7 +41,7 @@ TellsAnswer pool definition (Err fault) = StepFault (Unit {0}) definition fault
 
 -- a command that only answers: by its definition where the rows stand for a pool, and what is so whatever the image is
 pub record Tells (definition : Pool → Result Stepped Refusal) (damage : DamageFact) (kept : Kept) (old : DiskState) (space : FreeSectors) (old_failed : Bool) (new : DiskState) (left : FreeSectors) (new_failed : Bool) (result : Result (List (List ℕ)) PoolFault) : Type 0 where
-  pub told : (pool : Pool) → new.honest → RunsBy (Has old.seen space) kept.dir pool → TellsAnswer pool (definition pool) result
+  pub told : (pool : Pool) → new.honest → RunsBy None (Has old.seen space) kept.dir pool → TellsAnswer pool (definition pool) result
   pub looks : Looks old space old_failed new left new_failed (stop_of result)
   pub open_still : ¬ (result ≡ Err faults.Failed)
   pub damaged : new.honest → IfErr result (IsOf damage)

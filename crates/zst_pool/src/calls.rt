@@ -1,5 +1,5 @@
 // What the layers above ask of a pool besides its commands.
-ghost use Rattle.std.specs.Prelude.{◌≡◌, ◌==◌, ℕ, List, find, option_map};
+ghost use Rattle.std.specs.Prelude.{◌≡◌, ◌==◌, ℕ, List, None, find, option_map};
 ghost use Rattle.zst_space.specs.FreeSectors.{FreeSectors};
 ghost use Rattle.zst_block.specs.Blocks.{Has};
 ghost use Rattle.zst_model.specs.pools.Pool.{Pool as Plain};
@@ -60,7 +60,7 @@ impl<'d, D: Disk> Pool<'d, D> {
     pub fn objects_of(&self, name: &Name) -> Option<ObjSet>
         ensures rows { result ≡ set_named name.now self.now.kept.dir }
         // Where the rows stand for a pool, it is there exactly where that has a state, and holds it.
-        ensures found { (image : List ℕ) (space : FreeSectors) (pool : Plain) → RunsBy (Has image space) self.now.kept.dir pool → FindsState (Has image space) (state_named name.now pool) result }
+        ensures found { (image : List ℕ) (space : FreeSectors) (pool : Plain) → RunsBy None (Has image space) self.now.kept.dir pool → FindsState (Has image space) (state_named name.now pool) result }
     {
         set_of(&self.kept.dir, name)
     }
@@ -69,7 +69,7 @@ impl<'d, D: Disk> Pool<'d, D> {
 /// The object set of a dataset's head, or of a snapshot; a bookmark has none.
 pub(crate) fn set_of(dir: &Dir, name: &Name) -> Option<ObjSet>
     ensures rows { result ≡ set_named name.now dir.now }
-    ensures found { (image : List ℕ) (space : FreeSectors) (pool : Plain) → RunsBy (Has image space) dir.now pool → FindsState (Has image space) (state_named name.now pool) result }
+    ensures found { (image : List ℕ) (space : FreeSectors) (pool : Plain) → RunsBy None (Has image space) dir.now pool → FindsState (Has image space) (state_named name.now pool) result }
 {
     match name {
         Name::Dataset(name) => head_of(dir, name),

@@ -1,5 +1,5 @@
 // What a command makes of the object set of a head.
-ghost use Rattle.std.specs.Prelude.{◌≡◌, ◌+◌, ◌/◌, ◌<◌, ◌≤◌, ℕ, true, length, Err, IfErr, IfOk, IfSome, OnOk};
+ghost use Rattle.std.specs.Prelude.{◌≡◌, ◌+◌, ◌/◌, ◌<◌, ◌≤◌, ℕ, Bool, true, length, Err, IfErr, IfOk, IfSome, OnOk};
 ghost use Rattle.zst_block.specs.Blocks.{FitsDisk, Has};
 ghost use Rattle.zst_block.specs.Working.{Looks};
 ghost use Rattle.zst_model.specs.declared.refusals.plan_fault.PlanFault.{PlanFault};
@@ -8,6 +8,7 @@ ghost use Rattle.zst_model.specs.states.State.{is_block_size, IsHead, IsBonus, I
 ghost use Rattle.zst_model.specs.pools.Pool.{Pool};
 ghost use Rattle.zst_model.specs.pools.Step.{filled, punched, written};
 ghost use Rattle.zst_objset.specs.Sets.{SetHolds};
+ghost use Rattle.zst_image.specs.Reads.{SetIs, bound_of};
 ghost use Rattle.zst_pool.specs.Checks.{freed, put_in};
 ghost use Rattle.zst_pool.specs.Heads.{ChangesHead, FindsSize, Works, of_call, of_change, of_head, stop_of};
 ghost use Rattle.zst_pool.specs.Cost.{object_cells, spill_sectors};
@@ -51,8 +52,8 @@ pub fn change_object<D: Disk>(
     requires head { IsHead head }
     requires bonus { IsBonus bonus }
     requires spill { IfSome spill IsSpill }
-    ensures changed { (pool : Pool) (old : DatedState) → (D.state io.new.disk.now).honest → pool.number + 1 ≡ number → SetHolds (Has (D.state io.old.disk.now).seen io.old.space) set.old old
-        → ChangesHead (Has (D.state io.new.disk.now).seen io.new.space) set.new (put_in pool object head bonus spill old) result }
+    ensures changed { (tight : Bool) (pool : Pool) (old : DatedState) → (D.state io.new.disk.now).honest → pool.number + 1 ≡ number → SetIs (bound_of tight number) (Has (D.state io.old.disk.now).seen io.old.space) set.old old
+        → ChangesHead (bound_of tight number) (Has (D.state io.new.disk.now).seen io.new.space) set.new (put_in pool object head bonus spill old) result }
     ensures works { Works (object_cells spill) (spill_sectors spill) (D.state io.old.disk.now) io.old.space io.old.failed (D.state io.new.disk.now) io.new.space io.new.failed (stop_of result) }
     ensures damaged { (D.state io.new.disk.now).honest → IfHeadDamaged result (slots_damage (D.state io.old.disk.now) io.old.space set.old) }
     ensures levels { OnOk result (SetFits set.new) }
@@ -119,8 +120,8 @@ pub fn change_block<D: Disk>(
 ) -> Result<(), HeadFault>
     requires fits { FitsDisk (D.state io.old.disk.now).size io.old.space }
     requires object { 0 < object }
-    ensures changed { (pool : Pool) (head : DatedState) → (D.state io.new.disk.now).honest → pool.number + 1 ≡ number → SetHolds (Has (D.state io.old.disk.now).seen io.old.space) set.old head
-        → ChangesHead (Has (D.state io.new.disk.now).seen io.new.space) set.new (written pool object index bytes.now head) result }
+    ensures changed { (tight : Bool) (pool : Pool) (head : DatedState) → (D.state io.new.disk.now).honest → pool.number + 1 ≡ number → SetIs (bound_of tight number) (Has (D.state io.old.disk.now).seen io.old.space) set.old head
+        → ChangesHead (bound_of tight number) (Has (D.state io.new.disk.now).seen io.new.space) set.new (written pool object index bytes.now head) result }
     ensures works { (block : ℕ) × (block ≤ 256) × Works 1 block (D.state io.old.disk.now) io.old.space io.old.failed (D.state io.new.disk.now) io.new.space io.new.failed (stop_of result) }
     ensures exact { (head : DatedState) → (D.state io.new.disk.now).honest → SetHolds (Has (D.state io.old.disk.now).seen io.old.space) set.old head
         → Works 1 (size_at (head.state object) / 512) (D.state io.old.disk.now) io.old.space io.old.failed (D.state io.new.disk.now) io.new.space io.new.failed (stop_of result) }
@@ -146,8 +147,8 @@ pub fn change_holes<D: Disk>(
 ) -> Result<(), HeadFault>
     requires fits { FitsDisk (D.state io.old.disk.now).size io.old.space }
     requires object { 0 < object }
-    ensures changed { (pool : Pool) (head : DatedState) → (D.state io.new.disk.now).honest → pool.number + 1 ≡ number → SetHolds (Has (D.state io.old.disk.now).seen io.old.space) set.old head
-        → ChangesHead (Has (D.state io.new.disk.now).seen io.new.space) set.new (punched pool object first count head) result }
+    ensures changed { (tight : Bool) (pool : Pool) (head : DatedState) → (D.state io.new.disk.now).honest → pool.number + 1 ≡ number → SetIs (bound_of tight number) (Has (D.state io.old.disk.now).seen io.old.space) set.old head
+        → ChangesHead (bound_of tight number) (Has (D.state io.new.disk.now).seen io.new.space) set.new (punched pool object first count head) result }
     ensures works { Works 2 0 (D.state io.old.disk.now) io.old.space io.old.failed (D.state io.new.disk.now) io.new.space io.new.failed (stop_of result) }
     ensures damaged { (D.state io.new.disk.now).honest → IfHeadDamaged result (range_damage (D.state io.old.disk.now) io.old.space set.old) }
     ensures levels { OnOk result (SetFits set.new) }
@@ -168,8 +169,8 @@ pub fn change_numbers<D: Disk>(
 ) -> Result<(), HeadFault>
     requires fits { FitsDisk (D.state io.old.disk.now).size io.old.space }
     requires first { 0 < first }
-    ensures changed { (pool : Pool) (head : DatedState) → (D.state io.new.disk.now).honest → pool.number + 1 ≡ number → SetHolds (Has (D.state io.old.disk.now).seen io.old.space) set.old head
-        → ChangesHead (Has (D.state io.new.disk.now).seen io.new.space) set.new (freed pool first count head) result }
+    ensures changed { (tight : Bool) (pool : Pool) (head : DatedState) → (D.state io.new.disk.now).honest → pool.number + 1 ≡ number → SetIs (bound_of tight number) (Has (D.state io.old.disk.now).seen io.old.space) set.old head
+        → ChangesHead (bound_of tight number) (Has (D.state io.new.disk.now).seen io.new.space) set.new (freed pool first count head) result }
     ensures works { Works 2 0 (D.state io.old.disk.now) io.old.space io.old.failed (D.state io.new.disk.now) io.new.space io.new.failed (stop_of result) }
     ensures damaged { (D.state io.new.disk.now).honest → IfHeadDamaged result (slots_damage (D.state io.old.disk.now) io.old.space set.old) }
     ensures levels { SetFits set.old → SetFits set.new }

@@ -1,11 +1,11 @@
 // What a receive does to a pool when it has all of its stream.
-ghost use Rattle.std.specs.Prelude.{◌≡◌, ◌+◌, ◌<◌, ◌≤◌, ◌∷◌, ◌++◌, ◌||◌, ℕ, false, true, length, IfErr, IfOk, IfSome, OnErr, OnOk, Err};
+ghost use Rattle.std.specs.Prelude.{◌≡◌, ◌+◌, ◌<◌, ◌≤◌, ◌∷◌, ◌++◌, ◌||◌, ℕ, Bool, false, true, length, IfErr, IfOk, IfSome, OnErr, OnOk, Err};
 ghost use Rattle.zst_block.specs.Blocks.{Has};
 ghost use Rattle.zst_model.specs.pools.Pool.{Pool as Plain, Partial as PlainPartial};
 ghost use Rattle.zst_dir.specs.Rows.{HasSnapshot, IsDatasetRow, IsPartialRow, IsSnapshotRow};
 ghost use Rattle.zst_dir.specs.Spelling.{dir_bytes};
 ghost use Rattle.zst_image.specs.Committing.{Ready};
-ghost use Rattle.zst_image.specs.Reads.{PartialIs, free_by};
+ghost use Rattle.zst_image.specs.Reads.{PartialIs, bound_of, free_by};
 ghost use Rattle.zst_pool.specs.Calls.{CallDid, CanCommit, IsCallFault, IsCallFull, IsUnderWay, keeping};
 ghost use Rattle.zst_pool.specs.Faults.{HasDiskCause, is_disk_fault, is_full};
 ghost use Rattle.zst_pool.specs.FinishedRows.{dataset_row_from, rows_with_finished, rows_with_target, snapshot_row_from};
@@ -93,8 +93,8 @@ fn commit_finished<D: Disk>(
     requires base { IfSome partial.now.base (HasSnapshot kept.now.dir) }
     requires component { HasSnapshot kept.now.dir (partial.now.target ++ 64 ∷ partial.now.snapshot) → ⊥ }
     requires works { CanCommit (D.state io.old.disk.now) io.old.space kept.now.body }
-    ensures did { (start : D) (running : Plain) (plain : PlainPartial) → (D.state io.new.disk.now).honest → IsUnderWay (D.state start) (D.state io.old.disk.now) io.old.space kept.now running
-        → PartialIs (Has (D.state io.old.disk.now).seen io.old.space) partial.now plain → CallDid (D.state start) (D.state io.new.disk.now) kept.now running (partial_finished plain running) result }
+    ensures did { (tight : Bool) (start : D) (running : Plain) (plain : PlainPartial) → (D.state io.new.disk.now).honest → IsUnderWay tight (D.state start) (D.state io.old.disk.now) io.old.space kept.now running
+        → PartialIs (bound_of tight (running.number + 1)) (Has (D.state io.old.disk.now).seen io.old.space) partial.now plain → CallDid tight (D.state start) (D.state io.new.disk.now) kept.now running (partial_finished plain running) result }
     ensures rows { IfOk result (λ next. next.dir ≡ rows_with_finished (kept.now.body.number + 1) partial.now kept.now.dir) }
     ensures known { IfErr result IsCallFault }
     ensures full { (need largest : ℕ) → result ≡ Err (PoolFault.Full need largest) → IsCallFull io.old.space io.new.space kept.now.dir need largest }
@@ -125,9 +125,9 @@ impl<'d, D: Disk> Pool<'d, D> {
 
         // From a start at which a pool was at rest, and since which blocks alone were written, each image is
         // what is kept of that pool or of the next one, as the definition says; then one of them is at rest.
-        ensures did { (start : D) (running : Plain) (plain : PlainPartial) → (D.state self.new.io.disk.now).honest → self.old.io.failed ≡ false
-            → IsUnderWay (D.state start) (D.state self.old.io.disk.now) self.old.io.space self.old.kept running → PartialIs (Has (D.state self.old.io.disk.now).seen self.old.io.space) partial plain
-            → CallDid (D.state start) (D.state self.new.io.disk.now) self.old.kept running (partial_finished plain running) (keeping self.new.kept result) }
+        ensures did { (tight : Bool) (start : D) (running : Plain) (plain : PlainPartial) → (D.state self.new.io.disk.now).honest → self.old.io.failed ≡ false
+            → IsUnderWay tight (D.state start) (D.state self.old.io.disk.now) self.old.io.space self.old.kept running → PartialIs (bound_of tight (running.number + 1)) (Has (D.state self.old.io.disk.now).seen self.old.io.space) partial plain
+            → CallDid tight (D.state start) (D.state self.new.io.disk.now) self.old.kept running (partial_finished plain running) (keeping self.new.kept result) }
         ensures rows { OnOk result (self.new.kept.dir ≡ rows_with_finished (self.old.kept.body.number + 1) partial self.old.kept.dir) }
         ensures number { IfOk result (λ number. number ≡ self.new.kept.body.number) }
         // Whatever the image is, there is no other refusal than E23, E24, E28 and E32.

@@ -1,5 +1,5 @@
 // The commands on a dataset's head, each over the Io of a pool that hasn't failed.
-ghost use Rattle.std.specs.Prelude.{◌≡◌, ◌⊎◌, ◌+◌, ◌<◌, ◌≤◌, ◌^◌, ℕ, Bool, true, List, Result, Err, length, IfErr, IfSome, OnOk, IfOk, is_ok};
+ghost use Rattle.std.specs.Prelude.{◌≡◌, ◌⊎◌, ◌+◌, ◌<◌, ◌≤◌, ◌^◌, ℕ, Bool, true, List, Option, Result, Err, length, IfErr, IfSome, OnOk, IfOk, is_ok};
 ghost use Rattle.zst_space.specs.FreeSectors.{FreeSectors};
 ghost use Rattle.zst_block.specs.Blocks.{FitsDisk, Has};
 ghost use Rattle.zst_names.specs.Names.{IsDataset};
@@ -79,8 +79,8 @@ fn answer(changed: Result<(), HeadFault>) -> Result<(), PoolFault>
 
 // What a command answers whose change was answered so: E23 of the commit's number comes before E24.
 fn judge(number: u64, changed: Result<(), HeadFault>) -> Result<(), PoolFault>
-    ensures judged { (image : List ℕ) (space : FreeSectors) (set : ObjectSet) (name : List ℕ) (pool : Pool) (change : Result DatedState Refusal) → pool.number ≡ number
-        → ChangesHead (Has image space) set change changed → JudgesHead (Has image space) set name pool change result }
+    ensures judged { (bound : Option ℕ) (image : List ℕ) (space : FreeSectors) (set : ObjectSet) (name : List ℕ) (pool : Pool) (change : Result DatedState Refusal) → pool.number ≡ number
+        → ChangesHead bound (Has image space) set change changed → JudgesHead bound (Has image space) set name pool change result }
     ensures below { OnOk result (number < 2 ^ 63) }
     ensures went_well { OnOk result (stop_of changed ≡ None) }
     ensures well { OnOk result (is_ok changed ≡ true) }

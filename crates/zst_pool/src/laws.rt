@@ -1,5 +1,5 @@
 // What the definitions of a pool say of one another.
-ghost use Rattle.std.specs.Prelude.{◌≡◌, [], All};
+ghost use Rattle.std.specs.Prelude.{◌≡◌, Bool, [], All};
 ghost use Rattle.zst_space.specs.FreeSectors.{FreeSectors};
 ghost use Rattle.zst_uber.specs.declared.uber.Uber.{Uber};
 ghost use Rattle.zst_model.specs.pools.Kept.{KeepsAll, kept_of};
@@ -21,11 +21,11 @@ pub fn rows_name_a_pool()
 /// A pool that was just opened is at rest; as each pool that an image reads as keeps all its partial
 /// states, it is what is kept of it.
 pub fn opened_is_at_rest<D: Disk>()
-    ensures rests { (disk : D) (kept : Kept) (rows : Rows) (pool : Pool) → Rests (D.state disk) kept.body rows pool → kept.dir ≡ kept_rows rows → IsAtRest (D.state disk) kept pool }
+    ensures rests { (tight : Bool) (disk : D) (kept : Kept) (rows : Rows) (pool : Pool) → Rests tight (D.state disk) kept.body rows pool → kept.dir ≡ kept_rows rows → IsAtRest tight (D.state disk) kept pool }
     ensures same { (pool : Pool) → KeepsAll pool → kept_of pool ≡ pool }
 {}
 
 /// Blocks that are written between a pool's events leave it at rest.
 pub fn blocks_leave_it_at_rest<D: Disk>()
-    ensures { (start now : D) (space : FreeSectors) (kept : Kept) (running : Pool) → IsUnderWay (D.state start) (D.state now) space kept running → IsAtRest (D.state now) kept running }
+    ensures { (tight : Bool) (start now : D) (space : FreeSectors) (kept : Kept) (running : Pool) → IsUnderWay tight (D.state start) (D.state now) space kept running → IsAtRest tight (D.state now) kept running }
 {}

@@ -1,5 +1,5 @@
 // The lists of bookmarks.
-ghost use Rattle.std.specs.Prelude.{◌≡◌, ◌||◌, ℕ, List, [], true, false, Some, IfErr, IfOk, IfSome, Err, option_map};
+ghost use Rattle.std.specs.Prelude.{◌≡◌, ◌||◌, ℕ, List, [], None, true, false, Some, IfErr, IfOk, IfSome, Err, option_map};
 ghost use Rattle.zst_outside.specs.Images.{OnlyReads};
 ghost use Rattle.zst_block.specs.Blocks.{FitsDisk, Has};
 ghost use Rattle.zst_model.specs.fields.Lists.{Runs};
@@ -26,7 +26,7 @@ impl<'d, D: Disk> Pool<'d, D> {
         requires fits { self.old.io.failed ≡ false → FitsDisk (D.state self.old.io.disk.now).size self.old.io.space }
 
         // Where the rows stand for a pool, it is the list of that pool's bookmark, unless the disk or the memory fails.
-        ensures found { (pool : Plain) → (D.state self.new.io.disk.now).honest → self.old.io.failed ≡ false → RunsBy (Has (D.state self.old.io.disk.now).seen self.old.io.space) self.old.kept.dir pool
+        ensures found { (pool : Plain) → (D.state self.new.io.disk.now).honest → self.old.io.failed ≡ false → RunsBy None (Has (D.state self.old.io.disk.now).seen self.old.io.space) self.old.kept.dir pool
             → GivesList book.now (bookmark_named book.now pool) result }
         // Whatever the image is, E3 comes exactly where no row has the name, and what is given stands below the row's root.
         ensures rows { self.old.io.failed ≡ false → AnswersNamed book.now (row_named book.now self.old.kept.dir) result }

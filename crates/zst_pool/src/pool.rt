@@ -1,4 +1,4 @@
-ghost use Rattle.std.specs.Prelude.{◌≡◌, ◌≤◌, ◌∷◌, ◌||◌, [], ℕ, false, true, IfErr, IfOk, OnErr, Err};
+ghost use Rattle.std.specs.Prelude.{◌≡◌, ◌≤◌, ◌∷◌, ◌||◌, [], ℕ, Bool, false, true, IfErr, IfOk, OnErr, Err};
 ghost use Rattle.zst_outside.specs.Images.{Leaves, OnlyReads};
 ghost use Rattle.zst_block.specs.Blocks.{SparesTaken};
 ghost use Rattle.zst_model.specs.pools.Lines.{ok_line};
@@ -76,12 +76,12 @@ impl<'d, D: Disk> Pool<'d, D> {
         requires ready { self.old.io.failed ≡ false → Ready (D.state self.old.io.disk.now) self.old.kept.body }
 
         // At every moment each image reads as what is kept of the pool before the command, or of what the command makes of it.
-        ensures moments { (running : Plain) → (D.state self.new.io.disk.now).honest → IsAtRest (D.state self.old.io.disk.now) self.old.kept running
-            → Leaves (D.state self.old.io.disk.now) (D.state self.new.io.disk.now) (BeforeOrAfter running (stepped [] now command running)) }
+        ensures moments { (tight : Bool) (running : Plain) → (D.state self.new.io.disk.now).honest → IsAtRest tight (D.state self.old.io.disk.now) self.old.kept running
+            → Leaves (D.state self.old.io.disk.now) (D.state self.new.io.disk.now) (BeforeOrAfter tight running (stepped [] now command running)) }
         // After its answer what the definition makes of the pool is at rest; after a refusal the pool as it was is.
-        ensures answer { (running : Plain) → (D.state self.new.io.disk.now).honest → self.old.io.failed ≡ false
-            → IsAtRest (D.state self.old.io.disk.now) self.old.kept running
-            → StepAnswer (D.state self.new.io.disk.now) self.new.kept running (stepped [] now command running) result }
+        ensures answer { (tight : Bool) (running : Plain) → (D.state self.new.io.disk.now).honest → self.old.io.failed ≡ false
+            → IsAtRest tight (D.state self.old.io.disk.now) self.old.kept running
+            → StepAnswer tight (D.state self.new.io.disk.now) self.new.kept running (stepped [] now command running) result }
         // E3, E4, E5 and E23 of datasets, snapshots and guids come exactly where the directory says so, whatever the object sets hold, unless no memory is left before; E23 of numbers only past them.
         ensures planned { self.old.io.failed ≡ false → ¬ (result ≡ Err PoolFault.OutOfMemory)
             → Plans (λ pool. stepped [] now command pool) (numbers_end command) (indices_end command) self.old.kept result }
@@ -89,7 +89,7 @@ impl<'d, D: Disk> Pool<'d, D> {
         // Whatever the image is, no more is taken than the command costs at most, and E24 comes only where that isn't there.
         ensures spends { self.old.io.failed ≡ false → (block : ℕ) × (block ≤ (cost_of command).most) × Spends (cost_of command).cells block self.old.kept self.new.io.space (λ reply. self.new.kept) result }
         // Where a pool was at rest, no more is taken than the command costs there.
-        ensures exact { (running : Plain) → (D.state self.new.io.disk.now).honest → self.old.io.failed ≡ false → IsAtRest (D.state self.old.io.disk.now) self.old.kept running
+        ensures exact { (running : Plain) → (D.state self.new.io.disk.now).honest → self.old.io.failed ≡ false → IsAtRest false (D.state self.old.io.disk.now) self.old.kept running
             → Spends (cost_of command).cells ((cost_of command).block running) self.old.kept self.new.io.space (λ reply. self.new.kept) result }
         // E25 tells a damage of the object set of the command's dataset, also where the image reads as no pool.
         ensures damaged { (D.state self.new.io.disk.now).honest → IfErr result (IsOf (TellsDamage command self.old.kept.dir (D.state self.old.io.disk.now) (free_by self.old.kept.body))) }
@@ -97,7 +97,7 @@ impl<'d, D: Disk> Pool<'d, D> {
         ensures kept { OnErr result (self.new.kept ≡ self.old.kept) }
         ensures spares { ¬ (result ≡ Err PoolFault.DiskFault) → OnErr result (SparesTaken (free_by self.old.kept.body) (D.state self.old.io.disk.now).seen (D.state self.new.io.disk.now).seen) }
         // What later states haven't dated since stays as it was in each snapshot.
-        ensures sound { (running : Plain) (done : Stepped) → IsAtRest (D.state self.old.io.disk.now) self.old.kept running → Sound running
+        ensures sound { (running : Plain) (done : Stepped) → IsAtRest false (D.state self.old.io.disk.now) self.old.kept running → Sound running
             → stepped [] now command running ≡ Ok done → Sound done.pool }
 
         // A command that only answers reads the disk, and leaves what is kept.

@@ -35,7 +35,7 @@ use zst_tree::ObjSet;
 /// The object set of a dataset's head or of a snapshot; E3 where there is none of this name.
 pub(crate) fn open_set(dir: &Dir, name: Name) -> Result<ObjSet, PlanFault>
     ensures set { IfOk result (λ set. set_named name dir.now ≡ Some set) }
-    ensures holds { IfOk result (λ set. (image : List ℕ) (space : FreeSectors) (pool : Pool) → RunsBy (Has image space) dir.now pool → HoldsNamed (Has image space) name pool set) }
+    ensures holds { IfOk result (λ set. (image : List ℕ) (space : FreeSectors) (pool : Pool) → RunsBy None (Has image space) dir.now pool → HoldsNamed (Has image space) name pool set) }
     ensures missing { IfErr result (λ fault. fault ≡ PlanFault.NoSuch (Missing.Named name)) }
     ensures there { OnOk result ((pool : Pool) → AreNamed dir.now pool → is_some (state_named name pool) ≡ true) }
     ensures absent { (pool : Pool) → AreNamed dir.now pool → IfErr result (λ fault. state_named name pool ≡ None) }

@@ -1,5 +1,5 @@
 // What a receive does to a pool: it commits a partial state, or drops one.
-ghost use Rattle.std.specs.Prelude.{◌≡◌, ◌+◌, ◌<◌, ◌^◌, ◌∷◌, ◌++◌, ◌||◌, ℕ, false, true, filter, length, not, IfErr, IfOk, IfSome, OnErr, OnOk, Err};
+ghost use Rattle.std.specs.Prelude.{◌≡◌, ◌+◌, ◌<◌, ◌^◌, ◌∷◌, ◌++◌, ◌||◌, ℕ, false, true, filter, length, not, IfErr, IfOk, IfSome, OnErr, OnOk, Err, Bool};
 ghost use Rattle.zst_block.specs.Blocks.{Has};
 ghost use Rattle.zst_block.specs.Working.{TakesAtMost};
 ghost use Rattle.zst_model.specs.pools.Pool.{Pool as Plain, Partial as PlainPartial};
@@ -10,7 +10,7 @@ ghost use Rattle.zst_pool.specs.Calls.{CallDid, CanCommit, IsAtRest, IsCallFault
 ghost use Rattle.zst_pool.specs.Faults.{HasDiskCause, is_disk_fault, is_full};
 ghost use Rattle.zst_pool.specs.PartialRows.{rows_with_partial};
 ghost use Rattle.zst_pool.specs.Partials.{next_commit, partial_put, without_unkept};
-ghost use Rattle.zst_image.specs.Reads.{PartialIs, RunsBy, dir_sectors, free_by};
+ghost use Rattle.zst_image.specs.Reads.{PartialIs, RunsBy, bound_of, dir_sectors, free_by};
 ghost use Rattle.zst_image.specs.Committing.{IsDirFull, Ready};
 
 use crate::fault::{PoolFault, of_committed};
@@ -32,8 +32,8 @@ pub fn commit_next<D: Disk>(
     dir: Dir,
 ) -> Result<Kept, PoolFault>
     requires works { CanCommit (D.state io.old.disk.now) io.old.space kept.now.body }
-    ensures did { (start : D) (running next : Plain) → (D.state io.new.disk.now).honest → IsUnderWay (D.state start) (D.state io.old.disk.now) io.old.space kept.now running
-        → ListsAnew running next → RunsBy (Has (D.state io.old.disk.now).seen io.old.space) dir next → CallDid (D.state start) (D.state io.new.disk.now) kept.now running (next_commit next) result }
+    ensures did { (tight : Bool) (start : D) (running next : Plain) → (D.state io.new.disk.now).honest → IsUnderWay tight (D.state start) (D.state io.old.disk.now) io.old.space kept.now running
+        → ListsAnew running next → RunsBy (bound_of tight (running.number + 1)) (Has (D.state io.old.disk.now).seen io.old.space) dir next → CallDid tight (D.state start) (D.state io.new.disk.now) kept.now running (next_commit next) result }
     ensures rows { IfOk result (λ next. next.dir ≡ dir) }
     ensures below { OnOk result (kept.now.body.number < 2 ^ 63) }
     ensures known { IfErr result IsCallFault }
@@ -62,8 +62,8 @@ fn commit_partial<D: Disk>(
     requires base { IfSome partial.base (HasSnapshot kept.now.dir) }
     requires component { HasSnapshot kept.now.dir (partial.target ++ 64 ∷ partial.snapshot) → ⊥ }
     requires works { CanCommit (D.state io.old.disk.now) io.old.space kept.now.body }
-    ensures did { (start : D) (running : Plain) (plain : PlainPartial) → (D.state io.new.disk.now).honest → IsUnderWay (D.state start) (D.state io.old.disk.now) io.old.space kept.now running
-        → PartialIs (Has (D.state io.old.disk.now).seen io.old.space) partial plain → CallDid (D.state start) (D.state io.new.disk.now) kept.now running (partial_put roll plain running) result }
+    ensures did { (tight : Bool) (start : D) (running : Plain) (plain : PlainPartial) → (D.state io.new.disk.now).honest → IsUnderWay tight (D.state start) (D.state io.old.disk.now) io.old.space kept.now running
+        → PartialIs (bound_of tight (running.number + 1)) (Has (D.state io.old.disk.now).seen io.old.space) partial plain → CallDid tight (D.state start) (D.state io.new.disk.now) kept.now running (partial_put roll plain running) result }
     ensures rows { IfOk result (λ next. next.dir ≡ rows_with_partial roll partial kept.now.dir) }
     ensures known { IfErr result IsCallFault }
     ensures full { (need largest : ℕ) → result ≡ Err (PoolFault.Full need largest) → IsCallFull io.old.space io.new.space kept.now.dir need largest }
@@ -141,9 +141,9 @@ impl<'d, D: Disk> Pool<'d, D> {
 
         // From a start at which a pool was at rest, and since which blocks alone were written, each image is
         // what is kept of that pool or of the next one, as the definition says; then one of them is at rest.
-        ensures did { (start : D) (running : Plain) (plain : PlainPartial) → (D.state self.new.io.disk.now).honest → self.old.io.failed ≡ false
-            → IsUnderWay (D.state start) (D.state self.old.io.disk.now) self.old.io.space self.old.kept running → PartialIs (Has (D.state self.old.io.disk.now).seen self.old.io.space) partial plain
-            → CallDid (D.state start) (D.state self.new.io.disk.now) self.old.kept running (partial_put roll plain running) (keeping self.new.kept result) }
+        ensures did { (tight : Bool) (start : D) (running : Plain) (plain : PlainPartial) → (D.state self.new.io.disk.now).honest → self.old.io.failed ≡ false
+            → IsUnderWay tight (D.state start) (D.state self.old.io.disk.now) self.old.io.space self.old.kept running → PartialIs (bound_of tight (running.number + 1)) (Has (D.state self.old.io.disk.now).seen self.old.io.space) partial plain
+            → CallDid tight (D.state start) (D.state self.new.io.disk.now) self.old.kept running (partial_put roll plain running) (keeping self.new.kept result) }
         ensures rows { OnOk result (self.new.kept.dir ≡ rows_with_partial roll partial self.old.kept.dir) }
         ensures number { IfOk result (λ number. number ≡ self.new.kept.body.number) }
         // Whatever the image is, there is no other refusal than E23, E24, E28 and E32.
@@ -176,7 +176,7 @@ impl<'d, D: Disk> Pool<'d, D> {
     pub fn drop_partial(&mut self, target: &DatasetName)
         ensures rows { self.new.kept.dir ≡ record self.old.kept.dir { partials = filter (λ partial. not (is_unkept_for target.now partial)) self.old.kept.dir.partials } }
         // What is kept of the pool stays: it is at rest without that partial state.
-        ensures rests { (disk : D) (running : Plain) → IsAtRest (D.state disk) self.old.kept running → IsAtRest (D.state disk) self.new.kept (without_unkept target.now running) }
+        ensures rests { (tight : Bool) (disk : D) (running : Plain) → IsAtRest tight (D.state disk) self.old.kept running → IsAtRest tight (D.state disk) self.new.kept (without_unkept target.now running) }
         ensures kept { (running : Plain) → kept_of (without_unkept target.now running) ≡ kept_of running }
         ensures body { self.new.kept.body ≡ self.old.kept.body }
         ensures io { self.new.io ≡ self.old.io }

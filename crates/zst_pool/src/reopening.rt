@@ -1,5 +1,5 @@
 // How a pool is opened again after its disk has failed.
-ghost use Rattle.std.specs.Prelude.{◌≡◌, ℕ, OnErr, OnOk};
+ghost use Rattle.std.specs.Prelude.{◌≡◌, ℕ, Bool, OnErr, OnOk};
 ghost use Rattle.zst_outside.specs.Images.{IsSynced, OnlyReads};
 ghost use Rattle.zst_uber.specs.declared.uber.Uber.{Uber as Body};
 ghost use Rattle.zst_model.specs.pools.Pool.{Pool as Plain};
@@ -31,10 +31,10 @@ impl<'d, D: Disk> Pool<'d, D> {
     /// Does on the pool's own disk what opening does, with the same refusals. After E28 it has
     /// failed; after any other refusal it is as before, and a failed pool stays failed.
     pub fn reopen(&mut self, alloc: Global) -> Result<(), OpenFault>
-        ensures there { (uber : Body) (rows : Rows) (pool : Plain) → (D.state self.new.io.disk.now).honest → ReadsAs uber rows pool (D.state self.old.io.disk.now).seen → GivesPool uber rows (reopened self.new.kept result) }
+        ensures there { (tight : Bool) (uber : Body) (rows : Rows) (pool : Plain) → (D.state self.new.io.disk.now).honest → ReadsAs tight uber rows pool (D.state self.old.io.disk.now).seen → GivesPool uber rows (reopened self.new.kept result) }
         ensures answer { (D.state self.new.io.disk.now).honest → OpenAnswers (D.state self.old.io.disk.now) (reopened self.new.kept result) }
         // And the pool that was opened is at rest.
-        ensures rests { (uber : Body) (rows : Rows) (pool : Plain) → (D.state self.new.io.disk.now).honest → ReadsAs uber rows pool (D.state self.old.io.disk.now).seen → OnOk result (IsAtRest (D.state self.new.io.disk.now) self.new.kept pool) }
+        ensures rests { (tight : Bool) (uber : Body) (rows : Rows) (pool : Plain) → (D.state self.new.io.disk.now).honest → ReadsAs tight uber rows pool (D.state self.old.io.disk.now).seen → OnOk result (IsAtRest tight (D.state self.new.io.disk.now) self.new.kept pool) }
         ensures works { OnOk result (CanCommit (D.state self.new.io.disk.now) self.new.io.space self.new.kept.body) }
         ensures space { OnOk result (self.new.io.space ≡ free_by self.new.kept.body) }
         ensures synced { OnOk result (IsSynced (D.state self.new.io.disk.now)) }

@@ -12,3 +12,4 @@ mod Sizes
 mod Staying
 mod Steps
 mod Touching
+mod Telling

@@ -10,7 +10,7 @@ use Rattle.zst_dir.proofs.Matching.{Match-alike}
 use Rattle.zst_dir.specs.Named.{Match}
 use Rattle.zst_dir.specs.Rows.{Rows}
 use Rattle.zst_dir.specs.declared.rows.Snapshot.{Snapshot}
-use Rattle.zst_image.specs.Reads.{BookmarkIs, RunsBy, SnapshotIs}
+use Rattle.zst_image.specs.Reads.{BookmarkIs, RunsBy, SetIs, SnapshotIs}
 use Rattle.zst_model.specs.declared.refusals.faults.Lack.TheVariants as lacks
 use Rattle.zst_model.specs.declared.refusals.named.Name.TheVariants as names
 use Rattle.zst_model.specs.declared.refusals.plan_fault.PlanFault.{PlanFault}
@@ -23,7 +23,6 @@ use Rattle.zst_model.specs.sends.Headers.{Sent, choice_of, redaction_list, sourc
 use Rattle.zst_model.specs.sends.Included.{Choice, Pairs, no_pairs}
 use Rattle.zst_model.specs.sends.SendPlan.{has_guids, send_plan}
 use Rattle.zst_model.specs.states.Apply.{unless, ◌>>=◌}
-use Rattle.zst_objset.specs.Sets.{SetHolds}
 use Rattle.zst_plan.specs.Places.{AnswerAlike, FindAlike, StandsAt}
 use Rattle.zst_plan.specs.Plans.{IsPlanOf, bookmark_source}
 use Rattle.zst_plan.specs.declared.plan.SendPlan.{SendPlan}
@@ -100,7 +99,7 @@ no_redaction (Some bookmark) e = absurd (true≢false e)
 abbrev choice : Option ℕ → Pairs → Pairs → Choice
 choice from source redact = record { from = from; source = source; redact = redact }
 
-module _ (has : Blocks) (rows : Rows) (running : Pool) (runs : RunsBy has rows running) where
+module _ {bound : Option ℕ} (has : Blocks) (rows : Rows) (running : Pool) (runs : RunsBy bound has rows running) where
   -- a source without redaction guids has no list
   no_source : (book : Option ℕ) (source : Option Source) → FindAlike (StandsAt rows.bookmarks running.bookmarks) book (bookmark_source source)
       → has_guids (source_guids source) ≡ false → source_list source ≡ no_pairs
@@ -112,9 +111,9 @@ module _ (has : Blocks) (rows : Rows) (running : Pool) (runs : RunsBy has rows r
       no_runs bookmark.runs (is.list.count_is ∙ is.named.no_list (sym is.named.redact ∙ none_there bookmark.redact none))
 
   module _ (plan : SendPlan) (sent : Sent) (is : IsPlanOf rows running plan sent) where
-    -- the set of the snapshot's row holds its objects
-    pub plan_holds : (row : Snapshot) → row ≡ get_or rows.snapshots plan.snap row → SetHolds has row.objects sent.snapshot.objects
-    plan_holds row here = (at_names (SnapshotIs has) rows.snapshots running.snapshots plan.snap row sent.snapshot runs.snapshots is.snapshot here).objects
+    -- the set of the snapshot's row is known as well as the rows
+    pub plan_holds : (row : Snapshot) → row ≡ get_or rows.snapshots plan.snap row → SetIs bound has row.objects sent.snapshot.objects
+    plan_holds row here = (at_names (SnapshotIs bound has) rows.snapshots running.snapshots plan.snap row sent.snapshot runs.snapshots is.snapshot here).objects
 
     -- all that is dated after the source is sent
     pub plan_choice : is_plain sent ≡ true → choice_of sent ≡ choice_after plan.from_number

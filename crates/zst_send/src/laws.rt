@@ -1,4 +1,11 @@
 //! What ties sends to one another.
+ghost use Rattle.std.specs.Prelude.{◌≤◌, ℕ, List, Some, All};
+ghost use Rattle.zst_space.specs.FreeSectors.{FreeSectors};
+ghost use Rattle.zst_block.specs.Blocks.{Has};
+ghost use Rattle.zst_dir.specs.Rows.{Rows};
+ghost use Rattle.zst_image.specs.Reads.{RunsBy};
+ghost use Rattle.zst_model.specs.pools.Pool.{Pool};
+ghost use Rattle.zst_plan.specs.Receipts.{TellsDates};
 ghost use Rattle.zst_send.specs.Sends.{EqualViewsAreSentAlike, SendsGoOn};
 
 use zst_objset::sets_hold_states;
@@ -13,4 +20,11 @@ pub fn sends_go_on()
 /// Sends of equal headers and equal views give equal bytes.
 pub fn equal_views_are_sent_alike()
     ensures { EqualViewsAreSentAlike }
+{}
+
+/// Tight sets tell the dates of a pool's heads to a plan of a receive, where no head's set has more
+/// than six levels: the pointers of a seventh stand for numbers too that no object has.
+pub fn tight_sets_tell_dates()
+    ensures { (number : ℕ) (image : List ℕ) (space : FreeSectors) (rows : Rows) (pool : Pool) → RunsBy (Some number) (Has image space) rows pool
+        → All (λ dataset. dataset.head.tree.levels ≤ 6) rows.datasets → TellsDates rows pool }
 {}

@@ -13,6 +13,6 @@ mod tests;
 mod walk;
 mod work;
 
-pub use laws::{equal_views_are_sent_alike, sends_go_on};
+pub use laws::{equal_views_are_sent_alike, sends_go_on, tight_sets_tell_dates};
 pub use send::Send;
 pub use zst_plan::{FromName, SendAsk};

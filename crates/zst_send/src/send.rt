@@ -17,7 +17,7 @@ pub struct Send {
 }
 
 impl Send {
-    ghost use Rattle.std.specs.Prelude.{◌≡◌, ◌≢◌, ◌+◌, ◌≤◌, false, true, Contains, List, [], ℕ, IfErr, IfOk, None, Some, Err, length};
+    ghost use Rattle.std.specs.Prelude.{◌≡◌, ◌≢◌, ◌+◌, ◌≤◌, false, true, Contains, List, [], ℕ, IfErr, IfOk, None, Some, Err, length, Ok};
     ghost use Rattle.std.specs.List.{position};
     ghost use Rattle.std.specs.Str.{bytes_eq};
     ghost use Rattle.zst_space.specs.FreeSectors.{FreeSectors};
@@ -50,7 +50,10 @@ impl Send {
         ask: &SendAsk,
     ) -> Result<Send, PoolFault>
         // By its plan it has given nothing, and all of its text is left.
-        ensures opens { (image : List ℕ) (space : FreeSectors) (running : Plain) → pool.old.io.failed ≡ false → RunsBy (Has image space) pool.old.kept.dir running → Opens (Has image space) ask.now running result }
+        ensures opens { (image : List ℕ) (space : FreeSectors) (running : Plain) → pool.old.io.failed ≡ false → RunsBy None (Has image space) pool.old.kept.dir running → Opens (Has image space) ask.now running result }
+        // Of a pool of tight sets its set is tight.
+        ensures tight { (image : List ℕ) (space : FreeSectors) (running : Plain) (number : ℕ) → pool.old.io.failed ≡ false → RunsBy (Some number) (Has image space) pool.old.kept.dir running
+            → IfOk result (λ send. (sent : Sent) → opening ask.now running ≡ Ok sent → SetIsTight (Has image space) send.subject.set sent.snapshot.objects) }
         // Its refusals are those of the rows alone, whatever the object sets and the lists hold.
         ensures planned { (running : Plain) → pool.old.io.failed ≡ false → AreNamed pool.old.kept.dir running → IsPlanned (opening ask.now running) result }
         // It is of the object set that the asked name has, and keeps no pointer yet.
@@ -137,8 +140,10 @@ impl Send {
         ensures set { (name : List ℕ) → position (λ snapshot. bytes_eq snapshot.name name) dir.now.snapshots ≡ Some plan.now.snap → set_named (names.Snapshot name) dir.now ≡ Some (sent_set result) }
         ensures knows { (images : List (List ℕ)) → Knows (IsAmong images) result }
         ensures fits { SendFits result }
-        ensures sends { (image : List ℕ) (space : FreeSectors) (running : Plain) (sent : Sent) → RunsBy (Has image space) dir.now running → IsPlanOf dir.now running plan.now sent → is_plain sent ≡ true
+        ensures sends { (image : List ℕ) (space : FreeSectors) (running : Plain) (sent : Sent) → RunsBy None (Has image space) dir.now running → IsPlanOf dir.now running plan.now sent → is_plain sent ≡ true
             → Sends (Has image space) result sent [] (sent_text sent) }
+        ensures tight { (image : List ℕ) (space : FreeSectors) (running : Plain) (sent : Sent) (number : ℕ) → RunsBy (Some number) (Has image space) dir.now running → IsPlanOf dir.now running plan.now sent
+            → SetIsTight (Has image space) result.subject.set sent.snapshot.objects }
     {
         let header = plan.header(dir);
         let subject = Subject {

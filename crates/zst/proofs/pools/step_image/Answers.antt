@@ -23,15 +23,15 @@ returns-in_err-reply g c =
     let stepping = stepping_refused laws c.reads_as_one.ensures.rows c.reads_are_kept.ensures c.args.now c.args.command
     (g.D.Disk.state c.args.here.now) (g.D.Disk.state c.open.new.disk) (g.D.Disk.state c.step-reply.new.self.io.disk.now)
     c.in_ok-kept.kept c.step-reply.new.self.kept e.there (λ told. rw (n.disk) at (s.honest told)) e.answer e.reads e.rests
-    (λ rows pool rests same. rest.rests c.open.new.disk c.in_ok-kept.kept rows pool rests same) e.cause.later
-    (λ pool told rests. rw (n.disk) at (s.moments pool told (rw (n.disk, n.kept) rests)))
+    (λ tight rows pool rests same. rest.rests tight c.open.new.disk c.in_ok-kept.kept rows pool rests same) e.cause.later
+    (λ tight pool told rests. rw (n.disk) at (s.moments tight pool told (rw (n.disk, n.kept) rests)))
     (λ not. rw (n.disk) at (s.only_reads not))
     (g.met.D.Disk.only_now c.args.here.now) (g.met.D.Disk.counts_now c.step-reply.new.self.io.disk.now)
     c.in_err-reply.field-0.0 (s.kept ∙ n.kept) (rw (n.disk) at s.cause) (λ is. s.open_still n.failed (ap (λ f. Err f) is))
     (λ not. rw (n.disk, n.kept) at (s.spares (λ is. not (cc is)))) (c.step-reply.new.self.io.space, most.0, most.1, rw (n.kept) at most.2.full) (λ told. rw (n.disk, n.kept) at (s.damaged told))
     (λ memory. rw (n.kept) at (s.planned n.failed (λ is. memory (cc is))))
     (λ pool told rests. (c.step-reply.new.self.io.space, rw (n.kept) at ((s.exact pool told n.failed (rw (n.disk, n.kept) rests)).full)))
-    (λ pool told rests. s.answer pool told n.failed (rw (n.disk, n.kept) rests)) in
+    (λ tight pool told rests. s.answer tight pool told n.failed (rw (n.disk, n.kept) rests)) in
     rw (p.1, p.2) (search (rules, stepping))
 
 pub returns : goal.returns
@@ -44,11 +44,11 @@ returns g c =
     let stepping = stepping_done laws c.reads_as_one.ensures.rows c.reads_are_kept.ensures c.args.now c.args.command
     (g.D.Disk.state c.args.here.now) (g.D.Disk.state c.open.new.disk) (g.D.Disk.state c.step-reply.new.self.io.disk.now)
     c.in_ok-kept.kept c.step-reply.new.self.kept e.there (λ told. rw (n.disk) at (s.honest told)) e.answer e.reads e.rests
-    (λ rows pool rests same. rest.rests c.open.new.disk c.in_ok-kept.kept rows pool rests same) e.cause.later
-    (λ pool told rests. rw (n.disk) at (s.moments pool told (rw (n.disk, n.kept) rests)))
+    (λ tight rows pool rests same. rest.rests tight c.open.new.disk c.in_ok-kept.kept rows pool rests same) e.cause.later
+    (λ tight pool told rests. rw (n.disk) at (s.moments tight pool told (rw (n.disk, n.kept) rests)))
     (λ not. rw (n.disk) at (s.only_reads not))
     (g.met.D.Disk.only_now c.args.here.now) (g.met.D.Disk.counts_now c.step-reply.new.self.io.disk.now)
     c.in_ok-reply.field-0 (rw (n.disk) at s.cause.later) (rw (n.kept) at (s.planned n.failed (λ is. absurd (cc is))))
     (λ pool told rests. rw (n.kept) at ((s.exact pool told n.failed (rw (n.disk, n.kept) rests)).grows))
-    (λ pool told rests. s.answer pool told n.failed (rw (n.disk, n.kept) rests)) in
+    (λ tight pool told rests. s.answer tight pool told n.failed (rw (n.disk, n.kept) rests)) in
     subst (λ d. Stepping c.args.now c.args.command (g.D.Disk.state c.args.here.now) (g.D.Disk.state d) (Ok c.in_ok-reply.field-0)) (search rules) stepping

@@ -1,4 +1,4 @@
-use Rattle.std.proofs.Common.{◌≡◌, ℕ, ap, sym, ◌∙◌, subst, arith}
+use Rattle.std.proofs.Common.{◌≡◌, ℕ, ap, sym, ◌∙◌, subst, arith, Bool}
 use Rattle.std.proofs.lemmas.Result.{err_from_is_err_and}
 use Rattle.zst_outside.specs.Images.{Leaves}
 use Rattle.zst_block.specs.Blocks.{FitsDisk, Has}
@@ -32,15 +32,15 @@ commit_event-requires-clause-next g c = λ told.
     subst (λ (n : ℕ). IsNext n (latest (g.D.Disk.state c.write_dir.new.io.disk.now).seen)) (sym (ap (λ (u : Uber). u.number) c.next_body-next.ensures)) (ready.next told)
 
 pub returns-in_err-tree-clause-over : goal.returns-in_err-tree-clause-over
-returns-in_err-tree-clause-over g c = λ next told is.
+returns-in_err-tree-clause-over g c = λ tight next told is.
     let old = g.D.Disk.state c.args.io.now.disk.now in
     let space = c.args.io.now.space in
     let p = err_from_is_err_and c.from_residual.result c.from_residual.ensures.1 in
     rw (p.1, p.2) (over-refused old _ space c.write_dir.new.io.space next c.in_err-tree.field-0.0 (IsTaken-head old.size space c.requires.fits) c.write_dir.ensures.works.fills)
 
 pub returns-in_err-tree-clause-commits : goal.returns-in_err-tree-clause-commits
-returns-in_err-tree-clause-commits g c = λ start rows pool next told rests fills is.
-    Commits-over (g.D.Disk.state start) _ _ _ c.write_dir.new.io.space c.args.body.now rows pool next _ rests fills (returns-in_err-tree-clause-over g c next told is)
+returns-in_err-tree-clause-commits g c = λ tight start rows pool next told rests fills is.
+    Commits-over (g.D.Disk.state start) _ _ _ c.write_dir.new.io.space c.args.body.now rows pool next _ rests fills (returns-in_err-tree-clause-over g c tight next told is)
 
 pub returns-in_err-tree-clause-stays : goal.returns-in_err-tree-clause-stays
 returns-in_err-tree-clause-stays g c = λ sound.
@@ -55,10 +55,10 @@ returns-in_err-tree-clause-refused g c =
     rw (p.1, p.2) (Stays-from _ c.in_err-tree.field-0.0 (latest-spared space old.seen _ (IsTaken-head old.size space c.requires.fits) c.write_dir.ensures.works.fills.seen))
 
 -- what the event was begun with, and what each image inside it reads as
-began : (g : Over) (c : After-commit_event g) (next : Pool) → (g.D.Disk.state c.commit_event.new.io.disk.now).honest
-    → NextIs (Has (g.D.Disk.state c.args.io.now.disk.now).seen c.args.io.now.space) c.args.body.now c.args.guids c.args.dir next
-    → IsPrepared c.next_body-next.result c.args.dir next (g.D.Disk.state c.write_dir.new.io.disk.now).seen
-    × Leaves (g.D.Disk.state c.args.io.now.disk.now) (g.D.Disk.state c.commit_event.new.io.disk.now) (OldOrNext c.args.io.now.space (g.D.Disk.state c.args.io.now.disk.now) next)
+began : {tight : Bool} (g : Over) (c : After-commit_event g) (next : Pool) → (g.D.Disk.state c.commit_event.new.io.disk.now).honest
+    → NextIs tight (Has (g.D.Disk.state c.args.io.now.disk.now).seen c.args.io.now.space) c.args.body.now c.args.guids c.args.dir next
+    → IsPrepared tight c.next_body-next.result c.args.dir next (g.D.Disk.state c.write_dir.new.io.disk.now).seen
+    × Leaves (g.D.Disk.state c.args.io.now.disk.now) (g.D.Disk.state c.commit_event.new.io.disk.now) (OldOrNext tight c.args.io.now.space (g.D.Disk.state c.args.io.now.disk.now) next)
 began g c next told is =
     let old = g.D.Disk.state c.args.io.now.disk.now in
     let mid = g.D.Disk.state c.write_dir.new.io.disk.now in
@@ -70,7 +70,7 @@ began g c next told is =
     (ready, commit-moments old mid _ space less c.next_body-next.result c.args.dir next (IsTaken-head old.size space c.requires.fits) c.write_dir.ensures.works.fills ready (c.commit_event.ensures.moments told))
 
 pub returns-in-Ok-clause-over : goal.returns-in-Ok-clause-over
-returns-in-Ok-clause-over g c = λ next told is.
+returns-in-Ok-clause-over g c = λ tight next told is.
     let event = began g (goal.at.returns-in-Ok-clause-over g c).After-commit_event next told is in
     record {
       moments = event.1;
@@ -78,17 +78,17 @@ returns-in-Ok-clause-over g c = λ next told is.
     }
 
 pub returns-in-Ok-clause-commits : goal.returns-in-Ok-clause-commits
-returns-in-Ok-clause-commits g c = λ start rows pool next told rests fills is.
-    Commits-over (g.D.Disk.state start) _ _ _ c.commit_event.new.io.space c.args.body.now rows pool next _ rests fills (returns-in-Ok-clause-over g c next told is)
+returns-in-Ok-clause-commits g c = λ tight start rows pool next told rests fills is.
+    Commits-over (g.D.Disk.state start) _ _ _ c.commit_event.new.io.space c.args.body.now rows pool next _ rests fills (returns-in-Ok-clause-over g c tight next told is)
 
 pub returns-in-Err-clause-over : goal.returns-in-Err-clause-over
-returns-in-Err-clause-over g c = λ next told is.
+returns-in-Err-clause-over g c = λ tight next told is.
     let event = began g (goal.at.returns-in-Err-clause-over g c).After-commit_event next told is in
     record { moments = event.1; answer = tt }
 
 pub returns-in-Err-clause-commits : goal.returns-in-Err-clause-commits
-returns-in-Err-clause-commits g c = λ start rows pool next told rests fills is.
-    Commits-over (g.D.Disk.state start) _ _ _ c.commit_event.new.io.space c.args.body.now rows pool next _ rests fills (returns-in-Err-clause-over g c next told is)
+returns-in-Err-clause-commits g c = λ tight start rows pool next told rests fills is.
+    Commits-over (g.D.Disk.state start) _ _ _ c.commit_event.new.io.space c.args.body.now rows pool next _ rests fills (returns-in-Err-clause-over g c tight next told is)
 
 pub returns-in-Ok-clause-ready : goal.returns-in-Ok-clause-ready
 returns-in-Ok-clause-ready g c =

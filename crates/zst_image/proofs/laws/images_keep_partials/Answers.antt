@@ -2,4 +2,4 @@ use Rattle.zst_image.proofs.Lasting.{images_keep}
 use Rattle.zst_image.proofs.laws.images_keep_partials.Goals as goal
 
 pub returns : goal.returns
-returns c = images_keep
+returns c = λ tight. images_keep {tight = tight}

@@ -2,4 +2,4 @@ use Rattle.zst_image.proofs.Committed.{ReadsAs-spared}
 use Rattle.zst_image.proofs.laws.reads_are_kept.Goals as goal
 
 pub returns : goal.returns
-returns c = ReadsAs-spared
+returns c = λ tight. ReadsAs-spared {tight = tight}

@@ -1,14 +1,15 @@
-use Rattle.std.proofs.Common.{refl, sym, ap, ◌∙◌, subst}
+use Rattle.std.proofs.Common.{refl, sym, ap, ◌∙◌, subst, ◌+◌, arith}
 use Rattle.zst_block.specs.Blocks.{Has}
 use Rattle.zst_model.specs.pools.Pool.{is_before, inserted}
 use Rattle.zst_model.specs.pools.Step.{bookmark_of, with_bookmark}
 use Rattle.zst_dir.specs.Rows.{Rows}
 use Rattle.zst_dir.specs.declared.rows.Bookmark.{Bookmark}
-use Rattle.zst_image.specs.Reads.{RunsBy}
+use Rattle.zst_image.specs.Reads.{RunsBy, bound_of}
 use Rattle.zst_pool.specs.Lineage.{with_marked}
 use Rattle.zst_pool.specs.Cost.{cells_only}
 use Rattle.zst_pool.specs.Damage.{NoDamage}
 use Rattle.zst_pool.specs.declared.fault.PoolFault.TheVariants.{OutOfMemory, Plan}
+use Rattle.zst_pool.proofs.Bounds.{RunsBy-later}
 use Rattle.zst_pool.proofs.Judging.{err_is}
 use Rattle.zst_pool.proofs.LineageRows.{bookmark_runs}
 use Rattle.zst_pool.proofs.Resting.{few_guids, rest_named, runs_named}
@@ -33,7 +34,7 @@ returns-clause-runs g c =
     let name = c.args.name.now in
     let row = c.in_ok-row.row in
     let dir = c.in_ok-add_bookmark.ensures.added ∙ ap (λ (d : Rows). record d { bookmarks = inserted (λ (a b : Bookmark). is_before a.name b.name) row d.bookmarks }) c.in_ok-dir.ensures in
-    c.commit_rows.ensures.runs (with_bookmark c.args.snapshot.now name) (λ image space running runs.
+    c.commit_rows.ensures.runs (with_bookmark c.args.snapshot.now name) (λ tight image space running runs.
     let has = Has image space in
     let named = runs_named has kept running runs in
     let judged = c.in_ok-row.ensures.judged running named.are_named named.number in
@@ -46,5 +47,6 @@ returns-clause-runs g c =
       number = refl;
       guid_counter = runs.guids;
       few = few_guids has kept running runs;
-      runs_by = subst (λ (r : Rows). RunsBy has r next) (sym rows) (bookmark_runs has kept.dir running runs.runs_by name judged.0 judged.1 judged.2);
+      runs_by = RunsBy-later tight running.number (running.number + 1) (omega arith) has _ next
+          (subst (λ (r : Rows). RunsBy (bound_of tight running.number) has r next) (sym rows) (bookmark_runs has kept.dir running runs.runs_by name judged.0 judged.1 judged.2));
     })

@@ -1,14 +1,15 @@
-use Rattle.std.proofs.Common.{refl, sym, ap, ◌∙◌, subst}
+use Rattle.std.proofs.Common.{refl, sym, ap, ◌∙◌, subst, ◌+◌, arith}
 use Rattle.zst_block.specs.Blocks.{Has}
 use Rattle.zst_model.specs.pools.Pool.{is_before, inserted}
 use Rattle.zst_model.specs.pools.Step.{clone_of, with_clone}
 use Rattle.zst_dir.specs.Rows.{Rows}
 use Rattle.zst_dir.specs.declared.rows.Dataset.{Dataset}
-use Rattle.zst_image.specs.Reads.{DatasetIs, RunsBy}
+use Rattle.zst_image.specs.Reads.{DatasetIs, RunsBy, bound_of}
 use Rattle.zst_pool.specs.Checks.{with_new}
 use Rattle.zst_pool.specs.Cost.{cells_only}
 use Rattle.zst_pool.specs.Damage.{NoDamage}
 use Rattle.zst_pool.specs.declared.fault.PoolFault.TheVariants.{OutOfMemory, Plan}
+use Rattle.zst_pool.proofs.Bounds.{RunsBy-later}
 use Rattle.zst_pool.proofs.Judging.{err_is}
 use Rattle.zst_pool.proofs.LineageRows.{clone_row_is}
 use Rattle.zst_pool.proofs.NextPools.{dataset_runs}
@@ -39,7 +40,7 @@ returns-clause-runs g c =
     let name = c.args.name.now in
     let row = c.in_ok-row.row in
     let dir = c.in_ok-add_dataset.ensures.added ∙ ap (λ (d : Rows). record d { datasets = inserted (λ (a b : Dataset). is_before a.name b.name) row d.datasets }) c.in_ok-dir.ensures in
-    c.commit_rows.ensures.runs (with_clone c.args.origin.now name) (λ image space running runs.
+    c.commit_rows.ensures.runs (with_clone c.args.origin.now name) (λ tight image space running runs.
     let has = Has image space in
     let named = runs_named has kept running runs in
     let judged = c.in_ok-row.ensures.judged running named.are_named named.number in
@@ -52,6 +53,7 @@ returns-clause-runs g c =
       number = refl;
       guid_counter = runs.guids;
       few = few_guids has kept running runs;
-      runs_by = subst (λ (r : Rows). RunsBy has r (with_new clone running)) (sym dir)
-          (dataset_runs has kept.dir running row clone runs.runs_by (subst (λ (r : Dataset). DatasetIs has r clone) (sym judged.6) is));
+      runs_by = RunsBy-later tight running.number (running.number + 1) (omega arith) has _ (with_new clone running)
+          (subst (λ (r : Rows). RunsBy (bound_of tight running.number) has r (with_new clone running)) (sym dir)
+          (dataset_runs has kept.dir running row clone runs.runs_by (subst (λ (r : Dataset). DatasetIs (bound_of tight running.number) has r clone) (sym judged.6) is)));
     })

@@ -1,11 +1,12 @@
-use Rattle.std.proofs.Common.{[], refl, sym, subst}
+use Rattle.std.proofs.Common.{[], refl, sym, subst, ◌+◌, arith}
 use Rattle.zst_block.specs.Blocks.{Has}
 use Rattle.zst_model.specs.pools.Step.{rolled_back, with_rollback}
 use Rattle.zst_dir.specs.Rows.{Rows}
-use Rattle.zst_image.specs.Reads.{RunsBy}
+use Rattle.zst_image.specs.Reads.{RunsBy, bound_of}
 use Rattle.zst_pool.specs.Cost.{cells_only}
 use Rattle.zst_pool.specs.Damage.{NoDamage}
 use Rattle.zst_pool.specs.declared.fault.PoolFault.TheVariants.{Plan}
+use Rattle.zst_pool.proofs.Bounds.{RunsBy-later}
 use Rattle.zst_pool.proofs.Judging.{err_is}
 use Rattle.zst_pool.proofs.Resting.{few_guids, rest_named, runs_named}
 use Rattle.zst_pool.proofs.RollingBack.{rolled_runs}
@@ -23,7 +24,7 @@ pub returns-clause-runs : goal.returns-clause-runs
 returns-clause-runs g c =
     let kept = c.args.kept.now in
     let row = c.in_ok-snapshot.snapshot.now in
-    c.commit_rows.ensures.runs (with_rollback [] c.args.destroys c.args.name.now) (λ image space running runs.
+    c.commit_rows.ensures.runs (with_rollback [] c.args.destroys c.args.name.now) (λ tight image space running runs.
     let has = Has image space in
     let named = runs_named has kept running runs in
     let judged = c.in_ok-snapshot.ensures.judged running named.are_named named.number in
@@ -35,5 +36,6 @@ returns-clause-runs g c =
       number = refl;
       guid_counter = runs.guids;
       few = few_guids has kept running runs;
-      runs_by = subst (λ (r : Rows). RunsBy has r next) (sym c.in_ok-dir.ensures.rolled) (rolled_runs has kept.dir running runs.runs_by row judged.0 judged.1);
+      runs_by = RunsBy-later tight running.number (running.number + 1) (omega arith) has _ next
+          (subst (λ (r : Rows). RunsBy (bound_of tight running.number) has r next) (sym c.in_ok-dir.ensures.rolled) (rolled_runs has kept.dir running runs.runs_by row judged.0 judged.1));
     })

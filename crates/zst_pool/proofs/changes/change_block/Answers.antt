@@ -11,11 +11,12 @@ use Rattle.zst_model.specs.states.Dated.{DatedState, size_at}
 use Rattle.zst_objset.specs.Answers.{Changes}
 use Rattle.zst_objset.specs.Changes.{block_written}
 use Rattle.zst_tree.specs.Sets.{SetFits}
-use Rattle.zst_objset.specs.Sets.{SetHolds}
-use Rattle.zst_objset.proofs.SetGrows.{SetHolds-grows}
+use Rattle.zst_image.proofs.Growing.{SetIs-grows}
+use Rattle.zst_image.proofs.One.{SetIs-holds}
+use Rattle.zst_pool.proofs.Known.{changes_known, written_dated}
 use Rattle.zst_pool.specs.Heads.{ChangesHead, Works, of_change, of_head, stop_of}
 use Rattle.zst_pool.specs.Damage.{block_damage}
-use Rattle.zst_image.specs.Reads.{new_pool}
+use Rattle.zst_image.specs.Reads.{SetIs, bound_of, new_pool}
 use Rattle.zst_space.specs.FreeSectors.{FreeSectors}
 use Rattle.zst_tree.specs.Damage.{IsSeen, NamesNode}
 use Rattle.zst_objset.specs.Damage.{IsDamagedObject, IsDamagedSet}
@@ -32,13 +33,13 @@ use Rattle.zst_pool.proofs.changes.change_block.Goals as goal
 use Rattle.zst_pool.proofs.changes.change_block.Goals.{After-answer}
 
 pub returns-in_err-size-clause-changed : goal.returns-in_err-size-clause-changed
-returns-in_err-size-clause-changed g c = λ pool head told number holds.
+returns-in_err-size-clause-changed g c = λ tight pool head told number holds.
     let has = Has (g.D.Disk.state c.find_size.new.io.disk.now).seen c.find_size.new.io.space in
-    subst (ChangesHead has c.args.set.now (written pool c.args.object c.args.index c.args.bytes.now head)) (sym (err_is c.from_residual.result c.in_err-size.field-0.0 c.from_residual.ensures.1))
-    (c.in_err-size.ensures.found pool c.args.index head told holds)
+    subst (ChangesHead (bound_of tight c.args.number) has c.args.set.now (written pool c.args.object c.args.index c.args.bytes.now head)) (sym (err_is c.from_residual.result c.in_err-size.field-0.0 c.from_residual.ensures.1))
+    (c.in_err-size.ensures.found pool c.args.index head told (SetIs-holds (bound_of tight c.args.number) _ c.args.set.now head holds))
 
 pub returns-clause-changed : goal.returns-clause-changed
-returns-clause-changed g c = λ pool head told number holds.
+returns-clause-changed g c = λ tight pool head told number holds.
     let old = g.D.Disk.state c.args.io.now.disk.now in
     let mid = g.D.Disk.state c.find_size.new.io.disk.now in
     let less = c.find_size.new.io.space in
@@ -47,14 +48,17 @@ returns-clause-changed g c = λ pool head told number holds.
     let k = c.args.object in
     let i = c.args.index in
     let bytes = c.args.bytes.now in
-    let found = c.in_ok-size.ensures.found pool i head (c.write_block.ensures.works.fills.honest told) holds in
-    let grown = SetHolds-grows (Has old.seen c.args.io.now.space) (Has mid.seen less) (KeepsBlocks-fills old mid c.args.io.now.space less (let read = works_looks 0 0 c.requires.fits c.in_ok-size.ensures.looks in read.fills)) c.args.set.now head holds in
+    let found = c.in_ok-size.ensures.found pool i head (c.write_block.ensures.works.fills.honest told) (SetIs-holds (bound_of tight c.args.number) _ c.args.set.now head holds) in
+    let read = works_looks 0 0 c.requires.fits c.in_ok-size.ensures.looks in
+    let grown = SetIs-grows old.seen c.args.io.now.space mid.seen less (KeepsBlocks-fills old mid c.args.io.now.space less read.fills) (bound_of tight c.args.number) c.args.set.now head holds in
     let block = c.deref.ensures.value ∙ c.in_ok-block.ensures ∙ ap (λ (size : ℕ). filled size bytes) found in
     let same = ap (λ (b : List ℕ). block_written c.args.number k i b head) block
     ∙ ap (λ (n : ℕ). block_written n k i (filled (size_at (head.state k)) bytes) head) (sym number)
     ∙ c.changes_are_commands.ensures.write pool k i bytes head in
-    let is = subst (λ (r : Result DatedState Refusal). Changes (SetHolds has set) r c.write_block.result) same (c.write_block.ensures.changed head told grown) in
-    call_changes c.write_block.result c.answer.result c.answer.ensures has set (written pool k i bytes head) is
+    let known = changes_known tight c.args.number (Has mid.seen less) has c.args.set.now set head (block_written c.args.number k i c.deref.result.now head) c.write_block.result
+    (c.write_block.ensures.changed head told) (c.write_block.ensures.tight head told) (written_dated c.args.number k i c.deref.result.now head) grown in
+    let is = subst (λ (r : Result DatedState Refusal). Changes (SetIs (bound_of tight c.args.number) has set) r c.write_block.result) same known in
+    call_changes c.write_block.result c.answer.result c.answer.ensures (bound_of tight c.args.number) has set (written pool k i bytes head) is
 
 -- what is taken for the block, of a size that was found
 taken : (g : Over) (c : After-answer g) (size : ℕ) → length c.deref.result.now ≡ size → Works 1 (size / 512) (g.D.Disk.state c.args.io.now.disk.now) c.args.io.now.space c.args.io.now.failed (g.D.Disk.state c.write_block.new.io.disk.now) c.write_block.new.io.space c.write_block.new.io.failed (stop_of c.answer.result)

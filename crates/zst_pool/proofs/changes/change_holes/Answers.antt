@@ -6,7 +6,8 @@ use Rattle.zst_model.specs.states.Dated.{DatedState}
 use Rattle.zst_objset.specs.Answers.{Changes}
 use Rattle.zst_objset.specs.Changes.{holes_made}
 use Rattle.zst_tree.specs.Sets.{SetFits}
-use Rattle.zst_objset.specs.Sets.{SetHolds}
+use Rattle.zst_image.specs.Reads.{SetIs, bound_of}
+use Rattle.zst_pool.proofs.Known.{changes_known, punched_dated}
 use Rattle.zst_pool.specs.Damage.{range_damage}
 use Rattle.zst_pool.proofs.Damaged.{damaged_call}
 use Rattle.zst_pool.proofs.Taking.{tree_blocks, works_wider}
@@ -15,12 +16,15 @@ use Rattle.zst_pool.proofs.Planned.{past_indices}
 use Rattle.zst_pool.proofs.changes.change_holes.Goals as goal
 
 pub returns-clause-changed : goal.returns-clause-changed
-returns-clause-changed g c = λ pool head told number holds.
+returns-clause-changed g c = λ tight pool head told number holds.
     let has = Has (g.D.Disk.state c.punch.new.io.disk.now).seen c.punch.new.io.space in
     let set = c.punch.new.self in
     let same = ap (λ (n : ℕ). holes_made n c.args.object c.args.first c.args.count head) (sym number) ∙ c.changes_are_commands.ensures.punch pool c.args.object c.args.first c.args.count head in
-    let is = subst (λ (r : Result DatedState Refusal). Changes (SetHolds has set) r c.punch.result) same (c.punch.ensures.changed head told holds) in
-    call_changes c.punch.result c.answer.result c.answer.ensures has set _ is
+    let old = Has (g.D.Disk.state c.args.io.now.disk.now).seen c.args.io.now.space in
+    let known = changes_known tight c.args.number old has c.args.set.now set head (holes_made c.args.number c.args.object c.args.first c.args.count head) c.punch.result
+    (c.punch.ensures.changed head told) (c.punch.ensures.tight head told) (punched_dated c.args.number c.args.object c.args.first c.args.count head) holds in
+    let is = subst (λ (r : Result DatedState Refusal). Changes (SetIs (bound_of tight c.args.number) has set) r c.punch.result) same known in
+    call_changes c.punch.result c.answer.result c.answer.ensures (bound_of tight c.args.number) has set _ is
 
 pub returns-clause-works : goal.returns-clause-works
 returns-clause-works g c = works_wider 1280 0 (omega arith) (tree_blocks 0) (call_works c.punch.result c.answer.result c.answer.ensures c.punch.ensures.works)

@@ -5,7 +5,8 @@ use Rattle.zst_model.specs.declared.refusals.refusal.Refusal.{Refusal}
 use Rattle.zst_model.specs.states.Dated.{DatedState}
 use Rattle.zst_objset.specs.Answers.{Changes}
 use Rattle.zst_objset.specs.Changes.{objects_freed}
-use Rattle.zst_objset.specs.Sets.{SetHolds}
+use Rattle.zst_image.specs.Reads.{SetIs, bound_of}
+use Rattle.zst_pool.proofs.Known.{changes_known, freed_dated}
 use Rattle.zst_pool.specs.Damage.{slots_damage}
 use Rattle.zst_pool.proofs.Damaged.{damaged_call}
 use Rattle.zst_pool.proofs.Taking.{tree_blocks, works_wider}
@@ -14,12 +15,15 @@ use Rattle.zst_pool.proofs.Planned.{past_numbers}
 use Rattle.zst_pool.proofs.changes.change_numbers.Goals as goal
 
 pub returns-clause-changed : goal.returns-clause-changed
-returns-clause-changed g c = λ pool head told number holds.
+returns-clause-changed g c = λ tight pool head told number holds.
     let has = Has (g.D.Disk.state c.free_objects.new.io.disk.now).seen c.free_objects.new.io.space in
     let set = c.free_objects.new.self in
     let same = ap (λ (n : ℕ). objects_freed n c.args.first c.args.count head) (sym number) ∙ c.changes_are_commands.ensures.free pool c.args.first c.args.count head in
-    let is = subst (λ (r : Result DatedState Refusal). Changes (SetHolds has set) r c.free_objects.result) same (c.free_objects.ensures.changed head told holds) in
-    call_changes c.free_objects.result c.answer.result c.answer.ensures has set _ is
+    let old = Has (g.D.Disk.state c.args.io.now.disk.now).seen c.args.io.now.space in
+    let known = changes_known tight c.args.number old has c.args.set.now set head (objects_freed c.args.number c.args.first c.args.count head) c.free_objects.result
+    (c.free_objects.ensures.changed head told) (λ is dated. c.free_objects.ensures.tight head told is) (freed_dated c.args.number c.args.first c.args.count head) holds in
+    let is = subst (λ (r : Result DatedState Refusal). Changes (SetIs (bound_of tight c.args.number) has set) r c.free_objects.result) same known in
+    call_changes c.free_objects.result c.answer.result c.answer.ensures (bound_of tight c.args.number) has set _ is
 
 pub returns-clause-works : goal.returns-clause-works
 returns-clause-works g c = works_wider 1280 0 (omega arith) (tree_blocks 0) (call_works c.free_objects.result c.answer.result c.answer.ensures c.free_objects.ensures.works)

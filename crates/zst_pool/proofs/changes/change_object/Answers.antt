@@ -1,5 +1,5 @@
 use Rattle.std.specs.Prelude.{Option, Some, None, Result, Ok, Err}
-use Rattle.std.proofs.Common.{◌≡◌, ◌⊎◌, ℕ, ◌+◌, ◌*◌, ◌/◌, ◌≤◌, List, false, length, sym, ap, ◌∙◌, subst, arith}
+use Rattle.std.proofs.Common.{◌≡◌, ◌⊎◌, ℕ, ◌+◌, ◌*◌, ◌/◌, ◌≤◌, List, false, length, sym, ap, ◌∙◌, subst, arith, Bool}
 use Rattle.zst_block.specs.Blocks.{Has, SparesTaken}
 use Rattle.zst_model.specs.declared.refusals.refusal.Refusal.{Refusal}
 use Rattle.zst_model.specs.pools.Pool.{Pool}
@@ -7,7 +7,6 @@ use Rattle.zst_model.specs.states.Dated.{DatedState}
 use Rattle.zst_objset.specs.Changes.{object_made, object_put, spill_put}
 use Rattle.zst_objset.specs.Damage.{IsDamagedSet, IsSetWithin}
 use Rattle.zst_tree.specs.Sets.{SetFits}
-use Rattle.zst_objset.specs.Sets.{SetHolds}
 use Rattle.zst_pool.specs.Damage.{IfHeadDamaged, slots_damage}
 use Rattle.zst_pool.proofs.Damaged.{damaged_call, damaged_err}
 use Rattle.zst_pool.specs.Checks.{put_in}
@@ -17,6 +16,8 @@ use Rattle.zst_pool.specs.Cost.{object_cells, spill_sectors}
 use Rattle.zst_pool.proofs.Changing.{put_fault, then_spilled}
 use Rattle.zst_pool.proofs.Judging.{err_is}
 use Rattle.zst_pool.proofs.Taking.{tree_blocks, works_then, works_wider}
+use Rattle.zst_image.specs.Reads.{SetIs, bound_of}
+use Rattle.zst_pool.proofs.Known.{changes_known, put_dated, spill_dated}
 use Rattle.zst_pool.proofs.Writing.{call_changes, call_ok, call_works, went_well}
 use Rattle.zst_pool.proofs.changes.change_object.Given.{Over}
 use Rattle.zst_pool.proofs.Planned.{no_plan, past_numbers}
@@ -24,11 +25,16 @@ use Rattle.zst_pool.proofs.changes.change_object.Goals as goal
 use Rattle.zst_pool.proofs.changes.change_object.Goals.{After-answer}
 
 -- what the object alone makes of the set
-put : (g : Over) (c : After-answer g) (old : DatedState) → (g.D.Disk.state c.put_object.new.io.disk.now).honest → SetHolds (Has (g.D.Disk.state c.args.io.now.disk.now).seen c.args.io.now.space) c.args.set.now old
-    → ChangesHead (Has (g.D.Disk.state c.put_object.new.io.disk.now).seen c.put_object.new.io.space) c.put_object.new.self (object_put c.args.number c.args.object c.args.head c.as_slice.result.now false old) c.answer.result
-put g c old told holds =
-    call_changes c.put_object.result c.answer.result c.answer.ensures (Has (g.D.Disk.state c.put_object.new.io.disk.now).seen c.put_object.new.io.space) c.put_object.new.self
-    (object_put c.args.number c.args.object c.args.head c.as_slice.result.now false old) (c.put_object.ensures.changed old told holds)
+put : (g : Over) (c : After-answer g) (tight : Bool) (old : DatedState) → (g.D.Disk.state c.put_object.new.io.disk.now).honest → SetIs (bound_of tight c.args.number) (Has (g.D.Disk.state c.args.io.now.disk.now).seen c.args.io.now.space) c.args.set.now old
+    → ChangesHead (bound_of tight c.args.number) (Has (g.D.Disk.state c.put_object.new.io.disk.now).seen c.put_object.new.io.space) c.put_object.new.self (object_put c.args.number c.args.object c.args.head c.as_slice.result.now false old) c.answer.result
+put g c tight old told holds =
+    let before = Has (g.D.Disk.state c.args.io.now.disk.now).seen c.args.io.now.space in
+    let has = Has (g.D.Disk.state c.put_object.new.io.disk.now).seen c.put_object.new.io.space in
+    let set = c.put_object.new.self in
+    let made = object_put c.args.number c.args.object c.args.head c.as_slice.result.now false old in
+    call_changes c.put_object.result c.answer.result c.answer.ensures (bound_of tight c.args.number) has set made
+    (changes_known tight c.args.number before has c.args.set.now set old made c.put_object.result (c.put_object.ensures.changed old told) (c.put_object.ensures.tight old told)
+    (put_dated c.args.number c.args.object c.args.head c.as_slice.result.now false old) holds)
 
 -- and takes of the free sectors
 takes : (g : Over) (c : After-answer g) (block : ℕ) (answer : Result (Unit {0}) HeadFault) → c.answer.result ≡ answer
@@ -54,15 +60,15 @@ same_blocks : (block need : ℕ) → (need ≡ 16) ⊎ (need ≡ block) → (nee
 same_blocks block need is = is
 
 pub returns-in_err-answer-clause-changed : goal.returns-in_err-answer-clause-changed
-returns-in_err-answer-clause-changed g c = λ pool old told number holds.
+returns-in_err-answer-clause-changed g c = λ tight pool old told number holds.
     let at = (goal.at.returns-in_err-answer-clause-changed g c).After-answer in
     let has = Has (g.D.Disk.state c.put_object.new.io.disk.now).seen c.put_object.new.io.space in
     let set = c.put_object.new.self in
     let bonus = c.as_slice.result.now in
     let fault = c.in_err-answer.field-0.0 in
-    let fell = subst (ChangesHead has set (object_put c.args.number c.args.object c.args.head bonus false old)) c.in_err-answer.was (put g at old told holds) in
-    subst (ChangesHead has set (put_in pool c.args.object c.args.head c.args.bonus c.args.spill old)) (sym (err_is c.from_residual.result fault c.from_residual.ensures.1))
-    (subst (λ (r : Result DatedState Refusal). ChangesHead has set r (Err fault)) (made g at pool old number) (put_fault c.args.number c.args.object c.args.head bonus c.args.spill old fault fell))
+    let fell = subst (ChangesHead (bound_of tight c.args.number) has set (object_put c.args.number c.args.object c.args.head bonus false old)) c.in_err-answer.was (put g at tight old told holds) in
+    subst (ChangesHead (bound_of tight c.args.number) has set (put_in pool c.args.object c.args.head c.args.bonus c.args.spill old)) (sym (err_is c.from_residual.result fault c.from_residual.ensures.1))
+    (subst (λ (r : Result DatedState Refusal). ChangesHead (bound_of tight c.args.number) has set r (Err fault)) (made g at pool old number) (put_fault c.args.number c.args.object c.args.head bonus c.args.spill old fault fell))
 
 pub returns-in_err-answer-clause-works : goal.returns-in_err-answer-clause-works
 returns-in_err-answer-clause-works g c =
@@ -75,15 +81,15 @@ returns-in_err-answer-clause-works g c =
     (works_wider (block + 640 * object_cells spill) block (omega (arith, with_spill spill)) (same_blocks block) (takes g at block (Err fault) c.in_err-answer.was))
 
 pub returns-in-None-clause-changed : goal.returns-in-None-clause-changed
-returns-in-None-clause-changed g c = λ pool old told number holds.
+returns-in-None-clause-changed g c = λ tight pool old told number holds.
     let at = (goal.at.returns-in-None-clause-changed g c).After-answer in
     let has = Has (g.D.Disk.state c.put_object.new.io.disk.now).seen c.put_object.new.io.space in
     let set = c.put_object.new.self in
     let done = Ok c.in_ok-answer.field-0 in
     let bonus = c.as_slice.result.now in
-    let one = subst (ChangesHead has set (object_put c.args.number c.args.object c.args.head bonus false old)) c.in_ok-answer.was (put g at old told holds) in
-    let all = subst (λ (s : Option (List ℕ)). ChangesHead has set (object_made c.args.number c.args.object c.args.head bonus s old) done) (sym c.in-None.is) one in
-    subst (λ (r : Result DatedState Refusal). ChangesHead has set r done) (made g at pool old number) all
+    let one = subst (ChangesHead (bound_of tight c.args.number) has set (object_put c.args.number c.args.object c.args.head bonus false old)) c.in_ok-answer.was (put g at tight old told holds) in
+    let all = subst (λ (s : Option (List ℕ)). ChangesHead (bound_of tight c.args.number) has set (object_made c.args.number c.args.object c.args.head bonus s old) done) (sym c.in-None.is) one in
+    subst (λ (r : Result DatedState Refusal). ChangesHead (bound_of tight c.args.number) has set r done) (made g at pool old number) all
 
 pub returns-in-None-clause-works : goal.returns-in-None-clause-works
 returns-in-None-clause-works g c =
@@ -93,7 +99,7 @@ returns-in-None-clause-works g c =
     works_wider (block + 640 * object_cells spill) block (omega (arith, with_spill spill)) (same_blocks block) (takes g at block (Ok c.in_ok-answer.field-0) c.in_ok-answer.was)
 
 pub returns-clause-changed : goal.returns-clause-changed
-returns-clause-changed g c = λ pool old told number holds.
+returns-clause-changed g c = λ tight pool old told number holds.
     let at = (goal.at.returns-clause-changed g c).After-answer in
     let bonus = c.as_slice.result.now in
     let block = c.as_slice-in-Some.result.now in
@@ -101,13 +107,16 @@ returns-clause-changed g c = λ pool old told number holds.
     let mid = g.D.Disk.state c.put_object.new.io.disk.now in
     let has = Has (g.D.Disk.state c.put_spill.new.io.disk.now).seen c.put_spill.new.io.space in
     let set = c.put_spill.new.self in
-    let one = subst (ChangesHead (Has mid.seen c.put_object.new.io.space) c.put_object.new.self (object_put c.args.number c.args.object c.args.head bonus false old)) c.in_ok-answer.was
-    (put g at old (c.put_spill.ensures.works.fills.honest told) holds) in
-    let two = call_changes c.put_spill.result answered c.answer-in-Some.ensures has set (spill_put c.args.number c.args.object block one.0) (c.put_spill.ensures.changed one.0 told one.2) in
-    let both = then_spilled has set c.args.number c.args.object c.args.head bonus block old one.0 answered one.1 two in
+    let one = subst (ChangesHead (bound_of tight c.args.number) (Has mid.seen c.put_object.new.io.space) c.put_object.new.self (object_put c.args.number c.args.object c.args.head bonus false old)) c.in_ok-answer.was
+    (put g at tight old (c.put_spill.ensures.works.fills.honest told) holds) in
+    let spilled = spill_put c.args.number c.args.object block one.0 in
+    let two = call_changes c.put_spill.result answered c.answer-in-Some.ensures (bound_of tight c.args.number) has set spilled
+    (changes_known tight c.args.number (Has mid.seen c.put_object.new.io.space) has c.put_object.new.self set one.0 spilled c.put_spill.result (c.put_spill.ensures.changed one.0 told) (c.put_spill.ensures.tight one.0 told)
+    (spill_dated c.args.number c.args.object block one.0) one.2) in
+    let both = then_spilled (bound_of tight c.args.number) has set c.args.number c.args.object c.args.head bonus block old one.0 answered one.1 two in
     let is : Some block ≡ c.args.spill = ap (λ (b : List ℕ). Some b) c.as_slice-in-Some.ensures ∙ sym c.in-Some.is in
-    let all = subst (λ (s : Option (List ℕ)). ChangesHead has set (object_made c.args.number c.args.object c.args.head bonus s old) answered) is both in
-    subst (λ (r : Result DatedState Refusal). ChangesHead has set r answered) (made g at pool old number) all
+    let all = subst (λ (s : Option (List ℕ)). ChangesHead (bound_of tight c.args.number) has set (object_made c.args.number c.args.object c.args.head bonus s old) answered) is both in
+    subst (λ (r : Result DatedState Refusal). ChangesHead (bound_of tight c.args.number) has set r answered) (made g at pool old number) all
 
 pub returns-clause-works : goal.returns-clause-works
 returns-clause-works g c =

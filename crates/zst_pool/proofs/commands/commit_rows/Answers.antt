@@ -20,10 +20,10 @@ returns-clause-runs g c = λ definition makes.
     let made = c.commit_dir.result in
     runs_sound definition (cells_only 0) NoDamage kept c.of_committed.result (λ sector stated found is. committed_sound made sector stated found (sym c.of_committed.ensures ∙ is))
     (runs_committed definition (cells_only 0) kept c.args.dir made c.of_committed.ensures c.requires.ready (idle_wrote kept (cells_only 0) old space c.args.io.now.failed None refl c.requires.space c.requires.ready)
-    (λ running told rested.
+    (λ tight running told rested.
     let way = begun old kept running rested space c.requires.space in
-    did_rows old old new space c.commit_dir.new.io.space kept running (definition running) c.args.guids c.args.dir made way (makes old.seen space running (way_runs old old space kept running way)) c.datasets-lawful.ensures.lawful c.requires.number
-    (λ next is. commit.commits c.args.io.now.disk.now way.rested.rows (kept_of running) next told way.rested.rests way.fills is) commit.dir commit.blocks commit.fills)
+    did_rows old old new space c.commit_dir.new.io.space kept running (definition running) c.args.guids c.args.dir made way (makes tight old.seen space running (way_runs old old space kept running way)) c.datasets-lawful.ensures.lawful c.requires.number
+    (λ next is. commit.commits tight c.args.io.now.disk.now way.rested.rows (kept_of running) next told way.rested.rests way.fills is) commit.dir commit.blocks commit.fills)
     c.requires.grows commit.full commit.takes commit.ends commit.fills commit.ready commit.stays commit.failed commit.cause commit.honest)
 
 pub returns-clause-unplanned : goal.returns-clause-unplanned

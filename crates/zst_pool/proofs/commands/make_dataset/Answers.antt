@@ -1,4 +1,4 @@
-use Rattle.std.proofs.Common.{refl, sym, ap, ◌∙◌, subst, length, arith, inl, inr, ◌≡◌}
+use Rattle.std.proofs.Common.{refl, sym, ap, ◌∙◌, subst, length, arith, inl, inr, ◌≡◌, ◌+◌}
 use Rattle.zst_block.specs.Blocks.{Has}
 use Rattle.zst_model.specs.pools.Pool.{is_before, inserted, Pool}
 use Rattle.zst_model.specs.pools.Step.{new_dataset, with_dataset}
@@ -10,7 +10,8 @@ use Rattle.zst_pool.specs.Checks.{next_of, with_new}
 use Rattle.zst_pool.specs.declared.fault.PoolFault.TheVariants.{OutOfMemory, Plan}
 use Rattle.zst_pool.specs.Cost.{cells_only}
 use Rattle.zst_pool.specs.Damage.{NoDamage}
-use Rattle.zst_image.specs.Reads.{IsNamedBy, RunsBy}
+use Rattle.zst_image.specs.Reads.{IsNamedBy, RunsBy, bound_of}
+use Rattle.zst_pool.proofs.Bounds.{RunsBy-later}
 use Rattle.zst_pool.proofs.Judging.{err_is}
 use Rattle.zst_pool.proofs.NextPools.{dataset_runs, new_row, new_row_is_new}
 use Rattle.zst_pool.proofs.Resting.{few_guids, rest_named, runs_named}
@@ -38,7 +39,7 @@ returns-clause-runs g c =
     let dir = c.in_ok-add_dataset.ensures.added
     ∙ ap (λ (d : Rows). record d { datasets = inserted (λ (a b : Dataset). is_before a.name b.name) c.new_dataset.result d.datasets }) c.in_ok-dir.ensures
     ∙ ap (λ (row : Dataset). record kept.dir { datasets = inserted (λ (a b : Dataset). is_before a.name b.name) row kept.dir.datasets }) c.new_dataset.ensures.same in
-    c.commit_rows.ensures.runs (with_dataset (new_dataset kind name)) (λ image space running runs.
+    c.commit_rows.ensures.runs (with_dataset (new_dataset kind name)) (λ tight image space running runs.
     let has = Has image space in
     let next = with_new (new_dataset kind name) running in
     record {
@@ -48,7 +49,9 @@ returns-clause-runs g c =
       number = refl;
       guid_counter = runs.guids;
       few = few_guids has kept running runs;
-      runs_by = subst (λ (r : Rows). RunsBy has r next) (sym dir) (dataset_runs has kept.dir running (new_row kind name) (new_dataset kind name) runs.runs_by (new_row_is_new has kind name));
+      runs_by = subst (λ (r : Rows). RunsBy (bound_of tight (running.number + 1)) has r next) (sym dir)
+          (dataset_runs has kept.dir running (new_row kind name) (new_dataset kind name) (RunsBy-later tight running.number (running.number + 1) (omega arith) has kept.dir running runs.runs_by)
+          (new_row_is_new (bound_of tight (running.number + 1)) image space kind name));
     })
 
 pub returns-in_err-add_dataset-clause-runs : goal.returns-in_err-add_dataset-clause-runs

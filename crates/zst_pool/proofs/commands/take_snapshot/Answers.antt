@@ -7,13 +7,14 @@ use Rattle.zst_model.specs.pools.Limits.{last_guid}
 use Rattle.zst_model.specs.pools.Pool.{inserted}
 use Rattle.zst_model.specs.pools.Step.{with_snapshot}
 use Rattle.zst_pool.specs.Checks.{next_of, with_taken}
-use Rattle.zst_image.specs.Reads.{DatasetIs, RunsBy}
+use Rattle.zst_image.specs.Reads.{DatasetIs, RunsBy, bound_of}
 use Rattle.zst_dir.specs.Rows.{Rows, HasSnapshot, IsDatasetRow, snapshot_is_before}
 use Rattle.zst_dir.specs.declared.rows.Partial.{Partial}
 use Rattle.zst_dir.specs.declared.rows.Snapshot.{Snapshot}
 use Rattle.zst_pool.specs.declared.fault.PoolFault.TheVariants.{OutOfMemory, Plan}
 use Rattle.zst_pool.specs.Cost.{cells_only}
 use Rattle.zst_pool.specs.Damage.{NoDamage}
+use Rattle.zst_pool.proofs.Bounds.{RunsBy-later}
 use Rattle.zst_pool.proofs.Judging.{err_is}
 use Rattle.zst_dir.proofs.Matching.{Match-alike}
 use Rattle.zst_pool.proofs.NextPools.{snapshot_runs}
@@ -52,11 +53,11 @@ returns-clause-runs g c =
     let name = c.args.name.now in
     let dir = c.in_ok-dir.ensures.taken
     ∙ ap (λ (s : Snapshot). record kept.dir { snapshots = inserted snapshot_is_before s kept.dir.snapshots }) c.new_snapshot-snapshot.ensures.same in
-    c.commit_rows.ensures.runs (with_snapshot now name) (λ image space running runs.
+    c.commit_rows.ensures.runs (with_snapshot now name) (λ tight image space running runs.
     let has = Has image space in
     let named = runs_named has kept running runs in
     let judged = c.in_ok-dataset.ensures.judged now running named.are_named named.guids named.number in
-    let stands = Match-alike (DatasetIs has) kept.dir.datasets running.datasets c.in_ok-dataset.dataset.now judged.0 runs.runs_by.datasets judged.1 in
+    let stands = Match-alike (DatasetIs (bound_of tight running.number) has) kept.dir.datasets running.datasets c.in_ok-dataset.dataset.now judged.0 runs.runs_by.datasets judged.1 in
     let next = with_taken now name judged.0 running in
     record {
       next = next;
@@ -65,7 +66,8 @@ returns-clause-runs g c =
       number = refl;
       guid_counter = ap (λ (n : ℕ). n + 1) runs.guids;
       few = more_guids kept.body.guids c.in_ok-dataset.ensures.guids;
-      runs_by = subst (λ (r : Rows). RunsBy has r next) (sym dir) (snapshot_runs has kept running now name c.in_ok-dataset.dataset.now judged.0 runs stands);
+      runs_by = RunsBy-later tight running.number (running.number + 1) (omega arith) has _ next
+          (subst (λ (r : Rows). RunsBy (bound_of tight running.number) has r next) (sym dir) (snapshot_runs has kept running now name c.in_ok-dataset.dataset.now judged.0 runs stands));
     })
 
 pub returns-in_err-dataset-clause-runs : goal.returns-in_err-dataset-clause-runs

@@ -5,12 +5,13 @@ use Rattle.zst_model.specs.pools.Limits.{last_number}
 use Rattle.zst_dir.specs.Rows.{Rows}
 use Rattle.zst_dir.specs.declared.rows.Partial.{Partial}
 use Rattle.zst_image.specs.declared.kept.Kept.{Kept}
-use Rattle.zst_image.specs.Reads.{RunsBy}
+use Rattle.zst_image.specs.Reads.{RunsBy, bound_of}
 use Rattle.zst_pool.specs.Calls.{CallDid}
 use Rattle.zst_pool.specs.FinishedRows.{rows_with_finished}
 use Rattle.zst_pool.specs.Partials.{partial_finished, with_finished}
 use Rattle.zst_pool.specs.declared.fault.PoolFault.{PoolFault}
 use Rattle.zst_pool.specs.declared.fault.PoolFault.TheVariants.{OutOfMemory}
+use Rattle.zst_pool.proofs.Bounds.{RunsBy-later}
 use Rattle.zst_pool.proofs.Calling.{call_fell}
 use Rattle.zst_pool.proofs.FinishedRows.{partial_is_finished}
 use Rattle.zst_pool.proofs.Judging.{err_is}
@@ -19,23 +20,24 @@ use Rattle.zst_pool.proofs.Room.{call_full}
 use Rattle.zst_pool.proofs.finishing.commit_finished.Goals as goal
 
 pub returns-in_err-dir-clause-did : goal.returns-in_err-dir-clause-did
-returns-in_err-dir-clause-did g c = λ start running plain told way is.
+returns-in_err-dir-clause-did g c = λ tight start running plain told way is.
     let old = g.D.Disk.state c.args.io.now.disk.now in
     let kept = c.args.kept.now in
     let definition = partial_finished plain running in
-    subst (λ (r : Result Kept PoolFault). CallDid (g.D.Disk.state start) old kept running definition r) (sym (err_is c.from_residual.result OutOfMemory c.from_residual.ensures.1))
+    subst (λ (r : Result Kept PoolFault). CallDid tight (g.D.Disk.state start) old kept running definition r) (sym (err_is c.from_residual.result OutOfMemory c.from_residual.ensures.1))
     (call_fell (g.D.Disk.state start) old c.args.io.now.space kept running definition OutOfMemory way tt)
 
 pub returns-clause-did : goal.returns-clause-did
 unfolding last_number
-returns-clause-did g c = λ start running plain told way is.
+returns-clause-did g c = λ tight start running plain told way is.
     let old = g.D.Disk.state c.args.io.now.disk.now in
     let has = Has old.seen c.args.io.now.space in
     let next = with_finished plain running in
     let was = way_runs (g.D.Disk.state start) old c.args.io.now.space c.args.kept.now running way in
     let number : running.number + 1 ≡ c.saturating_add-number.result = omega (arith, was.number, was.lawful.number, c.saturating_add-number.ensures) in
-    let runs = subst (λ (r : Rows). RunsBy has r next) (sym c.in_ok-dir.ensures.finished) (partial_is_finished has c.args.kept.now.dir running was.runs_by c.args.partial.now plain is c.saturating_add-number.result number) in
-    c.commit_next.ensures.did start running next told way (record { id = refl; number = refl; guids = refl }) runs
+    let over = RunsBy-later tight running.number (running.number + 1) (omega arith) has c.args.kept.now.dir running was.runs_by in
+    let runs = subst (λ (r : Rows). RunsBy (bound_of tight (running.number + 1)) has r next) (sym c.in_ok-dir.ensures.finished) (partial_is_finished has c.args.kept.now.dir running over c.args.partial.now plain is c.saturating_add-number.result number) in
+    c.commit_next.ensures.did tight start running next told way (record { id = refl; number = refl; guids = refl }) runs
 
 pub returns-clause-full : goal.returns-clause-full
 returns-clause-full g c = λ need largest is.

@@ -1,4 +1,4 @@
-use Rattle.std.specs.Prelude.{Result, Err}
+use Rattle.std.specs.Prelude.{Result, Err, None}
 use Rattle.std.proofs.Common.{◌≡◌, ◌+◌, ◌≤◌, Bool, length, refl, sym, ap, ◌∙◌, subst, arith}
 use Rattle.zst_tree.specs.Sets.{SetFits}
 use Rattle.zst_outside.specs.Images.{DiskState}
@@ -12,7 +12,7 @@ use Rattle.zst_model.specs.pools.Step.{Stepped, committed, on_head}
 use Rattle.zst_dir.specs.Rows.{Rows, with_head}
 use Rattle.zst_dir.specs.Spelling.{dir_bytes}
 use Rattle.zst_model.specs.pools.Kept.{kept_of}
-use Rattle.zst_image.specs.Reads.{RunsBy}
+use Rattle.zst_image.specs.Reads.{RunsBy, bound_of}
 use Rattle.zst_pool.specs.Calls.{IsUnderWay}
 use Rattle.zst_pool.specs.Checks.{with_head_of}
 use Rattle.zst_pool.specs.Making.{MakesRows}
@@ -22,6 +22,7 @@ use Rattle.zst_pool.specs.Cost.{Cost}
 use Rattle.zst_pool.specs.declared.fault.PoolFault.{PoolFault}
 use Rattle.zst_pool.specs.declared.fault.PoolFault.TheVariants.{Damaged, OutOfMemory, Plan}
 use Rattle.zst_pool.proofs.Doing.{did_rows}
+use Rattle.zst_pool.proofs.Bounds.{RunsBy-later}
 use Rattle.zst_pool.proofs.Judging.{err_is}
 use Rattle.zst_pool.proofs.NextPools.{head_runs}
 use Rattle.zst_pool.proofs.Resting.{few_guids, way_runs}
@@ -54,7 +55,7 @@ returns-in_err-judge-clause-ran g c = λ start start_failed make cost changed.
     (λ running told rested.
     let made = changed.made running told rested in
     subst (λ (r : Result Stepped Refusal). StepFault (Unit {0}) r fault) (sym made.2)
-    (c.in_err-judge.ensures.judged now.seen space c.args.set name running (make running made.0) rested.rests.reads.described.number made.1))
+    (c.in_err-judge.ensures.judged None now.seen space c.args.set name running (make running made.0) rested.rests.reads.described.number made.1))
 
 pub returns-in_err-dir-clause-ran : goal.returns-in_err-dir-clause-ran
 returns-in_err-dir-clause-ran g c = λ start start_failed make cost changed.
@@ -83,23 +84,23 @@ returns-clause-ran g c = λ start start_failed make cost changed.
     let dir = c.set_head.ensures.headed ∙ ap (λ (d : Rows). record d { datasets = with_head name set d.datasets }) c.in_ok-dir.ensures in
     runs_committed (λ pool. on_head name pool (make pool)) cost kept c.set_head.new.self c.commit_dir.result c.of_committed.ensures c.requires.ready
     (subst (Wrote kept cost from start_failed old space c.args.io.now.failed) c.in_ok-judge.ensures.went_well writes)
-    (λ running told rested.
-    let made = changed.made running (commit.honest told) rested in
-    let head = c.in_ok-judge.ensures.judged old.seen space set name running (make running made.0) rested.rests.reads.described.number made.1 in
+    (λ tight running told rested.
+    let made = changed.made {tight = tight} running (commit.honest told) rested in
+    let head = c.in_ok-judge.ensures.judged (bound_of tight (running.number + 1)) old.seen space set name running (make running made.0) rested.rests.reads.described.number made.1 in
     let is = made.2 ∙ ap (λ (r : Result DatedState Refusal). r >>= λ after. committed (with_head_of name after running)) head.1 ∙ head.3 in
-    let way : IsUnderWay from old space kept running = record { rested = rested; fills = fills } in
+    let way : IsUnderWay tight from old space kept running = record { rested = rested; fills = fills } in
     let runs = way_runs from old space kept running way in
-    let makes : MakesRows (Has old.seen space) (on_head name running (make running)) running kept.body.guids c.set_head.new.self = record {
+    let makes : MakesRows tight (Has old.seen space) (on_head name running (make running)) running kept.body.guids c.set_head.new.self = record {
       next = with_head_of name head.0 running;
       made = is;
       id = refl;
       number = refl;
       guid_counter = runs.guids;
       few = few_guids (Has old.seen space) kept running runs;
-      runs_by = subst (λ (r : Rows). RunsBy (Has old.seen space) r (with_head_of name head.0 running)) (sym dir) (head_runs (Has old.seen space) kept.dir running name set head.0 runs.runs_by head.2);
+      runs_by = subst (λ (r : Rows). RunsBy (bound_of tight (running.number + 1)) (Has old.seen space) r (with_head_of name head.0 running)) (sym dir) (head_runs (Has old.seen space) kept.dir running name set head.0 (RunsBy-later tight running.number (running.number + 1) (omega arith) (Has old.seen space) kept.dir running runs.runs_by) head.2);
     } in
     did_rows from old last space c.commit_dir.new.io.space kept running (on_head name running (make running)) kept.body.guids c.set_head.new.self c.commit_dir.result way makes c.datasets-lawful.ensures.lawful c.in_ok-judge.ensures.below
-    (λ next told_next. commit.commits start rested.rows (kept_of running) next told rested.rests fills told_next) commit.dir commit.blocks commit.fills)
+    (λ next told_next. commit.commits tight start rested.rows (kept_of running) next told rested.rests fills told_next) commit.dir commit.blocks commit.fills)
     grows commit.full commit.takes commit.ends commit.fills commit.ready commit.stays commit.failed commit.cause commit.honest
 
 pub returns-in_err-judge-clause-damaged : goal.returns-in_err-judge-clause-damaged

@@ -9,12 +9,12 @@ use Rattle.zst_pool.proofs.Judging.{err_is}
 use Rattle.zst_pool.proofs.heads.judge.Goals as goal
 
 pub returns-then-not-is_accepted-clause-judged : goal.returns-then-not-is_accepted-clause-judged
-returns-then-not-is_accepted-clause-judged c = λ image space set name pool change number is.
-    judged_refused (Has image space) set name pool change c.args.changed c.answer.result c.answer.ensures (sym c.is_accepted.ensures ∙ c.if-not-is_accepted.true) is
+returns-then-not-is_accepted-clause-judged c = λ bound image space set name pool change number is.
+    judged_refused (Has image space) set name pool change bound c.args.changed c.answer.result c.answer.ensures (sym c.is_accepted.ensures ∙ c.if-not-is_accepted.true) is
 
 pub returns-clause-judged : goal.returns-clause-judged
-returns-clause-judged c = λ image space set name pool change number is.
-    judged_accepted (Has image space) set name pool change (λ after. c.in_ok-check_number.ensures.judged (with_head_of name after pool) number) c.args.changed c.answer-2.result c.answer-2.ensures
+returns-clause-judged c = λ bound image space set name pool change number is.
+    judged_accepted (Has image space) set name pool change (λ after. c.in_ok-check_number.ensures.judged (with_head_of name after pool) number) bound c.args.changed c.answer-2.result c.answer-2.ensures
     (sym c.is_accepted.ensures ∙ c.if-not-is_accepted.false) is
 
 pub returns-then-not-is_accepted-clause-damaged : goal.returns-then-not-is_accepted-clause-damaged

@@ -2,7 +2,7 @@ use Rattle.zst_pool.proofs.Resting.{kept_same, rests_opened}
 use Rattle.zst_pool.proofs.laws.opened_is_at_rest.Goals as goal
 
 pub returns-clause-rests : goal.returns-clause-rests
-returns-clause-rests g c = λ disk. rests_opened (g.D.Disk.state disk)
+returns-clause-rests g c = λ tight disk. rests_opened {tight = tight} (g.D.Disk.state disk)
 
 pub returns-clause-same : goal.returns-clause-same
 returns-clause-same g c = kept_same

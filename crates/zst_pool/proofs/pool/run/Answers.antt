@@ -118,3 +118,13 @@ pub returns-in-Rollback-clause-plans : goal.returns-in-Rollback-clause-plans
 unfolding stepped
 returns-in-Rollback-clause-plans g c =
     subst (λ (command : Command). Plans (λ pool. stepped [] c.args.now command pool) (numbers_end command) (indices_end command) c.args.kept.now c.roll_back.result) (sym c.in-Rollback.is) c.roll_back.ensures.plans
+
+pub returns-in-Clone-clause-plans : goal.returns-in-Clone-clause-plans
+unfolding stepped
+returns-in-Clone-clause-plans g c =
+    subst (λ (command : Command). Plans (λ pool. stepped [] c.args.now command pool) (numbers_end command) (indices_end command) c.args.kept.now c.make_clone.result) (sym c.in-Clone.is) c.make_clone.ensures.plans
+
+pub returns-in-Bookmark-clause-plans : goal.returns-in-Bookmark-clause-plans
+unfolding stepped
+returns-in-Bookmark-clause-plans g c =
+    subst (λ (command : Command). Plans (λ pool. stepped [] c.args.now command pool) (numbers_end command) (indices_end command) c.args.kept.now c.make_bookmark.result) (sym c.in-Bookmark.is) c.make_bookmark.ensures.plans

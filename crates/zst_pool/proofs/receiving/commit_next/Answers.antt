@@ -19,20 +19,20 @@ use Rattle.zst_pool.proofs.Taking.{taken_none}
 use Rattle.zst_pool.proofs.receiving.commit_next.Goals as goal
 
 pub returns-in_err-check_limits-clause-did : goal.returns-in_err-check_limits-clause-did
-returns-in_err-check_limits-clause-did g c = λ start running next told way anew runs.
+returns-in_err-check_limits-clause-did g c = λ tight start running next told way anew runs.
     let old = g.D.Disk.state c.args.io.now.disk.now in
     let kept = c.args.kept.now in
     let space = c.args.io.now.space in
     let fault = Plan c.in_err-check_limits.field-0.0 in
     let number : next.number ≡ kept.body.number = anew.number ∙ way.rested.rests.reads.described.number in
-    subst (λ (r : Result Kept PoolFault). CallDid (g.D.Disk.state start) old kept running (next_commit next) r) (sym (err_is c.from_residual.result fault c.from_residual.ensures.1))
+    subst (λ (r : Result Kept PoolFault). CallDid tight (g.D.Disk.state start) old kept running (next_commit next) r) (sym (err_is c.from_residual.result fault c.from_residual.ensures.1))
     (call_fell (g.D.Disk.state start) old space kept running (next_commit next) fault way (c.in_err-check_limits.ensures.judged next (rows_named (Has old.seen space) c.args.dir next runs) number, tt))
 
 pub returns-in_err-check_limits-clause-takes : goal.returns-in_err-check_limits-clause-takes
 returns-in_err-check_limits-clause-takes g c = taken_none (dir_sectors (length (dir_bytes c.args.dir))) c.args.io.now.space
 
 pub returns-clause-did : goal.returns-clause-did
-returns-clause-did g c = λ start running next told way anew runs.
+returns-clause-did g c = λ tight start running next told way anew runs.
     let from = g.D.Disk.state start in
     let old = g.D.Disk.state c.args.io.now.disk.now in
     let new = g.D.Disk.state c.commit_dir.new.io.disk.now in
@@ -49,8 +49,8 @@ returns-clause-did g c = λ start running next told way anew runs.
     let below = c.in_ok-check_limits.ensures.below in
     let is = kept_is_next has kept running next kept.body.guids c.args.dir lawful was anew.id anew.number (anew.guids ∙ was.guids) few below runs in
     let after = next_lawful has kept running next kept.body.guids c.args.dir lawful was anew.id anew.number (anew.guids ∙ was.guids) few below runs in
-    let commits = commit.commits start way.rested.rows (kept_of running) (kept_of (next_of next).pool) told way.rested.rests way.fills is in
-    subst (λ (r : Result Kept PoolFault). CallDid from new kept running (next_commit next) r) (sym c.of_committed.ensures)
+    let commits = commit.commits tight start way.rested.rows (kept_of running) (kept_of (next_of next).pool) told way.rested.rests way.fills is in
+    subst (λ (r : Result Kept PoolFault). CallDid tight from new kept running (next_commit next) r) (sym c.of_committed.ensures)
     (call_did from new kept way.rested.rows running (next_of next).pool (next_commit next) judged made (λ need largest full. (commit.full need largest full).shorter) commits
     (number_after made kept.body.number next.number number commit.number)
-    (rests_next from old new space kept way.rested.rows c.args.dir running next made commits runs after commit.dir commit.blocks) (rests_unless from old new space c.commit_dir.new.io.space kept running made way commit.fills))
+    (rests_next from old new space kept way.rested.rows c.args.dir running next made commits anew.number runs after commit.dir commit.blocks) (rests_unless from old new space c.commit_dir.new.io.space kept running made way commit.fills))

@@ -21,10 +21,10 @@ returns-clause-answer g c = λ told.
     CreateAnswers-made old.size (latest old.seen) c.args.sectors c.commit_dir-made.result c.answer.result none (λ few. omega (arith, few, c.if-bytes-sectors.false, c.bytes.ensures, c.find_none.ensures.reads.size)) c.answer.ensures
 
 pub returns-clause-made : goal.returns-clause-made
-returns-clause-made g c = λ told.
+returns-clause-made g c = λ tight told.
     let here : (g.D.Disk.state c.commit_dir-made.new.io.disk.now).honest = search (rules, told) in
-    let next = NextIs-new _ c.unborn.result c.new-3.result c.args.id c.requires.id (ap (λ (u : Uber). u.id) c.unborn.ensures) (ap (λ (u : Uber). u.number) c.unborn.ensures) c.new-3.ensures in
-    let over = c.commit_dir-made.ensures.over _ here next in
+    let next = NextIs-new {tight = tight} _ c.unborn.result c.new-3.result c.args.id c.requires.id (ap (λ (u : Uber). u.id) c.unborn.ensures) (ap (λ (u : Uber). u.number) c.unborn.ensures) c.new-3.ensures in
+    let over = c.commit_dir-made.ensures.over tight _ here next in
     let made = IfOk-made _ c.commit_dir-made.result c.answer.result c.answer.ensures (IfOk-commit _ _ c.commit_dir-made.result over.answer) in
     search (rules, made)
 
@@ -34,11 +34,11 @@ returns-clause-ready g c =
     search (rules, ready)
 
 pub returns-clause-moments : goal.returns-clause-moments
-returns-clause-moments g c = λ told.
+returns-clause-moments g c = λ tight told.
     let here : (g.D.Disk.state c.commit_dir-made.new.io.disk.now).honest = search (rules, told) in
     let old = g.D.Disk.state c.args.disk.now in
-    let next = NextIs-new _ c.unborn.result c.new-3.result c.args.id c.requires.id (ap (λ (u : Uber). u.id) c.unborn.ensures) (ap (λ (u : Uber). u.number) c.unborn.ensures) c.new-3.ensures in
-    let over = c.commit_dir-made.ensures.over _ here next in
+    let next = NextIs-new {tight = tight} _ c.unborn.result c.new-3.result c.args.id c.requires.id (ap (λ (u : Uber). u.id) c.unborn.ensures) (ap (λ (u : Uber). u.number) c.unborn.ensures) c.new-3.ensures in
+    let over = c.commit_dir-made.ensures.over tight _ here next in
     create-moments old _ _ _ c.new-space.result _ (search rules) c.find_none.ensures.reads over.moments
 
 pub returns-in_err-find_none-clause-refused : goal.returns-in_err-find_none-clause-refused

@@ -11,7 +11,7 @@ use Rattle.zst_image.proofs.Opened.{IsBody-latest, IsLatest-reads, IsSynced-read
 use Rattle.zst_image.proofs.kept.Kept.open.Goals as goal
 
 pub returns-in_err-dir-clause-there : goal.returns-in_err-dir-clause-there
-returns-in_err-dir-clause-there g c = λ uber rows pool told reads.
+returns-in_err-dir-clause-there g c = λ tight uber rows pool told reads.
     let old = g.D.Disk.state c.args.disk.now in
     let same : c.in_ok-body.body ≡ uber = c.in_ok-body.ensures.there uber (c.read_dir.ensures.reads.honest told) (IsLatest-reads old.size uber rows pool old.seen (g.met.D.Disk.seen_size c.args.disk.now) reads) in
     let read = c.in_err-dir.ensures.there rows told (ap (λ (u : Uber). u.free_count) same ∙ reads.described.extents) (HasDir-same uber c.in_ok-body.body rows old.seen _ same c.latest.ensures.reads.seen reads.described.directory) in
@@ -43,7 +43,7 @@ pub returns-clause-synced : goal.returns-clause-synced
 returns-clause-synced g c = λ alive. IsSynced-reads _ _ c.in_ok-dir.ensures.reads (c.in_ok-body.ensures.settled (λ is. absurd (cc is)))
 
 pub returns-clause-there : goal.returns-clause-there
-returns-clause-there g c = λ uber rows pool told reads.
+returns-clause-there g c = λ tight uber rows pool told reads.
     let old = g.D.Disk.state c.args.disk.now in
     let same : c.in_ok-body.body ≡ uber = c.in_ok-body.ensures.there uber (c.read_dir.ensures.reads.honest told) (IsLatest-reads old.size uber rows pool old.seen (g.met.D.Disk.seen_size c.args.disk.now) reads) in
     let read = c.in_ok-dir.ensures.there rows told (ap (λ (u : Uber). u.free_count) same ∙ reads.described.extents) (HasDir-same uber c.in_ok-body.body rows old.seen _ same c.latest.ensures.reads.seen reads.described.directory) in
@@ -67,5 +67,5 @@ returns-clause-answer g c = λ told.
     )
 
 pub returns-clause-rests : goal.returns-clause-rests
-returns-clause-rests g c = λ uber rows pool told reads.
-    Rests-opened (g.D.Disk.state c.args.disk.now) _ uber c.in_ok-body.body rows pool reads (search rules) (search rules) ((returns-clause-there g c uber rows pool told reads).0)
+returns-clause-rests g c = λ tight uber rows pool told reads.
+    Rests-opened (g.D.Disk.state c.args.disk.now) _ uber c.in_ok-body.body rows pool reads (search rules) (search rules) ((returns-clause-there g c tight uber rows pool told reads).0)

@@ -4,9 +4,9 @@ use Rattle.zst_pool.proofs.Calling.{kept_has}
 use Rattle.zst_pool.proofs.pool.Pool.finish_partial.Goals as goal
 
 pub returns-clause-did : goal.returns-clause-did
-returns-clause-did g c = λ start running plain told standing way is.
+returns-clause-did g c = λ tight start running plain told standing way is.
     rw (c.settle_command.ensures.disk, c.settle_command.ensures.kept)
-    (c.commit_finished-committed.ensures.did start running plain (rw (sym c.settle_command.ensures.disk) told) way is)
+    (c.commit_finished-committed.ensures.did tight start running plain (rw (sym c.settle_command.ensures.disk) told) way is)
 
 pub returns-clause-rows : goal.returns-clause-rows
 returns-clause-rows g c =

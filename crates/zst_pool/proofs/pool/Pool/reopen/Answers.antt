@@ -8,9 +8,9 @@ use Rattle.zst_pool.proofs.Resting.{rests_opened}
 use Rattle.zst_pool.proofs.pool.Pool.reopen.Goals as goal
 
 pub returns-in-Ok-clause-rests : goal.returns-in-Ok-clause-rests
-returns-in-Ok-clause-rests g c = λ uber rows pool told reads.
+returns-in-Ok-clause-rests g c = λ tight uber rows pool told reads.
     let opened = c.open-opened.ensures in
     let here = g.D.Disk.state c.open-opened.new.disk in
-    let there : GivesPool uber rows (Ok c.in-Ok.kept) = subst (GivesPool uber rows) c.in-Ok.is (opened.there uber rows pool told reads) in
-    let rests = subst (λ (r : Result Kept OpenFault). IfOk r (λ (kept : Kept). Rests here kept.body rows pool)) c.in-Ok.is (opened.rests uber rows pool told reads) in
+    let there : GivesPool uber rows (Ok c.in-Ok.kept) = subst (GivesPool uber rows) c.in-Ok.is (opened.there tight uber rows pool told reads) in
+    let rests = subst (λ (r : Result Kept OpenFault). IfOk r (λ (kept : Kept). Rests tight here kept.body rows pool)) c.in-Ok.is (opened.rests tight uber rows pool told reads) in
     rests_opened here c.in-Ok.kept rows pool rests there.1

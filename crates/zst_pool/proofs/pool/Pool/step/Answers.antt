@@ -6,7 +6,7 @@ use Rattle.zst_model.specs.pools.Step.{stepped}
 use Rattle.zst_image.specs.declared.kept.Kept.{Kept}
 use Rattle.zst_block.specs.Blocks.{FitsDisk, Has}
 use Rattle.zst_space.specs.FreeSectors.{FreeSectors}
-use Rattle.zst_image.specs.Reads.{RunsBy, free_by}
+use Rattle.zst_image.specs.Reads.{RunsBy, bound_of, free_by}
 use Rattle.zst_image.specs.Committing.{Ready}
 use Rattle.zst_pool.specs.Cost.{cost_of}
 use Rattle.zst_pool.specs.Damage.{IsOf, TellsDamage}
@@ -17,6 +17,7 @@ use Rattle.zst_pool.specs.Stepping.{StepAnswer}
 use Rattle.zst_pool.specs.Telling.{Tells}
 use Rattle.zst_pool.specs.declared.fault.PoolFault.{PoolFault}
 use Rattle.zst_pool.specs.declared.fault.PoolFault.TheVariants.{OutOfMemory}
+use Rattle.zst_image.proofs.Plain.{RunsBy-plain}
 use Rattle.zst_pool.proofs.Answering.{cause_told, fails_told, on_err, ready_read, rests_read, since_read, spares_read, spends_none, told_rests}
 use Rattle.zst_pool.proofs.Judging.{err_is}
 use Rattle.zst_pool.proofs.Planned.{plans_err, plans_ok}
@@ -38,15 +39,15 @@ planned : (g : Over) (c : After-settle_command g) (answer : Result Kept PoolFaul
 planned g c answer same = rw same c.run-ran.ensures.plans
 
 pub returns-clause-moments : goal.returns-clause-moments
-returns-clause-moments g c = λ running told rested.
+returns-clause-moments g c = λ tight running told rested.
     let runs = ran g (goal.at.returns-clause-moments g c).After-settle_command (Ok c.settle_command.new.self.kept) c.in_ok-settle_command.ensures.kept in
-    let did = runs.ran.did running told rested in
+    let did = runs.ran.did tight running told rested in
     did.moments
 
 pub returns-clause-answer : goal.returns-clause-answer
-returns-clause-answer g c = λ running told standing rested.
+returns-clause-answer g c = λ tight running told standing rested.
     let runs = ran g (goal.at.returns-clause-answer g c).After-settle_command (Ok c.settle_command.new.self.kept) c.in_ok-settle_command.ensures.kept in
-    let did = runs.ran.did running told rested in
+    let did = runs.ran.did tight running told rested in
     let answer = did.answer in
     let is = step_reply c.args.now c.args.command running answer.0 (sym c.commits.ensures ∙ c.if-not-commits.false) answer.1 in
     let number : c.saturating_add.result ≡ running.number + 1 = omega (arith, is.below, rested.rests.reads.described.number, c.saturating_add.ensures) in
@@ -90,18 +91,18 @@ returns-clause-space g c = λ told. c.settle_command.ensures.space (subst (λ (r
 -- where it was refused
 
 pub returns-in_err-settle_command-clause-moments : goal.returns-in_err-settle_command-clause-moments
-returns-in_err-settle_command-clause-moments g c = λ running told rested.
+returns-in_err-settle_command-clause-moments g c = λ tight running told rested.
     let runs = ran g (goal.at.returns-in_err-settle_command-clause-moments g c).After-settle_command (Err c.in_err-settle_command.field-0.0) c.in_err-settle_command.ensures.kept in
-    let did = runs.ran.did running told rested in
+    let did = runs.ran.did tight running told rested in
     did.moments
 
 pub returns-in_err-settle_command-clause-answer : goal.returns-in_err-settle_command-clause-answer
-returns-in_err-settle_command-clause-answer g c = λ running told standing rested.
+returns-in_err-settle_command-clause-answer g c = λ tight running told standing rested.
     let runs = ran g (goal.at.returns-in_err-settle_command-clause-answer g c).After-settle_command (Err c.in_err-settle_command.field-0.0) c.in_err-settle_command.ensures.kept in
-    let did = runs.ran.did running told rested in
+    let did = runs.ran.did tight running told rested in
     let fell = c.from_residual-in_err-settle_command in
-    subst (λ (k : Kept). StepAnswer (g.D.Disk.state c.settle_command.new.self.io.disk.now) k running (stepped [] c.args.now c.args.command running) fell.result) (sym c.in_err-settle_command.ensures.stays)
-    (subst (StepAnswer (g.D.Disk.state c.settle_command.new.self.io.disk.now) c.args.self.now.kept running (stepped [] c.args.now c.args.command running)) (sym (err_is fell.result c.in_err-settle_command.field-0.0 fell.ensures.1)) did.answer)
+    subst (λ (k : Kept). StepAnswer tight (g.D.Disk.state c.settle_command.new.self.io.disk.now) k running (stepped [] c.args.now c.args.command running) fell.result) (sym c.in_err-settle_command.ensures.stays)
+    (subst (StepAnswer tight (g.D.Disk.state c.settle_command.new.self.io.disk.now) c.args.self.now.kept running (stepped [] c.args.now c.args.command running)) (sym (err_is fell.result c.in_err-settle_command.field-0.0 fell.ensures.1)) did.answer)
 
 pub returns-in_err-settle_command-clause-sound : goal.returns-in_err-settle_command-clause-sound
 returns-in_err-settle_command-clause-sound g c = λ running done rested sound made. c.steps_keep_sound.ensures [] c.args.now c.args.command running done c.requires.command rested.lawful sound made
@@ -172,8 +173,8 @@ returns-in_err-settle_command-clause-ready g c = λ standing.
 -- where no memory was left for its reply
 
 pub returns-in_err-reply-clause-answer : goal.returns-in_err-reply-clause-answer
-returns-in_err-reply-clause-answer g c = λ running told standing rested.
-    subst (StepAnswer (g.D.Disk.state c.args.self.now.io.disk.now) c.args.self.now.kept running (stepped [] c.args.now c.args.command running))
+returns-in_err-reply-clause-answer g c = λ tight running told standing rested.
+    subst (StepAnswer tight (g.D.Disk.state c.args.self.now.io.disk.now) c.args.self.now.kept running (stepped [] c.args.now c.args.command running))
     (sym (err_is c.from_residual.result OutOfMemory c.from_residual.ensures.1)) rested
 
 pub returns-in_err-reply-clause-sound : goal.returns-in_err-reply-clause-sound
@@ -227,19 +228,19 @@ tell-requires-clause-fits g c =
     subst (FitsDisk (g.D.Disk.state c.args.self.now.io.disk.now).size) (rw (c.new-2.ensures, c.new.ensures.items) refl) (free_by_fits (g.D.Disk.state c.args.self.now.io.disk.now).size kept.body ready.in_range)
 
 pub returns-then-not-commits-clause-moments : goal.returns-then-not-commits-clause-moments
-returns-then-not-commits-clause-moments g c = λ running told rested.
+returns-then-not-commits-clause-moments g c = λ tight running told rested.
     let is = tells g (goal.at.returns-then-not-commits-clause-moments g c).After-tell in
     since_read (g.D.Disk.state c.args.self.now.io.disk.now) (g.D.Disk.state c.tell.new.io.disk.now) c.args.self.now.kept is.looks.reads running rested (stepped [] c.args.now c.args.command running)
 
 pub returns-then-not-commits-clause-answer : goal.returns-then-not-commits-clause-answer
-returns-then-not-commits-clause-answer g c = λ running told standing rested.
+returns-then-not-commits-clause-answer g c = λ tight running told standing rested.
     let at = (goal.at.returns-then-not-commits-clause-answer g c).After-tell in
     let is = tells g at in
     let old = g.D.Disk.state c.args.self.now.io.disk.now in
     let new = g.D.Disk.state c.tell.new.io.disk.now in
     let kept = c.args.self.now.kept in
     told_rests new kept running (stepped [] c.args.now c.args.command running) c.tell.result (rests_read old new kept is.looks.reads running rested)
-    (is.told running told (subst (λ (space : FreeSectors). RunsBy (Has old.seen space) kept.dir running) (sym (free g at)) rested.runs_by))
+    (is.told running told (RunsBy-plain _ kept.dir running (subst (λ (space : FreeSectors). RunsBy (bound_of tight running.number) (Has old.seen space) kept.dir running) (sym (free g at)) rested.runs_by)))
 
 pub returns-then-not-commits-clause-planned : goal.returns-then-not-commits-clause-planned
 returns-then-not-commits-clause-planned g c = λ standing left. c.tell.ensures.plans c.args.now

@@ -1,6 +1,8 @@
-use Rattle.std.proofs.Common.{◌∙◌}
+use Rattle.std.proofs.Common.{◌≡◌, ◌∙◌, subst}
 use Rattle.zst_block.specs.Blocks.{Has}
+use Rattle.zst_model.specs.sends.Headers.{Sent}
 use Rattle.zst_model.specs.sends.SendPlan.{send_plan}
+use Rattle.zst_objset.specs.Tight.{SetIsTight}
 use Rattle.zst_plan.specs.Plans.{IsPlanOf}
 use Rattle.zst_pool.specs.declared.fault.PoolFault.TheVariants.{OutOfMemory, Plan}
 use Rattle.zst_send.specs.Opening.{opening}
@@ -72,3 +74,13 @@ returns-clause-planned g c = λ running live named.
 
 pub returns-clause-set : goal.returns-clause-set
 returns-clause-set g c = c.planned.ensures.set c.args.ask.now.snap c.in_ok-plan.ensures.named
+
+pub returns-clause-tight : goal.returns-clause-tight
+returns-clause-tight g c = λ image space running number live runs sent is.
+    let rows = c.args.pool.now.kept.dir in
+    let ask = c.args.ask.now in
+    let named = rows_named (Has image space) rows running runs in
+    let s = ok_alike (IsPlanOf rows running) c.in_ok-plan.plan (send_plan ask running) (c.in_ok-plan.ensures.exact running named) in
+    let planned = planned_is ask running s.0 s.1 ∙ c.in_ok-check_built.ensures.judges running s.0 named s.2 in
+    let same : s.0 ≡ sent = cc (planned, is) in
+    subst (λ (o : Sent). SetIsTight (Has image space) c.planned.result.subject.set o.snapshot.objects) same (c.planned.ensures.tight image space running s.0 number runs s.2)

@@ -9,6 +9,7 @@ use Rattle.zst_stream.specs.Records.{view_text}
 use Rattle.zst_send.specs.Standing.{StandsAt}
 use Rattle.zst_send.specs.Working.{HasBlock}
 use Rattle.zst_objset.specs.Sets.{SetHolds}
+use Rattle.zst_objset.specs.Tight.{SetIsTight}
 use Rattle.zst_pool.proofs.Naming.{rows_named}
 use Rattle.zst_send.proofs.Planning.{plan_choice, plan_holds, set_at}
 use Rattle.zst_send.proofs.send.Send.planned.Goals as goal
@@ -42,3 +43,12 @@ returns-clause-set c = λ name stands.
 
 pub returns-clause-knows : goal.returns-clause-knows
 returns-clause-knows c = λ images. c.start.ensures.knows images _
+
+pub returns-clause-tight : goal.returns-clause-tight
+returns-clause-tight c = λ image space running sent number runs is.
+    let has = Has image space in
+    let plan = c.args.plan.now in
+    let row = c.index-snapshots-plan.result in
+    let here = c.index-snapshots-plan.is ∙ ap (λ (xs : List Snapshot). get_or xs plan.snap row) c.snapshots.ensures in
+    let known = plan_holds has c.args.dir.now running runs plan sent is row here in
+    subst (λ (r : Snapshot). SetIsTight has r.objects sent.snapshot.objects) c.index-snapshots-plan.is known.0

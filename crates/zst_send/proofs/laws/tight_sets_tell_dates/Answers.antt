@@ -1,0 +1,5 @@
+use Rattle.zst_send.proofs.Telling.{rows_tell}
+use Rattle.zst_send.proofs.laws.tight_sets_tell_dates.Goals as goal
+
+pub returns : goal.returns
+returns c = rows_tell
