@@ -1,7 +1,10 @@
 -- Which receipt a plan is of.
-use Rattle.std.specs.Prelude.{◌≡◌, ◌<◌, ℕ, true, false, length, max, nat_lt, IfSome, is_some}
+use Rattle.std.specs.Prelude.{◌≡◌, ◌<◌, ℕ, true, false, List, length, max, nat_lt, Some, IfSome, is_some}
+use Rattle.std.specs.List.{position}
+use Rattle.std.specs.Str.{bytes_eq}
+use Rattle.zst_names.specs.Names.{IsSnapshot, dataset_of}
 use Rattle.zst_dir.specs.Named.{Match}
-use Rattle.zst_dir.specs.Rows.{Rows}
+use Rattle.zst_dir.specs.Rows.{Rows, HasSnapshot}
 use Rattle.zst_dir.specs.declared.rows.Dataset as rows
 use Rattle.zst_model.specs.declared.sends.header.Header.{Header}
 use Rattle.zst_model.specs.pools.Pool.{Pool, Dataset, dataset_named}
@@ -49,3 +52,8 @@ IsRecvPlanOf rows pool ask (plans.Begins name place rolls) (Begins component bas
 abbrev pub IsRecvInside : Rows → coded.RecvPlan → Type 0
 IsRecvInside rows (plans.Resumes place) = place < length rows.partials
 IsRecvInside rows (plans.Begins name place rolls) = IfSome place (λ p. p < length rows.snapshots)
+
+-- whatever the pool is, the plan is for this target: it goes on with the target's partial state, or its name is that of a snapshot of the target, and no row has it
+abbrev pub IsNewPlan : Rows → List ℕ → coded.RecvPlan → Type 0
+IsNewPlan rows target (plans.Resumes place) = position (λ partial. bytes_eq partial.target target) rows.partials ≡ Some place
+IsNewPlan rows target (plans.Begins name place rolls) = IsSnapshot name × (dataset_of 64 name ≡ target) × (HasSnapshot rows name → ⊥)

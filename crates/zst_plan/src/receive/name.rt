@@ -1,7 +1,7 @@
 // The name of the snapshot that comes.
-ghost use Rattle.std.specs.Prelude.{◌≡◌, ◌≤◌, ◌==◌, drop, length};
+ghost use Rattle.std.specs.Prelude.{◌≡◌, ◌≤◌, ◌==◌, drop, length, IfOk};
 ghost use Rattle.std.specs.List.{position};
-ghost use Rattle.zst_names.specs.Names.{component_of};
+ghost use Rattle.zst_names.specs.Names.{component_of, dataset_of};
 ghost use Rattle.zst_plan.specs.Places.{AnswerAlike};
 ghost use Rattle.zst_plan.specs.RecvPlan.{behind_mark, component_for, snapshot_name, stated_component};
 
@@ -38,7 +38,8 @@ fn component_in(name: &[u8]) -> &[u8]
 
 // The name that the target's snapshot has under the stream's component: E2 where that is none.
 fn stated_name(target: &DatasetName, name: &[u8]) -> Result<SnapName, PlanFault>
-    ensures { AnswerAlike (λ found component. found ≡ snapshot_name target.now component) result (stated_component name.now) }
+    ensures exact { AnswerAlike (λ found component. found ≡ snapshot_name target.now component) result (stated_component name.now) }
+    ensures dataset { IfOk result (λ found. dataset_of 64 found ≡ target.now) }
 {
     let component = component_in(name);
     if let Err(fault) = check_component(component) {
@@ -55,7 +56,8 @@ fn stated_name(target: &DatasetName, name: &[u8]) -> Result<SnapName, PlanFault>
 
 /// The name of the snapshot that comes, by the asked component or by the stream's: E2.
 pub fn find_name(ask: &RecvAsk, header: &Header) -> Result<SnapName, PlanFault>
-    ensures { AnswerAlike (λ found component. found ≡ snapshot_name ask.now.target component) result (component_for ask.now header.now) }
+    ensures exact { AnswerAlike (λ found component. found ≡ snapshot_name ask.now.target component) result (component_for ask.now header.now) }
+    ensures dataset { IfOk result (λ found. dataset_of 64 found ≡ ask.now.target) }
 {
     match &ask.snap {
         Some(snapshot) => Ok(SnapName::of(&ask.target, snapshot.component())),

@@ -1,8 +1,9 @@
 // Whether the snapshot's name is free, and the pool has room.
-ghost use Rattle.std.specs.Prelude.{◌≡◌, ◌<◌, ◌^◌, Result, count_by, is_none};
+ghost use Rattle.std.specs.Prelude.{◌≡◌, ◌<◌, ◌^◌, Result, OnOk, count_by, is_none};
 ghost use Rattle.std.specs.List.{position};
 ghost use Rattle.std.specs.Str.{bytes_eq};
 ghost use Rattle.zst_dir.specs.Named.{AreNamed};
+ghost use Rattle.zst_dir.specs.Rows.{HasSnapshot};
 ghost use Rattle.zst_model.specs.declared.refusals.plan_fault.PlanFault.{PlanFault as Fault};
 ghost use Rattle.zst_model.specs.pools.Pool.{Pool};
 ghost use Rattle.zst_model.specs.pools.Step.{count_datasets};
@@ -16,7 +17,8 @@ use zst_names::{DatasetName, SnapName};
 
 /// E4 where the dataset has a snapshot of this name.
 pub fn check_new(dir: &Dir, name: &SnapName) -> Result<(), PlanFault>
-    ensures { (pool : Pool) (rest : Result RecvPlan Fault) → AreNamed dir.now pool → Judges (if_new name.now pool rest) rest result }
+    ensures exact { (pool : Pool) (rest : Result RecvPlan Fault) → AreNamed dir.now pool → Judges (if_new name.now pool rest) rest result }
+    ensures new { OnOk result (HasSnapshot dir.now name.now → ⊥) }
 {
     if dir.snapshot(name).is_some() {
         return Err(PlanFault::Exists(Present::Named(Name::Snapshot(name.duplicate()))));

@@ -47,7 +47,7 @@ returns-in_err-check_new-clause-exact c = λ pool component are tells named.
     (c.in_ok-check_plain.ensures (base_for ask header pool >>= with_base ask header component pool)
     ∙ ap (λ r. r >>= with_base ask header component pool) b.1
     ∙ c.in_ok-check_contained.ensures pool b.0 (if_new (snapshot_name ask.target component) pool last) are b.2
-    ∙ ap (λ n. if_new n pool last) (sym named) ∙ c.in_err-check_new.ensures pool last are)
+    ∙ ap (λ n. if_new n pool last) (sym named) ∙ c.in_err-check_new.ensures.exact pool last are)
 
 pub returns-in_err-check_room-clause-exact : goal.returns-in_err-check_room-clause-exact
 returns-in_err-check_room-clause-exact c = λ pool component are tells named.
@@ -60,7 +60,7 @@ returns-in_err-check_room-clause-exact c = λ pool component are tells named.
     (c.in_ok-check_plain.ensures (base_for ask header pool >>= with_base ask header component pool)
     ∙ ap (λ r. r >>= with_base ask header component pool) b.1
     ∙ c.in_ok-check_contained.ensures pool b.0 (if_new (snapshot_name ask.target component) pool last) are b.2
-    ∙ ap (λ n. if_new n pool last) (sym named) ∙ c.in_ok-check_new.ensures pool last are
+    ∙ ap (λ n. if_new n pool last) (sym named) ∙ c.in_ok-check_new.ensures.exact pool last are
     ∙ c.in_err-check_room.ensures pool (Ok (Begins component b.0)) are)
 
 pub returns-clause-exact : goal.returns-clause-exact
@@ -75,6 +75,6 @@ returns-clause-exact c = λ pool component are tells named.
     (c.in_ok-check_plain.ensures (base_for ask header pool >>= with_base ask header component pool)
     ∙ ap (λ r. r >>= with_base ask header component pool) b.1
     ∙ c.in_ok-check_contained.ensures pool b.0 (if_new (snapshot_name ask.target component) pool last) are b.2
-    ∙ ap (λ n. if_new n pool last) (sym named) ∙ c.in_ok-check_new.ensures pool last are
+    ∙ ap (λ n. if_new n pool last) (sym named) ∙ c.in_ok-check_new.ensures.exact pool last are
     ∙ c.in_ok-check_room.ensures pool (Ok (Begins component b.0)) are)
     (named, b.2.0, b.2.1)

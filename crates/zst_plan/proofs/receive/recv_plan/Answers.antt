@@ -16,14 +16,14 @@ returns-in_err-name-clause-exact c = λ pool are tells.
     let ask = c.args.ask.now in
     let fault = c.in_err-name.field-0.0 in
     refuses (IsRecvPlanOf rows pool ask) c.from_residual.result (recv_plan ask header pool) fault c.from_residual.ensures.1
-    (by_component ask header pool _ (err_alike (λ (found : List ℕ) (component : List ℕ). found ≡ snapshot_name ask.target component) fault (component_for ask header) c.in_err-name.ensures))
+    (by_component ask header pool _ (err_alike (λ (found : List ℕ) (component : List ℕ). found ≡ snapshot_name ask.target component) fault (component_for ask header) c.in_err-name.ensures.exact))
 
 pub returns-in-Some-clause-exact : goal.returns-in-Some-clause-exact
 returns-in-Some-clause-exact c = λ pool are tells.
     let rows = c.args.dir.now in
     let header = c.args.header.now in
     let ask = c.args.ask.now in
-    let n = ok_alike (λ (found : List ℕ) (component : List ℕ). found ≡ snapshot_name ask.target component) c.in_ok-name.name (component_for ask header) c.in_ok-name.ensures in
+    let n = ok_alike (λ (found : List ℕ) (component : List ℕ). found ≡ snapshot_name ask.target component) c.in_ok-name.name (component_for ask header) c.in_ok-name.ensures.exact in
     let found = some_alike (StandsAt rows.partials pool.partials) c.in-Some.place (partial_of ask.target pool) (partials_find rows pool are ask.target (Some c.in-Some.place) (sym c.in-Some.is ∙ c.partial.ensures)) in
     hands_on (IsRecvPlanOf rows pool ask) c.resumed_plan.result (recv_plan ask header pool) (resumed_plan header found.0)
     (by_component ask header pool _ n.1 ∙ ap (λ o. option_map_or (resumed_plan header) o (fresh_plan ask header n.0 pool)) found.1)
@@ -34,7 +34,7 @@ returns-in-None-clause-exact c = λ pool are tells.
     let rows = c.args.dir.now in
     let header = c.args.header.now in
     let ask = c.args.ask.now in
-    let n = ok_alike (λ (found : List ℕ) (component : List ℕ). found ≡ snapshot_name ask.target component) c.in_ok-name.name (component_for ask header) c.in_ok-name.ensures in
+    let n = ok_alike (λ (found : List ℕ) (component : List ℕ). found ≡ snapshot_name ask.target component) c.in_ok-name.name (component_for ask header) c.in_ok-name.ensures.exact in
     let none = none_alike (StandsAt rows.partials pool.partials) (partial_of ask.target pool) (partials_find rows pool are ask.target None (sym c.in-None.is ∙ c.partial.ensures)) in
     hands_on (IsRecvPlanOf rows pool ask) c.fresh_plan.result (recv_plan ask header pool) (fresh_plan ask header n.0 pool)
     (by_component ask header pool _ n.1 ∙ ap (λ o. option_map_or (resumed_plan header) o (fresh_plan ask header n.0 pool)) none)

@@ -8,8 +8,8 @@ use Rattle.zst_plan.proofs.Components.{fails, is_text, passes, stops_there}
 use Rattle.zst_plan.proofs.Receiving.{answers, hands_on}
 use Rattle.zst_plan.proofs.receive.name.stated_name.Goals as goal
 
-pub returns-in-Err : goal.returns-in-Err
-returns-in-Err c =
+pub returns-in-Err-clause-exact : goal.returns-in-Err-clause-exact
+returns-in-Err-clause-exact c =
     let name = c.args.name.now in
     let component = component_of 64 name in
     let place = c.in-Err.fault.place in
@@ -25,8 +25,8 @@ pub unreachable-requires : goal.unreachable-requires
 unreachable-requires c =
     c.in-Err-from_utf8.ensures.cases.0 (is_text c.component_in-component.result.now c.in_default.ensures.found)
 
-pub returns : goal.returns
-returns c =
+pub returns-clause-exact : goal.returns-clause-exact
+returns-clause-exact c =
     let name = c.args.name.now in
     let component = component_of 64 name in
     let is = subst IsComponent c.component_in-component.ensures c.in_default.ensures.found in
