@@ -41,7 +41,7 @@ module _ (old : List ℕ) (space : FreeSectors) (new : List ℕ) (less : FreeSec
   BookmarkIs-grows : (row : Bookmark) (bookmark : plain.Bookmark) → BookmarkIs (Has old space) row bookmark → BookmarkIs (Has new less) row bookmark
   BookmarkIs-grows row bookmark is = record { named = is.named; list = HasList-grows (Has old space) (Has new less) keeps row.levels row.root row.runs bookmark.runs is.list }
 
-  PartialIs-grows : (bound : Option ℕ) (row : Partial) (partial : plain.Partial) → PartialIs bound (Has old space) row partial → PartialIs bound (Has new less) row partial
+  pub PartialIs-grows : (bound : Option ℕ) (row : Partial) (partial : plain.Partial) → PartialIs bound (Has old space) row partial → PartialIs bound (Has new less) row partial
   PartialIs-grows bound row partial is = record { named = is.named; objects = SetIs-grows bound row.objects partial.objects is.objects }
 
   pub RunsBy-grows : {bound : Option ℕ} (rows : Rows) (pool : Pool) → RunsBy bound (Has old space) rows pool → RunsBy bound (Has new less) rows pool

@@ -1,17 +1,18 @@
 -- What a call of a receive did, from what its commit did.
-use Rattle.std.specs.Prelude.{Result, Ok, Err, IfOk, OnOk, OnErr}
+use Rattle.std.specs.Prelude.{Result, Ok, Err, IfOk, OnOk, OnErr, false}
 use Rattle.std.proofs.Common.{◌≡◌, ◌⊎◌, inl, inr, ⊎_elim, ℕ, ◌+◌, ◌<◌, List, refl, sym, ap, subst, ◌∙◌, Bool}
 use Rattle.zst_outside.specs.Images.{DiskState, Leaves, Leaves-weaker}
 use Rattle.zst_space.specs.FreeSectors.{FreeSectors}
+use Rattle.zst_block.specs.Blocks.{KeepsBlocks}
 use Rattle.zst_model.specs.declared.refusals.refusal.Refusal.{Refusal}
 use Rattle.zst_model.specs.pools.Kept.{kept_of}
 use Rattle.zst_model.specs.pools.Pool.{Pool}
 use Rattle.zst_dir.specs.Rows.{Rows}
 use Rattle.zst_pool.specs.Calls.{CallDid, CallFault, IsAtRest, IsUnderWay, keeping}
-use Rattle.zst_pool.specs.Faults.{of_committed}
+use Rattle.zst_pool.specs.Faults.{is_full, of_committed}
 use Rattle.zst_image.specs.declared.commit_fault.CommitFault.{CommitFault}
 use Rattle.zst_image.specs.declared.commit_fault.CommitFault.TheVariants as commits
-use Rattle.zst_image.specs.Reads.{Reads}
+use Rattle.zst_image.specs.Reads.{Reads, free_by}
 use Rattle.zst_image.specs.Committing.{Commits}
 use Rattle.zst_pool.specs.declared.fault.PoolFault.{PoolFault}
 use Rattle.zst_pool.specs.declared.fault.PoolFault.TheVariants.{Plan, CannotApply, Redacted, Full, Damaged, DiskFault, Failed, OutOfMemory}
@@ -71,3 +72,13 @@ kept_has P kept answer made is holds = by_answer answer (subst (λ (r : Result K
     by_answer : (a : Result ℕ PoolFault) → IfOk (keeping kept a) P → OnOk a (P kept)
     by_answer (Ok number) h = h
     by_answer (Err fault) h = tt
+
+-- the blocks that were there before still are, over what the latest body leaves free
+pub blocks_last : (old mid new : List ℕ) (space less : FreeSectors) (kept : Kept) (answer : Result ℕ PoolFault) (made : Result Kept PoolFault) → keeping kept answer ≡ made
+    → IfOk made (λ next. KeepsBlocks old space mid (free_by next.body)) → (is_full made ≡ false → less ≡ free_by kept.body) → new ≡ mid → OnOk answer (KeepsBlocks old space new less)
+blocks_last old mid new space less kept answer made is keeps free same =
+    by_answer answer (subst (λ (r : Result Kept PoolFault). IfOk r (λ next. KeepsBlocks old space mid (free_by next.body))) (sym is) keeps) (subst (λ (r : Result Kept PoolFault). is_full r ≡ false → less ≡ free_by kept.body) (sym is) free)
+  where
+    by_answer : (a : Result ℕ PoolFault) → IfOk (keeping kept a) (λ next. KeepsBlocks old space mid (free_by next.body)) → (is_full (keeping kept a) ≡ false → less ≡ free_by kept.body) → OnOk a (KeepsBlocks old space new less)
+    by_answer (Ok number) h f = subst (λ (s : FreeSectors). KeepsBlocks old space new s) (sym (f refl)) (subst (λ (i : List ℕ). KeepsBlocks old space i (free_by kept.body)) (sym same) h)
+    by_answer (Err fault) h f = tt

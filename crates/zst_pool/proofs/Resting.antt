@@ -6,7 +6,7 @@ use Rattle.std.proofs.lemmas.List.Elements.{All-head, All-tail}
 use Rattle.zst_outside.specs.Images.{DiskState, Leaves, Leaves-weaker, OnlyReads-none}
 use Rattle.zst_space.specs.FreeSectors.{FreeSectors}
 use Rattle.zst_block.specs.Blocks.{FillsFree, FitsDisk, Has, IsTaken, KeepsBlocks, Spared}
-use Rattle.zst_block.proofs.BlocksLaws.{FillsFree-reads, FillsFree-then, Has-spared, KeepsBlocks-fills}
+use Rattle.zst_block.proofs.BlocksLaws.{FillsFree-reads, FillsFree-then, Has-spared, IsTaken-head, KeepsBlocks-fills}
 use Rattle.zst_uber.specs.Body.{InRange}
 use Rattle.zst_uber.specs.declared.uber.Uber.{Uber}
 use Rattle.zst_model.specs.pools.Kept.{KeepsAll, kept_of}
@@ -14,6 +14,7 @@ use Rattle.zst_model.specs.pools.Limits.{last_guid, last_number}
 use Rattle.zst_model.specs.pools.Pool.{Pool, Partial, IsPool}
 use Rattle.zst_tree.specs.Indices.{Blocks}
 use Rattle.zst_dir.specs.Rows.{Rows, IsLawful}
+use Rattle.zst_dir.specs.declared.rows.Partial.{Partial as Row}
 use Rattle.zst_dir.proofs.Dropped.{partials_left}
 use Rattle.zst_image.specs.declared.commit_fault.CommitFault.{CommitFault}
 use Rattle.zst_image.specs.declared.commit_fault.CommitFault.TheVariants as commits
@@ -21,7 +22,7 @@ use Rattle.zst_image.specs.declared.kept.Kept.{Kept}
 use Rattle.zst_image.specs.Committing.{Commits, NextIs, Ready}
 use Rattle.zst_image.specs.Reads.{IsNamedBy, PartialIs, Reads, Rests, RowsAre, RunsBy, bound_of, free_by, kept_rows}
 use Rattle.zst_image.proofs.Committed.{IsTaken-free_by, ReadsAs-spared, Ready-fills, Rests-fills}
-use Rattle.zst_image.proofs.Growing.{RunsBy-grows}
+use Rattle.zst_image.proofs.Growing.{PartialIs-grows, RunsBy-grows}
 use Rattle.zst_image.proofs.Plain.{Rests-plain, RunsBy-plain}
 use Rattle.zst_image.proofs.Lasting.{images_keep}
 use Rattle.zst_pool.specs.Calls.{CanCommit, IsAtRest, IsUnderWay}
@@ -47,6 +48,15 @@ ready_after old new space less uber free fills ready =
 -- from a disk that is ready, over the sectors that a body leaves free, the next commit can be made
 pub commit_next_of : (disk : DiskState) (space : FreeSectors) (uber : Uber) → space ≡ free_by uber → Ready disk uber → CanCommit disk space uber
 commit_next_of disk space uber free ready = record { fits = subst (FitsDisk disk.size) (sym free) (free_by_fits disk.size uber ready.in_range); sectors = ap (λ (s : FreeSectors). s.sectors) free; ready = ready }
+
+-- it can still be made after blocks alone were written
+pub commit_still : (old new : DiskState) (space less : FreeSectors) (kept : Kept) → CanCommit old space kept.body → FillsFree old space new less → FitsDisk new.size less → less.sectors ≡ space.sectors → CanCommit new less kept.body
+commit_still old new space less kept can fills fits sectors =
+    record { fits = fits; sectors = sectors ∙ can.sectors; ready = Ready-fills old new space less kept.body (IsTaken-head old.size space can.fits) fills can.ready }
+
+-- and a partial state is still there
+pub partial_still : (bound : Option ℕ) (old new : DiskState) (space less : FreeSectors) (row : Row) (partial : Partial) → PartialIs bound (Has old.seen space) row partial → FillsFree old space new less → PartialIs bound (Has new.seen less) row partial
+partial_still bound old new space less row partial is fills = PartialIs-grows old.seen space new.seen less (KeepsBlocks-fills old new space less fills) bound row partial is
 
 -- what is kept names the pool that it stands for, and counts its guids
 module _ {tight : Bool} (has : Blocks) (kept : Kept) (running : Pool) (runs : RunsAs tight has kept running) where

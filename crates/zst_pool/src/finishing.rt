@@ -1,6 +1,6 @@
 // What a receive does to a pool when it has all of its stream.
 ghost use Rattle.std.specs.Prelude.{◌≡◌, ◌+◌, ◌<◌, ◌≤◌, ◌∷◌, ◌++◌, ◌||◌, ℕ, Bool, false, true, length, IfErr, IfOk, IfSome, OnErr, OnOk, Err};
-ghost use Rattle.zst_block.specs.Blocks.{Has};
+ghost use Rattle.zst_block.specs.Blocks.{Has, KeepsBlocks};
 ghost use Rattle.zst_model.specs.pools.Pool.{Pool as Plain, Partial as PlainPartial};
 ghost use Rattle.zst_dir.specs.Rows.{HasSnapshot, IsDatasetRow, IsPartialRow, IsSnapshotRow};
 ghost use Rattle.zst_dir.specs.Spelling.{dir_bytes};
@@ -99,6 +99,8 @@ fn commit_finished<D: Disk>(
     ensures known { IfErr result IsCallFault }
     ensures full { (need largest : ℕ) → result ≡ Err (PoolFault.Full need largest) → IsCallFull io.old.space io.new.space kept.now.dir need largest }
     ensures ready { IfOk result (λ next. Ready (D.state io.new.disk.now) next.body) }
+    // The blocks that were there still are, over the sectors that the new body leaves free.
+    ensures blocks { IfOk result (λ next. KeepsBlocks (D.state io.old.disk.now).seen io.old.space (D.state io.new.disk.now).seen (free_by next.body)) }
     ensures stays { io.new.failed ≡ false → OnErr result (Ready (D.state io.new.disk.now) kept.now.body) }
     ensures failed { io.new.failed ≡ (io.old.failed || is_disk_fault result) }
     ensures cause { HasDiskCause (D.state io.old.disk.now).faults (D.state io.new.disk.now).faults result }
@@ -134,6 +136,8 @@ impl<'d, D: Disk> Pool<'d, D> {
         ensures known { self.old.io.failed ≡ false → IfErr result IsCallFault }
         ensures full { (need largest : ℕ) → result ≡ Err (PoolFault.Full need largest) → IsCallFull self.old.io.space self.new.io.space self.old.kept.dir need largest }
         ensures stays { OnErr result (self.new.kept ≡ self.old.kept) }
+        // The blocks that were there still are.
+        ensures blocks { OnOk result (KeepsBlocks (D.state self.old.io.disk.now).seen self.old.io.space (D.state self.new.io.disk.now).seen self.new.io.space) }
 
         // A pool that has failed answers nothing else, and does nothing.
         ensures failed_pool { self.old.io.failed ≡ true → result ≡ Err PoolFault.Failed }

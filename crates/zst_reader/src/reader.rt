@@ -57,7 +57,7 @@ pub struct Reader {
 }
 
 impl Reader {
-    ghost use Rattle.std.specs.Prelude.{List, ℕ, [], ◌++◌, ◌∷◌, ◌%◌, IfOk, take, min};
+    ghost use Rattle.std.specs.Prelude.{List, ℕ, [], ◌++◌, ◌∷◌, ◌%◌, IfOk, take, min, sum_by};
     ghost use Rattle.std.specs.Borrow.{sem};
     ghost use Rattle.zst_record.specs.Heads.{Covered, covered_of, size_of};
     ghost use Rattle.zst_stream.specs.Reading.{ruling};
@@ -144,6 +144,13 @@ impl Reader {
         ensures { result ≡ pushed_of self.now }
     {
         self.pushed
+    }
+
+    /// How many bytes the records have that it has handed out.
+    pub fn covered(&self) -> u64
+        ensures { (text : List ℕ) (handed : List Covered) → StandsFor self.now text handed → result ≡ sum_by (λ c. size_of c.head) handed }
+    {
+        self.place.at
     }
 
     /// What it means that the input ends here: the stream is truncated, unless it has ended or was refused.
