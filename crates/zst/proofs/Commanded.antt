@@ -134,6 +134,10 @@ plan_is (plans.WrongResume have want) = refl
 plan_is (plans.Unsupported lack) = refl
 plan_is (plans.Limit which number) = refl
 
+-- one that stands among no limits names its fault
+pub plan_named : (fault plan : PlanFault) → refusal_of fault ≡ refusals.Plan plan → fault ≡ plan
+plan_named fault plan is = let e : Some fault ≡ Some plan = sym (plan_is fault) ∙ ap plan_of is in cc e
+
 no_plan : (refusal : Refusal) (fault : PlanFault) → plan_of refusal ≡ None → refusal ≡ refusal_of fault → ⊥
 no_plan refusal fault none is = let e : None ≡ Some fault = sym none ∙ ap plan_of is ∙ plan_is fault in absurd (cc e)
 
@@ -262,7 +266,7 @@ opened_refused now command here here' opens.DiskFault reads is = tt
 opened_refused now command here here' opens.OutOfMemory reads is = inl reads
 
 -- what a command tells of a disk that was only read, it tells of the disk from before
-told_before : (here mid : DiskState) (P : List ℕ → ℕ → Type 0) → OnlyReads here mid → P mid.seen mid.size → P here.seen here.size
+pub told_before : (here mid : DiskState) (P : List ℕ → ℕ → Type 0) → OnlyReads here mid → P mid.seen mid.size → P here.seen here.size
 told_before here mid P reads is = subst (λ (n : ℕ). P here.seen n) reads.size (subst (λ (bytes : List ℕ). P bytes mid.size) reads.seen is)
 
 pub told_of_start : (here mid : DiskState) (rows : Rows) (space : FreeSectors) (sector : ℕ) (stated found : List ℕ) (command : Command) → OnlyReads here mid

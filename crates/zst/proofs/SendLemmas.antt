@@ -1,5 +1,6 @@
 -- What each piece of a send leaves, and how a send ends.
-use Rattle.std.proofs.Common.{◌≡◌, ◌≢◌, inl, inr, ⊎_elim, ℕ, ◌+◌, ◌<◌, ◌≤◌, Bool, true, Option, Some, None, Result, List, [], ◌++◌, length, take, drop, Ok, Err, IfErr, refl, sym, ap, ◌∙◌, subst, arith, length-append}
+use Rattle.std.proofs.Common.{◌≡◌, ◌≢◌, inl, inr, ⊎_elim, ℕ, ◌+◌, zero, suc, ◌<◌, ◌≤◌, Bool, true, Option, Some, None, Result, List, [], ◌∷◌, ◌++◌, length, take, drop, Ok, Err, IfErr, refl, sym, ap, ◌∙◌, subst, arith, length-append}
+use Rattle.std.specs.Prelude.{Contains, IfSome, slice_index_or}
 use Rattle.std.proofs.lemmas.List.{append-nil, drop_all}
 use Rattle.zst_outside.specs.Causes.{Rose-earlier}
 use Rattle.zst_outside.specs.Images.{DiskState}
@@ -11,18 +12,28 @@ use Rattle.zst_model.specs.declared.refusals.refusal.Refusal.{Refusal}
 use Rattle.zst_model.specs.declared.refusals.refusal.Refusal.TheVariants as refusals
 use Rattle.zst_model.specs.refusals.Refusal.{refusal_of}
 use Rattle.zst_model.specs.sends.Headers.{Sent}
+use Rattle.zst_dir.specs.Rows.{Rows}
+use Rattle.zst_model.specs.declared.refusals.named.Name.{Name}
+use Rattle.zst_tree.specs.Damage.{IsSeen}
+use Rattle.zst_tree.specs.declared.tree.ObjSet.{ObjSet}
+use Rattle.zst_objset.specs.Damage.{DamageFact}
+use Rattle.zst_pool.specs.Damage.{IsOf, OfSet}
+use Rattle.zst_pool.specs.Finding.{set_named}
 use Rattle.zst_pool.specs.Faults.{pool_refusal}
 use Rattle.zst_pool.specs.declared.fault.PoolFault.{PoolFault}
 use Rattle.zst_pool.specs.declared.fault.PoolFault.TheVariants as faults
 use Rattle.zst_reader.specs.Filling.{stream_limit}
+use Rattle.zst_send.proofs.Knowing.{send_more}
+use Rattle.zst_send.specs.Damage.{IsDamagedSend}
+use Rattle.zst_send.specs.Knowing.{IsAmong}
 use Rattle.zst_send.specs.Sends as given
 use Rattle.zst_send.specs.Sends.{sent_text}
 use Rattle.zst_send.specs.declared.send.Send.{Send}
 use Rattle.zst_tree.specs.Indices.{Blocks}
 use Rattle.zst.specs.Replies.{HandsOn}
-use Rattle.zst.specs.Sends.{IsSendRefusal, OfGiving, RefusalEnds, SendsBy, TextEnds}
+use Rattle.zst.specs.Sends.{IsSendRefusal, OfGiving, RefusalEnds, SendsBy, TellsOf, TextEnds, send_damage}
 use Rattle.zst.specs.Sending.{IfUnplanned, IsOpenRefusal, OpensBy, Passed, PieceWritten, PlansOpen, Sending, WritesPiece}
-use Rattle.zst.proofs.Commanded.{disk_fault, failed_before, full_only, of_plan}
+use Rattle.zst.proofs.Commanded.{damaged_only, disk_fault, failed_before, full_only, of_plan, plan_named}
 
 -- ---- refusals
 
@@ -51,7 +62,39 @@ pub refused_earlier : (here mid here' : DiskState) (out between out' : SinkState
 refused_earlier here mid here' out between out' (Ok done) disk sink is = tt
 refused_earlier here mid here' out between out' (Err refusal) disk sink is = refusal_earlier here mid here' out between out' refusal disk sink is
 
+-- what a take refuses is handed on: no plan's refusal, and E25 of its damage alone
+no_plan : (fault : PoolFault) → ((plan : PlanFault) → fault ≢ faults.Plan plan) → (plan : PlanFault) → pool_refusal fault ≢ refusals.Plan plan
+no_plan (faults.Plan fault) never plan is = never fault refl
+no_plan (faults.CannotApply fault) never plan is = absurd (cc is)
+no_plan (faults.Redacted object block) never plan is = absurd (cc is)
+no_plan (faults.Full need largest) never plan is = absurd (cc is)
+no_plan (faults.Damaged sector stated found) never plan is = absurd (cc is)
+no_plan faults.DiskFault never plan is = absurd (cc is)
+no_plan faults.Failed never plan is = absurd (cc is)
+no_plan faults.OutOfMemory never plan is = absurd (cc is)
+
+module _ (fault : PoolFault) (out out' : SinkState) (result : Result (Unit {0}) Refusal) (hands : HandsOn out out' (Err (pool_refusal fault)) result) where
+  pub hands_no_plan : ((plan : PlanFault) → fault ≢ faults.Plan plan) → (plan : PlanFault) → result ≢ Err (refusals.Plan plan)
+  hands_no_plan never plan is =
+      ⊎_elim (λ done. let same : pool_refusal fault ≡ refusals.Plan plan = cc (done.0, is) in no_plan fault never plan same)
+      (λ lost. absurd (cc (lost.0, is))) hands.outcome
+
+  pub hands_damage : (Is : DamageFact) → IsOf Is fault → TellsOf Is result
+  hands_damage Is told = λ sector stated found is.
+      ⊎_elim (λ done. let same : pool_refusal fault ≡ refusals.Damaged sector stated found = cc (done.0, is) in told sector stated found (damaged_only fault sector stated found same))
+      (λ lost. absurd (cc (lost.0, is))) hands.outcome
+
 -- ---- pieces
+
+-- a piece is refused by no plan, and tells no damage
+module _ (piece : List ℕ) (is_last : Bool) (old new : ℕ) (out out' : SinkState) where
+  pub piece_no_plan : (result : Option (Result (Unit {0}) Refusal)) → WritesPiece piece is_last old new out out' result → (plan : PlanFault) → result ≢ Some (Err (refusals.Plan plan))
+  piece_no_plan result writes plan is = subst (λ (r : Option (Result (Unit {0}) Refusal)). WritesPiece piece is_last old new out out' r) is writes
+
+  pub piece_no_damage : (Is : DamageFact) (result : Option (Result (Unit {0}) Refusal)) → WritesPiece piece is_last old new out out' result → IfSome result (TellsOf Is)
+  piece_no_damage Is None writes = tt
+  piece_no_damage Is (Some result) writes = λ sector stated found is.
+      absurd (subst (λ (r : Result (Unit {0}) Refusal). WritesPiece piece is_last old new out out' (Some r)) is writes)
 
 -- a piece that would go past a stream's bytes
 pub piece_too_long : (piece : List ℕ) (is_last : Bool) (old new : ℕ) (out out' : SinkState) (result : Result (Unit {0}) Refusal) → stream_limit < old + length piece
@@ -189,3 +232,37 @@ pub opened_planned : (planned : Result Sent PlanFault) (send : Send) (out out' :
     → IfUnplanned planned out out' result
 opened_planned (Ok sent) send out out' result is = tt
 opened_planned (Err fault) send out out' result is = let passed = is.1 in absurd (cc passed)
+
+-- ---- why a plan's refusal comes, and of what E25
+
+-- what wasn't opened for a plan's refusal has that plan
+pub unopened_because : (planned : Result Sent PlanFault) (refusal : Refusal) → PlansOpen planned (Err refusal) → (fault : PlanFault) → refusal ≡ refusals.Plan fault → planned ≡ Err fault
+unopened_because planned refusal is fault same =
+    ⊎_elim (λ plan. plan.1 ∙ ap (λ (f : PlanFault). Err f) (plan_named plan.0 fault (sym plan.2 ∙ same)))
+    (λ memory. absurd (cc (memory.2, same)))
+    is
+
+-- and tells no damage
+pub unopened_damage : (Is : DamageFact) (refusal : Refusal) → IsOpenRefusal refusal → TellsOf Is (Err refusal)
+unopened_damage Is refusal is = λ sector stated found same.
+    let told : refusal ≡ refusals.Damaged sector stated found = cc same in
+    ⊎_elim (λ plan. absurd (of_plan (λ r. r ≡ refusals.Damaged sector stated found → ⊥) (λ f e. absurd (cc e)) (λ w n e. absurd (cc e)) plan.0 (sym plan.1 ∙ told)))
+    (λ memory. absurd (cc (memory, told)))
+    is
+
+-- an image alone is among itself, and nothing else is
+pub among_one : (seen : List ℕ) → Contains (seen ∷ []) seen
+among_one seen = (0, omega arith, refl)
+
+is_one : (seen image : List ℕ) → IsAmong (seen ∷ []) image → IsSeen seen image
+is_one seen image among = go among.0 among.1 among.2
+  where
+    go : (k : ℕ) → k < length (seen ∷ []) → slice_index_or (seen ∷ []) k image ≡ image → image ≡ seen
+    go zero below is = sym is
+    go (suc k) below is = absurd (omega (arith, below))
+
+-- the damage of the set of a name is told of that name
+pub set_damage : (rows : Rows) (name : Name) (disk : DiskState) (set : ObjSet) (result : Result (Unit {0}) Refusal) → set_named name rows ≡ Some set
+    → TellsOf (IsDamagedSend (IsAmong (disk.seen ∷ [])) disk.size set) result → TellsOf (OfSet rows name (send_damage disk)) result
+set_damage rows name disk set result named told = λ sector stated found is.
+    (set, named, send_more (IsAmong (disk.seen ∷ [])) (IsSeen disk.seen) (is_one disk.seen) disk.size set sector stated found (told sector stated found is))

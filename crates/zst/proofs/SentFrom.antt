@@ -22,15 +22,19 @@ use Rattle.zst_image.specs.Reads.{ReadsAs, RunsBy, free_by, kept_rows}
 use Rattle.zst_image.specs.declared.kept.Kept.{Kept}
 use Rattle.zst_image.specs.declared.open_fault.OpenFault.{OpenFault}
 use Rattle.zst_image.specs.declared.open_fault.OpenFault.TheVariants as opens
+use Rattle.zst_model.specs.declared.refusals.named.Name.TheVariants as names
+use Rattle.zst_tree.specs.Damage.{IsSeen}
+use Rattle.zst_pool.specs.Damage.{OfSet}
 use Rattle.zst_pool.specs.Faults.{pool_refusal}
 use Rattle.zst_pool.specs.declared.fault.PoolFault.{PoolFault}
 use Rattle.zst_pool.specs.declared.fault.PoolFault.TheVariants as faults
+use Rattle.zst_send.specs.Damage.{IsDamagedSend}
 use Rattle.zst_send.specs.Opening.{opening}
 use Rattle.zst_send.specs.Sends.{sent_text}
 use Rattle.zst.specs.Commands.{Opens}
 use Rattle.zst.specs.Sending.{IfUnplanned}
-use Rattle.zst.specs.Sends.{IsSendRefusal, OfGiving, OfSending, RefusalEnds, SendOpened, SendRan, Sends, SendsBy}
-use Rattle.zst.proofs.Commanded.{of_plan, open_alive, open_disk}
+use Rattle.zst.specs.Sends.{IsSendRefusal, OfGiving, OfSending, RefusalEnds, SendOpened, SendRan, Sends, SendsBy, TellsOf, send_damage}
+use Rattle.zst.proofs.Commanded.{of_plan, open_alive, open_disk, told_before}
 use Rattle.zst.proofs.SendLemmas.{sent_earlier}
 
 -- ---- where the pool can't be opened
@@ -107,12 +111,22 @@ is_open : (refusal : Refusal) → OfGiving refusal → is_of_opening refusal ≡
 is_open refusal is =
     ⊎_elim (λ pool. ap is_of_opening pool.1 ∙ pool_is_open pool.0) (⊎_elim (λ sink. ap is_of_opening sink) (λ limit. ap is_of_opening limit)) is
 
--- what the rows in memory say of each plan, where a pool was opened by a body and rows
-ran : (ask : SendAsk) (here : DiskState) (out out' : SinkState) (kept : Kept) (rows : Rows) (result : Result (Unit {0}) Refusal) → kept.dir ≡ kept_rows rows → Opens here kept.body rows
-    → ((pool : Pool) → AreNamed kept.dir pool → IfUnplanned (opening ask pool) out out' result) → SendRan ask here out out' result kept.body rows
-ran ask here out out' kept rows result same opens plan = record {
+-- what an answer says of each plan of the rows in memory, and of damage
+pub record SaysOfRows (ask : SendAsk) (dir : Rows) (disk disk' : DiskState) (out out' : SinkState) (result : Result (Unit {0}) Refusal) : Type 0 where
+  pub planned : (pool : Pool) → AreNamed dir pool → IfUnplanned (opening ask pool) out out' result
+  pub because : (pool : Pool) (fault : PlanFault) → AreNamed dir pool → result ≡ Err (refusals.Plan fault) → opening ask pool ≡ Err fault
+  pub damaged : disk'.honest → TellsOf (OfSet dir (names.Snapshot ask.snap) (send_damage disk)) result
+
+-- so it is of the body and the rows that a pool was opened by
+ran : (ask : SendAsk) (here mid here' : DiskState) (out out' : SinkState) (kept : Kept) (rows : Rows) (result : Result (Unit {0}) Refusal) → kept.dir ≡ kept_rows rows → Opens here kept.body rows
+    → OnlyReads here mid → here'.honest → SaysOfRows ask kept.dir mid here' out out' result → SendRan ask here out out' result kept.body rows
+ran ask here mid here' out out' kept rows result same opens reads honest says = record {
   opens = opens;
-  planned = λ pool fault named refused. rw refused at (plan pool (rw same named.are_named));
+  planned = λ pool fault named refused. rw refused at (says.planned pool (rw same named.are_named));
+  because = λ pool fault named is. says.because pool fault (rw same named.are_named) is;
+  damaged = λ sector stated found is.
+      told_before here mid (λ seen size. OfSet (kept_rows rows) (names.Snapshot ask.snap) (IsDamagedSend (IsSeen seen) size) sector stated found) reads
+      (subst (λ (r : Rows). OfSet r (names.Snapshot ask.snap) (send_damage mid) sector stated found) same (says.damaged honest sector stated found is));
 }
 
 opened_says : (ask : SendAsk) (here : DiskState) (out out' : SinkState) (result : Result (Unit {0}) Refusal)
@@ -162,15 +176,15 @@ pub opened : (ask : SendAsk) (here mid here' : DiskState) (out out' : SinkState)
     → ((tight : Bool) (uber : Uber) (rows : Rows) (pool : Pool) → mid.honest → ReadsAs tight uber rows pool here.seen → GivesPool uber rows (Ok kept))
     → (mid.honest → OpenAnswers here (Ok kept)) → OnlyReads here mid → here.faults ≤ mid.faults → OnlyReads mid here' → mid.faults ≤ here'.faults
     → ((pool : Pool) → here'.honest → RunsBy None (Has mid.seen (free_by kept.body)) kept.dir pool → SendsBy (opening ask pool) mid.faults here'.faults out out' result)
-    → IfErr result (IsSendRefusal OfGiving mid here' out out') → ((pool : Pool) → AreNamed kept.dir pool → IfUnplanned (opening ask pool) out out' result)
+    → IfErr result (IsSendRefusal OfGiving mid here' out out') → SaysOfRows ask kept.dir mid here' out out' result
     → Sends ask here here' out out' result
-opened ask here mid here' out out' kept result there answer reads later gave still gives refused plan = record {
+opened ask here mid here' out out' kept result there answer reads later gave still gives refused says = record {
   reads = OnlyReads-then here mid here' reads gave;
   sends = λ pool told is.
       sends_earlier (opening ask pool) here.faults mid.faults here'.faults out out' result later
       (gives pool told (runs here mid kept is.0 is.1 pool reads (there false is.0 is.1 pool (gave.honest told) is.2) is.2));
   opened = λ told. let was = answer (gave.honest told) in
-      opened_says ask here out out' result (kept.body, was.1, ran ask here out out' kept was.1 result was.4 (was.0, was.2, was.3) plan)
+      opened_says ask here out out' result (kept.body, was.1, ran ask here mid here' out out' kept was.1 result was.4 (was.0, was.2, was.3) reads told says)
       (of_giving mid here' out out' result refused);
   refused = whole_refusal here mid here' out out' result later refused;
   later = omega (arith, later, still);

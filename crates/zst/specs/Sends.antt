@@ -18,14 +18,19 @@ use Rattle.zst_model.specs.declared.sends.ask.SendAsk.{SendAsk}
 use Rattle.zst_model.specs.pools.Pool.{Pool}
 use Rattle.zst_model.specs.refusals.Refusal.{refusal_of}
 use Rattle.zst_model.specs.sends.Headers.{Sent, header_of, sent_view}
+use Rattle.zst_tree.specs.Damage.{IsSeen}
+use Rattle.zst_tree.specs.declared.tree.ObjSet.{ObjSet}
+use Rattle.zst_objset.specs.Damage.{DamageFact}
 use Rattle.zst_dir.specs.Rows.{Rows}
 use Rattle.zst_image.specs.Faults.{open_refusal}
 use Rattle.zst_image.specs.Opening.{TellsBody, TellsDir}
 use Rattle.zst_image.specs.Reads.{IsNamedBy, Reads, kept_rows}
 use Rattle.zst_image.specs.declared.open_fault.OpenFault.{OpenFault}
+use Rattle.zst_pool.specs.Damage.{OfSet}
 use Rattle.zst_pool.specs.Faults.{pool_refusal}
 use Rattle.zst_pool.specs.declared.fault.PoolFault.{PoolFault}
 use Rattle.zst_reader.specs.Filling.{stream_limit}
+use Rattle.zst_send.specs.Damage.{IsDamagedSend}
 use Rattle.zst_send.specs.Opening.{opening}
 use Rattle.zst_send.specs.Sends.{sent_text}
 use Rattle.zst.specs.Commands.{HasVersion, IsPoolRefusal, Opens}
@@ -99,13 +104,24 @@ pub record SendsBy (planned : Result Sent PlanFault) (before after : ℕ) (out o
 
 -- ---- sending from an image
 
+-- what a send of this object set may tell as damaged, as the disk had it
+abbrev pub send_damage : DiskState → ObjSet → DamageFact
+send_damage disk set = IsDamagedSend (IsSeen disk.seen) disk.size set
+
+-- E25 comes only of such a damage
+abbrev pub TellsOf : DamageFact → Result (Unit {0}) Refusal → Type 0
+TellsOf Is result = (sector : ℕ) (stated found : List ℕ) → result ≡ Err (refusals.Damaged sector stated found) → Is sector stated found
+
 -- A send from a pool that was opened by this body and these rows, whether or not the image reads as a pool. What the directory
--- tells alone: E3, E6, E7 and E19 come where the definition refuses the plan of a pool that the body and the rows name, whatever
--- its object sets hold, and then nothing is written.
+-- tells alone: E3, E6, E7 and E19 come exactly where the definition refuses the plan of a pool that the body and the rows name,
+-- whatever its object sets hold, and then nothing is written. E25 comes only of a block of the asked snapshot's own object set.
 pub record SendRan (ask : SendAsk) (here : DiskState) (out out' : SinkState) (result : Result (Unit {0}) Refusal) (uber : Uber) (rows : Rows) : Type 0 where
   pub opens : Opens here uber rows
   pub planned : (pool : Pool) (fault : PlanFault) → IsNamedBy uber (kept_rows rows) pool → opening ask pool ≡ Err fault
       → (result ≡ Err (refusal_of fault)) × (out' ≡ out)
+  pub because : (pool : Pool) (fault : PlanFault) → IsNamedBy uber (kept_rows rows) pool → result ≡ Err (refusals.Plan fault)
+      → opening ask pool ≡ Err fault
+  pub damaged : TellsOf (OfSet (kept_rows rows) (names.Snapshot ask.snap) (send_damage here)) result
 
 -- What an answer says of any image. E26 comes where there is no latest body, E27 where it has another version, E25 where it
 -- or its directory isn't of the layout: then nothing is written. Any other answer comes where both are, but for E28 and E32

@@ -1,5 +1,5 @@
 // The line that sends a snapshot: its stream is written piece by piece, as it is read of the image.
-ghost use Rattle.std.specs.Prelude.{◌≡◌, ◌≤◌, ◌<◌, ℕ, List, false, length, IfErr, IfOk, IfSome, None, Ok};
+ghost use Rattle.std.specs.Prelude.{◌≡◌, ◌≢◌, ◌≤◌, ◌<◌, ℕ, Contains, List, false, length, IfErr, IfOk, IfSome, None, Some, Ok, Err};
 ghost use Rattle.zst_outside.specs.Images.{OnlyReads};
 ghost use Rattle.zst_outside.specs.States.{SinkState};
 ghost use Rattle.zst_space.specs.FreeSectors.{FreeSectors};
@@ -7,11 +7,16 @@ ghost use Rattle.zst_block.specs.Blocks.{FitsDisk, Has};
 ghost use Rattle.zst_dir.specs.Named.{AreNamed};
 ghost use Rattle.zst_image.specs.Reads.{RunsBy};
 ghost use Rattle.zst_model.specs.pools.Pool.{Pool as Plain};
+ghost use Rattle.zst_model.specs.declared.refusals.plan_fault.PlanFault.{PlanFault};
 ghost use Rattle.zst_model.specs.sends.Headers.{Sent};
+ghost use Rattle.zst_pool.specs.Damage.{OfSet};
+ghost use Rattle.zst_pool.specs.Finding.{set_named};
 ghost use Rattle.zst_reader.specs.Filling.{stream_limit};
+ghost use Rattle.zst_send.specs.Damage.{IsDamagedSend};
+ghost use Rattle.zst_send.specs.Knowing.{IsAmong, Knows};
 ghost use Rattle.zst_send.specs.Opening.{opening};
-ghost use Rattle.zst_send.specs.Sends.{SendFits};
-ghost use Rattle.zst.specs.Sends.{IsSendRefusal, IsSource, OfGiving, Sends, SendsBy, SentAlike, ask_of, source_of};
+ghost use Rattle.zst_send.specs.Sends.{SendFits, sent_set};
+ghost use Rattle.zst.specs.Sends.{IsSendRefusal, IsSource, OfGiving, Sends, SendsBy, SentAlike, TellsOf, ask_of, send_damage, source_of};
 ghost use Rattle.zst.specs.Sending.{Advances, IfUnplanned, IsOpenRefusal, OpensBy, Passed, PlansOpen, Sending, WritesPiece};
 
 use crate::reply::hand_on;
@@ -103,6 +108,11 @@ fn pass_piece<D: Disk, K: Sink>(
         → Passed (Has (D.state pool.new.io.disk.now).seen pool.new.io.space) sent send.new (D.state pool.old.io.disk.now).faults (D.state pool.new.io.disk.now).faults begun (K.state out.new) count.new result }
     ensures advances { Advances count.old count.new result }
     ensures refused { IfSome result (λ answer. IfErr answer (IsSendRefusal OfGiving (D.state pool.old.io.disk.now) (D.state pool.new.io.disk.now) (K.state out.old) (K.state out.new))) }
+    ensures unplanned { (fault : PlanFault) → result ≢ Some (Err (Refusal.Plan fault)) }
+    ensures set { sent_set send.new ≡ sent_set send.old }
+    ensures knows { (images : List (List ℕ)) → Contains images (D.state pool.old.io.disk.now).seen → (D.state pool.new.io.disk.now).honest → Knows (IsAmong images) send.old → Knows (IsAmong images) send.new }
+    ensures damaged { (images : List (List ℕ)) → Contains images (D.state pool.old.io.disk.now).seen → (D.state pool.new.io.disk.now).honest → Knows (IsAmong images) send.old
+        → IfSome result (TellsOf (IsDamagedSend (IsAmong images) (D.state pool.old.io.disk.now).size (sent_set send.old))) }
     ensures room { length room.new ≡ length room.old }
     ensures send { SendFits send.new }
     ensures works { result ≡ None → pool.new.io.failed ≡ false }
@@ -134,6 +144,9 @@ fn pass_all<D: Disk, K: Sink>(
     requires works { pool.old.io.failed ≡ false }
     ensures sends { (sent : Sent) → (D.state pool.new.io.disk.now).honest → Sending (Has (D.state pool.old.io.disk.now).seen pool.old.io.space) sent send (K.state out.old) (K.state out.old) 0
         → SendsBy (Ok sent) (D.state pool.old.io.disk.now).faults (D.state pool.new.io.disk.now).faults (K.state out.old) (K.state out.new) result }
+    ensures unplanned { (fault : PlanFault) → result ≢ Err (Refusal.Plan fault) }
+    ensures damaged { (images : List (List ℕ)) → Contains images (D.state pool.old.io.disk.now).seen → (D.state pool.new.io.disk.now).honest → Knows (IsAmong images) send
+        → TellsOf (IsDamagedSend (IsAmong images) (D.state pool.old.io.disk.now).size (sent_set send)) result }
     ensures refused { IfErr result (IsSendRefusal OfGiving (D.state pool.old.io.disk.now) (D.state pool.new.io.disk.now) (K.state out.old) (K.state out.new)) }
     ensures reads { OnlyReads (D.state pool.old.io.disk.now) (D.state pool.new.io.disk.now) }
     ensures later { (D.state pool.old.io.disk.now).faults ≤ (D.state pool.new.io.disk.now).faults }
@@ -153,6 +166,8 @@ fn open<D: Disk>(alloc: Global, pool: &mut Pool<'_, D>, ask: &SendAsk) -> Result
     requires { pool.old.io.failed ≡ false }
     ensures opens { (image : List ℕ) (space : FreeSectors) (running : Plain) → RunsBy None (Has image space) pool.old.kept.dir running → OpensBy (Has image space) (opening ask.now running) result }
     ensures planned { (running : Plain) → AreNamed pool.old.kept.dir running → PlansOpen (opening ask.now running) result }
+    ensures set { IfOk result (λ send. set_named (Name.Snapshot ask.now.snap) pool.old.kept.dir ≡ Some (sent_set send)) }
+    ensures knows { (images : List (List ℕ)) → IfOk result (Knows (IsAmong images)) }
     ensures fits { IfOk result SendFits }
     ensures refused { IfErr result IsOpenRefusal }
     ensures disk { pool.new.io.disk.now ≡ pool.old.io.disk.now }
@@ -179,6 +194,8 @@ fn send_from<D: Disk, K: Sink>(
     ensures sends { (running : Plain) → (D.state pool.new.io.disk.now).honest → RunsBy None (Has (D.state pool.old.io.disk.now).seen pool.old.io.space) pool.old.kept.dir running
         → SendsBy (opening ask.now running) (D.state pool.old.io.disk.now).faults (D.state pool.new.io.disk.now).faults (K.state out.old) (K.state out.new) result }
     ensures planned { (running : Plain) → AreNamed pool.old.kept.dir running → IfUnplanned (opening ask.now running) (K.state out.old) (K.state out.new) result }
+    ensures because { (running : Plain) (fault : PlanFault) → AreNamed pool.old.kept.dir running → result ≡ Err (Refusal.Plan fault) → opening ask.now running ≡ Err fault }
+    ensures damaged { (D.state pool.new.io.disk.now).honest → TellsOf (OfSet pool.old.kept.dir (Name.Snapshot ask.now.snap) (send_damage (D.state pool.old.io.disk.now))) result }
     ensures refused { IfErr result (IsSendRefusal OfGiving (D.state pool.old.io.disk.now) (D.state pool.new.io.disk.now) (K.state out.old) (K.state out.new)) }
     ensures reads { OnlyReads (D.state pool.old.io.disk.now) (D.state pool.new.io.disk.now) }
     ensures later { (D.state pool.old.io.disk.now).faults ≤ (D.state pool.new.io.disk.now).faults }
