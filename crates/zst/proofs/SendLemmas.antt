@@ -2,7 +2,7 @@
 use Rattle.std.proofs.Common.{◌≡◌, ◌≢◌, inl, inr, ⊎_elim, ℕ, ◌+◌, zero, suc, ◌<◌, ◌≤◌, Bool, true, Option, Some, None, Result, List, [], ◌∷◌, ◌++◌, length, take, drop, Ok, Err, IfErr, refl, sym, ap, ◌∙◌, subst, arith, length-append}
 use Rattle.std.specs.Prelude.{Contains, IfSome, slice_index_or}
 use Rattle.std.proofs.lemmas.List.{append-nil, drop_all}
-use Rattle.zst_outside.specs.Causes.{Rose-earlier}
+use Rattle.zst_outside.specs.Causes.{Rose, Rose-earlier}
 use Rattle.zst_outside.specs.Images.{DiskState}
 use Rattle.zst_outside.specs.States.{SinkState}
 use Rattle.zst_outside.specs.Printing.{Wrote, Printed, Wrote-kept, Wrote-then, Wrote-longer, Wrote-start, Printed-start, Printed-then}
@@ -20,6 +20,8 @@ use Rattle.zst_objset.specs.Damage.{DamageFact}
 use Rattle.zst_pool.specs.Damage.{IsOf, OfSet}
 use Rattle.zst_pool.specs.Finding.{set_named}
 use Rattle.zst_pool.specs.Faults.{pool_refusal}
+use Rattle.zst_pool.specs.Telling.{stop_of}
+use Rattle.zst_block.specs.declared.fault.BlockFault.TheVariants as blocks
 use Rattle.zst_pool.specs.declared.fault.PoolFault.{PoolFault}
 use Rattle.zst_pool.specs.declared.fault.PoolFault.TheVariants as faults
 use Rattle.zst_reader.specs.Filling.{stream_limit}
@@ -155,6 +157,23 @@ module _ (has : Blocks) (sent : Sent) (send : Send) (before after : ℕ) (begun 
         ends = Rose-earlier begun.faults out.faults out'.faults printed.wrote.later w.rose;
       }
   passed (Some (Err other)) last w = absurd w
+
+-- a take that fails leaves a front of the text written, as far as it was, and hands that on
+module _ (sent : Sent) (before after : ℕ) (begun out out' : SinkState) (text left : List ℕ) (whole : text ++ left ≡ sent_text sent) (printed : Printed begun out text) where
+  pub take_failed : (fault : PoolFault) (result : Result (Unit {0}) Refusal) → given.IsTakeFault fault → (stop_of {T = ℕ} (Err fault) ≡ Some blocks.DiskFault → Rose before after) → ¬ (fault ≡ faults.Failed)
+      → HandsOn out out' (Err (pool_refusal fault)) result → SendsBy (Ok sent) before after begun out' result
+  take_failed faults.DiskFault result is rose alive hands =
+      let front = front_of begun out' text left (sent_text sent) whole (Wrote-kept begun out out' text [] printed.wrote hands.written hands.later) in
+      ⊎_elim (λ done. rw done.0 (record { front = front; ends = (rose refl, inr (done.1 ∙ printed.stays, done.2)) }))
+      (λ lost. rw lost.0 (record { front = front; ends = Rose-earlier begun.faults out.faults out'.faults printed.wrote.later lost.1 }))
+      hands.outcome
+  take_failed faults.Failed result is rose alive hands = absurd (alive refl)
+  take_failed (faults.Plan fault) result is rose alive hands = absurd is
+  take_failed (faults.CannotApply fault) result is rose alive hands = absurd is
+  take_failed (faults.Redacted object block) result is rose alive hands = absurd is
+  take_failed (faults.Full need largest) result is rose alive hands = absurd is
+  take_failed (faults.Damaged sector stated found) result is rose alive hands = absurd is
+  take_failed faults.OutOfMemory result is rose alive hands = absurd is
 
 -- ---- the whole
 

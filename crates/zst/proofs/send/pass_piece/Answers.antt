@@ -1,6 +1,6 @@
-use Rattle.std.proofs.Common.{◌≡◌, Err, Result, length, subst, ap}
+use Rattle.std.proofs.Common.{Err, length, ap}
 use Rattle.std.proofs.lemmas.Bool.{ltb-true}
-use Rattle.zst.proofs.SendLemmas.{hands_damage, hands_no_plan, passed, piece_no_damage, piece_no_plan}
+use Rattle.zst.proofs.SendLemmas.{hands_damage, hands_no_plan, passed, piece_no_damage, piece_no_plan, take_failed}
 use Rattle.zst.proofs.send.pass_piece.Goals as goal
 
 pub returns-in-Ok-clause-passed : goal.returns-in-Ok-clause-passed
@@ -14,6 +14,13 @@ returns-in-Ok-clause-unplanned g c = piece_no_plan _ _ _ _ _ _ c.write_piece.res
 
 pub returns-in-Ok-clause-damaged : goal.returns-in-Ok-clause-damaged
 returns-in-Ok-clause-damaged g c = λ images among honest knows. piece_no_damage _ _ _ _ _ _ _ c.write_piece.result c.write_piece.ensures
+
+pub returns-in-Err-clause-passed : goal.returns-in-Err-clause-passed
+returns-in-Err-clause-passed g c = λ sent begun told s.
+    let hands = rw (c.from.ensures) at c.hand_on.ensures in
+    let t = c.in-Err.ensures.takes sent s.text s.left told s.stands in
+    take_failed sent _ _ begun _ _ s.text s.left s.stands.text s.printed c.in-Err.fault c.hand_on.result t.0 c.in-Err.ensures.looks.cause.fault
+    (λ is. c.in-Err.ensures.open_still c.requires.works (ap (λ f. Err f) is)) hands
 
 pub returns-in-Err-clause-unplanned : goal.returns-in-Err-clause-unplanned
 returns-in-Err-clause-unplanned g c = λ plan is.
