@@ -1,0 +1,14 @@
+mod Answering
+mod Begun
+mod Moving
+mod Counting
+mod Owning
+mod Draining
+mod Piecing
+mod Ordering
+mod Ending
+mod Limiting
+mod Feeding
+mod Putting
+mod Going
+mod Serving

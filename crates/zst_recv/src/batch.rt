@@ -1,0 +1,186 @@
+// What one feed takes of a stream.
+ghost use Rattle.std.specs.Prelude.{◌≡◌, ◌+◌, ℕ, false, List, None, Ok, Err, OnErr};
+ghost use Rattle.zst_block.specs.Blocks.{FitsDisk, Has};
+ghost use Rattle.zst_space.specs.FreeSectors.{FreeSectors};
+ghost use Rattle.zst_dir.specs.Rows.{Rows};
+ghost use Rattle.zst_image.specs.Reads.{PartialIs, RunsBy};
+ghost use Rattle.zst_model.specs.pools.Pool.{IsStated, Partial as PlainPartial, Pool as Plain};
+ghost use Rattle.zst_plan.specs.Receipts.{TellsDates};
+ghost use Rattle.zst_plan.specs.declared.receive.RecvAsk.{RecvAsk as Ask};
+ghost use Rattle.zst_pool.specs.Calls.{IsUnderWay};
+ghost use Rattle.zst_record.specs.Fits.{IsLater};
+ghost use Rattle.zst_record.specs.Heads.{Covered, covered_of};
+ghost use Rattle.zst_record.specs.declared.head.Head.TheVariants as heads;
+ghost use Rattle.zst_stream.specs.Reading.{closing};
+ghost use Rattle.zst_recv.specs.Faults.{Fills, stop_of};
+ghost use Rattle.zst_recv.specs.Receiving.{Stage as PlainStage, Work, at_stage, moved_by, taken};
+ghost use Rattle.zst_recv.specs.Stages.{CanPut, IsStage, IsWork, StageFits};
+ghost use Rattle.zst_recv.specs.Taking.{IsRead, Makes, Takes};
+
+use crate::fault::{RecvFault, of_record};
+use crate::opening::open;
+use crate::point::point_behind;
+use crate::stage::Stage;
+use std::mem;
+use zst_apply::apply;
+use zst_block::Io;
+use zst_dir::{Dir, Partial};
+use zst_image::Kept;
+use zst_model::Header;
+use zst_outside::Disk;
+use zst_plan::RecvAsk;
+use zst_pool::PoolFault;
+use zst_record::{Head, Record};
+
+/// What one feed has made: where the receive then stands, whether the target's head is rolled back with it, whether a record was
+/// taken, and how many of these stood between BEGIN and END.
+#[derive(Drop)]
+pub(crate) struct Batch {
+    pub stage: Stage,
+    pub rolls: bool,
+    pub taken: bool,
+    pub applied: u64,
+}
+
+// Applies a record to the partial state that is under way, in a stream with these flags.
+fn move_by<D: Disk>(
+    io: &mut Io<'_, D>,
+    partial: &mut Partial,
+    covered: &Record<'_>,
+    flags: u32,
+    number: u64,
+) -> Result<(), RecvFault>
+    requires fits { FitsDisk (D.state io.old.disk.now).size io.old.space }
+    requires covered { IsRead (covered_of covered.now) }
+    ensures moved { (state : PlainPartial) → (D.state io.new.disk.now).honest → PartialIs None (Has (D.state io.old.disk.now).seen io.old.space) partial.old state
+        → Makes (PartialIs None (Has (D.state io.new.disk.now).seen io.new.space) partial.new) (moved_by number (covered_of covered.now) flags state) result }
+    ensures stays { OnErr result (partial.new ≡ partial.old) }
+    ensures open_still { ¬ (result ≡ Err (RecvFault.Pool PoolFault.Failed)) }
+    ensures puts { (rows : Rows) (target : List ℕ) → CanPut rows target partial.old → CanPut rows target partial.new }
+    ensures fills { Fills (D.state io.old.disk.now) io.old.space io.old.failed (D.state io.new.disk.now) io.new.space io.new.failed (stop_of result) }
+    ensures same { io.new.disk.ghost_name ≡ io.old.disk.ghost_name }
+{
+    match apply(io, &mut partial.objects, covered, flags, number) {
+        Ok(()) => {
+            partial.point = point_behind(partial.point, covered.head);
+            Ok(())
+        }
+        Err(fault) => Err(of_record(covered.index, fault)),
+    }
+}
+
+impl Batch {
+    /// A feed begins where the receive stands.
+    pub fn new(stage: Stage) -> Batch
+        ensures stage { result.stage ≡ stage }
+        ensures work { (image : List ℕ) (space : FreeSectors) (at : PlainStage) → IsStage (Has image space) stage at → IsWork (Has image space) result (at_stage at) }
+    {
+        Batch {
+            stage,
+            rolls: false,
+            taken: false,
+            applied: 0,
+        }
+    }
+
+    /// Takes one covered record more. What is refused leaves what was taken before.
+    pub fn take<D: Disk>(
+        &mut self,
+        io: &mut Io<'_, D>,
+        kept: &Kept,
+        ask: &RecvAsk,
+        covered: &Record<'_>,
+    ) -> Result<(), RecvFault>
+        requires fits { FitsDisk (D.state io.old.disk.now).size io.old.space }
+        requires stage { StageFits kept.now.dir ask.now.target self.old.stage }
+        requires covered { IsRead (covered_of covered.now) }
+        ensures took { (start : D) (running : Plain) (work : Work) → (D.state io.new.disk.now).honest → IsUnderWay false (D.state start) (D.state io.old.disk.now) io.old.space kept.now running → TellsDates kept.now.dir running
+            → IsWork (Has (D.state io.old.disk.now).seen io.old.space) self.old work
+            → Takes (IsWork (Has (D.state io.new.disk.now).seen io.new.space) self.new) work (taken ask.now running (covered_of covered.now) work) result }
+        ensures stays { OnErr result (self.new ≡ self.old) }
+        ensures idle { self.new.taken ≡ false → self.new ≡ self.old }
+        ensures open_still { ¬ (result ≡ Err (RecvFault.Pool PoolFault.Failed)) }
+        ensures stage { StageFits kept.now.dir ask.now.target self.new.stage }
+        ensures fills { Fills (D.state io.old.disk.now) io.old.space io.old.failed (D.state io.new.disk.now) io.new.space io.new.failed (stop_of result) }
+        ensures same { io.new.disk.ghost_name ≡ io.old.disk.ghost_name }
+    {
+        match covered.head {
+            Head::Begin { header, .. } => self.begin(&kept.dir, ask, header),
+            Head::End { .. } => {
+                self.end();
+                Ok(())
+            }
+            _ => self.go_on(io, kept.body.number.saturating_add(1), covered),
+        }
+    }
+
+    // BEGIN: a reading gives it first, and only there.
+    fn begin(&mut self, dir: &Dir, ask: &RecvAsk, header: &Header) -> Result<(), RecvFault>
+        requires header { IsStated header.now }
+        requires stage { StageFits dir.now ask.now.target self.old.stage }
+        ensures began { (image : List ℕ) (space : FreeSectors) (running : Plain) (work : Work) (c : Covered) (len : ℕ) → c.head ≡ heads.Begin header.now len → RunsBy None (Has image space) dir.now running → TellsDates dir.now running
+            → IsWork (Has image space) self.old work → Takes (IsWork (Has image space) self.new) work (taken ask.now running c work) result }
+        ensures stays { OnErr result (self.new ≡ self.old) }
+        ensures idle { self.new.taken ≡ false → self.new ≡ self.old }
+        ensures open_still { ¬ (result ≡ Err (RecvFault.Pool PoolFault.Failed)) }
+        ensures stage { StageFits dir.now ask.now.target self.new.stage }
+        ensures no_block { stop_of result ≡ None }
+    {
+        if !matches!(self.stage, Stage::Waits) {
+            return Ok(());
+        }
+        match open(dir, ask, header) {
+            Ok(batch) => {
+                *self = batch;
+                Ok(())
+            }
+            Err(fault) => Err(RecvFault::Pool(PoolFault::Plan(fault))),
+        }
+    }
+
+    // END: the partial state is to become the snapshot.
+    fn end(&mut self)
+        ensures ended { (image : List ℕ) (space : FreeSectors) (running : Plain) (ask : Ask) (work : Work) (c : Covered) (sums : List ℕ) (to : ℕ) → c.head ≡ heads.End sums to
+            → IsWork (Has image space) self.old work → (after : Work) × (taken ask running c work ≡ Ok after) × IsWork (Has image space) self.new after }
+        ensures idle { self.new.taken ≡ false → self.new ≡ self.old }
+        ensures stage { (rows : Rows) (target : List ℕ) → StageFits rows target self.old.stage → StageFits rows target self.new.stage }
+    {
+        match mem::replace(&mut self.stage, Stage::Over) {
+            Stage::Lives { partial, .. } => {
+                self.stage = Stage::Ends { partial };
+                self.taken = true;
+            }
+            stage => self.stage = stage,
+        }
+    }
+
+    // Another record: it is applied in the commit of this number.
+    fn go_on<D: Disk>(
+        &mut self,
+        io: &mut Io<'_, D>,
+        number: u64,
+        covered: &Record<'_>,
+    ) -> Result<(), RecvFault>
+        requires fits { FitsDisk (D.state io.old.disk.now).size io.old.space }
+        requires covered { IsRead (covered_of covered.now) }
+        requires later { IsLater covered.now.head.now }
+        requires not_last { closing covered.now.head.now ≡ None }
+        ensures took { (running : Plain) (ask : Ask) (work : Work) → (D.state io.new.disk.now).honest → number ≡ running.number + 1
+            → IsWork (Has (D.state io.old.disk.now).seen io.old.space) self.old work
+            → Takes (IsWork (Has (D.state io.new.disk.now).seen io.new.space) self.new) work (taken ask running (covered_of covered.now) work) result }
+        ensures stays { OnErr result (self.new ≡ self.old) }
+        ensures idle { self.new.taken ≡ false → self.new ≡ self.old }
+        ensures open_still { ¬ (result ≡ Err (RecvFault.Pool PoolFault.Failed)) }
+        ensures stage { (rows : Rows) (target : List ℕ) → StageFits rows target self.old.stage → StageFits rows target self.new.stage }
+        ensures fills { Fills (D.state io.old.disk.now) io.old.space io.old.failed (D.state io.new.disk.now) io.new.space io.new.failed (stop_of result) }
+        ensures same { io.new.disk.ghost_name ≡ io.old.disk.ghost_name }
+    {
+        match &mut self.stage {
+            Stage::Lives { flags, partial } => move_by(io, partial, covered, *flags, number)?,
+            Stage::Waits | Stage::Ends { .. } | Stage::Over => return Ok(()),
+        }
+        self.taken = true;
+        self.applied = self.applied.saturating_add(1);
+        Ok(())
+    }
+}

@@ -1,0 +1,17 @@
+//! A receive: it plans by BEGIN, applies the records that a stream covers to a partial state, and commits once for each piece.
+#![tactic(auto)]
+
+mod batch;
+mod fault;
+mod opening;
+mod point;
+mod reading;
+mod recv;
+mod settling;
+mod stage;
+#[cfg(test)]
+mod tests;
+
+pub use fault::RecvFault;
+pub use recv::{Fed, Recv};
+pub use zst_plan::RecvAsk;

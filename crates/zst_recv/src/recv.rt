@@ -1,0 +1,242 @@
+ghost use Rattle.std.specs.Prelude.{◌≡◌};
+ghost use Rattle.zst_recv.specs.Faults.{stream_limit};
+
+use crate::batch::Batch;
+use crate::fault::RecvFault;
+use crate::reading::read;
+use crate::settling::{keeps_before, put};
+use crate::stage::Stage;
+use std::alloc::Global;
+use std::mem;
+use zst_model::{PlanFault, Point, Quantity, StreamFault};
+use zst_outside::Disk;
+use zst_plan::RecvAsk;
+use zst_pool::{Pool, PoolFault};
+use zst_reader::{Reader, STREAM_LIMIT};
+
+/// What a feed tells.
+#[derive(Clone, Copy, Debug, PartialEq, Eq)]
+pub struct Fed {
+    /// How many bytes of the piece are of the stream: all, or those up to its END.
+    pub used: usize,
+    /// How many records between BEGIN and END it applied.
+    pub applied: u64,
+    /// Where the stream goes on.
+    pub point: Point,
+    /// Whether END was covered: the snapshot stands.
+    pub done: bool,
+}
+
+/// A receive: what it is asked for, the reading of its stream, and where it stands. It has no part of the pool.
+#[derive(Drop)]
+pub struct Recv {
+    ask: RecvAsk,
+    reader: Reader,
+    stage: Stage,
+}
+
+impl Recv {
+    ghost use Rattle.std.specs.Prelude.{◌≡◌, ◌||◌, ◌-◌, ℕ, List, [], IfErr, IfOk, Err, false, true, not, sum_by, if◌then◌else◌};
+    ghost use Rattle.zst_block.specs.Blocks.{Has};
+    ghost use Rattle.zst_block.specs.Working.{HasCause, fails};
+    ghost use Rattle.zst_image.specs.Committing.{Ready};
+    ghost use Rattle.zst_image.specs.Reads.{free_by};
+    ghost use Rattle.zst_model.specs.declared.sends.header.Point.{Point as PlainPoint};
+    ghost use Rattle.zst_model.specs.pools.Kept.{kept_of};
+    ghost use Rattle.zst_model.specs.pools.Pool.{Pool as Plain};
+    ghost use Rattle.zst_outside.specs.Images.{OnlyReads};
+    ghost use Rattle.zst_plan.specs.Receipts.{TellsDates};
+    ghost use Rattle.zst_pool.specs.Calls.{IsAtRest};
+    ghost use Rattle.zst_pool.specs.Partials.{without_unkept};
+    ghost use Rattle.zst_reader.specs.StandsFor.{StandsFor, pushed_of};
+    ghost use Rattle.zst_record.specs.Heads.{Covered, size_of};
+    ghost use Rattle.zst_space.specs.FreeSectors.{FreeSectors};
+    ghost use Rattle.zst_recv.specs.Answers.{Feeds, goes_on};
+    ghost use Rattle.zst_recv.specs.Faults.{cut_of, stop_of};
+    ghost use Rattle.zst_recv.specs.Receiving.{Stage as PlainStage, Waits, left_by};
+    ghost use Rattle.zst_recv.specs.Stages.{Receives, RecvFits, is_live, point_in, stage_behind};
+
+    /// Begins a receive, and takes all of its memory. Nothing is read or committed.
+    pub fn open<D: Disk>(
+        pool: &mut Pool<'_, D>,
+        alloc: Global,
+        ask: RecvAsk,
+    ) -> Result<Recv, PoolFault>
+        ensures opens { (image : List ℕ) (space : FreeSectors) → IfOk result (λ recv. Receives (Has image space) recv [] Waits) }
+        ensures ask { IfOk result (λ recv. recv.ask ≡ ask) }
+        ensures fits { IfOk result (RecvFits pool.new.kept.dir) }
+        ensures live { IfOk result (λ recv. is_live recv.stage ≡ true) }
+        ensures failed_pool { pool.old.io.failed ≡ true → result ≡ Err PoolFault.Failed }
+        ensures known { pool.old.io.failed ≡ false → IfErr result (λ fault. fault ≡ PoolFault.OutOfMemory) }
+        ensures disk { pool.new.io.disk.now ≡ pool.old.io.disk.now }
+        ensures space { pool.new.io.space ≡ pool.old.io.space }
+        ensures failed { pool.new.io.failed ≡ pool.old.io.failed }
+        ensures kept { pool.new.kept ≡ pool.old.kept }
+        ensures same { pool.new.io.disk.ghost_name ≡ pool.old.io.disk.ghost_name }
+    {
+        if pool.io.failed {
+            return Err(PoolFault::Failed);
+        }
+        Ok(Recv {
+            ask,
+            reader: Reader::open(alloc)?,
+            stage: Stage::Waits,
+        })
+    }
+
+    /// Whether it goes on: it is over after END and after a refusal.
+    pub fn live(&self) -> bool
+        ensures { result ≡ is_live self.now.stage }
+    {
+        self.stage.is_live()
+    }
+
+    /// Takes a piece of the stream, whole or up to its END: each record that it covers is applied, and all of them are
+    /// committed once. With END the partial state becomes the snapshot and the head. After a refusal the receive is over.
+    pub fn feed<D: Disk>(
+        &mut self,
+        pool: &mut Pool<'_, D>,
+        alloc: Global,
+        piece: &[u8],
+    ) -> Result<Fed, RecvFault>
+        requires live { is_live self.old.stage ≡ true }
+        requires recv { RecvFits pool.old.kept.dir self.old }
+        requires ready { pool.old.io.failed ≡ false → Ready (D.state pool.old.io.disk.now) pool.old.kept.body }
+        // What the definition makes of the pool that runs and of the receive, at every moment and in the end.
+        ensures feeds { (running : Plain) (text : List ℕ) (stage : PlainStage) → (D.state pool.new.io.disk.now).honest → pool.old.io.failed ≡ false
+            → IsAtRest false (D.state pool.old.io.disk.now) pool.old.kept running → TellsDates pool.old.kept.dir running
+            → Receives (Has (D.state pool.old.io.disk.now).seen (free_by pool.old.kept.body)) self.old text stage
+            → Feeds (D.state pool.old.io.disk.now) (D.state pool.new.io.disk.now) pool.new.kept self.new text piece.now stage running result }
+        ensures ask { self.new.ask ≡ self.old.ask }
+        ensures live { is_live self.new.stage ≡ goes_on result }
+        ensures recv { RecvFits pool.new.kept.dir self.new }
+        // A pool that has failed answers nothing else, and does nothing.
+        ensures failed_pool { pool.old.io.failed ≡ true → result ≡ Err (RecvFault.Pool PoolFault.Failed) }
+        ensures idle_disk { pool.old.io.failed ≡ true → pool.new.io.disk.now ≡ pool.old.io.disk.now }
+        ensures open_still { pool.old.io.failed ≡ false → ¬ (result ≡ Err (RecvFault.Pool PoolFault.Failed)) }
+        ensures ready { pool.new.io.failed ≡ false → Ready (D.state pool.new.io.disk.now) pool.new.kept.body }
+        ensures failed { pool.new.io.failed ≡ (pool.old.io.failed || fails (stop_of result)) }
+        ensures cause { HasCause (D.state pool.old.io.disk.now).faults (D.state pool.new.io.disk.now).faults (stop_of result) }
+        ensures honest { (D.state pool.new.io.disk.now).honest → (D.state pool.old.io.disk.now).honest }
+        ensures same { pool.new.io.disk.ghost_name ≡ pool.old.io.disk.ghost_name }
+    {
+        if pool.io.failed {
+            self.stage = Stage::Over;
+            return Err(RecvFault::Pool(PoolFault::Failed));
+        }
+        let (started, held) = (self.reader.pushed(), self.stage.has_partial());
+        if piece.len() as u64 > STREAM_LIMIT - started {
+            return Err(self.give_up(pool, held, too_long()));
+        }
+        pool.renew(alloc);
+        let mut batch = Batch::new(mem::replace(&mut self.stage, Stage::Over));
+        let (io, kept) = (&mut pool.io, &pool.kept);
+        match read(&mut self.reader, io, kept, &self.ask, &mut batch, piece) {
+            Ok(()) => match put(pool, alloc, &batch) {
+                Ok(()) => Ok(self.go_on(batch, started, piece.len())),
+                Err(fault) => Err(self.give_up(pool, held, RecvFault::Pool(fault))),
+            },
+            Err(fault) if keeps_before(&fault) && batch.stage.is_kept() => {
+                match put(pool, alloc, &batch) {
+                    Ok(()) => Err(fault),
+                    Err(other) => Err(self.give_up(pool, held, RecvFault::Pool(other))),
+                }
+            }
+            Err(fault) => Err(self.give_up(pool, held, fault)),
+        }
+    }
+
+    /// Ends a receive: E20 where it was live, and its partial state stays only where it is kept.
+    pub fn cut<D: Disk>(self, pool: &mut Pool<'_, D>) -> Result<(), StreamFault>
+        requires recv { RecvFits pool.old.kept.dir self }
+        ensures result { result ≡ cut_of (is_live self.stage) (pushed_of self.reader) }
+        ensures rests { (disk : D) (running : Plain) (image : List ℕ) (space : FreeSectors) (stage : PlainStage) (text : List ℕ) → IsAtRest false (D.state disk) pool.old.kept running
+            → Receives (Has image space) self text stage → IsAtRest false (D.state disk) pool.new.kept (left_by stage running) }
+        ensures body { pool.new.kept.body ≡ pool.old.kept.body }
+        ensures io { pool.new.io ≡ pool.old.io }
+    {
+        let mut ended = self;
+        if !ended.live() {
+            return Ok(());
+        }
+        let fault = StreamFault::Truncated {
+            at: ended.reader.pushed(),
+        };
+        let held = ended.stage.has_partial();
+        ended.leave(pool, held);
+        Err(fault)
+    }
+
+    // Goes on behind what was committed, and tells of it.
+    fn go_on(&mut self, batch: Batch, started: u64, len: usize) -> Fed
+        ensures ask { self.new.ask ≡ self.old.ask }
+        ensures reader { self.new.reader ≡ self.old.reader }
+        ensures stage { self.new.stage ≡ stage_behind batch.stage }
+        ensures all { is_live batch.stage ≡ true → result.used ≡ len }
+        ensures front { (text : List ℕ) (handed : List Covered) → StandsFor self.old.reader text handed → is_live batch.stage ≡ false → result.used ≡ sum_by (λ c. size_of c.head) handed - started }
+        ensures applied { result.applied ≡ batch.applied }
+        ensures point { result.point ≡ point_in batch.stage }
+        ensures done { result.done ≡ not (is_live batch.stage) }
+    {
+        let (point, done) = (batch.stage.point(), !batch.stage.is_live());
+        let used = if done {
+            self.reader.covered().saturating_sub(started) as usize
+        } else {
+            len
+        };
+        let applied = batch.applied;
+        self.stage = if done { Stage::Over } else { batch.stage };
+        Fed {
+            used,
+            applied,
+            point,
+            done,
+        }
+    }
+
+    // It is over, and the partial state of the target goes, where it was committed and isn't kept.
+    fn leave<D: Disk>(&mut self, pool: &mut Pool<'_, D>, held: bool)
+        ensures over { self.new.stage ≡ Stage.Over }
+        ensures ask { self.new.ask ≡ self.old.ask }
+        ensures reader { self.new.reader ≡ self.old.reader }
+        ensures rests { (disk : D) (running : Plain) → IsAtRest false (D.state disk) pool.old.kept running
+            → IsAtRest false (D.state disk) pool.new.kept (if held then without_unkept self.old.ask.target running else running) }
+        ensures body { pool.new.kept.body ≡ pool.old.kept.body }
+        ensures io { pool.new.io ≡ pool.old.io }
+    {
+        self.stage = Stage::Over;
+        if held {
+            pool.drop_partial(&self.ask.target);
+        }
+    }
+
+    // It is over for this fault.
+    fn give_up<D: Disk>(
+        &mut self,
+        pool: &mut Pool<'_, D>,
+        held: bool,
+        fault: RecvFault,
+    ) -> RecvFault
+        ensures fault { result ≡ fault }
+        ensures over { self.new.stage ≡ Stage.Over }
+        ensures ask { self.new.ask ≡ self.old.ask }
+        ensures reader { self.new.reader ≡ self.old.reader }
+        ensures rests { (disk : D) (running : Plain) → IsAtRest false (D.state disk) pool.old.kept running
+            → IsAtRest false (D.state disk) pool.new.kept (if held then without_unkept self.old.ask.target running else running) }
+        ensures body { pool.new.kept.body ≡ pool.old.kept.body }
+        ensures io { pool.new.io ≡ pool.old.io }
+    {
+        self.leave(pool, held);
+        fault
+    }
+}
+
+// E23: the stream would have more bytes than a stream may have.
+fn too_long() -> RecvFault
+    ensures { result ≡ RecvFault.Pool (PoolFault.Plan (PlanFault.Limit Quantity.Stream stream_limit)) }
+{
+    RecvFault::Pool(PoolFault::Plan(PlanFault::Limit {
+        which: Quantity::Stream,
+        number: STREAM_LIMIT,
+    }))
+}

@@ -1,0 +1,57 @@
+ghost use Rattle.std.specs.Prelude.{◌≡◌};
+ghost use Rattle.zst_recv.specs.Stages.{has_partial, is_live, keeps_partial, point_in};
+
+use zst_dir::Partial;
+use zst_model::Point;
+
+/// Where a receive stands.
+#[derive(Drop)]
+pub(crate) enum Stage {
+    /// BEGIN isn't covered yet.
+    Waits,
+    /// Its partial state is under way, by a stream with these flags.
+    Lives { flags: u32, partial: Partial },
+    /// END was covered: this becomes the snapshot.
+    Ends { partial: Partial },
+    /// It is over.
+    Over,
+}
+
+impl Stage {
+    /// Whether the receive goes on.
+    pub fn is_live(&self) -> bool
+        ensures { result ≡ is_live self.now }
+    {
+        matches!(self, Stage::Waits | Stage::Lives { .. })
+    }
+
+    /// Whether its partial state is under way.
+    pub fn has_partial(&self) -> bool
+        ensures { result ≡ has_partial self.now }
+    {
+        matches!(self, Stage::Lives { .. })
+    }
+
+    /// Whether its partial state stays where its session ends.
+    pub fn is_kept(&self) -> bool
+        ensures { result ≡ keeps_partial self.now }
+    {
+        match self {
+            Stage::Lives { partial, .. } => partial.keep,
+            Stage::Waits | Stage::Ends { .. } | Stage::Over => false,
+        }
+    }
+
+    /// Where the stream goes on.
+    pub fn point(&self) -> Point
+        ensures { result ≡ point_in self.now }
+    {
+        match self {
+            Stage::Lives { partial, .. } | Stage::Ends { partial } => partial.point,
+            Stage::Waits | Stage::Over => Point {
+                object: 0,
+                offset: 0,
+            },
+        }
+    }
+}

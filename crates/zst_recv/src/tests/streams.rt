@@ -1,0 +1,180 @@
+// What a receive that comes to its end leaves.
+
+use super::{
+    FIRST, FULL, INCREMENT, NUMBERS, Put, Refused, SECOND, SMALL, check_lines, into, new_disk,
+    read, receive, snapshot, stream_of,
+};
+use std::alloc::Global;
+use std::process::Abort;
+use zst_image::Kept;
+use zst_model::{Command, Name};
+use zst_outside::MemDisk;
+
+/// The sizes of the pieces in which a stream is fed.
+const SIZES: [usize; 6] = [1, 7, 311, 312, 4_096, 1_048_576];
+
+// A block that begins with this byte, as `read` tells it.
+fn block_line(alloc: Global, first: &str) -> Result<String, Refused> {
+    let mut line = String::new(alloc);
+    line.push_str("data ")?;
+    line.push_str(first)?;
+    for _ in 1..512 {
+        line.push_str("00")?;
+    }
+    Ok(line)
+}
+
+// Checks the guid, the time and the number of a snapshot of the pool.
+fn check_snapshot(
+    rt: &impl Abort,
+    alloc: Global,
+    disk: &mut MemDisk,
+    name: &str,
+    guid: u64,
+) -> Result<(), Refused> {
+    let kept = Kept::open(alloc, disk)?;
+    let Some(place) = kept.dir.snapshot(&snapshot(name)?) else {
+        assert!(rt; false, "{name} is missing");
+        return Ok(());
+    };
+    let row = &kept.dir.snapshots()[place];
+    assert_eq!(rt; row.guid, guid);
+    assert_eq!(rt; row.time, super::NOW);
+    assert_eq!(rt; row.number, kept.body.number);
+    assert_eq!(rt; kept.dir.partials().len(), 0);
+    Ok(())
+}
+
+#[test]
+fn an_empty_file_system_comes(rt: HostRuntime) -> Result<(), Refused> {
+    let alloc = rt.alloc();
+    let stream = stream_of(&rt, alloc, &FULL, &[Put::Absent(1, NUMBERS - 1)])?;
+    assert_eq!(rt; stream.len(), 936);
+    let mut disk = new_disk(alloc)?;
+    assert_eq!(rt;
+        receive(alloc, &mut disk, into("tank/b")?, &stream, 1_048_576)?,
+        1
+    );
+    check_snapshot(&rt, alloc, &mut disk, "tank/b@s", FIRST)
+}
+
+#[test]
+fn a_small_stream_comes_in_pieces_of_any_size(rt: HostRuntime) -> Result<(), Refused> {
+    let alloc = rt.alloc();
+    let stream = stream_of(&rt, alloc, &FULL, &SMALL)?;
+    assert_eq!(rt; stream.len(), 2_384);
+    let line = block_line(alloc, "aa")?;
+    for size in SIZES {
+        let mut disk = new_disk(alloc)?;
+        assert_eq!(rt;
+            receive(alloc, &mut disk, into("tank/b")?, &stream, size)?,
+            4,
+            "{size}"
+        );
+        check_snapshot(&rt, alloc, &mut disk, "tank/b@s", FIRST)?;
+        check_lines(
+            &rt,
+            alloc,
+            &mut disk,
+            read("tank/b@s", 1, 0)?,
+            &[line.as_str()],
+        )?;
+        check_lines(&rt, alloc, &mut disk, read("tank/b@s", 1, 1)?, &["hole"])?;
+    }
+    Ok(())
+}
+
+#[test]
+fn an_increment_comes_over_its_source(rt: HostRuntime) -> Result<(), Refused> {
+    let alloc = rt.alloc();
+    let mut disk = new_disk(alloc)?;
+    let full = stream_of(&rt, alloc, &FULL, &SMALL)?;
+    receive(alloc, &mut disk, into("tank/b")?, &full, 4_096)?;
+    let puts = [
+        Put::Object(1, 512),
+        Put::Free(1, 1_024, u64::MAX),
+        Put::Free(1, 0, 512),
+        Put::Write(1, 512, 512, 0xbb),
+    ];
+    let increment = stream_of(&rt, alloc, &INCREMENT, &puts)?;
+    assert_eq!(rt;
+        receive(alloc, &mut disk, into("tank/b")?, &increment, 700)?,
+        4
+    );
+    check_snapshot(&rt, alloc, &mut disk, "tank/b@t", SECOND)?;
+    let (old, new) = (block_line(alloc, "aa")?, block_line(alloc, "bb")?);
+    check_lines(
+        &rt,
+        alloc,
+        &mut disk,
+        read("tank/b@s", 1, 0)?,
+        &[old.as_str()],
+    )?;
+    check_lines(&rt, alloc, &mut disk, read("tank/b@s", 1, 1)?, &["hole"])?;
+    check_lines(&rt, alloc, &mut disk, read("tank/b@t", 1, 0)?, &["hole"])?;
+    check_lines(
+        &rt,
+        alloc,
+        &mut disk,
+        read("tank/b@t", 1, 1)?,
+        &[new.as_str()],
+    )
+}
+
+#[test]
+fn an_increment_into_a_new_dataset_makes_a_clone(rt: HostRuntime) -> Result<(), Refused> {
+    let alloc = rt.alloc();
+    let mut disk = new_disk(alloc)?;
+    let full = stream_of(&rt, alloc, &FULL, &SMALL)?;
+    receive(alloc, &mut disk, into("tank/b")?, &full, 4_096)?;
+    let puts = [
+        Put::Object(1, 512),
+        Put::Free(1, 512, u64::MAX),
+        Put::Write(1, 0, 512, 0xcc),
+    ];
+    let increment = stream_of(&rt, alloc, &INCREMENT, &puts)?;
+    receive(alloc, &mut disk, into("tank/c")?, &increment, 4_096)?;
+    check_snapshot(&rt, alloc, &mut disk, "tank/c@t", SECOND)?;
+    let kept = Kept::open(alloc, &mut disk)?;
+    let origins = kept.dir.datasets();
+    assert_eq!(rt; origins.len(), 2);
+    assert!(rt; origins[1].origin == Some(snapshot("tank/b@s")?));
+    Ok(())
+}
+
+#[test]
+fn a_spill_block_comes_and_goes(rt: HostRuntime) -> Result<(), Refused> {
+    let alloc = rt.alloc();
+    let mut disk = new_disk(alloc)?;
+    let puts = [
+        Put::Object(1, 512),
+        Put::Spill(1, 0xdd),
+        Put::Free(1, 0, u64::MAX),
+        Put::Absent(2, NUMBERS - 2),
+    ];
+    let full = stream_of(&rt, alloc, &FULL, &puts)?;
+    receive(alloc, &mut disk, into("tank/b")?, &full, 100)?;
+    let list = Command::ListObjects {
+        name: Name::Snapshot(snapshot("tank/b@s")?),
+    };
+    check_lines(
+        &rt,
+        alloc,
+        &mut disk,
+        list,
+        &["object 1 type 19 size 512 bonustype 0 bonus 0 spill 512 end 0"],
+    )?;
+    let puts = [Put::Object(1, 512), Put::Free(1, 0, u64::MAX)];
+    let increment = stream_of(&rt, alloc, &INCREMENT, &puts)?;
+    receive(alloc, &mut disk, into("tank/b")?, &increment, 100)?;
+    let list = Command::ListObjects {
+        name: Name::Snapshot(snapshot("tank/b@t")?),
+    };
+    check_lines(
+        &rt,
+        alloc,
+        &mut disk,
+        list,
+        &["object 1 type 19 size 512 bonustype 0 bonus 0 spill none end 0"],
+    )
+}
