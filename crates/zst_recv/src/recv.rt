@@ -36,7 +36,7 @@ pub struct Recv {
 }
 
 impl Recv {
-    ghost use Rattle.std.specs.Prelude.{◌≡◌, ◌||◌, ◌-◌, ℕ, List, [], IfErr, IfOk, Err, false, true, not, sum_by, if◌then◌else◌};
+    ghost use Rattle.std.specs.Prelude.{◌≡◌, ◌<◌, ◌||◌, ◌-◌, ℕ, List, [], IfErr, IfOk, Err, false, true, not, sum_by, if◌then◌else◌};
     ghost use Rattle.zst_block.specs.Blocks.{Has};
     ghost use Rattle.zst_block.specs.Working.{HasCause, fails};
     ghost use Rattle.zst_image.specs.Committing.{Ready};
@@ -50,7 +50,7 @@ impl Recv {
     ghost use Rattle.zst_pool.specs.Partials.{without_unkept};
     ghost use Rattle.zst_reader.specs.StandsFor.{StandsFor, pushed_of};
     ghost use Rattle.zst_record.specs.Heads.{Covered, size_of};
-    ghost use Rattle.zst_space.specs.FreeSectors.{FreeSectors};
+    ghost use Rattle.zst_space.specs.FreeSectors.{FreeSectors, largest_of};
     ghost use Rattle.zst_recv.specs.Answers.{Feeds, goes_on};
     ghost use Rattle.zst_recv.specs.Faults.{cut_of, stop_of};
     ghost use Rattle.zst_recv.specs.Receiving.{Stage as PlainStage, Waits, left_by};
@@ -107,6 +107,8 @@ impl Recv {
             → IsAtRest false (D.state pool.old.io.disk.now) pool.old.kept running → TellsDates pool.old.kept.dir running
             → Receives (Has (D.state pool.old.io.disk.now).seen (free_by pool.old.kept.body)) self.old text stage
             → Feeds (D.state pool.old.io.disk.now) (D.state pool.new.io.disk.now) pool.new.kept self.new text piece.now stage running result }
+        // Whatever the image, E24 comes only where the longest run that is then free is shorter than what is needed.
+        ensures full { (need largest : ℕ) → result ≡ Err (RecvFault.Pool (PoolFault.Full need largest)) → (largest < need) × (largest ≡ largest_of pool.new.io.space) }
         ensures ask { self.new.ask ≡ self.old.ask }
         ensures live { is_live self.new.stage ≡ goes_on result }
         ensures recv { RecvFits pool.new.kept.dir self.new }

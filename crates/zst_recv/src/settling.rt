@@ -1,10 +1,11 @@
 // What a feed commits.
-ghost use Rattle.std.specs.Prelude.{◌≡◌, ℕ, List, IfErr, OnErr, OnOk, false, true};
+ghost use Rattle.std.specs.Prelude.{◌≡◌, ◌<◌, Err, ℕ, List, IfErr, OnErr, OnOk, false, true};
 ghost use Rattle.zst_block.specs.Blocks.{Has};
 ghost use Rattle.zst_image.specs.Committing.{Ready};
 ghost use Rattle.zst_image.specs.Reads.{free_by};
 ghost use Rattle.zst_model.specs.pools.Pool.{Pool as Plain};
 ghost use Rattle.zst_pool.specs.Calls.{CanCommit, IsCallFault, IsUnderWay};
+ghost use Rattle.zst_space.specs.FreeSectors.{largest_of};
 ghost use Rattle.zst_pool.specs.Faults.{HasDiskCause, is_disk_fault};
 ghost use Rattle.zst_recv.specs.Faults.{keeps_before};
 ghost use Rattle.zst_recv.specs.Receiving.{Work, put};
@@ -54,6 +55,8 @@ pub(crate) fn put<D: Disk>(
     ensures fits { (target : List ℕ) → StageFits pool.old.kept.dir target batch.now.stage → OnOk result (LivesOn pool.new.kept.dir target batch.now.stage) }
     ensures stays { OnErr result (pool.new.kept ≡ pool.old.kept) }
     ensures known { IfErr result IsCallFault }
+    // E24 tells the longest run of those that are left then.
+    ensures full { (need largest : ℕ) → result ≡ Err (PoolFault.Full need largest) → (largest < need) × (largest ≡ largest_of pool.new.io.space) }
     ensures ready { pool.new.io.failed ≡ false → Ready (D.state pool.new.io.disk.now) pool.new.kept.body }
     ensures failed { pool.new.io.failed ≡ is_disk_fault result }
     ensures cause { HasDiskCause (D.state pool.old.io.disk.now).faults (D.state pool.new.io.disk.now).faults result }
