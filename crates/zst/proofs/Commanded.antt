@@ -364,7 +364,7 @@ opened_then now command here here' kept rows faults.OutOfMemory alive ran = inr 
 -- ---- one command
 
 -- each image in the end is one that was left at some moment since the start
-images_after : (old new : DiskState) (P : List ℕ → Type 0) → Leaves old new P → ((c : List ℕ) → old.images c → P c)
+pub images_after : (old new : DiskState) (P : List ℕ → Type 0) → Leaves old new P → ((c : List ℕ) → old.images c → P c)
     → ((c : List ℕ) → old.left_since old.moment c → old.images c) → ((t : ℕ) (c : List ℕ) → t ≤ new.moment → new.images c → new.left_since t c)
     → (c : List ℕ) → new.images c → P c
 images_after old new P leaves before only now c image =

@@ -9,3 +9,12 @@ pub mod SendLemmas
 pub mod SentFrom
 pub mod SentAlike
 pub mod AskedLines
+pub mod Pieces
+pub mod FedPieces
+pub mod Uncut
+pub mod Turning
+pub mod Receiving
+pub mod ReceivedFrom
+pub mod ReceiptLine
+pub mod Piped
+pub mod TurnEnds

@@ -92,12 +92,12 @@ unopened ask here here' out fault there answer reads cause = record {
 -- ---- where it is opened
 
 -- a refusal that only opening gives
-abbrev is_of_opening : Refusal → Bool
+abbrev pub is_of_opening : Refusal → Bool
 is_of_opening refusals.NoPool = true
 is_of_opening (refusals.BadVersion number) = true
 is_of_opening refusal = false
 
-pool_is_open : (fault : PoolFault) → is_of_opening (pool_refusal fault) ≡ false
+pub pool_is_open : (fault : PoolFault) → is_of_opening (pool_refusal fault) ≡ false
 pool_is_open (faults.Plan fault) = of_plan (λ r. is_of_opening r ≡ false) (λ f. refl) (λ which number. refl) fault
 pool_is_open (faults.CannotApply fault) = refl
 pool_is_open (faults.Redacted object block) = refl

@@ -1,4 +1,6 @@
 pub mod Dumps
+pub mod Receives
+pub mod Replicated
 pub mod Replies
 pub mod Commands
 pub mod Devices
@@ -8,3 +10,4 @@ pub mod Runs
 pub mod Dumping
 pub mod Sends
 pub mod Sending
+pub mod Underway

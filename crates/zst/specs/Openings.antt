@@ -1,7 +1,7 @@
 -- How the program opens an image.
 use Rattle.std.specs.Prelude.{Bool, true, false, not, Option, Some, None}
 use Rattle.zst_line.specs.declared.line.Line.{Line}
-use Rattle.zst_line.specs.declared.line.Line.TheVariants.{Create, Step, Send}
+use Rattle.zst_line.specs.declared.line.Line.TheVariants.{Create, Step, Send, Receive}
 use Rattle.zst_model.specs.pools.Step.{commits}
 use Rattle.zst.specs.declared.image.Opening.{Opening}
 use Rattle.zst.specs.declared.image.Opening.TheVariants.{Shared, Alone, Made}
@@ -17,4 +17,5 @@ abbrev pub shares : Line → Option Bool
 shares (Create image sectors id) = Some false
 shares (Step image command) = Some (not (commits command))
 shares (Send image from redacts snapshot) = Some true
+shares (Receive image keeps forces origin target) = Some false
 shares line = None

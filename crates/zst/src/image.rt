@@ -37,6 +37,7 @@ fn opening_for(line: &Line) -> Option<Opening>
             Some(Opening::Made { bytes })
         }
         Line::Step { command, .. } if command.commits() => Some(Opening::Alone),
+        Line::Receive { .. } => Some(Opening::Alone),
         Line::Step { .. } | Line::Send { .. } => Some(Opening::Shared),
         _ => None,
     }
@@ -48,6 +49,7 @@ fn image_of(line: Line) -> Option<Text> {
         Line::Create { image, .. } => Some(image),
         Line::Step { image, .. } => Some(image),
         Line::Send { image, .. } => Some(image),
+        Line::Receive { image, .. } => Some(image),
         _ => None,
     }
 }

@@ -9,6 +9,8 @@ mod image;
 mod note;
 mod on_file;
 mod pools;
+mod receive;
+mod replicated;
 mod reply;
 #[cfg(test)]
 mod round_trip;

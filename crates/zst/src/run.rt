@@ -1,16 +1,18 @@
 ghost use Rattle.std.specs.Prelude.{◌≡◌, None, map, string_bytes};
 ghost use Rattle.zst.specs.Devices.{devices};
-ghost use Rattle.zst.specs.Lines.{DoesLine, IsInRange, asked};
+ghost use Rattle.zst.specs.Lines.{DoesLine, IsInRange, asked, wanted};
 ghost use Rattle.zst.specs.Runs.{DoesWords, Runs};
 
 use crate::dump::dump;
 use crate::note::{note_refusal, status_of};
 use crate::pools::{create_pool, step_pool};
+use crate::receive::{receipt_of, receive};
 use crate::send::{ask_of, send};
 use std::alloc::Global;
 use zst_line::{Line, parse};
 use zst_model::{Lack, PlanFault, Refusal};
 use zst_outside::{Disk, Sink, Source};
+use zst_recv::RecvAsk;
 use zst_send::SendAsk;
 
 /// Does what the words after the program's name ask for, and answers the program's status. A refusal goes to `note`.
@@ -55,6 +57,26 @@ fn run_words<D: Disk, S: Source, K: Sink>(
     let line = parse(alloc, words)?;
     match asked(&line) {
         Some(ask) => send(alloc, here, &ask, out),
+        None => run_unsent(alloc, line, now, here, input, out),
+    }
+}
+
+/// Does what a line asks for that sends nothing.
+fn run_unsent<D: Disk, S: Source, K: Sink>(
+    alloc: Global,
+    line: Line,
+    now: u64,
+    here: &mut D,
+    input: &mut S,
+    out: &mut K,
+) -> Result<(), Refusal>
+    requires range { IsInRange line }
+    requires other { asked line ≡ None }
+    ensures { DoesLine D.state now line
+        (devices here.old (S.state input.old) (K.state out.old)) (devices here.new (S.state input.new) (K.state out.new)) result }
+{
+    match wanted(&line) {
+        Some(ask) => receive(alloc, here, ask, input, out),
         None => run_line(alloc, line, now, here, input, out),
     }
 }
@@ -75,7 +97,24 @@ fn asked(line: &Line) -> Option<SendAsk>
     }
 }
 
-/// Does what a line asks for that sends nothing, where it is built.
+/// What a line asks to be received.
+fn wanted(line: &Line) -> Option<RecvAsk>
+    requires { IsInRange line.now }
+    ensures { result ≡ wanted line.now }
+{
+    match line {
+        Line::Receive {
+            keeps,
+            forces,
+            origin,
+            target,
+            ..
+        } => Some(receipt_of(*keeps, *forces, origin, target)),
+        _ => None,
+    }
+}
+
+/// Does what a line asks for that sends and receives nothing, where it is built.
 fn run_line<D: Disk, S: Source, K: Sink>(
     alloc: Global,
     line: Line,
@@ -86,6 +125,7 @@ fn run_line<D: Disk, S: Source, K: Sink>(
 ) -> Result<(), Refusal>
     requires range { IsInRange line }
     requires other { asked line ≡ None }
+    requires unwanted { wanted line ≡ None }
     ensures { DoesLine D.state now line
         (devices here.old (S.state input.old) (K.state out.old)) (devices here.new (S.state input.new) (K.state out.new)) result }
 {

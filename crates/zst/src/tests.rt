@@ -1,9 +1,14 @@
 mod answers;
 mod bounds;
+mod chains;
+mod cuts;
 mod faults;
 mod flushes;
 mod images;
+mod lost;
+mod plans;
 mod pools;
+mod receives;
 mod runs;
 mod sends;
 mod sessions;

@@ -1,5 +1,5 @@
 -- What a receive begins with stands for what the definition begins with.
-use Rattle.std.proofs.Common.{◌≡◌, ℕ, ◌<◌, Bool, true, List, ◌∷◌, ◌++◌, length, get_or, Option, Some, None, IfSome, refl, sym, ap, ◌∙◌, subst}
+use Rattle.std.proofs.Common.{◌≡◌, ℕ, ◌<◌, Bool, true, List, ◌∷◌, ◌++◌, length, get_or, Option, Some, None, IfSome, refl, sym, ap, ◌∙◌, subst, arith}
 use Rattle.std.specs.List.{Contains, position}
 use Rattle.std.specs.Option.{option_map_or}
 use Rattle.std.specs.Str.{bytes_eq}
@@ -10,15 +10,17 @@ use Rattle.zst_names.specs.Names.{component_of, dataset_of}
 use Rattle.zst_model.proofs.OrderLaws.{same_bytes}
 use Rattle.zst_model.specs.pools.Pool.{Pool, untouched}
 use Rattle.zst_model.specs.pools.Pool as plain
+use Rattle.zst_space.specs.FreeSectors.{FreeSectors}
+use Rattle.zst_block.specs.Blocks.{Has}
 use Rattle.zst_tree.specs.Indices.{Blocks}
 use Rattle.zst_tree.specs.Sets.{no_objects}
 use Rattle.zst_tree.specs.declared.tree.ObjSet.{ObjSet}
-use Rattle.zst_objset.specs.Sets.{SetHolds}
 use Rattle.zst_objset.proofs.SetLaws.{empty}
+use Rattle.zst_objset.proofs.TightLaws.{tight_empty}
 use Rattle.zst_dir.specs.Rows.{HasSnapshot, IsLawful, IsPartialRow, Rows}
 use Rattle.zst_dir.specs.declared.rows.Partial.{Partial}
 use Rattle.zst_dir.specs.declared.rows.Snapshot.{Snapshot}
-use Rattle.zst_image.specs.Reads.{PartialIs, RunsBy, SnapshotIs}
+use Rattle.zst_image.specs.Reads.{PartialIs, RunsBy, SetIs, SnapshotIs}
 use Rattle.zst_plan.specs.Places.{FindAlike, StandsAt}
 use Rattle.zst_plan.specs.Receipts.{IsRecvPlanOf}
 use Rattle.zst_plan.specs.RecvPlan.{Base, Begins, RecvPlan, Resumes, snapshot_name}
@@ -35,30 +37,38 @@ use Rattle.zst_recv.specs.declared.stage.Stage.TheVariants as stages
 there : {A : Type 0} (xs : List A) (place : ℕ) (x : A) → place < length xs → x ≡ get_or xs place x → Contains xs x
 there xs place x below is = (place, below, sym is)
 
-module _ (has : Blocks) (rows : Rows) (running : Pool) (runs : RunsBy None has rows running) where
+-- no objects are held by an empty set
+empty_is : (bound : Option ℕ) (image : List ℕ) (space : FreeSectors) → SetIs bound (Has image space) no_objects untouched
+empty_is None image space = empty (Has image space)
+empty_is (Some number) image space = (tight_empty image space, record { numbers = λ k. omega arith; indices = λ k i. omega arith })
+
+module _ (bound : Option ℕ) (image : List ℕ) (space : FreeSectors) (rows : Rows) (running : Pool) (runs : RunsBy bound (Has image space) rows running) where
+  abbrev has : Blocks
+  has = Has image space
+
   -- the base that stands at a place of the rows
   pub base_is : (place : ℕ) (row : Snapshot) (found : Option plain.Snapshot) → FindAlike (StandsAt rows.snapshots running.snapshots) (Some place) found → row ≡ get_or rows.snapshots place row
-      → (snapshot : plain.Snapshot) × (found ≡ Some snapshot) × SnapshotIs None has row snapshot
+      → (snapshot : plain.Snapshot) × (found ≡ Some snapshot) × SnapshotIs bound has row snapshot
   base_is place row None alike is = absurd alike
-  base_is place row (Some snapshot) alike is = (snapshot, refl, at_names (SnapshotIs None has) rows.snapshots running.snapshots place row snapshot runs.snapshots alike is)
+  base_is place row (Some snapshot) alike is = (snapshot, refl, at_names (SnapshotIs bound has) rows.snapshots running.snapshots place row snapshot runs.snapshots alike is)
 
   -- its objects, or none
   pub objects_held : (place : ℕ) (row : Snapshot) (found : Option plain.Snapshot) → FindAlike (StandsAt rows.snapshots running.snapshots) (Some place) found → row ≡ get_or rows.snapshots place row
-      → SetHolds has row.objects (option_map_or (λ snapshot. snapshot.objects) found untouched)
+      → SetIs bound has row.objects (option_map_or (λ snapshot. snapshot.objects) found untouched)
   objects_held place row found alike is =
       let base = base_is place row found alike is in
-      subst (λ (o : Option plain.Snapshot). SetHolds has row.objects (option_map_or (λ snapshot. snapshot.objects) o untouched)) (sym base.1) base.2.objects
+      subst (λ (o : Option plain.Snapshot). SetIs bound has row.objects (option_map_or (λ snapshot. snapshot.objects) o untouched)) (sym base.1) base.2.objects
 
   pub none_held : (set : ObjSet) (found : Option plain.Snapshot) → set ≡ no_objects → FindAlike (StandsAt rows.snapshots running.snapshots) None found
-      → SetHolds has set (option_map_or (λ snapshot. snapshot.objects) found untouched)
+      → SetIs bound has set (option_map_or (λ snapshot. snapshot.objects) found untouched)
   none_held set found is alike =
       let none = none_alike (StandsAt rows.snapshots running.snapshots) found alike in
-      subst (λ (o : Option plain.Snapshot). SetHolds has set (option_map_or (λ snapshot. snapshot.objects) o untouched)) (sym none)
-      (subst (λ (s : ObjSet). SetHolds has s untouched) (sym is) (empty has))
+      subst (λ (o : Option plain.Snapshot). SetIs bound has set (option_map_or (λ snapshot. snapshot.objects) o untouched)) (sym none)
+      (subst (λ (s : ObjSet). SetIs bound has s untouched) (sym is) (empty_is bound image space))
 
   -- the partial state that stands at a place of the rows
-  pub partial_is : (place : ℕ) (row : Partial) (partial : plain.Partial) → StandsAt rows.partials running.partials place partial → row ≡ get_or rows.partials place row → PartialIs None has row partial
-  partial_is place row partial at is = at_names (PartialIs None has) rows.partials running.partials place row partial runs.partials at is
+  pub partial_is : (place : ℕ) (row : Partial) (partial : plain.Partial) → StandsAt rows.partials running.partials place partial → row ≡ get_or rows.partials place row → PartialIs bound has row partial
+  partial_is place row partial at is = at_names (PartialIs bound has) rows.partials running.partials place row partial runs.partials at is
 
 -- the component of a name that is a dataset's with a component
 pub component_is : (name target component : List ℕ) → name ≡ dataset_of 64 name ++ 64 ∷ component_of 64 name → dataset_of 64 name ≡ target → name ≡ snapshot_name target component → component ≡ component_of 64 name
@@ -98,10 +108,10 @@ begun_is rows running ask name place rolls (Resumes partial) is = absurd is
 begun_is rows running ask name place rolls (Begins component base) is = (record { component = component; base = base; plan_is = refl; named = is.0; alike = is.1 }, is.2)
 
 -- what was opened stands for the work that this stage and these flags are
-pub work_is : (has : Blocks) (batch : Batch) (flags : ℕ) (row : Partial) (partial : plain.Partial) (rolls : Bool) → batch.stage ≡ stages.Lives flags row → batch.rolls ≡ rolls → batch.taken ≡ true → batch.applied ≡ 0
-    → PartialIs None has row partial → IsWork has batch (record { stage = Lives flags partial; rolls = rolls; taken = true; applied = 0 })
-work_is has batch flags row partial rolls stage is_rolls taken applied is = record {
-  stage = subst (λ (s : coded.Stage). IsStage has s (Lives flags partial)) (sym stage) (refl, is);
+pub work_is : (bound : Option ℕ) (has : Blocks) (batch : Batch) (flags : ℕ) (row : Partial) (partial : plain.Partial) (rolls : Bool) → batch.stage ≡ stages.Lives flags row → batch.rolls ≡ rolls → batch.taken ≡ true → batch.applied ≡ 0
+    → PartialIs bound has row partial → IsWork bound has batch (record { stage = Lives flags partial; rolls = rolls; taken = true; applied = 0 })
+work_is bound has batch flags row partial rolls stage is_rolls taken applied is = record {
+  stage = subst (λ (s : coded.Stage). IsStage bound has s (Lives flags partial)) (sym stage) (refl, is);
   rolls = is_rolls;
   taken = taken;
   applied = applied;

@@ -69,8 +69,8 @@ Fills-then old mid new space less least failed failed' failed'' stop first secon
     or_false false = refl
 
 -- so the event goes on
-pub goes_under : (start old now : DiskState) (space less : FreeSectors) (kept : Kept) (running : Pool) (failed failed' : Bool) (stop : Option BlockFault)
-    → IsUnderWay false start old space kept running → Fills old space failed now less failed' stop → IsUnderWay false start now less kept running
+pub goes_under : {tight : Bool} (start old now : DiskState) (space less : FreeSectors) (kept : Kept) (running : Pool) (failed failed' : Bool) (stop : Option BlockFault)
+    → IsUnderWay tight start old space kept running → Fills old space failed now less failed' stop → IsUnderWay tight start now less kept running
 goes_under start old now space less kept running failed failed' stop way fills =
     record { rested = way.rested; fills = FillsFree-then start old now (free_by kept.body) space less way.fills fills.fills }
 

@@ -12,7 +12,8 @@ use Rattle.zst_record.specs.declared.head.Head.TheVariants as heads
 use Rattle.zst_record.specs.Heads.{Covered}
 use Rattle.zst_stream.specs.Reading.{Outcome, waiting, faulty, complete}
 use Rattle.zst_recv.specs.Receiving.{Stage, Waits, Lives, Ends, Work, Batch, batch, batch_by, began, moved_by, of_plan, opened, taken, taken_at, went_on, with_applied}
-use Rattle.zst_recv.proofs.Ordering.{EndsBy, FirstBegins, is_begin, is_end}
+use Rattle.zst_recv.specs.Stages.{is_begin, is_end}
+use Rattle.zst_recv.proofs.Ordering.{EndsBy, FirstBegins}
 
 -- whether all is covered
 abbrev pub is_complete : Outcome → Bool

@@ -27,38 +27,38 @@ use Rattle.zst_recv.specs.declared.recv.Recv.{Recv}
 use Rattle.zst_recv.proofs.Limiting.{IsTame, tame_piece, tame_put}
 
 -- a refusal of a plan that isn't for the bytes of a stream is told as the definition's
-plan_told : (now : DiskState) (kept : Kept) (text piece : List ℕ) (before : Stage) (pool : Pool) (definition : Fed) (fault : PlanFault) → IsTame (refusal_of fault) → IsStopped now kept definition (refusal_of fault)
-    → FeedFault now kept text piece before pool definition (pools.Plan fault)
-plan_told now kept text piece before pool definition (plans.BadName place) tame is = is
-plan_told now kept text piece before pool definition (plans.NoSuch missing) tame is = is
-plan_told now kept text piece before pool definition (plans.Exists present) tame is = is
-plan_told now kept text piece before pool definition (plans.Busy holder) tame is = is
-plan_told now kept text piece before pool definition (plans.NotAncestor to from) tame is = is
-plan_told now kept text piece before pool definition (plans.NotRedactionOf bookmark snapshot) tame is = is
-plan_told now kept text piece before pool definition (plans.NotDescendant name) tame is = is
-plan_told now kept text piece before pool definition (plans.Modified name) tame is = is
-plan_told now kept text piece before pool definition (plans.NotLatest have want) tame is = is
-plan_told now kept text piece before pool definition (plans.NoOrigin guid) tame is = is
-plan_told now kept text piece before pool definition (plans.NotContained guid) tame is = is
-plan_told now kept text piece before pool definition (plans.PartialExists name) tame is = is
-plan_told now kept text piece before pool definition (plans.NoPartial name) tame is = is
-plan_told now kept text piece before pool definition (plans.WrongResume have want) tame is = is
-plan_told now kept text piece before pool definition (plans.Unsupported lack) tame is = is
-plan_told now kept text piece before pool definition (plans.Limit quantities.Object number) tame is = is
-plan_told now kept text piece before pool definition (plans.Limit quantities.Block number) tame is = is
-plan_told now kept text piece before pool definition (plans.Limit quantities.Datasets number) tame is = is
-plan_told now kept text piece before pool definition (plans.Limit quantities.Snapshots number) tame is = is
-plan_told now kept text piece before pool definition (plans.Limit quantities.Bookmarks number) tame is = is
-plan_told now kept text piece before pool definition (plans.Limit quantities.Partials number) tame is = is
-plan_told now kept text piece before pool definition (plans.Limit quantities.RedactionSnapshots number) tame is = is
-plan_told now kept text piece before pool definition (plans.Limit quantities.Runs number) tame is = is
-plan_told now kept text piece before pool definition (plans.Limit quantities.Sends number) tame is = is
-plan_told now kept text piece before pool definition (plans.Limit quantities.Receives number) tame is = is
-plan_told now kept text piece before pool definition (plans.Limit quantities.Number number) tame is = is
-plan_told now kept text piece before pool definition (plans.Limit quantities.Guids number) tame is = is
-plan_told now kept text piece before pool definition (plans.Limit quantities.Device number) tame is = is
-plan_told now kept text piece before pool definition (plans.Limit quantities.Stream number) tame is = absurd (tame refl)
-plan_told now kept text piece before pool definition (plans.Limit quantities.Script number) tame is = is
+plan_told : (tight : Bool) (now : DiskState) (kept : Kept) (text piece : List ℕ) (before : Stage) (pool : Pool) (definition : Fed) (fault : PlanFault) → IsTame (refusal_of fault) → IsStopped tight now kept definition (refusal_of fault)
+    → FeedFault tight now kept text piece before pool definition (pools.Plan fault)
+plan_told tight now kept text piece before pool definition (plans.BadName place) tame is = is
+plan_told tight now kept text piece before pool definition (plans.NoSuch missing) tame is = is
+plan_told tight now kept text piece before pool definition (plans.Exists present) tame is = is
+plan_told tight now kept text piece before pool definition (plans.Busy holder) tame is = is
+plan_told tight now kept text piece before pool definition (plans.NotAncestor to from) tame is = is
+plan_told tight now kept text piece before pool definition (plans.NotRedactionOf bookmark snapshot) tame is = is
+plan_told tight now kept text piece before pool definition (plans.NotDescendant name) tame is = is
+plan_told tight now kept text piece before pool definition (plans.Modified name) tame is = is
+plan_told tight now kept text piece before pool definition (plans.NotLatest have want) tame is = is
+plan_told tight now kept text piece before pool definition (plans.NoOrigin guid) tame is = is
+plan_told tight now kept text piece before pool definition (plans.NotContained guid) tame is = is
+plan_told tight now kept text piece before pool definition (plans.PartialExists name) tame is = is
+plan_told tight now kept text piece before pool definition (plans.NoPartial name) tame is = is
+plan_told tight now kept text piece before pool definition (plans.WrongResume have want) tame is = is
+plan_told tight now kept text piece before pool definition (plans.Unsupported lack) tame is = is
+plan_told tight now kept text piece before pool definition (plans.Limit quantities.Object number) tame is = is
+plan_told tight now kept text piece before pool definition (plans.Limit quantities.Block number) tame is = is
+plan_told tight now kept text piece before pool definition (plans.Limit quantities.Datasets number) tame is = is
+plan_told tight now kept text piece before pool definition (plans.Limit quantities.Snapshots number) tame is = is
+plan_told tight now kept text piece before pool definition (plans.Limit quantities.Bookmarks number) tame is = is
+plan_told tight now kept text piece before pool definition (plans.Limit quantities.Partials number) tame is = is
+plan_told tight now kept text piece before pool definition (plans.Limit quantities.RedactionSnapshots number) tame is = is
+plan_told tight now kept text piece before pool definition (plans.Limit quantities.Runs number) tame is = is
+plan_told tight now kept text piece before pool definition (plans.Limit quantities.Sends number) tame is = is
+plan_told tight now kept text piece before pool definition (plans.Limit quantities.Receives number) tame is = is
+plan_told tight now kept text piece before pool definition (plans.Limit quantities.Number number) tame is = is
+plan_told tight now kept text piece before pool definition (plans.Limit quantities.Guids number) tame is = is
+plan_told tight now kept text piece before pool definition (plans.Limit quantities.Device number) tame is = is
+plan_told tight now kept text piece before pool definition (plans.Limit quantities.Stream number) tame is = absurd (tame refl)
+plan_told tight now kept text piece before pool definition (plans.Limit quantities.Script number) tame is = is
 
 -- the code and the definition keep the records before the same faults
 front_plan : (fault : PlanFault) → is_block_limit fault ≡ keeps_front (refusal_of fault)
@@ -172,23 +172,23 @@ module _ (ask : RecvAsk) (text piece : List ℕ) (stage : Stage) (running : Pool
 
   -- ---- moments
 
-  abbrev Between : List ℕ → Type 0
-  Between c = Reads false (kept_of running) c ⊎ Reads false (kept_of (pool_of (fed_piece ask text piece stage running))) c
+  abbrev Between : (tight : Bool) → List ℕ → Type 0
+  Between tight c = Reads tight (kept_of running) c ⊎ Reads tight (kept_of (pool_of (fed_piece ask text piece stage running))) c
 
-  pub moments_before : (old now : DiskState) → Leaves old now (Reads false (kept_of running)) → Leaves old now Between
-  moments_before old now leaves = Leaves-weaker old now (Reads false (kept_of running)) Between leaves (λ c is. inl is)
+  pub moments_before : (tight : Bool) (old now : DiskState) → Leaves old now (Reads tight (kept_of running)) → Leaves old now (Between tight)
+  moments_before tight old now leaves = Leaves-weaker old now (Reads tight (kept_of running)) (Between tight) leaves (λ c is. inl is)
 
-  pub moments_after : (old now : DiskState) (first : Option Refusal) → IsDue first
-      → Leaves old now (λ c. Reads false (kept_of running) c ⊎ ((next : Pool) × (put piece_work running ≡ Ok next) × Reads false (kept_of next) c)) → Leaves old now Between
-  moments_after old now first due leaves =
-      Leaves-weaker old now (λ c. Reads false (kept_of running) c ⊎ ((next : Pool) × (put piece_work running ≡ Ok next) × Reads false (kept_of next) c)) Between leaves
+  pub moments_after : (tight : Bool) (old now : DiskState) (first : Option Refusal) → IsDue first
+      → Leaves old now (λ c. Reads tight (kept_of running) c ⊎ ((next : Pool) × (put piece_work running ≡ Ok next) × Reads tight (kept_of next) c)) → Leaves old now (Between tight)
+  moments_after tight old now first due leaves =
+      Leaves-weaker old now (λ c. Reads tight (kept_of running) c ⊎ ((next : Pool) × (put piece_work running ≡ Ok next) × Reads tight (kept_of next) c)) (Between tight) leaves
       (λ c is. ⊎_elim (λ was. inl was)
-      (λ after. inr (subst (λ (p : Pool). Reads false (kept_of p) c) (sym (ap pool_of (gives first after.0 due after.1) ∙ follows_pool first after.0)) after.2)) is)
+      (λ after. inr (subst (λ (p : Pool). Reads tight (kept_of p) c) (sym (ap pool_of (gives first after.0 due after.1) ∙ follows_pool first after.0)) after.2)) is)
 
   -- ---- answers
 
-  module _ (now : DiskState) (kept : Kept) (recv : Recv) (rests : IsAtRest false now kept (left_by stage running)) where
-    stopped : (refusal : Refusal) → fed_piece ask text piece stage running ≡ Stops (left_by stage running) refusal → IsStopped now kept (fed_piece ask text piece stage running) refusal
+  module _ (tight : Bool) (now : DiskState) (kept : Kept) (recv : Recv) (rests : IsAtRest tight now kept (left_by stage running)) where
+    stopped : (refusal : Refusal) → fed_piece ask text piece stage running ≡ Stops (left_by stage running) refusal → IsStopped tight now kept (fed_piece ask text piece stage running) refusal
     stopped refusal is = record { next = left_by stage running; definition_is = is; rests = rests }
 
     tame_some : (first : Option Refusal) (refusal : Refusal) → IfSome first IsTame → first ≡ Some refusal → IsTame refusal
@@ -199,9 +199,9 @@ module _ (ask : RecvAsk) (text piece : List ℕ) (stage : Stage) (running : Pool
 
     -- a piece that wasn't read leaves nothing behind
     pub fell : (fault : RecvFault) → ReadFault piece_fault fault → (piece_fault ≡ Some (recv_refusal fault) → (keeps_before fault && is_kept piece_work.stage) ≡ false)
-        → ((need largest : ℕ) → fault ≡ faults.Pool (pools.Full need largest) → largest < need) → FeedAnswer now kept recv text piece stage running (fed_piece ask text piece stage running) (Err fault)
+        → ((need largest : ℕ) → fault ≡ faults.Pool (pools.Full need largest) → largest < need) → FeedAnswer tight now kept recv text piece stage running (fed_piece ask text piece stage running) (Err fault)
     fell (faults.Pool (pools.Plan fault)) told none full =
-        plan_told now kept text piece stage running (fed_piece ask text piece stage running) fault
+        plan_told tight now kept text piece stage running (fed_piece ask text piece stage running) fault
         (tame_some piece_fault (refusal_of fault) (tame_piece ask running text piece (at_stage stage)) told)
         (stopped (refusal_of fault) (fell_so (refusal_of fault) told (not_kept (faults.Pool (pools.Plan fault)) told told (none told))))
     fell (faults.Pool (pools.CannotApply fault)) told none full = absurd told
@@ -219,12 +219,12 @@ module _ (ask : RecvAsk) (text piece : List ℕ) (stage : Stage) (running : Pool
   tame_err put refusal tame is = subst (λ (r : Result Pool Refusal). IfErr r IsTame) is tame
 
   -- nor does one whose commit was refused
-  module _ (now : DiskState) (kept : Kept) (recv : Recv) (before : Type 0) (rests : before → IsAtRest false now kept (left_by stage running)) (first : Option Refusal) (due : IsDue first) where
-    pub unput : (fault : PoolFault) → CallFault before (put piece_work running) fault → FeedAnswer now kept recv text piece stage running (fed_piece ask text piece stage running) (Err (faults.Pool fault))
+  module _ (tight : Bool) (now : DiskState) (kept : Kept) (recv : Recv) (before : Type 0) (rests : before → IsAtRest tight now kept (left_by stage running)) (first : Option Refusal) (due : IsDue first) where
+    pub unput : (fault : PoolFault) → CallFault before (put piece_work running) fault → FeedAnswer tight now kept recv text piece stage running (fed_piece ask text piece stage running) (Err (faults.Pool fault))
     unput (pools.Plan fault) fell =
-        plan_told now kept text piece stage running (fed_piece ask text piece stage running) fault
+        plan_told tight now kept text piece stage running (fed_piece ask text piece stage running) fault
         (tame_err (put piece_work running) (refusal_of fault) (tame_put piece_work running) fell.0)
-        (stopped now kept recv (rests fell.1) (refusal_of fault) (refused_so first (refusal_of fault) due fell.0))
+        (stopped tight now kept recv (rests fell.1) (refusal_of fault) (refused_so first (refusal_of fault) due fell.0))
     unput (pools.CannotApply fault) fell = absurd fell
     unput (pools.Redacted object block) fell = absurd fell
     unput (pools.Full need largest) fell = (fell.0, rests fell.2)
@@ -234,17 +234,17 @@ module _ (ask : RecvAsk) (text piece : List ℕ) (stage : Stage) (running : Pool
     unput pools.OutOfMemory fell = rests fell
 
   -- the records before this fault stay, and the receive is over
-  module _ (now : DiskState) (kept : Kept) (recv : Recv) (next : Pool) (is : put piece_work running ≡ Ok next) (rests : IsAtRest false now kept next) where
+  module _ (tight : Bool) (now : DiskState) (kept : Kept) (recv : Recv) (next : Pool) (is : put piece_work running ≡ Ok next) (rests : IsAtRest tight now kept next) where
     kept_before : (fault : RecvFault) → ReadFault piece_fault fault → keeps_before fault ≡ true → piece_fault ≡ Some (recv_refusal fault) → is_kept piece_work.stage ≡ true
-        → IsStopped now kept (fed_piece ask text piece stage running) (recv_refusal fault)
+        → IsStopped tight now kept (fed_piece ask text piece stage running) (recv_refusal fault)
     kept_before fault told keeps first stands =
         let due : stays (recv_refusal fault) ≡ true = ap (λ (b : Bool). b && is_kept piece_work.stage) (sym (front_same piece_fault fault first told) ∙ keeps) ∙ stands in
         record { next = next; definition_is = gives (Some (recv_refusal fault)) next (first, due) is; rests = rests }
 
     pub stopped_behind : (fault : RecvFault) → ReadFault piece_fault fault → keeps_before fault ≡ true → (piece_fault ≡ Some (recv_refusal fault) → is_kept piece_work.stage ≡ true)
-        → FeedAnswer now kept recv text piece stage running (fed_piece ask text piece stage running) (Err fault)
+        → FeedAnswer tight now kept recv text piece stage running (fed_piece ask text piece stage running) (Err fault)
     stopped_behind (faults.Pool (pools.Plan fault)) told keeps stands =
-        plan_told now kept text piece stage running (fed_piece ask text piece stage running) fault
+        plan_told tight now kept text piece stage running (fed_piece ask text piece stage running) fault
         (subst (λ (o : Option Refusal). IfSome o IsTame) told (tame_piece ask running text piece (at_stage stage)))
         (kept_before (faults.Pool (pools.Plan fault)) told keeps told (stands told))
     stopped_behind (faults.Pool (pools.CannotApply fault)) told keeps stands = absurd told

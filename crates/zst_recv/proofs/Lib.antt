@@ -6,9 +6,11 @@ mod Owning
 mod Draining
 mod Piecing
 mod Ordering
+mod Behind
 mod Ending
 mod Limiting
 mod Feeding
 mod Putting
 mod Going
 mod Serving
+mod Damaging

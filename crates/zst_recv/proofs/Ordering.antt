@@ -10,15 +10,7 @@ use Rattle.zst_record.specs.Decode.{Decoded, check, named, needs_payload, is_pay
 use Rattle.zst_record.specs.Formats.{begin_type, compound_stream, large_blocks, reversed_magic, stream_magic, substream}
 use Rattle.zst_record.specs.Heads.{Covered, size_of}
 use Rattle.zst_stream.specs.Reading.{Outcome, waiting, faulty, complete, Reading, Ruling, Closing, wait, refuse, last, more, unless, sum_fault, is_built, not_built, opened, sealed_next, cover, finish, rule_by, closing, judged, ruling, after, reading_from, reading}
-
--- whether a record is END, and whether it is BEGIN
-abbrev pub is_end : Head → Bool
-is_end (heads.End sums to) = true
-is_end _ = false
-
-abbrev pub is_begin : Head → Bool
-is_begin (heads.Begin header len) = true
-is_begin _ = false
+use Rattle.zst_recv.specs.Stages.{is_begin, is_end}
 
 -- END is the last of these where all is covered, and else none of them
 abbrev pub EndsBy : List Covered → Outcome → Type 0

@@ -50,6 +50,13 @@ pub limit_left : (rest : List ℕ) (n room old mid new : ℕ) → n ≡ min (len
     → new + length (take (length rest - n) (drop n rest)) ≤ 2 ^ 62
 limit_left rest n room old mid new count pushed same limit = let left = left_length rest n in omega (arith, left, count)
 
+-- what was pushed and what is left are the piece
+pub told_left : (rest : List ℕ) (n room old mid new all : ℕ) → n ≡ min (length rest) room → mid ≡ old + n → new ≡ mid → old + length rest ≡ all → new + length (take (length rest - n) (drop n rest)) ≡ all
+told_left rest n room old mid new all count pushed same is = let left = left_length rest n in omega (arith, left, count)
+
+pub all_told : (rest : List ℕ) (pushed all : ℕ) → pushed + length rest ≡ all → true ≡ (length rest == 0) → pushed ≡ all
+all_told rest pushed all is none = let nothing = eqb-true (length rest) 0 (sym none) in omega (arith, is, nothing)
+
 -- where there was room less is left, and else there is room now
 pub less_left : (rest : List ℕ) (n room later : ℕ) → (length rest == 0) ≡ false → n ≡ min (length rest) room → 0 < later
     → length (take (length rest - n) (drop n rest)) + (1 - later) < length rest + (1 - room)
@@ -62,6 +69,11 @@ less_left (byte ∷ rest) n room later any count some =
 -- nothing is left
 pub piece_done : (piece front rest : List ℕ) → piece ≡ front ++ rest → true ≡ (length rest == 0) → piece ≡ front
 piece_done piece front rest is none = is ∙ ap (λ (t : List ℕ). front ++ t) (nil_from_length rest (eqb-true (length rest) 0 (sym none))) ∙ append-nil front
+
+-- a text and its piece are what was read, and the rest
+pub whole_read : (text piece front got rest : List ℕ) → piece ≡ (front ++ got) ++ rest → text ++ piece ≡ ((text ++ front) ++ got) ++ rest
+whole_read text piece front got rest is =
+    ap (λ (t : List ℕ). text ++ t) is ∙ sym (append_assoc text (front ++ got) rest) ∙ ap (λ (t : List ℕ). t ++ rest) (sym (append_assoc text front got))
 
 -- ---- readings
 
@@ -195,7 +207,7 @@ module _ (ask : RecvAsk) (pool : Pool) (text : List ℕ) (handed : List Covered)
       read = (text ++ front) ++ got
 
       whole_is : text ++ piece ≡ read ++ rest
-      whole_is = ap (λ (t : List ℕ). text ++ t) piece_is ∙ sym (append_assoc text (front ++ got) rest) ∙ ap (λ (t : List ℕ). t ++ rest) (sym (append_assoc text front got))
+      whole_is = whole_read text piece front got rest piece_is
 
       are_all : (records : List Covered) (after : Work) → AreTaken ask pool records m.after after → AreTaken ask pool (m.records ++ records) work after
       are_all records after are = batch_then ask pool records m.records work m.after m.were_taken ∙ are

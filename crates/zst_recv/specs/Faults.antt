@@ -60,6 +60,26 @@ abbrev pub stop_of : {T : Type 0} → Result T RecvFault → Option BlockFault
 stop_of (Ok value) = None
 stop_of (Err fault) = stop_at fault
 
+-- the faults that a feed may answer on a pool that hasn't failed, whatever the image is: those of a plan (E2 to E15, E19, E23), a full disk
+-- (E24), a damaged block (E25), a fault of the disk (E28), no memory (E32), those of a stream (E17 to E19), and a record that can't be applied (E21)
+abbrev pub IsFeedFault : RecvFault → Type 0
+IsFeedFault (faults.Pool (pools.Plan fault)) = Unit {0}
+IsFeedFault (faults.Pool (pools.CannotApply fault)) = ⊥
+IsFeedFault (faults.Pool (pools.Redacted object block)) = ⊥
+IsFeedFault (faults.Pool (pools.Full need largest)) = Unit {0}
+IsFeedFault (faults.Pool (pools.Damaged sector stated found)) = Unit {0}
+IsFeedFault (faults.Pool pools.DiskFault) = Unit {0}
+IsFeedFault (faults.Pool pools.Failed) = ⊥
+IsFeedFault (faults.Pool pools.OutOfMemory) = Unit {0}
+IsFeedFault (faults.Stream fault) = Unit {0}
+IsFeedFault (faults.CannotApply index fault) = Unit {0}
+
+-- those that taking a record may answer
+abbrev pub IsRecordFault : RecvFault → Type 0
+IsRecordFault (faults.Pool fault) = IsFeedFault (faults.Pool fault)
+IsRecordFault (faults.Stream fault) = ⊥
+IsRecordFault (faults.CannotApply index fault) = Unit {0}
+
 -- what the end of the input means: E20 with the count of bytes where the receive goes on
 abbrev pub cut_of : (live : Bool) → ℕ → Result (Unit {0}) StreamFault
 cut_of true pushed = Err (Truncated pushed)

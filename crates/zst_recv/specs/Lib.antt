@@ -5,3 +5,4 @@ pub mod Faults
 pub mod Taking
 pub mod Settling
 pub mod Answers
+pub mod Damage

@@ -1,12 +1,17 @@
 -- What the code keeps of a receive, and what it stands for.
-use Rattle.std.specs.Prelude.{◌≡◌, ℕ, ◌-◌, ◌^◌, Bool, true, false, min, List, [], ◌∷◌, ◌++◌, IfSome, None}
+use Rattle.std.specs.Prelude.{◌≡◌, ℕ, ◌-◌, ◌^◌, Bool, true, false, min, List, [], ◌∷◌, ◌++◌, All, IfSome, Option, Some, None}
 use Rattle.zst_dir.specs.Rows.{Rows, HasSnapshot, IsPartialRow}
 use Rattle.zst_dir.specs.declared.rows.Partial.{Partial as Row}
 use Rattle.zst_image.specs.Reads.{PartialIs}
 use Rattle.zst_model.specs.declared.sends.header.Point.{Point}
 use Rattle.zst_model.specs.sends.Items.{origin}
-use Rattle.zst_reader.specs.StandsFor.{StandsFor, HandsOut}
+use Rattle.zst_model.specs.pools.Pool.{Pool}
+use Rattle.zst_plan.specs.Receipts.{TellsDates}
+use Rattle.zst_reader.specs.StandsFor.{StandsFor, HandsOut, pushed_of}
+use Rattle.zst_reader.specs.declared.reader.Reader.{Reader}
 use Rattle.zst_record.specs.Heads.{Covered}
+use Rattle.zst_record.specs.declared.head.Head.{Head}
+use Rattle.zst_record.specs.declared.head.Head.TheVariants as heads
 use Rattle.zst_record.specs.Laws.{AreBytes}
 use Rattle.zst_stream.specs.Reading.{waiting}
 use Rattle.zst_tree.specs.Indices.{Blocks}
@@ -14,24 +19,26 @@ use Rattle.zst_recv.specs.Receiving.{Stage, Waits, Lives, Ends, Work}
 use Rattle.zst_recv.specs.declared.stage.Stage as coded
 use Rattle.zst_recv.specs.declared.stage.Stage.TheVariants as stages
 use Rattle.zst_recv.specs.declared.batch.Batch as batches
+use Rattle.zst_recv.specs.declared.received.Received.{Received}
 use Rattle.zst_recv.specs.declared.recv.Recv.{Recv}
 
--- over the blocks that are there, the code's stage is this one
-abbrev pub IsStage : Blocks → coded.Stage → Stage → Type 0
-IsStage has stages.Waits Waits = Unit {0}
-IsStage has stages.Waits (Lives flags partial) = ⊥
-IsStage has stages.Waits (Ends partial) = ⊥
-IsStage has (stages.Lives flags row) Waits = ⊥
-IsStage has (stages.Lives flags row) (Lives stated partial) = (flags ≡ stated) × PartialIs None has row partial
-IsStage has (stages.Lives flags row) (Ends partial) = ⊥
-IsStage has (stages.Ends row) Waits = ⊥
-IsStage has (stages.Ends row) (Lives flags partial) = ⊥
-IsStage has (stages.Ends row) (Ends partial) = PartialIs None has row partial
-IsStage has stages.Over stage = ⊥
+-- over the blocks that are there, the code's stage is this one, whose set is known so well
+abbrev pub IsStage : Option ℕ → Blocks → coded.Stage → Stage → Type 0
+IsStage bound has stages.Waits Waits = Unit {0}
+IsStage bound has stages.Waits (Lives flags partial) = ⊥
+IsStage bound has stages.Waits (Ends partial) = ⊥
+IsStage bound has (stages.Lives flags row) Waits = ⊥
+IsStage bound has (stages.Lives flags row) (Lives stated partial) = (flags ≡ stated) × PartialIs bound has row partial
+IsStage bound has (stages.Lives flags row) (Ends partial) = ⊥
+IsStage bound has (stages.Ends row) Waits = ⊥
+IsStage bound has (stages.Ends row) (Lives flags partial) = ⊥
+IsStage bound has (stages.Ends row) (Ends partial) = PartialIs bound has row partial
+IsStage bound has (stages.Done received) stage = ⊥
+IsStage bound has stages.Over stage = ⊥
 
 -- over the blocks that are there, the code's batch is what a feed has made; its count stops at the largest number of 64 bits
-pub record IsWork (has : Blocks) (batch : batches.Batch) (work : Work) : Type 0 where
-  pub stage : IsStage has batch.stage work.stage
+pub record IsWork (bound : Option ℕ) (has : Blocks) (batch : batches.Batch) (work : Work) : Type 0 where
+  pub stage : IsStage bound has batch.stage work.stage
   pub rolls : batch.rolls ≡ work.rolls
   pub taken : batch.taken ≡ work.taken
   pub applied : batch.applied ≡ min work.applied (2 ^ 64 - 1)
@@ -43,18 +50,20 @@ pub record CanPut (rows : Rows) (target : List ℕ) (row : Row) : Type 0 where
   pub base : IfSome row.base (HasSnapshot rows)
   pub new : HasSnapshot rows (row.target ++ 64 ∷ row.snapshot) → ⊥
 
--- so it is with the one that a stage has
+-- so it is with the one that a stage has which isn't over
 abbrev pub StageFits : Rows → List ℕ → coded.Stage → Type 0
 StageFits rows target stages.Waits = Unit {0}
 StageFits rows target (stages.Lives flags row) = CanPut rows target row
 StageFits rows target (stages.Ends row) = CanPut rows target row
-StageFits rows target stages.Over = Unit {0}
+StageFits rows target (stages.Done received) = ⊥
+StageFits rows target stages.Over = ⊥
 
 -- so it still is with one that goes on, once it was committed
 abbrev pub LivesOn : Rows → List ℕ → coded.Stage → Type 0
 LivesOn rows target stages.Waits = Unit {0}
 LivesOn rows target (stages.Lives flags row) = CanPut rows target row
 LivesOn rows target (stages.Ends row) = Unit {0}
+LivesOn rows target (stages.Done received) = Unit {0}
 LivesOn rows target stages.Over = Unit {0}
 
 -- whether the partial state is under way, and whether it stays where its session ends
@@ -62,12 +71,14 @@ abbrev pub has_partial : coded.Stage → Bool
 has_partial stages.Waits = false
 has_partial (stages.Lives flags row) = true
 has_partial (stages.Ends row) = false
+has_partial (stages.Done received) = false
 has_partial stages.Over = false
 
 abbrev pub keeps_partial : coded.Stage → Bool
 keeps_partial stages.Waits = false
 keeps_partial (stages.Lives flags row) = row.keep
 keeps_partial (stages.Ends row) = false
+keeps_partial (stages.Done received) = false
 keeps_partial stages.Over = false
 
 -- where the stream goes on
@@ -75,6 +86,7 @@ abbrev pub point_in : coded.Stage → Point
 point_in stages.Waits = origin
 point_in (stages.Lives flags row) = row.point
 point_in (stages.Ends row) = row.point
+point_in (stages.Done received) = origin
 point_in stages.Over = origin
 
 -- whether a receive goes on
@@ -82,22 +94,83 @@ abbrev pub is_live : coded.Stage → Bool
 is_live stages.Waits = true
 is_live (stages.Lives flags row) = true
 is_live (stages.Ends row) = false
+is_live (stages.Done received) = false
 is_live stages.Over = false
 
--- where it stands once all of a piece was committed: with END it is over
+-- the snapshot that a partial state becomes
+abbrev pub received_row : Row → Received
+received_row row = record { target = row.target; component = row.snapshot; guid = row.header.to }
+
+-- where it stands once all of a piece was committed: with END the snapshot stands
 abbrev pub stage_behind : coded.Stage → coded.Stage
 stage_behind stages.Waits = stages.Waits
 stage_behind (stages.Lives flags row) = stages.Lives flags row
-stage_behind (stages.Ends row) = stages.Over
+stage_behind (stages.Ends row) = stages.Done (received_row row)
+stage_behind (stages.Done received) = stages.Done received
 stage_behind stages.Over = stages.Over
 
--- what it keeps is in its ranges, whatever the image: its reader stands for some bytes, and its partial state can be committed beside these rows
-pub record RecvFits (rows : Rows) (recv : Recv) : Type 0 where
-  pub stage : StageFits rows recv.ask.target recv.stage
+-- the snapshot that was made, once END was received
+abbrev pub received_at : coded.Stage → Option Received
+received_at stages.Waits = None
+received_at (stages.Lives flags row) = None
+received_at (stages.Ends row) = None
+received_at (stages.Done received) = Some received
+received_at stages.Over = None
+
+-- the same of a receive
+abbrev pub received_by : Recv → Option Received
+received_by recv = received_at recv.stage
+
+-- how many bytes it was fed
+abbrev pub fed_of : Recv → ℕ
+fed_of recv = pushed_of recv.reader
+
+-- whether BEGIN isn't covered yet
+abbrev pub waits_at : coded.Stage → Bool
+waits_at stages.Waits = true
+waits_at (stages.Lives flags row) = false
+waits_at (stages.Ends row) = false
+waits_at (stages.Done received) = false
+waits_at stages.Over = false
+
+abbrev pub is_waiting : Recv → Bool
+is_waiting recv = waits_at recv.stage
+
+-- whether a record is END, and whether it is BEGIN
+abbrev pub is_end : Head → Bool
+is_end (heads.End sums to) = true
+is_end _ = false
+
+abbrev pub is_begin : Head → Bool
+is_begin (heads.Begin header len) = true
+is_begin _ = false
+
+-- nothing was handed out while it waits for BEGIN, and no END while its partial state is under way
+abbrev pub StandsBehind : List Covered → coded.Stage → Type 0
+StandsBehind handed stages.Waits = handed ≡ []
+StandsBehind handed (stages.Lives flags row) = All (λ c. is_end c.head ≡ false) handed
+StandsBehind handed (stages.Ends row) = Unit {0}
+StandsBehind handed (stages.Done received) = Unit {0}
+StandsBehind handed stages.Over = Unit {0}
+
+-- the reader stands for some bytes, and the stage behind the records that it has handed out of them
+pub record HasRead (reader : Reader) (stage : coded.Stage) : Type 0 where
   pub text : List ℕ
   pub bytes : AreBytes text
   pub handed : List Covered
-  pub reads : StandsFor recv.reader text handed
+  pub stands : StandsFor reader text handed
+  pub behind : StandsBehind handed stage
+
+-- what it keeps is in its ranges, whatever the image: it has read some bytes, and its partial state can be committed beside these rows
+pub record RecvFits (rows : Rows) (recv : Recv) : Type 0 where
+  pub stage : LivesOn rows recv.ask.target recv.stage
+  pub reads : HasRead recv.reader recv.stage
+
+-- where BEGIN isn't covered yet, the sets tell the dates that its plan looks at
+abbrev pub TellsBefore : Stage → Rows → Pool → Type 0
+TellsBefore Waits rows pool = TellsDates rows pool
+TellsBefore (Lives flags partial) rows pool = Unit {0}
+TellsBefore (Ends partial) rows pool = Unit {0}
 
 -- nothing is covered while a receive waits for BEGIN
 abbrev pub WaitsAtBegin : List Covered → Stage → Type 0
@@ -106,8 +179,8 @@ WaitsAtBegin handed (Lives flags partial) = Unit {0}
 WaitsAtBegin handed (Ends partial) = Unit {0}
 
 -- the receive was fed this text, of which all that is covered was taken, and stands here
-pub record Receives (has : Blocks) (recv : Recv) (text : List ℕ) (stage : Stage) : Type 0 where
+pub record Receives (bound : Option ℕ) (has : Blocks) (recv : Recv) (text : List ℕ) (stage : Stage) : Type 0 where
   pub handed : List Covered
   pub reads : HandsOut recv.reader text handed waiting
   pub waits : WaitsAtBegin handed stage
-  pub stands : IsStage has recv.stage stage
+  pub stands : IsStage bound has recv.stage stage

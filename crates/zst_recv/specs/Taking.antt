@@ -1,5 +1,5 @@
 -- What a feed takes of a stream.
-use Rattle.std.specs.Prelude.{◌≡◌, ◌⊎◌, ◌+◌, ◌^◌, ◌<◌, ◌++◌, ℕ, Bool, if◌then◌else◌, List, [], ◌∷◌, length, Option, Some, None, Result, Ok, Err}
+use Rattle.std.specs.Prelude.{◌≡◌, ◌⊎◌, ◌+◌, ◌^◌, ◌<◌, ◌++◌, ℕ, Bool, true, false, if◌then◌else◌, List, [], ◌∷◌, length, Option, Some, None, Result, Ok, Err}
 use Rattle.zst_model.specs.declared.refusals.refusal.Refusal.{Refusal}
 use Rattle.zst_model.specs.pools.Pool.{Partial, Pool}
 use Rattle.zst_plan.specs.declared.receive.RecvAsk.{RecvAsk}
@@ -18,8 +18,10 @@ use Rattle.zst_stream.specs.Reading.{Outcome, waiting, faulty, complete, reading
 use Rattle.zst_recv.specs.Faults.{recv_refusal}
 use Rattle.zst_recv.specs.Feeds.{fault_of, new_records}
 use Rattle.zst_recv.specs.Receiving.{Batch, Work, batch, first_fault, taken}
+use Rattle.zst_recv.specs.Stages.{StandsBehind, is_live}
 use Rattle.zst_recv.specs.declared.fault.RecvFault.{RecvFault}
 use Rattle.zst_recv.specs.declared.fault.RecvFault.TheVariants as faults
+use Rattle.zst_recv.specs.declared.stage.Stage as coded
 
 -- a record that passed its checks, in a stream of some features: the header of a BEGIN can be stated
 pub record IsRead (c : Covered) : Type 0 where
@@ -89,6 +91,13 @@ Drains ask pool reader text handed Is work (Err (faults.Stream fault)) =
     (after : Work) × Drained ask pool reader text handed work after (faulty fault) × Is after
 Drains ask pool reader text handed Is work (Err fault) =
     (after : Work) × Refused ask pool reader text handed work after fault × Is after
+
+-- whatever the image, the reader has handed out more of its text, and the stage stands behind it: it doesn't go on behind END
+pub record HandedOn (reader : Reader) (text : List ℕ) (stage : coded.Stage) (ended : Bool) : Type 0 where
+  pub handed : List Covered
+  pub stands : StandsFor reader text handed
+  pub behind : StandsBehind handed stage
+  pub over : ended ≡ true → is_live stage ≡ false
 
 -- ---- a piece
 

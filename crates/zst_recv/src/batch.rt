@@ -1,20 +1,21 @@
 // What one feed takes of a stream.
-ghost use Rattle.std.specs.Prelude.{◌≡◌, ◌+◌, ℕ, false, List, None, Ok, Err, OnErr};
-ghost use Rattle.zst_block.specs.Blocks.{FitsDisk, Has};
+ghost use Rattle.std.specs.Prelude.{◌≡◌, ◌+◌, ℕ, Bool, false, true, List, Option, None, Ok, Err, IfErr, OnErr, OnOk};
+ghost use Rattle.zst_apply.specs.Damage.{apply_damage};
+ghost use Rattle.zst_block.specs.Blocks.{FitsDisk, Has, SparesTaken};
 ghost use Rattle.zst_space.specs.FreeSectors.{FreeSectors};
 ghost use Rattle.zst_dir.specs.Rows.{Rows};
-ghost use Rattle.zst_image.specs.Reads.{PartialIs, RunsBy};
+ghost use Rattle.zst_image.specs.Reads.{PartialIs, RunsBy, bound_of};
 ghost use Rattle.zst_model.specs.pools.Pool.{IsStated, Partial as PlainPartial, Pool as Plain};
-ghost use Rattle.zst_plan.specs.Receipts.{TellsDates};
 ghost use Rattle.zst_plan.specs.declared.receive.RecvAsk.{RecvAsk as Ask};
 ghost use Rattle.zst_pool.specs.Calls.{IsUnderWay};
 ghost use Rattle.zst_record.specs.Fits.{IsLater};
 ghost use Rattle.zst_record.specs.Heads.{Covered, covered_of};
 ghost use Rattle.zst_record.specs.declared.head.Head.TheVariants as heads;
 ghost use Rattle.zst_stream.specs.Reading.{closing};
-ghost use Rattle.zst_recv.specs.Faults.{Fills, stop_of};
+ghost use Rattle.zst_recv.specs.Damage.{IsDamagedState};
+ghost use Rattle.zst_recv.specs.Faults.{Fills, IsRecordFault, stop_of};
 ghost use Rattle.zst_recv.specs.Receiving.{Stage as PlainStage, Work, at_stage, moved_by, taken};
-ghost use Rattle.zst_recv.specs.Stages.{CanPut, IsStage, IsWork, StageFits};
+ghost use Rattle.zst_recv.specs.Stages.{CanPut, IsStage, IsWork, StageFits, TellsBefore, has_partial, is_begin, is_end, is_live, waits_at};
 ghost use Rattle.zst_recv.specs.Taking.{IsRead, Makes, Takes};
 
 use crate::fault::{RecvFault, of_record};
@@ -52,10 +53,12 @@ fn move_by<D: Disk>(
 ) -> Result<(), RecvFault>
     requires fits { FitsDisk (D.state io.old.disk.now).size io.old.space }
     requires covered { IsRead (covered_of covered.now) }
-    ensures moved { (state : PlainPartial) → (D.state io.new.disk.now).honest → PartialIs None (Has (D.state io.old.disk.now).seen io.old.space) partial.old state
-        → Makes (PartialIs None (Has (D.state io.new.disk.now).seen io.new.space) partial.new) (moved_by number (covered_of covered.now) flags state) result }
+    ensures moved { (tight : Bool) (state : PlainPartial) → (D.state io.new.disk.now).honest → PartialIs (bound_of tight number) (Has (D.state io.old.disk.now).seen io.old.space) partial.old state
+        → Makes (PartialIs (bound_of tight number) (Has (D.state io.new.disk.now).seen io.new.space) partial.new) (moved_by number (covered_of covered.now) flags state) result }
     ensures stays { OnErr result (partial.new ≡ partial.old) }
-    ensures open_still { ¬ (result ≡ Err (RecvFault.Pool PoolFault.Failed)) }
+    ensures known { IfErr result IsRecordFault }
+    ensures damaged { (sector : ℕ) (stated found : List ℕ) → (D.state io.new.disk.now).honest → result ≡ Err (RecvFault.Pool (PoolFault.Damaged sector stated found))
+        → apply_damage (SparesTaken io.old.space (D.state io.old.disk.now).seen) (D.state io.old.disk.now).size partial.old.objects sector stated found }
     ensures puts { (rows : Rows) (target : List ℕ) → CanPut rows target partial.old → CanPut rows target partial.new }
     ensures fills { Fills (D.state io.old.disk.now) io.old.space io.old.failed (D.state io.new.disk.now) io.new.space io.new.failed (stop_of result) }
     ensures same { io.new.disk.ghost_name ≡ io.old.disk.ghost_name }
@@ -73,7 +76,8 @@ impl Batch {
     /// A feed begins where the receive stands.
     pub fn new(stage: Stage) -> Batch
         ensures stage { result.stage ≡ stage }
-        ensures work { (image : List ℕ) (space : FreeSectors) (at : PlainStage) → IsStage (Has image space) stage at → IsWork (Has image space) result (at_stage at) }
+        ensures taken { result.taken ≡ false }
+        ensures work { (bound : Option ℕ) (image : List ℕ) (space : FreeSectors) (at : PlainStage) → IsStage bound (Has image space) stage at → IsWork bound (Has image space) result (at_stage at) }
     {
         Batch {
             stage,
@@ -94,12 +98,20 @@ impl Batch {
         requires fits { FitsDisk (D.state io.old.disk.now).size io.old.space }
         requires stage { StageFits kept.now.dir ask.now.target self.old.stage }
         requires covered { IsRead (covered_of covered.now) }
-        ensures took { (start : D) (running : Plain) (work : Work) → (D.state io.new.disk.now).honest → IsUnderWay false (D.state start) (D.state io.old.disk.now) io.old.space kept.now running → TellsDates kept.now.dir running
-            → IsWork (Has (D.state io.old.disk.now).seen io.old.space) self.old work
-            → Takes (IsWork (Has (D.state io.new.disk.now).seen io.new.space) self.new) work (taken ask.now running (covered_of covered.now) work) result }
+        ensures took { (tight : Bool) (start : D) (running : Plain) (work : Work) → (D.state io.new.disk.now).honest → IsUnderWay tight (D.state start) (D.state io.old.disk.now) io.old.space kept.now running → TellsBefore work.stage kept.now.dir running
+            → IsWork (bound_of tight (running.number + 1)) (Has (D.state io.old.disk.now).seen io.old.space) self.old work
+            → Takes (IsWork (bound_of tight (running.number + 1)) (Has (D.state io.new.disk.now).seen io.new.space) self.new) work (taken ask.now running (covered_of covered.now) work) result }
         ensures stays { OnErr result (self.new ≡ self.old) }
         ensures idle { self.new.taken ≡ false → self.new ≡ self.old }
-        ensures open_still { ¬ (result ≡ Err (RecvFault.Pool PoolFault.Failed)) }
+        // Whatever the image, BEGIN is the end of waiting, END that of a partial state which is under way, and nothing else begins one.
+        ensures waits { waits_at self.new.stage ≡ true → self.new ≡ self.old }
+        ensures begins { OnOk result (is_begin covered.now.head.now ≡ true → waits_at self.new.stage ≡ false) }
+        ensures ends { is_end covered.now.head.now ≡ true → has_partial self.new.stage ≡ false }
+        ensures lives { has_partial self.new.stage ≡ true → is_live self.old.stage ≡ true }
+        ensures known { IfErr result IsRecordFault }
+        // E25 tells a damage of the set as the refused record found it.
+        ensures damaged { (sector : ℕ) (stated found : List ℕ) → (D.state io.new.disk.now).honest → result ≡ Err (RecvFault.Pool (PoolFault.Damaged sector stated found))
+            → IsDamagedState (SparesTaken io.old.space (D.state io.old.disk.now).seen) (D.state io.old.disk.now).size kept.now.dir ask.now.target sector stated found }
         ensures stage { StageFits kept.now.dir ask.now.target self.new.stage }
         ensures fills { Fills (D.state io.old.disk.now) io.old.space io.old.failed (D.state io.new.disk.now) io.new.space io.new.failed (stop_of result) }
         ensures same { io.new.disk.ghost_name ≡ io.old.disk.ghost_name }
@@ -118,11 +130,14 @@ impl Batch {
     fn begin(&mut self, dir: &Dir, ask: &RecvAsk, header: &Header) -> Result<(), RecvFault>
         requires header { IsStated header.now }
         requires stage { StageFits dir.now ask.now.target self.old.stage }
-        ensures began { (image : List ℕ) (space : FreeSectors) (running : Plain) (work : Work) (c : Covered) (len : ℕ) → c.head ≡ heads.Begin header.now len → RunsBy None (Has image space) dir.now running → TellsDates dir.now running
-            → IsWork (Has image space) self.old work → Takes (IsWork (Has image space) self.new) work (taken ask.now running c work) result }
+        ensures began { (bound : Option ℕ) (image : List ℕ) (space : FreeSectors) (running : Plain) (work : Work) (c : Covered) (len : ℕ) → c.head ≡ heads.Begin header.now len → RunsBy bound (Has image space) dir.now running → TellsBefore work.stage dir.now running
+            → IsWork bound (Has image space) self.old work → Takes (IsWork bound (Has image space) self.new) work (taken ask.now running c work) result }
         ensures stays { OnErr result (self.new ≡ self.old) }
         ensures idle { self.new.taken ≡ false → self.new ≡ self.old }
-        ensures open_still { ¬ (result ≡ Err (RecvFault.Pool PoolFault.Failed)) }
+        ensures waits { waits_at self.new.stage ≡ true → self.new ≡ self.old }
+        ensures begins { OnOk result (waits_at self.new.stage ≡ false) }
+        ensures lives { has_partial self.new.stage ≡ true → is_live self.old.stage ≡ true }
+        ensures known { IfErr result IsRecordFault }
         ensures stage { StageFits dir.now ask.now.target self.new.stage }
         ensures no_block { stop_of result ≡ None }
     {
@@ -140,9 +155,11 @@ impl Batch {
 
     // END: the partial state is to become the snapshot.
     fn end(&mut self)
-        ensures ended { (image : List ℕ) (space : FreeSectors) (running : Plain) (ask : Ask) (work : Work) (c : Covered) (sums : List ℕ) (to : ℕ) → c.head ≡ heads.End sums to
-            → IsWork (Has image space) self.old work → (after : Work) × (taken ask running c work ≡ Ok after) × IsWork (Has image space) self.new after }
+        ensures ended { (bound : Option ℕ) (image : List ℕ) (space : FreeSectors) (running : Plain) (ask : Ask) (work : Work) (c : Covered) (sums : List ℕ) (to : ℕ) → c.head ≡ heads.End sums to
+            → IsWork bound (Has image space) self.old work → (after : Work) × (taken ask running c work ≡ Ok after) × IsWork bound (Has image space) self.new after }
         ensures idle { self.new.taken ≡ false → self.new ≡ self.old }
+        ensures waits { waits_at self.new.stage ≡ true → self.new ≡ self.old }
+        ensures ends { has_partial self.new.stage ≡ false }
         ensures stage { (rows : Rows) (target : List ℕ) → StageFits rows target self.old.stage → StageFits rows target self.new.stage }
     {
         match mem::replace(&mut self.stage, Stage::Over) {
@@ -165,19 +182,23 @@ impl Batch {
         requires covered { IsRead (covered_of covered.now) }
         requires later { IsLater covered.now.head.now }
         requires not_last { closing covered.now.head.now ≡ None }
-        ensures took { (running : Plain) (ask : Ask) (work : Work) → (D.state io.new.disk.now).honest → number ≡ running.number + 1
-            → IsWork (Has (D.state io.old.disk.now).seen io.old.space) self.old work
-            → Takes (IsWork (Has (D.state io.new.disk.now).seen io.new.space) self.new) work (taken ask running (covered_of covered.now) work) result }
+        ensures took { (tight : Bool) (running : Plain) (ask : Ask) (work : Work) → (D.state io.new.disk.now).honest → number ≡ running.number + 1
+            → IsWork (bound_of tight (running.number + 1)) (Has (D.state io.old.disk.now).seen io.old.space) self.old work
+            → Takes (IsWork (bound_of tight (running.number + 1)) (Has (D.state io.new.disk.now).seen io.new.space) self.new) work (taken ask running (covered_of covered.now) work) result }
         ensures stays { OnErr result (self.new ≡ self.old) }
         ensures idle { self.new.taken ≡ false → self.new ≡ self.old }
-        ensures open_still { ¬ (result ≡ Err (RecvFault.Pool PoolFault.Failed)) }
+        ensures waits { waits_at self.new.stage ≡ true → self.new ≡ self.old }
+        ensures lives { has_partial self.new.stage ≡ true → is_live self.old.stage ≡ true }
+        ensures known { IfErr result IsRecordFault }
+        ensures damaged { (rows : Rows) (target : List ℕ) (sector : ℕ) (stated found : List ℕ) → (D.state io.new.disk.now).honest → StageFits rows target self.old.stage → result ≡ Err (RecvFault.Pool (PoolFault.Damaged sector stated found))
+            → IsDamagedState (SparesTaken io.old.space (D.state io.old.disk.now).seen) (D.state io.old.disk.now).size rows target sector stated found }
         ensures stage { (rows : Rows) (target : List ℕ) → StageFits rows target self.old.stage → StageFits rows target self.new.stage }
         ensures fills { Fills (D.state io.old.disk.now) io.old.space io.old.failed (D.state io.new.disk.now) io.new.space io.new.failed (stop_of result) }
         ensures same { io.new.disk.ghost_name ≡ io.old.disk.ghost_name }
     {
         match &mut self.stage {
             Stage::Lives { flags, partial } => move_by(io, partial, covered, *flags, number)?,
-            Stage::Waits | Stage::Ends { .. } | Stage::Over => return Ok(()),
+            Stage::Waits | Stage::Ends { .. } | Stage::Done { .. } | Stage::Over => return Ok(()),
         }
         self.taken = true;
         self.applied = self.applied.saturating_add(1);

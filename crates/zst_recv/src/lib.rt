@@ -6,6 +6,7 @@ mod fault;
 mod opening;
 mod point;
 mod reading;
+mod received;
 mod recv;
 mod settling;
 mod stage;
@@ -13,5 +14,6 @@ mod stage;
 mod tests;
 
 pub use fault::RecvFault;
+pub use received::Received;
 pub use recv::{Fed, Recv};
 pub use zst_plan::RecvAsk;

@@ -1,18 +1,17 @@
 // What a receive begins with, once BEGIN is covered.
-ghost use Rattle.std.specs.Prelude.{◌≡◌, ◌<◌, ℕ, List, Option, true, IfOk, IfSome, length, option_map, None};
+ghost use Rattle.std.specs.Prelude.{◌≡◌, ◌<◌, ℕ, List, Option, true, IfOk, IfSome, length, option_map};
 ghost use Rattle.std.specs.Option.{option_map_or};
 ghost use Rattle.zst_block.specs.Blocks.{Has};
 ghost use Rattle.zst_space.specs.FreeSectors.{FreeSectors};
 ghost use Rattle.zst_dir.specs.Rows.{HasSnapshot};
-ghost use Rattle.zst_image.specs.Reads.{PartialIs, RunsBy};
+ghost use Rattle.zst_image.specs.Reads.{PartialIs, RunsBy, SetIs};
 ghost use Rattle.zst_model.specs.pools.Pool.{IsStated, Pool as Plain, Snapshot as PlainSnapshot, untouched};
 ghost use Rattle.zst_names.specs.Names.{IsSnapshot, dataset_of};
-ghost use Rattle.zst_objset.specs.Sets.{SetHolds};
 ghost use Rattle.zst_plan.specs.Places.{AnswerAlike, FindAlike, StandsAt};
 ghost use Rattle.zst_plan.specs.Receipts.{TellsNeeded};
 ghost use Rattle.zst_plan.specs.RecvPlan.{Base, recv_plan, snapshot_name};
 ghost use Rattle.zst_recv.specs.Receiving.{begun, opened};
-ghost use Rattle.zst_recv.specs.Stages.{CanPut, IsWork, StageFits};
+ghost use Rattle.zst_recv.specs.Stages.{CanPut, IsWork, StageFits, has_partial};
 ghost use Rattle.zst_tree.specs.Sets.{SetFits};
 
 use crate::batch::Batch;
@@ -27,9 +26,9 @@ use zst_tree::ObjSet;
 fn objects_of(dir: &Dir, base: Option<usize>) -> ObjSet
     requires { IfSome base (λ place. place < length dir.now.snapshots) }
     ensures fits { SetFits result }
-    ensures held { (image : List ℕ) (space : FreeSectors) (running : Plain) (found : Option PlainSnapshot)
-        → RunsBy None (Has image space) dir.now running → FindAlike (StandsAt dir.now.snapshots running.snapshots) base found
-        → SetHolds (Has image space) result (option_map_or (λ snapshot. snapshot.objects) found untouched) }
+    ensures held { (bound : Option ℕ) (image : List ℕ) (space : FreeSectors) (running : Plain) (found : Option PlainSnapshot)
+        → RunsBy bound (Has image space) dir.now running → FindAlike (StandsAt dir.now.snapshots running.snapshots) base found
+        → SetIs bound (Has image space) result (option_map_or (λ snapshot. snapshot.objects) found untouched) }
 {
     let _lawful = dir.datasets();
     match base {
@@ -43,8 +42,8 @@ fn name_of(dir: &Dir, base: Option<usize>) -> Option<SnapName>
     requires { IfSome base (λ place. place < length dir.now.snapshots) }
     ensures name { IfSome result IsSnapshot }
     ensures there { IfSome result (HasSnapshot dir.now) }
-    ensures named { (image : List ℕ) (space : FreeSectors) (running : Plain) (found : Option PlainSnapshot)
-        → RunsBy None (Has image space) dir.now running → FindAlike (StandsAt dir.now.snapshots running.snapshots) base found
+    ensures named { (bound : Option ℕ) (image : List ℕ) (space : FreeSectors) (running : Plain) (found : Option PlainSnapshot)
+        → RunsBy bound (Has image space) dir.now running → FindAlike (StandsAt dir.now.snapshots running.snapshots) base found
         → option_map (λ snapshot. snapshot.name) found ≡ result }
 {
     let _lawful = dir.datasets();
@@ -61,9 +60,9 @@ fn begun(dir: &Dir, ask: &RecvAsk, header: &Header, name: &SnapName, base: Optio
     requires name { dataset_of 64 name.now ≡ ask.now.target }
     requires new { HasSnapshot dir.now name.now → ⊥ }
     ensures fits { CanPut dir.now ask.now.target result }
-    ensures begun { (image : List ℕ) (space : FreeSectors) (running : Plain) (component : List ℕ) (found : Base)
-        → RunsBy None (Has image space) dir.now running → FindAlike (StandsAt dir.now.snapshots running.snapshots) base found.snapshot → name.now ≡ snapshot_name ask.now.target component
-        → PartialIs None (Has image space) result (begun ask.now header.now component found) }
+    ensures begun { (bound : Option ℕ) (image : List ℕ) (space : FreeSectors) (running : Plain) (component : List ℕ) (found : Base)
+        → RunsBy bound (Has image space) dir.now running → FindAlike (StandsAt dir.now.snapshots running.snapshots) base found.snapshot → name.now ≡ snapshot_name ask.now.target component
+        → PartialIs bound (Has image space) result (begun ask.now header.now component found) }
 {
     let (_target, _name) = (ask.target.text(), name.text());
     Partial {
@@ -102,9 +101,10 @@ fn opened(header: &Header, partial: Partial, rolls: bool) -> Batch
 pub(crate) fn open(dir: &Dir, ask: &RecvAsk, header: &Header) -> Result<Batch, PlanFault>
     requires header { IsStated header.now }
     ensures fits { IfOk result (λ batch. StageFits dir.now ask.now.target batch.stage) }
+    ensures lives { IfOk result (λ batch. has_partial batch.stage ≡ true) }
     ensures taken { IfOk result (λ batch. batch.taken ≡ true) }
-    ensures exact { (image : List ℕ) (space : FreeSectors) (running : Plain) → RunsBy None (Has image space) dir.now running → TellsNeeded dir.now running ask.now header.now
-        → AnswerAlike (λ batch plan. IsWork (Has image space) batch (opened ask.now header.now plan)) result (recv_plan ask.now header.now running) }
+    ensures exact { (bound : Option ℕ) (image : List ℕ) (space : FreeSectors) (running : Plain) → RunsBy bound (Has image space) dir.now running → TellsNeeded dir.now running ask.now header.now
+        → AnswerAlike (λ batch plan. IsWork bound (Has image space) batch (opened ask.now header.now plan)) result (recv_plan ask.now header.now running) }
 {
     match recv_plan(dir, ask, header)? {
         RecvPlan::Resumes { place } => {

@@ -1,17 +1,19 @@
 // How a piece is read: each record that it covers is taken.
-ghost use Rattle.std.specs.Prelude.{◌≡◌, ◌+◌, ◌<◌, ◌≤◌, ◌^◌, ℕ, List, length, Ok, Err, false};
+ghost use Rattle.std.specs.Prelude.{◌≡◌, ◌+◌, ◌++◌, ◌<◌, ◌≤◌, ◌^◌, ℕ, Bool, List, length, Ok, Err, IfErr, IfOk, OnOk, false, true};
 ghost use Rattle.zst_block.specs.Blocks.{FitsDisk, Has};
+ghost use Rattle.zst_image.specs.Reads.{bound_of};
 ghost use Rattle.zst_model.specs.pools.Pool.{Pool as Plain};
-ghost use Rattle.zst_plan.specs.Receipts.{TellsDates};
 ghost use Rattle.zst_pool.specs.Calls.{IsUnderWay};
 ghost use Rattle.zst_reader.specs.StandsFor.{HandsOut, StandsFor, pushed_of, room_of};
 ghost use Rattle.zst_record.specs.Heads.{Covered};
-ghost use Rattle.zst_record.specs.Laws.{AreBytes};
-ghost use Rattle.zst_stream.specs.Reading.{waiting};
-ghost use Rattle.zst_recv.specs.Faults.{Fills, stop_of};
+ghost use Rattle.zst_model.specs.declared.refusals.stream_fault.StreamFault.{StreamFault};
+ghost use Rattle.zst_stream.specs.Reading.{faulty, reading, waiting};
+ghost use Rattle.zst_recv.specs.Damage.{IsDamagedFeed};
+ghost use Rattle.zst_recv.specs.Faults.{Fills, IsFeedFault, stop_of};
 ghost use Rattle.zst_recv.specs.Receiving.{Work};
-ghost use Rattle.zst_recv.specs.Stages.{IsWork, StageFits};
-ghost use Rattle.zst_recv.specs.Taking.{Drains, Reads};
+ghost use Rattle.zst_recv.specs.Stages.{HasRead, IsWork, StageFits, StandsBehind, TellsBefore, is_live, waits_at};
+ghost use Rattle.zst_recv.specs.Taking.{Drains, HandedOn, Reads};
+ghost use Rattle.zst_recv.specs.declared.stage.Stage.TheVariants as stages;
 
 use crate::batch::Batch;
 use crate::fault::RecvFault;
@@ -32,15 +34,20 @@ fn drain<D: Disk>(
 ) -> Result<bool, RecvFault>
     requires fits { FitsDisk (D.state io.old.disk.now).size io.old.space }
     requires stage { StageFits kept.now.dir ask.now.target batch.old.stage }
-    requires reads { (text : List ℕ) × (AreBytes text × ((handed : List Covered) × StandsFor reader.old text handed)) }
-    ensures drained { (start : D) (running : Plain) (work : Work) (text : List ℕ) (handed : List Covered) → (D.state io.new.disk.now).honest
-        → IsUnderWay false (D.state start) (D.state io.old.disk.now) io.old.space kept.now running → TellsDates kept.now.dir running
-        → StandsFor reader.old text handed → IsWork (Has (D.state io.old.disk.now).seen io.old.space) batch.old work
-        → Drains ask.now running reader.new text handed (IsWork (Has (D.state io.new.disk.now).seen io.new.space) batch.new) work result }
+    requires reads { HasRead reader.old batch.old.stage }
+    ensures drained { (tight : Bool) (start : D) (running : Plain) (work : Work) (text : List ℕ) (handed : List Covered) → (D.state io.new.disk.now).honest
+        → IsUnderWay tight (D.state start) (D.state io.old.disk.now) io.old.space kept.now running → TellsBefore work.stage kept.now.dir running
+        → StandsFor reader.old text handed → IsWork (bound_of tight (running.number + 1)) (Has (D.state io.old.disk.now).seen io.old.space) batch.old work
+        → Drains ask.now running reader.new text handed (IsWork (bound_of tight (running.number + 1)) (Has (D.state io.new.disk.now).seen io.new.space) batch.new) work result }
     ensures stage { StageFits kept.now.dir ask.now.target batch.new.stage }
     ensures idle { batch.new.taken ≡ false → batch.new ≡ batch.old }
-    ensures open_still { ¬ (result ≡ Err (RecvFault.Pool PoolFault.Failed)) }
+    ensures waits { waits_at batch.new.stage ≡ true → batch.new ≡ batch.old }
+    ensures known { IfErr result IsFeedFault }
+    ensures stream { (text : List ℕ) (handed : List Covered) (fault : StreamFault) → StandsFor reader.old text handed → result ≡ Err (RecvFault.Stream fault) → (reading text).outcome ≡ faulty fault }
+    ensures damaged { (sector : ℕ) (stated found : List ℕ) → (D.state io.new.disk.now).honest → result ≡ Err (RecvFault.Pool (PoolFault.Damaged sector stated found))
+        → IsDamagedFeed (D.state io.old.disk.now) io.old.space kept.now.dir ask.now.target sector stated found }
     ensures reads { (text : List ℕ) (handed : List Covered) → StandsFor reader.old text handed → (later : List Covered) × StandsFor reader.new text later }
+    ensures behind { (text : List ℕ) (handed : List Covered) → StandsFor reader.old text handed → StandsBehind handed batch.old.stage → IfOk result (HandedOn reader.new text batch.new.stage) }
     ensures pushed { pushed_of reader.new ≡ pushed_of reader.old }
     ensures room { result ≡ Ok false → 0 < room_of reader.new }
     ensures fills { Fills (D.state io.old.disk.now) io.old.space io.old.failed (D.state io.new.disk.now) io.new.space io.new.failed (stop_of result) }
@@ -67,16 +74,23 @@ pub(crate) fn read<D: Disk>(
 ) -> Result<(), RecvFault>
     requires fits { FitsDisk (D.state io.old.disk.now).size io.old.space }
     requires stage { StageFits kept.now.dir ask.now.target batch.old.stage }
-    requires reads { (text : List ℕ) × (AreBytes text × ((handed : List Covered) × StandsFor reader.old text handed)) }
+    requires reads { HasRead reader.old batch.old.stage }
     requires limit { pushed_of reader.old + length piece.now ≤ 2 ^ 62 }
-    ensures read { (start : D) (running : Plain) (work : Work) (text : List ℕ) (handed : List Covered) → (D.state io.new.disk.now).honest
-        → IsUnderWay false (D.state start) (D.state io.old.disk.now) io.old.space kept.now running → TellsDates kept.now.dir running
-        → HandsOut reader.old text handed waiting → IsWork (Has (D.state io.old.disk.now).seen io.old.space) batch.old work
-        → Reads ask.now running reader.new text piece.now (IsWork (Has (D.state io.new.disk.now).seen io.new.space) batch.new) work result }
+    ensures read { (tight : Bool) (start : D) (running : Plain) (work : Work) (text : List ℕ) (handed : List Covered) → (D.state io.new.disk.now).honest
+        → IsUnderWay tight (D.state start) (D.state io.old.disk.now) io.old.space kept.now running → TellsBefore work.stage kept.now.dir running
+        → HandsOut reader.old text handed waiting → IsWork (bound_of tight (running.number + 1)) (Has (D.state io.old.disk.now).seen io.old.space) batch.old work
+        → Reads ask.now running reader.new text piece.now (IsWork (bound_of tight (running.number + 1)) (Has (D.state io.new.disk.now).seen io.new.space) batch.new) work result }
     ensures stage { StageFits kept.now.dir ask.now.target batch.new.stage }
     ensures idle { batch.new.taken ≡ false → batch.new ≡ batch.old }
-    ensures open_still { ¬ (result ≡ Err (RecvFault.Pool PoolFault.Failed)) }
-    ensures reads { (text : List ℕ) × (AreBytes text × ((handed : List Covered) × StandsFor reader.new text handed)) }
+    ensures waits { waits_at batch.new.stage ≡ true → batch.new ≡ batch.old }
+    ensures known { IfErr result IsFeedFault }
+    ensures stream { (text : List ℕ) (handed : List Covered) (fault : StreamFault) → StandsFor reader.old text handed → result ≡ Err (RecvFault.Stream fault) → (reading (text ++ piece.now)).outcome ≡ faulty fault }
+    ensures damaged { (sector : ℕ) (stated found : List ℕ) → (D.state io.new.disk.now).honest → result ≡ Err (RecvFault.Pool (PoolFault.Damaged sector stated found))
+        → IsDamagedFeed (D.state io.old.disk.now) io.old.space kept.now.dir ask.now.target sector stated found }
+    ensures reads { HasRead reader.new stages.Over }
+    // Where no fault was found the batch stands behind what was read; where it goes on that is all of the piece.
+    ensures behind { OnOk result (HasRead reader.new batch.new.stage) }
+    ensures all { OnOk result (is_live batch.new.stage ≡ true → pushed_of reader.new ≡ pushed_of reader.old + length piece.now) }
     ensures fills { Fills (D.state io.old.disk.now) io.old.space io.old.failed (D.state io.new.disk.now) io.new.space io.new.failed (stop_of result) }
     ensures same { io.new.disk.ghost_name ≡ io.old.disk.ghost_name }
 {

@@ -4,6 +4,7 @@ ghost use Rattle.zst_recv.specs.Faults.{stream_limit};
 use crate::batch::Batch;
 use crate::fault::RecvFault;
 use crate::reading::read;
+use crate::received::Received;
 use crate::settling::{keeps_before, put};
 use crate::stage::Stage;
 use std::alloc::Global;
@@ -36,25 +37,27 @@ pub struct Recv {
 }
 
 impl Recv {
-    ghost use Rattle.std.specs.Prelude.{◌≡◌, ◌<◌, ◌||◌, ◌-◌, ℕ, List, [], IfErr, IfOk, Err, false, true, not, sum_by, if◌then◌else◌};
+    ghost use Rattle.std.specs.Prelude.{◌≡◌, ◌+◌, ◌<◌, ◌≤◌, ◌||◌, ◌-◌, ℕ, Bool, List, [], length, Option, IfErr, IfOk, IsSome, Err, false, true, not, sum_by, if◌then◌else◌, ◌++◌};
     ghost use Rattle.zst_block.specs.Blocks.{Has};
     ghost use Rattle.zst_block.specs.Working.{HasCause, fails};
     ghost use Rattle.zst_image.specs.Committing.{Ready};
-    ghost use Rattle.zst_image.specs.Reads.{free_by};
+    ghost use Rattle.zst_image.specs.Reads.{bound_of, free_by};
+    ghost use Rattle.zst_model.specs.declared.refusals.stream_fault.StreamFault.{StreamFault as PlainFault};
     ghost use Rattle.zst_model.specs.declared.sends.header.Point.{Point as PlainPoint};
     ghost use Rattle.zst_model.specs.pools.Kept.{kept_of};
     ghost use Rattle.zst_model.specs.pools.Pool.{Pool as Plain};
     ghost use Rattle.zst_outside.specs.Images.{OnlyReads};
-    ghost use Rattle.zst_plan.specs.Receipts.{TellsDates};
     ghost use Rattle.zst_pool.specs.Calls.{IsAtRest};
     ghost use Rattle.zst_pool.specs.Partials.{without_unkept};
     ghost use Rattle.zst_reader.specs.StandsFor.{StandsFor, pushed_of};
     ghost use Rattle.zst_record.specs.Heads.{Covered, size_of};
+    ghost use Rattle.zst_stream.specs.Reading.{faulty, reading};
     ghost use Rattle.zst_space.specs.FreeSectors.{FreeSectors, largest_of};
     ghost use Rattle.zst_recv.specs.Answers.{Feeds, goes_on};
-    ghost use Rattle.zst_recv.specs.Faults.{cut_of, stop_of};
+    ghost use Rattle.zst_recv.specs.Damage.{IsDamagedFeed};
+    ghost use Rattle.zst_recv.specs.Faults.{IsFeedFault, cut_of, stop_of, stream_limit};
     ghost use Rattle.zst_recv.specs.Receiving.{Stage as PlainStage, Waits, left_by};
-    ghost use Rattle.zst_recv.specs.Stages.{Receives, RecvFits, is_live, point_in, stage_behind};
+    ghost use Rattle.zst_recv.specs.Stages.{Receives, RecvFits, TellsBefore, fed_of, is_live, is_waiting, point_in, received_by, stage_behind};
 
     /// Begins a receive, and takes all of its memory. Nothing is read or committed.
     pub fn open<D: Disk>(
@@ -62,10 +65,11 @@ impl Recv {
         alloc: Global,
         ask: RecvAsk,
     ) -> Result<Recv, PoolFault>
-        ensures opens { (image : List ℕ) (space : FreeSectors) → IfOk result (λ recv. Receives (Has image space) recv [] Waits) }
+        ensures opens { (bound : Option ℕ) (image : List ℕ) (space : FreeSectors) → IfOk result (λ recv. Receives bound (Has image space) recv [] Waits) }
         ensures ask { IfOk result (λ recv. recv.ask ≡ ask) }
         ensures fits { IfOk result (RecvFits pool.new.kept.dir) }
         ensures live { IfOk result (λ recv. is_live recv.stage ≡ true) }
+        ensures fed { IfOk result (λ recv. fed_of recv ≡ 0) }
         ensures failed_pool { pool.old.io.failed ≡ true → result ≡ Err PoolFault.Failed }
         ensures known { pool.old.io.failed ≡ false → IfErr result (λ fault. fault ≡ PoolFault.OutOfMemory) }
         ensures disk { pool.new.io.disk.now ≡ pool.old.io.disk.now }
@@ -91,6 +95,20 @@ impl Recv {
         self.stage.is_live()
     }
 
+    /// How many bytes it was fed.
+    pub fn fed(&self) -> u64
+        ensures { result ≡ fed_of self.now }
+    {
+        self.reader.pushed()
+    }
+
+    /// The snapshot that it made, once END was received.
+    pub fn received(&self) -> Option<Received>
+        ensures { result ≡ received_by self.now }
+    {
+        self.stage.received()
+    }
+
     /// Takes a piece of the stream, whole or up to its END: each record that it covers is applied, and all of them are
     /// committed once. With END the partial state becomes the snapshot and the head. After a refusal the receive is over.
     pub fn feed<D: Disk>(
@@ -103,18 +121,32 @@ impl Recv {
         requires recv { RecvFits pool.old.kept.dir self.old }
         requires ready { pool.old.io.failed ≡ false → Ready (D.state pool.old.io.disk.now) pool.old.kept.body }
         // What the definition makes of the pool that runs and of the receive, at every moment and in the end.
-        ensures feeds { (running : Plain) (text : List ℕ) (stage : PlainStage) → (D.state pool.new.io.disk.now).honest → pool.old.io.failed ≡ false
-            → IsAtRest false (D.state pool.old.io.disk.now) pool.old.kept running → TellsDates pool.old.kept.dir running
-            → Receives (Has (D.state pool.old.io.disk.now).seen (free_by pool.old.kept.body)) self.old text stage
-            → Feeds (D.state pool.old.io.disk.now) (D.state pool.new.io.disk.now) pool.new.kept self.new text piece.now stage running result }
+        ensures feeds { (tight : Bool) (running : Plain) (text : List ℕ) (stage : PlainStage) → (D.state pool.new.io.disk.now).honest → pool.old.io.failed ≡ false
+            → IsAtRest tight (D.state pool.old.io.disk.now) pool.old.kept running → TellsBefore stage pool.old.kept.dir running
+            → Receives (bound_of tight running.number) (Has (D.state pool.old.io.disk.now).seen (free_by pool.old.kept.body)) self.old text stage
+            → Feeds tight (D.state pool.old.io.disk.now) (D.state pool.new.io.disk.now) pool.new.kept self.new text piece.now stage running result }
         // Whatever the image, E24 comes only where the longest run that is then free is shorter than what is needed.
         ensures full { (need largest : ℕ) → result ≡ Err (RecvFault.Pool (PoolFault.Full need largest)) → (largest < need) × (largest ≡ largest_of pool.new.io.space) }
         ensures ask { self.new.ask ≡ self.old.ask }
         ensures live { is_live self.new.stage ≡ goes_on result }
         ensures recv { RecvFits pool.new.kept.dir self.new }
+        // All of a piece that doesn't end the stream was taken, and a stream has no more bytes than it may have.
+        ensures fed { IfOk result (λ told. told.done ≡ false → fed_of self.new ≡ fed_of self.old + length piece.now) }
+        ensures within { fed_of self.new ≤ stream_limit }
+        // With END there is the snapshot.
+        ensures received { IfOk result (λ told. told.done ≡ true → IsSome (received_by self.new)) }
+        // As long as BEGIN isn't covered nothing is committed.
+        ensures waits { is_waiting self.new ≡ true → pool.new.kept ≡ pool.old.kept }
         // A pool that has failed answers nothing else, and does nothing.
         ensures failed_pool { pool.old.io.failed ≡ true → result ≡ Err (RecvFault.Pool PoolFault.Failed) }
         ensures idle_disk { pool.old.io.failed ≡ true → pool.new.io.disk.now ≡ pool.old.io.disk.now }
+        // Whatever the image, there is no other refusal, and only a pool that has failed answers so.
+        ensures known { pool.old.io.failed ≡ false → IfErr result IsFeedFault }
+        // E17 to E19 are of the stream alone.
+        ensures stream { (text : List ℕ) (handed : List Covered) (fault : PlainFault) → StandsFor self.old.reader text handed → result ≡ Err (RecvFault.Stream fault) → (reading (text ++ piece.now)).outcome ≡ faulty fault }
+        // Whatever the image, E25 tells a damage of a set of this target's partial state, as the refused record found it.
+        ensures damaged { (sector : ℕ) (stated found : List ℕ) → (D.state pool.new.io.disk.now).honest → pool.old.io.failed ≡ false → result ≡ Err (RecvFault.Pool (PoolFault.Damaged sector stated found))
+            → IsDamagedFeed (D.state pool.old.io.disk.now) (free_by pool.old.kept.body) pool.old.kept.dir self.old.ask.target sector stated found }
         ensures open_still { pool.old.io.failed ≡ false → ¬ (result ≡ Err (RecvFault.Pool PoolFault.Failed)) }
         ensures ready { pool.new.io.failed ≡ false → Ready (D.state pool.new.io.disk.now) pool.new.kept.body }
         ensures failed { pool.new.io.failed ≡ (pool.old.io.failed || fails (stop_of result)) }
@@ -152,8 +184,8 @@ impl Recv {
     pub fn cut<D: Disk>(self, pool: &mut Pool<'_, D>) -> Result<(), StreamFault>
         requires recv { RecvFits pool.old.kept.dir self }
         ensures result { result ≡ cut_of (is_live self.stage) (pushed_of self.reader) }
-        ensures rests { (disk : D) (running : Plain) (image : List ℕ) (space : FreeSectors) (stage : PlainStage) (text : List ℕ) → IsAtRest false (D.state disk) pool.old.kept running
-            → Receives (Has image space) self text stage → IsAtRest false (D.state disk) pool.new.kept (left_by stage running) }
+        ensures rests { (tight : Bool) (bound : Option ℕ) (disk : D) (running : Plain) (image : List ℕ) (space : FreeSectors) (stage : PlainStage) (text : List ℕ) → IsAtRest tight (D.state disk) pool.old.kept running
+            → Receives bound (Has image space) self text stage → IsAtRest tight (D.state disk) pool.new.kept (left_by stage running) }
         ensures body { pool.new.kept.body ≡ pool.old.kept.body }
         ensures io { pool.new.io ≡ pool.old.io }
     {
@@ -187,7 +219,7 @@ impl Recv {
             len
         };
         let applied = batch.applied;
-        self.stage = if done { Stage::Over } else { batch.stage };
+        self.stage = batch.stage.settled();
         Fed {
             used,
             applied,
@@ -201,8 +233,8 @@ impl Recv {
         ensures over { self.new.stage ≡ Stage.Over }
         ensures ask { self.new.ask ≡ self.old.ask }
         ensures reader { self.new.reader ≡ self.old.reader }
-        ensures rests { (disk : D) (running : Plain) → IsAtRest false (D.state disk) pool.old.kept running
-            → IsAtRest false (D.state disk) pool.new.kept (if held then without_unkept self.old.ask.target running else running) }
+        ensures rests { (tight : Bool) (disk : D) (running : Plain) → IsAtRest tight (D.state disk) pool.old.kept running
+            → IsAtRest tight (D.state disk) pool.new.kept (if held then without_unkept self.old.ask.target running else running) }
         ensures body { pool.new.kept.body ≡ pool.old.kept.body }
         ensures io { pool.new.io ≡ pool.old.io }
     {
@@ -223,8 +255,8 @@ impl Recv {
         ensures over { self.new.stage ≡ Stage.Over }
         ensures ask { self.new.ask ≡ self.old.ask }
         ensures reader { self.new.reader ≡ self.old.reader }
-        ensures rests { (disk : D) (running : Plain) → IsAtRest false (D.state disk) pool.old.kept running
-            → IsAtRest false (D.state disk) pool.new.kept (if held then without_unkept self.old.ask.target running else running) }
+        ensures rests { (tight : Bool) (disk : D) (running : Plain) → IsAtRest tight (D.state disk) pool.old.kept running
+            → IsAtRest tight (D.state disk) pool.new.kept (if held then without_unkept self.old.ask.target running else running) }
         ensures body { pool.new.kept.body ≡ pool.old.kept.body }
         ensures io { pool.new.io ≡ pool.old.io }
     {

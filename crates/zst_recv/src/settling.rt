@@ -1,8 +1,8 @@
 // What a feed commits.
-ghost use Rattle.std.specs.Prelude.{◌≡◌, ◌<◌, Err, ℕ, List, IfErr, OnErr, OnOk, false, true};
+ghost use Rattle.std.specs.Prelude.{◌≡◌, ◌+◌, ◌<◌, Bool, Err, ℕ, List, Option, IfErr, OnErr, OnOk, false, true};
 ghost use Rattle.zst_block.specs.Blocks.{Has};
 ghost use Rattle.zst_image.specs.Committing.{Ready};
-ghost use Rattle.zst_image.specs.Reads.{free_by};
+ghost use Rattle.zst_image.specs.Reads.{bound_of, free_by};
 ghost use Rattle.zst_model.specs.pools.Pool.{Pool as Plain};
 ghost use Rattle.zst_pool.specs.Calls.{CanCommit, IsCallFault, IsUnderWay};
 ghost use Rattle.zst_space.specs.FreeSectors.{largest_of};
@@ -42,12 +42,12 @@ pub(crate) fn put<D: Disk>(
     requires open { pool.old.io.failed ≡ false }
     requires stage { (target : List ℕ) × StageFits pool.old.kept.dir target batch.now.stage }
     requires works { CanCommit (D.state pool.old.io.disk.now) pool.old.io.space pool.old.kept.body }
-    ensures puts { (start : D) (running : Plain) (work : Work) → (D.state pool.new.io.disk.now).honest → IsUnderWay false (D.state start) (D.state pool.old.io.disk.now) pool.old.io.space pool.old.kept running
-        → IsWork (Has (D.state pool.old.io.disk.now).seen pool.old.io.space) batch.now work
-        → Puts (D.state start) (D.state pool.new.io.disk.now) pool.new.kept running (put work running) result }
+    ensures puts { (tight : Bool) (start : D) (running : Plain) (work : Work) → (D.state pool.new.io.disk.now).honest → IsUnderWay tight (D.state start) (D.state pool.old.io.disk.now) pool.old.io.space pool.old.kept running
+        → IsWork (bound_of tight (running.number + 1)) (Has (D.state pool.old.io.disk.now).seen pool.old.io.space) batch.now work
+        → Puts tight (D.state start) (D.state pool.new.io.disk.now) pool.new.kept running (put work running) result }
     // Where it goes on, its partial state still stands for the one that was taken.
-    ensures goes_on { (work : Work) → IsWork (Has (D.state pool.old.io.disk.now).seen pool.old.io.space) batch.now work
-        → OnOk result (IsWork (Has (D.state pool.new.io.disk.now).seen pool.new.io.space) batch.now work) }
+    ensures goes_on { (bound : Option ℕ) (work : Work) → IsWork bound (Has (D.state pool.old.io.disk.now).seen pool.old.io.space) batch.now work
+        → OnOk result (IsWork bound (Has (D.state pool.new.io.disk.now).seen pool.new.io.space) batch.now work) }
     // What the latest body leaves free is free again once a partial state was committed; and nothing was done where no record was taken.
     ensures space { batch.now.taken ≡ true → has_partial batch.now.stage ≡ true → OnOk result (pool.new.io.space ≡ free_by pool.new.kept.body) }
     ensures idle_disk { batch.now.taken ≡ false → pool.new.io.disk.now ≡ pool.old.io.disk.now }
@@ -75,6 +75,6 @@ pub(crate) fn put<D: Disk>(
             pool.finish_partial(alloc, partial.duplicate())?;
             Ok(())
         }
-        Stage::Waits | Stage::Over => Ok(()),
+        Stage::Waits | Stage::Done { .. } | Stage::Over => Ok(()),
     }
 }

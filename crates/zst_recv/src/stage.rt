@@ -1,6 +1,7 @@
 ghost use Rattle.std.specs.Prelude.{◌≡◌};
-ghost use Rattle.zst_recv.specs.Stages.{has_partial, is_live, keeps_partial, point_in};
+ghost use Rattle.zst_recv.specs.Stages.{has_partial, is_live, keeps_partial, point_in, received_at, stage_behind};
 
+use crate::received::Received;
 use zst_dir::Partial;
 use zst_model::Point;
 
@@ -13,7 +14,9 @@ pub(crate) enum Stage {
     Lives { flags: u32, partial: Partial },
     /// END was covered: this becomes the snapshot.
     Ends { partial: Partial },
-    /// It is over.
+    /// END was received, and the snapshot stands.
+    Done { received: Received },
+    /// It is over without END.
     Over,
 }
 
@@ -38,7 +41,7 @@ impl Stage {
     {
         match self {
             Stage::Lives { partial, .. } => partial.keep,
-            Stage::Waits | Stage::Ends { .. } | Stage::Over => false,
+            Stage::Waits | Stage::Ends { .. } | Stage::Done { .. } | Stage::Over => false,
         }
     }
 
@@ -48,10 +51,32 @@ impl Stage {
     {
         match self {
             Stage::Lives { partial, .. } | Stage::Ends { partial } => partial.point,
-            Stage::Waits | Stage::Over => Point {
+            Stage::Waits | Stage::Done { .. } | Stage::Over => Point {
                 object: 0,
                 offset: 0,
             },
+        }
+    }
+
+    /// The snapshot that it made, once END was received.
+    pub fn received(&self) -> Option<Received>
+        ensures { result ≡ received_at self.now }
+    {
+        match self {
+            Stage::Done { received } => Some(received.duplicate()),
+            Stage::Waits | Stage::Lives { .. } | Stage::Ends { .. } | Stage::Over => None,
+        }
+    }
+
+    /// Where it stands once all of a piece was committed: with END the snapshot stands.
+    pub fn settled(self) -> Stage
+        ensures { result ≡ stage_behind self }
+    {
+        match self {
+            Stage::Ends { partial } => Stage::Done {
+                received: Received::of(&partial),
+            },
+            stage => stage,
         }
     }
 }

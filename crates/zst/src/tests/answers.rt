@@ -25,7 +25,7 @@ fn answer(
 }
 
 /// The line of a block of 512 bytes that begins with this one.
-fn data_of(alloc: Global, first: &str) -> Result<String, Fail> {
+pub(super) fn data_of(alloc: Global, first: &str) -> Result<String, Fail> {
     Ok(format!(in alloc; "data {first}{}\n", "00".repeat(alloc, 511)?)?)
 }
 

@@ -55,21 +55,33 @@ fn words_of(alloc: Global, line: &str) -> Result<Vec<String>, Fail> {
     Ok(words)
 }
 
-/// Runs a line on an image, with these outputs.
-pub(super) fn run_into<D: Disk>(
+/// Runs a line on an image, with this input and these outputs.
+pub(super) fn run_over<D: Disk>(
     alloc: Global,
     disk: &mut D,
     line: &str,
+    mut input: MemSource,
     mut out: MemSink,
     mut note: MemSink,
 ) -> Result<Ran, Fail> {
     let words = words_of(alloc, line)?;
     let mut there = SureDisk::new(Vec::new(alloc));
-    let mut input = MemSource::new(Vec::new(alloc), Vec::new(alloc));
     let status = run(
         alloc, &words, NOW, disk, &mut there, &mut input, &mut out, &mut note,
     );
     Ok(Ran { status, out, note })
+}
+
+/// Runs a line on an image, with these outputs.
+pub(super) fn run_into<D: Disk>(
+    alloc: Global,
+    disk: &mut D,
+    line: &str,
+    out: MemSink,
+    note: MemSink,
+) -> Result<Ran, Fail> {
+    let input = MemSource::new(Vec::new(alloc), Vec::new(alloc));
+    run_over(alloc, disk, line, input, out, note)
 }
 
 /// Runs a line on an image.

@@ -10,15 +10,15 @@ use std::test::Fail;
 use zst_outside::{MemDisk, MemSink};
 
 /// The names `tank/a@s` and `tank/a@t` in BEGIN.
-const NAME_S: Field = (56, 8, 0x7340_612f_6b6e_6174);
+pub(super) const NAME_S: Field = (56, 8, 0x7340_612f_6b6e_6174);
 
-const NAME_T: Field = (56, 8, 0x7440_612f_6b6e_6174);
+pub(super) const NAME_T: Field = (56, 8, 0x7440_612f_6b6e_6174);
 
 /// The guid of the second snapshot.
-const NEXT: u64 = 0x1_0000_0002;
+pub(super) const NEXT: u64 = 0x1_0000_0002;
 
 /// FREEOBJECTS of every number from one on.
-fn free_from(first: u64, to: u64) -> [Field; 4] {
+pub(super) fn free_from(first: u64, to: u64) -> [Field; 4] {
     let count = (1u64 << 48).saturating_sub(first);
     [(0, 4, 2), (8, 8, first), (16, 8, count), (24, 8, to)]
 }
@@ -57,17 +57,26 @@ fn empty_stream(rt: &impl Abort, alloc: Global) -> Result<Vec<u8>, Fail> {
     Ok(stream.bytes)
 }
 
-/// The stream of a small pool's snapshot.
-fn small_stream(rt: &impl Abort, alloc: Global) -> Result<Vec<u8>, Fail> {
-    let mut stream = Stream::begin(rt, alloc, &[NAME_S])?;
+/// The stream of a small pool's snapshot, with some fields of BEGIN set otherwise.
+pub(super) fn small_stream_with(
+    rt: &impl Abort,
+    alloc: Global,
+    others: &[Field],
+) -> Result<Vec<u8>, Fail> {
+    let mut stream = Stream::begin(rt, alloc, others)?;
     put_object(rt, &mut stream, GUID)?;
     stream.put(rt, &free_from(2, GUID))?;
     stream.end(rt)?;
     Ok(stream.bytes)
 }
 
+/// The stream of a small pool's snapshot.
+pub(super) fn small_stream(rt: &impl Abort, alloc: Global) -> Result<Vec<u8>, Fail> {
+    small_stream_with(rt, alloc, &[NAME_S])
+}
+
 /// The stream of its next snapshot, from that one or its bookmark: the block was written again.
-fn next_stream(rt: &impl Abort, alloc: Global) -> Result<Vec<u8>, Fail> {
+pub(super) fn next_stream(rt: &impl Abort, alloc: Global) -> Result<Vec<u8>, Fail> {
     let mut stream = Stream::begin(rt, alloc, &[NAME_T, (40, 8, NEXT), (48, 8, GUID)])?;
     put_object(rt, &mut stream, NEXT)?;
     stream.end_with(rt, (40, 8, NEXT))?;
@@ -75,7 +84,7 @@ fn next_stream(rt: &impl Abort, alloc: Global) -> Result<Vec<u8>, Fail> {
 }
 
 /// Checks that a line sends this stream, and leaves each byte of the image.
-fn check_sent(
+pub(super) fn check_sent(
     rt: &impl Abort,
     alloc: Global,
     disk: &mut MemDisk,

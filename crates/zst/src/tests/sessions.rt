@@ -129,9 +129,9 @@ const REFUSED: [Refused; 21] = [
     ("destroy I tank/a", 3, "E5 busy: clone tank/ab"),
     ("destroy I tank/a@z", 3, "E5 busy: clone tank/ab"),
     ("destroy I tank/v", 3, "E5 busy: clone tank/a/w"),
-    // What isn't built yet is told once the words are a line.
+    // What isn't built yet is told once the words are a line, and no input has no stream.
     ("send -t zst1 I", 3, "E19 unsupported: not built"),
-    ("receive -s -F I tank/y", 3, "E19 unsupported: not built"),
+    ("receive -s -F I tank/y", 4, "E20 truncated at 0"),
     (
         "redact I tank/a@z tank/a#r tank/ab@s",
         3,

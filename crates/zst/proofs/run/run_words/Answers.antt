@@ -7,8 +7,8 @@ use Rattle.zst.proofs.run.run_words.Goals as goal
 pub asked-requires : goal.asked-requires
 asked-requires g c = in_range c.in_ok-line.line _ c.in_ok-line.ensures.0 c.in_ok-line.ensures.1
 
-pub run_line-requires : goal.run_line-requires
-run_line-requires g c = record { range = in_range c.in_ok-line.line _ c.in_ok-line.ensures.0 c.in_ok-line.ensures.1; other = sym c.in-None.ensures }
+pub run_unsent-requires : goal.run_unsent-requires
+run_unsent-requires g c = record { range = in_range c.in_ok-line.line _ c.in_ok-line.ensures.0 c.in_ok-line.ensures.1; other = sym c.in-None.ensures }
 
 pub returns-in-Some : goal.returns-in-Some
 returns-in-Some g c = (

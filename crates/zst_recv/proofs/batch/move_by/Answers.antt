@@ -1,24 +1,52 @@
-use Rattle.std.proofs.Common.{sym, subst}
-use Rattle.zst_block.specs.Blocks.{Has}
+use Rattle.std.proofs.Common.{◌≡◌, Ok, Err, sym, ◌∙◌, subst}
+use Rattle.zst_apply.specs.Damage.{apply_damage}
+use Rattle.zst_block.specs.Blocks.{Has, SparesTaken}
 use Rattle.zst_record.specs.Heads.{covered_of}
+use Rattle.zst_pool.specs.declared.fault.PoolFault.TheVariants as pools
+use Rattle.zst_recv.specs.Faults.{IsRecordFault, of_record}
 use Rattle.zst_recv.specs.Receiving.{moved_by}
 use Rattle.zst_recv.specs.Taking.{TakeFault}
 use Rattle.zst_recv.specs.declared.fault.RecvFault.{RecvFault}
-use Rattle.zst_recv.proofs.Moving.{ends_fit, moved_is, refused_is}
+use Rattle.zst_image.specs.Reads.{bound_of}
+use Rattle.zst_stream.specs.Items.{items_by}
+use Rattle.zst_recv.specs.declared.fault.RecvFault.TheVariants as faults
+use Rattle.zst_recv.proofs.Damaging.{err_told, told_record}
+use Rattle.zst_recv.proofs.Moving.{applies_so, ends_fit, known_record, moved_is, refused_is}
 use Rattle.zst_recv.proofs.batch.move_by.Goals as goal
 
 pub returns-in-Ok-clause-moved : goal.returns-in-Ok-clause-moved
-returns-in-Ok-clause-moved g c = λ state honest stands.
+returns-in-Ok-clause-moved g c = λ tight state honest stands.
     let covered = covered_of c.args.covered.now in
     let old = c.args.io.now in
     let new = c.apply.new.io in
-    let made = c.in-Ok.ensures.changed state.objects honest stands.objects in
+    let before = Has (g.D.Disk.state old.disk.now).seen old.space in
+    let after = Has (g.D.Disk.state new.disk.now).seen new.space in
+    let made =
+    applies_so tight c.args.number covered.index (items_by c.args.flags covered.payload covered.head) before after c.args.partial.now.objects c.apply.new.set state.objects (Ok tt) (c.in-Ok.ensures.changed state.objects honest)
+    (c.in-Ok.ensures.tight state.objects honest) stands.objects in
     let fits = ends_fit c.requires.covered.features c.args.number covered.index c.args.flags covered.head covered.payload state.objects made.0 c.requires.covered.fits c.requires.covered.payload made.1 in
-    moved_is (Has (g.D.Disk.state old.disk.now).seen old.space) (Has (g.D.Disk.state new.disk.now).seen new.space) c.args.number c.args.flags covered c.args.partial.now c.apply.new.set c.point_behind-partial.result
+    moved_is (bound_of tight c.args.number) before after c.args.number c.args.flags covered c.args.partial.now c.apply.new.set c.point_behind-partial.result
     state made.0 stands made.1 made.2 (c.point_behind-partial.ensures c.args.flags covered.payload fits c.requires.covered.payload)
 
 pub returns-in-Err-clause-moved : goal.returns-in-Err-clause-moved
-returns-in-Err-clause-moved g c = λ state honest stands.
+returns-in-Err-clause-moved g c = λ tight state honest stands.
     let covered = covered_of c.args.covered.now in
+    let old = c.args.io.now in
+    let new = c.apply.new.io in
+    let before = Has (g.D.Disk.state old.disk.now).seen old.space in
+    let after = Has (g.D.Disk.state new.disk.now).seen new.space in
+    let refused =
+    applies_so tight c.args.number covered.index (items_by c.args.flags covered.payload covered.head) before after c.args.partial.now.objects c.apply.new.set state.objects (Err c.in-Err.fault) (c.in-Err.ensures.changed state.objects honest)
+    (c.in-Err.ensures.tight state.objects honest) stands.objects in
     subst (λ (fault : RecvFault). TakeFault (moved_by c.args.number covered c.args.flags state) fault) (sym c.of_record.ensures)
-    (refused_is c.args.number c.args.flags covered state c.in-Err.fault (c.in-Err.ensures.changed state.objects honest stands.objects))
+    (refused_is c.args.number c.args.flags covered state c.in-Err.fault refused)
+
+pub returns-in-Err-clause-known : goal.returns-in-Err-clause-known
+returns-in-Err-clause-known g c = subst IsRecordFault (sym c.of_record.ensures) (known_record (covered_of c.args.covered.now).index c.in-Err.fault c.in-Err.ensures.never_redacted)
+
+pub returns-in-Err-clause-damaged : goal.returns-in-Err-clause-damaged
+returns-in-Err-clause-damaged g c = λ sector stated found honest is.
+    let old = c.args.io.now in
+    let fault : of_record (covered_of c.args.covered.now).index c.in-Err.fault ≡ faults.Pool (pools.Damaged sector stated found) = sym c.of_record.ensures ∙ err_told (Unit {0}) c.of_record.result _ is in
+    told_record (apply_damage (SparesTaken old.space (g.D.Disk.state old.disk.now).seen) (g.D.Disk.state old.disk.now).size c.args.partial.now.objects) (Unit {0}) (covered_of c.args.covered.now).index c.in-Err.fault sector stated found
+    (c.in-Err.ensures.damaged honest) fault

@@ -1,4 +1,4 @@
-use Rattle.std.proofs.Common.{List, sym, ap, ◌∙◌, subst, get_or, None}
+use Rattle.std.proofs.Common.{List, sym, ap, ◌∙◌, subst, get_or}
 use Rattle.zst_block.specs.Blocks.{Has}
 use Rattle.zst_dir.specs.declared.rows.Partial.{Partial}
 use Rattle.zst_plan.specs.Receipts.{IsNewPlan, IsRecvPlanOf}
@@ -14,12 +14,12 @@ use Rattle.zst_recv.proofs.Begun.{begun_is, partial_is, resumed_is, resumes_fits
 use Rattle.zst_recv.proofs.opening.open.Goals as goal
 
 pub returns-in_err-place-clause-exact : goal.returns-in_err-place-clause-exact
-returns-in_err-place-clause-exact c = λ image space running runs tells.
+returns-in_err-place-clause-exact c = λ bound image space running runs tells.
     let rows = c.args.dir.now in
     let ask = c.args.ask.now in
     let header = c.args.header.now in
     let fault = c.in_err-place.field-0.0 in
-    refuses (λ (batch : Batch) (plan : RecvPlan). IsWork (Has image space) batch (opened ask header plan)) c.from_residual.result (recv_plan ask header running) fault c.from_residual.ensures.1
+    refuses (λ (batch : Batch) (plan : RecvPlan). IsWork bound (Has image space) batch (opened ask header plan)) c.from_residual.result (recv_plan ask header running) fault c.from_residual.ensures.1
     (err_alike (IsRecvPlanOf rows running ask) fault (recv_plan ask header running) (c.in_err-place.ensures.exact running (rows_named (Has image space) rows running runs) tells))
 
 pub returns-in-Resumes-clause-fits : goal.returns-in-Resumes-clause-fits
@@ -34,7 +34,7 @@ returns-in-Resumes-clause-fits c =
     (c.index-partials-place.is ∙ ap (λ (xs : List Partial). get_or xs place row) c.partials.ensures)))
 
 pub returns-in-Resumes-clause-exact : goal.returns-in-Resumes-clause-exact
-returns-in-Resumes-clause-exact c = λ image space running runs tells.
+returns-in-Resumes-clause-exact c = λ bound image space running runs tells.
     let has = Has image space in
     let rows = c.args.dir.now in
     let ask = c.args.ask.now in
@@ -43,14 +43,14 @@ returns-in-Resumes-clause-exact c = λ image space running runs tells.
     let row = c.index-partials-place.result in
     let plan = ok_alike (IsRecvPlanOf rows running ask) c.in_ok-place.field-0 (recv_plan ask header running) (c.in_ok-place.ensures.exact running (rows_named has rows running runs) tells) in
     let resumed = resumed_is rows running ask place plan.0 (subst (λ (p : plans.RecvPlan). IsRecvPlanOf rows running ask p plan.0) c.in-Resumes.is plan.2) in
-    let stands = partial_is has rows running runs place row resumed.0 resumed.2 (c.index-partials-place.is ∙ ap (λ (xs : List Partial). get_or xs place row) c.partials.ensures) in
-    answers (λ (batch : Batch) (p : RecvPlan). IsWork has batch (opened ask header p)) c.opened.result plan.0 (recv_plan ask header running) plan.1
-    (subst (λ (p : RecvPlan). IsWork has c.opened.result (opened ask header p)) (sym resumed.1)
-    (work_is has c.opened.result header.flags c.duplicate.result resumed.0 _ c.opened.ensures.stage c.opened.ensures.rolls c.opened.ensures.taken c.opened.ensures.applied
-    (subst (λ (r : Partial). PartialIs None has r resumed.0) (sym c.duplicate.ensures) stands)))
+    let stands = partial_is bound image space rows running runs place row resumed.0 resumed.2 (c.index-partials-place.is ∙ ap (λ (xs : List Partial). get_or xs place row) c.partials.ensures) in
+    answers (λ (batch : Batch) (p : RecvPlan). IsWork bound has batch (opened ask header p)) c.opened.result plan.0 (recv_plan ask header running) plan.1
+    (subst (λ (p : RecvPlan). IsWork bound has c.opened.result (opened ask header p)) (sym resumed.1)
+    (work_is bound has c.opened.result header.flags c.duplicate.result resumed.0 _ c.opened.ensures.stage c.opened.ensures.rolls c.opened.ensures.taken c.opened.ensures.applied
+    (subst (λ (r : Partial). PartialIs bound has r resumed.0) (sym c.duplicate.ensures) stands)))
 
 pub returns-in-Begins-clause-exact : goal.returns-in-Begins-clause-exact
-returns-in-Begins-clause-exact c = λ image space running runs tells.
+returns-in-Begins-clause-exact c = λ bound image space running runs tells.
     let has = Has image space in
     let rows = c.args.dir.now in
     let ask = c.args.ask.now in
@@ -58,7 +58,7 @@ returns-in-Begins-clause-exact c = λ image space running runs tells.
     let batch = c.opened-in-Begins.result in
     let plan = ok_alike (IsRecvPlanOf rows running ask) c.in_ok-place.field-0 (recv_plan ask header running) (c.in_ok-place.ensures.exact running (rows_named has rows running runs) tells) in
     let b = begun_is rows running ask c.in-Begins.name c.in-Begins.base c.in-Begins.rolls plan.0 (subst (λ (p : plans.RecvPlan). IsRecvPlanOf rows running ask p plan.0) c.in-Begins.is plan.2) in
-    answers (λ (batch : Batch) (p : RecvPlan). IsWork has batch (opened ask header p)) batch plan.0 (recv_plan ask header running) plan.1
-    (subst (λ (p : RecvPlan). IsWork has batch (opened ask header p)) (sym b.0.plan_is)
-    (work_is has batch header.flags c.begun.result (begun ask header b.0.component b.0.base) b.0.base.rolls c.opened-in-Begins.ensures.stage (c.opened-in-Begins.ensures.rolls ∙ b.1) c.opened-in-Begins.ensures.taken c.opened-in-Begins.ensures.applied
-    (c.begun.ensures.begun image space running b.0.component b.0.base runs b.0.alike b.0.named)))
+    answers (λ (batch : Batch) (p : RecvPlan). IsWork bound has batch (opened ask header p)) batch plan.0 (recv_plan ask header running) plan.1
+    (subst (λ (p : RecvPlan). IsWork bound has batch (opened ask header p)) (sym b.0.plan_is)
+    (work_is bound has batch header.flags c.begun.result (begun ask header b.0.component b.0.base) b.0.base.rolls c.opened-in-Begins.ensures.stage (c.opened-in-Begins.ensures.rolls ∙ b.1) c.opened-in-Begins.ensures.taken c.opened-in-Begins.ensures.applied
+    (c.begun.ensures.begun bound image space running b.0.component b.0.base runs b.0.alike b.0.named)))

@@ -1,21 +1,28 @@
-use Rattle.std.proofs.Common.{[], ◌∷◌, ◌++◌, refl, sym, ap, ◌∙◌, arith}
+use Rattle.std.proofs.Common.{◌+◌, Bool, [], ◌∷◌, ◌++◌, refl, sym, ap, ◌∙◌, arith, Err}
 use Rattle.std.proofs.lemmas.Result.{err_from_is_err_and}
 use Rattle.zst_block.specs.Blocks.{Has}
 use Rattle.zst_record.specs.Heads.{covered_of}
 use Rattle.zst_stream.specs.Reading.{waiting, faulty, complete}
-use Rattle.zst_recv.specs.Stages.{IsWork}
+use Rattle.zst_image.specs.Reads.{bound_of}
+use Rattle.zst_model.specs.pools.Pool.{Pool}
+use Rattle.zst_recv.specs.Stages.{IsWork, waits_at}
 use Rattle.zst_recv.specs.declared.batch.Batch.{Batch}
 use Rattle.zst_recv.proofs.Draining.{Fills-none, Fills-then, drain_begins, drain_ends, drain_goes_on, drain_refused, goes_under, handed_within, is_read}
+use Rattle.zst_recv.specs.declared.fault.RecvFault.{RecvFault}
+use Rattle.zst_recv.proofs.Damaging.{damaged_behind, damaged_first, err_told, no_stream, record_known, told_stream}
+use Rattle.zst_recv.proofs.Behind.{behind_more, over_behind, tells_on}
 use Rattle.zst_recv.proofs.reading.drain.Goals as goal
 
 pub records-init : goal.records-init
 records-init g c =
-    let is_now = IsWork (Has (g.D.Disk.state c.args.io.now.disk.now).seen c.args.io.now.space) c.args.batch.now in
+    let is_now = λ (t : Bool) (r : Pool). IsWork (bound_of t (r.number + 1)) (Has (g.D.Disk.state c.args.io.now.disk.now).seen c.args.io.now.space) c.args.batch.now in
     record {
-      drained = λ start running work text handed told way tells stands is. drain_begins c.args.ask.now running text handed work c.args.reader.now is_now stands is;
+      drained = λ tight start running work text handed told way tells stands is. drain_begins c.args.ask.now running text handed work c.args.reader.now (is_now tight running) stands is;
       stage = c.requires.stage;
       idle = λ none. refl;
+      waits = λ waits. refl;
       reads = λ text handed stands. (handed, stands);
+      behind = λ text handed stands is. (handed, stands, is);
       pushed = refl;
       fills = Fills-none _ _ _ c.requires.fits;
       same = refl;
@@ -25,16 +32,16 @@ pub take-requires-clause-covered : goal.take-requires-clause-covered
 take-requires-clause-covered g c =
     let h = rw (c.in-Ok-Record.is, c.in-Ok-Record.field-0-is) at c.next.follows.holds-at-none in
     let r = c.requires.reads in
-    let later = c.records.invariant.reads r.0 r.1.1.0 r.1.1.1 in
-    is_read _ r.0 later.0 (covered_of c.in-Ok-Record.record) r.1.0 (h.1 r.0 later.0 later.1)
+    let later = c.records.invariant.reads r.text r.handed r.stands in
+    is_read _ r.text later.0 (covered_of c.in-Ok-Record.record) r.bytes (h.1 r.text later.0 later.1)
 
 pub records-smaller : goal.records-smaller
 records-smaller g c =
     let h = rw (c.in-Ok-Record.is, c.in-Ok-Record.field-0-is) at c.next.follows.holds-at-none in
     let r = c.requires.reads in
-    let later = c.records.invariant.reads r.0 r.1.1.0 r.1.1.1 in
+    let later = c.records.invariant.reads r.text r.handed r.stands in
     let one = h.0.handed in
-    let most = handed_within _ r.0 (later.0 ++ covered_of c.in-Ok-Record.record ∷ []) (h.1 r.0 later.0 later.1) in
+    let most = handed_within _ r.text (later.0 ++ covered_of c.in-Ok-Record.record ∷ []) (h.1 r.text later.0 later.1) in
     omega (arith, one, most)
 
 pub records-preserved : goal.records-preserved
@@ -42,31 +49,36 @@ records-preserved g c =
     let h = rw (c.in-Ok-Record.is, c.in-Ok-Record.field-0-is) at c.next.follows.holds-at-none in
     let i = c.records.invariant in
     let e = c.in_ok-take-in-Ok-Record.ensures in
-    let is_now = IsWork (Has (g.D.Disk.state c.take.new.io.disk.now).seen c.take.new.io.space) c.take.new.self in
+    let is_now = λ (t : Bool) (r : Pool). IsWork (bound_of t (r.number + 1)) (Has (g.D.Disk.state c.take.new.io.disk.now).seen c.take.new.io.space) c.take.new.self in
     let next = covered_of c.in-Ok-Record.record in
     record {
-      drained = λ start running work text handed told way tells stands is.
-          let d = i.drained start running work text handed (e.fills.fills.honest told) way tells stands is in
-          drain_goes_on c.args.ask.now running text handed work _ _ _ is_now d next (h.1 text (handed ++ d.records) d.stands)
-          (e.took start running d.after told (goes_under _ _ _ _ _ _ running _ _ _ way i.fills) tells d.is);
+      drained = λ tight start running work text handed told way tells stands is.
+          let d = i.drained tight start running work text handed (e.fills.fills.honest told) way tells stands is in
+          drain_goes_on c.args.ask.now running text handed work _ _ _ (is_now tight running) d next (h.1 text (handed ++ d.records) d.stands)
+          (e.took tight start running d.after told (goes_under _ _ _ _ _ _ running _ _ _ way i.fills) (tells_on c.args.kept.now.dir running c.args.ask.now d.records work d.after d.were_taken tells) d.is);
       stage = e.stage;
       idle = λ none. let same = e.idle none in same ∙ i.idle (ap (λ (b : Batch). b.taken) (sym same) ∙ none);
+      waits = λ waits. let same = e.waits waits in same ∙ i.waits (ap (λ (b : Batch). waits_at b.stage) (sym same) ∙ waits);
       reads = λ text handed stands. let later = i.reads text handed stands in (later.0 ++ next ∷ [], h.1 text later.0 later.1);
+      behind = λ text handed stands is.
+          let later = i.behind text handed stands is in
+          let more = h.1 text later.0 later.1 in
+          (later.0 ++ next ∷ [], more, behind_more _ text later.0 next c.records.batch.stage c.take.new.self.stage more later.2 (λ waits. ap (λ (b : Batch). b.stage) (e.waits waits)) e.begins e.ends e.lives);
       pushed = h.0.pushed ∙ i.pushed;
       fills = Fills-then _ _ _ _ _ _ _ _ _ _ i.fills e.fills;
       same = e.same ∙ i.same;
     }
 
 pub returns-in_err-take-in-Ok-Record-clause-drained : goal.returns-in_err-take-in-Ok-Record-clause-drained
-returns-in_err-take-in-Ok-Record-clause-drained g c = λ start running work text handed told way tells stands is.
+returns-in_err-take-in-Ok-Record-clause-drained g c = λ tight start running work text handed told way tells stands is.
     let h = rw (c.in-Ok-Record.is, c.in-Ok-Record.field-0-is) at c.next.follows.holds-at-none in
     let p = err_from_is_err_and c.from_residual.result c.from_residual.ensures.1 in
     let i = c.records.invariant in
     let e = c.in_err-take-in-Ok-Record.ensures in
-    let is_now = IsWork (Has (g.D.Disk.state c.take.new.io.disk.now).seen c.take.new.io.space) c.take.new.self in
-    let d = i.drained start running work text handed (e.fills.fills.honest told) way tells stands is in
-    rw (p.1, p.2) (drain_refused c.args.ask.now running text handed work _ _ _ is_now d (covered_of c.in-Ok-Record.record) _ (h.1 text (handed ++ d.records) d.stands)
-    (e.took start running d.after told (goes_under _ _ _ _ _ _ running _ _ _ way i.fills) tells d.is))
+    let is_now = λ (t : Bool) (r : Pool). IsWork (bound_of t (r.number + 1)) (Has (g.D.Disk.state c.take.new.io.disk.now).seen c.take.new.io.space) c.take.new.self in
+    let d = i.drained tight start running work text handed (e.fills.fills.honest told) way tells stands is in
+    rw (p.1, p.2) (drain_refused c.args.ask.now running text handed work _ _ _ (is_now tight running) d (covered_of c.in-Ok-Record.record) _ (h.1 text (handed ++ d.records) d.stands)
+    (e.took tight start running d.after told (goes_under _ _ _ _ _ _ running _ _ _ way i.fills) (tells_on c.args.kept.now.dir running c.args.ask.now d.records work d.after d.were_taken tells) d.is))
 
 pub returns-in_err-take-in-Ok-Record-clause-reads : goal.returns-in_err-take-in-Ok-Record-clause-reads
 returns-in_err-take-in-Ok-Record-clause-reads g c = λ text handed stands.
@@ -80,11 +92,11 @@ returns-in_err-take-in-Ok-Record-clause-fills g c =
     rw (p.1, p.2) (Fills-then _ _ _ _ _ _ _ _ _ _ c.records.invariant.fills c.in_err-take-in-Ok-Record.ensures.fills)
 
 pub returns-in-Ok-NeedMore-clause-drained : goal.returns-in-Ok-NeedMore-clause-drained
-returns-in-Ok-NeedMore-clause-drained g c = λ start running work text handed told way tells stands is.
+returns-in-Ok-NeedMore-clause-drained g c = λ tight start running work text handed told way tells stands is.
     let h = rw (c.in-Ok-NeedMore.is, c.in-Ok-NeedMore.field-0-is) at c.next.follows.holds-at-none in
-    let is_now = IsWork (Has (g.D.Disk.state c.records.io.disk.now).seen c.records.io.space) c.records.batch in
-    let d = c.records.invariant.drained start running work text handed told way tells stands is in
-    drain_ends c.args.ask.now running text handed work _ _ is_now is_now d waiting (h.1 text (handed ++ d.records) d.stands) d.is
+    let is_now = λ (t : Bool) (r : Pool). IsWork (bound_of t (r.number + 1)) (Has (g.D.Disk.state c.records.io.disk.now).seen c.records.io.space) c.records.batch in
+    let d = c.records.invariant.drained tight start running work text handed told way tells stands is in
+    drain_ends c.args.ask.now running text handed work _ _ (is_now tight running) (is_now tight running) d waiting (h.1 text (handed ++ d.records) d.stands) d.is
 
 pub returns-in-Ok-NeedMore-clause-reads : goal.returns-in-Ok-NeedMore-clause-reads
 returns-in-Ok-NeedMore-clause-reads g c = λ text handed stands.
@@ -93,11 +105,11 @@ returns-in-Ok-NeedMore-clause-reads g c = λ text handed stands.
     (later.0, (h.1 text later.0 later.1).stands)
 
 pub returns-in-Ok-End-clause-drained : goal.returns-in-Ok-End-clause-drained
-returns-in-Ok-End-clause-drained g c = λ start running work text handed told way tells stands is.
+returns-in-Ok-End-clause-drained g c = λ tight start running work text handed told way tells stands is.
     let h = rw (c.in-Ok-End.is, c.in-Ok-End.field-0-is) at c.next.follows.holds-at-none in
-    let is_now = IsWork (Has (g.D.Disk.state c.records.io.disk.now).seen c.records.io.space) c.records.batch in
-    let d = c.records.invariant.drained start running work text handed told way tells stands is in
-    drain_ends c.args.ask.now running text handed work _ _ is_now is_now d complete (h.1 text (handed ++ d.records) d.stands) d.is
+    let is_now = λ (t : Bool) (r : Pool). IsWork (bound_of t (r.number + 1)) (Has (g.D.Disk.state c.records.io.disk.now).seen c.records.io.space) c.records.batch in
+    let d = c.records.invariant.drained tight start running work text handed told way tells stands is in
+    drain_ends c.args.ask.now running text handed work _ _ (is_now tight running) (is_now tight running) d complete (h.1 text (handed ++ d.records) d.stands) d.is
 
 pub returns-in-Ok-End-clause-reads : goal.returns-in-Ok-End-clause-reads
 returns-in-Ok-End-clause-reads g c = λ text handed stands.
@@ -106,14 +118,54 @@ returns-in-Ok-End-clause-reads g c = λ text handed stands.
     (later.0, (h.1 text later.0 later.1).stands)
 
 pub returns-in-Err-clause-drained : goal.returns-in-Err-clause-drained
-returns-in-Err-clause-drained g c = λ start running work text handed told way tells stands is.
+returns-in-Err-clause-drained g c = λ tight start running work text handed told way tells stands is.
     let h = rw c.in-Err.is at c.next.follows.holds-at-none in
-    let is_now = IsWork (Has (g.D.Disk.state c.records.io.disk.now).seen c.records.io.space) c.records.batch in
-    let d = c.records.invariant.drained start running work text handed told way tells stands is in
-    drain_ends c.args.ask.now running text handed work _ _ is_now is_now d (faulty c.in-Err.fault) (h.1 text (handed ++ d.records) d.stands) d.is
+    let is_now = λ (t : Bool) (r : Pool). IsWork (bound_of t (r.number + 1)) (Has (g.D.Disk.state c.records.io.disk.now).seen c.records.io.space) c.records.batch in
+    let d = c.records.invariant.drained tight start running work text handed told way tells stands is in
+    drain_ends c.args.ask.now running text handed work _ _ (is_now tight running) (is_now tight running) d (faulty c.in-Err.fault) (h.1 text (handed ++ d.records) d.stands) d.is
 
 pub returns-in-Err-clause-reads : goal.returns-in-Err-clause-reads
 returns-in-Err-clause-reads g c = λ text handed stands.
     let h = rw c.in-Err.is at c.next.follows.holds-at-none in
     let later = c.records.invariant.reads text handed stands in
     (later.0, (h.1 text later.0 later.1).stands)
+
+pub returns-in-Ok-NeedMore-clause-behind : goal.returns-in-Ok-NeedMore-clause-behind
+returns-in-Ok-NeedMore-clause-behind g c = λ text handed stands is.
+    let h = rw (c.in-Ok-NeedMore.is, c.in-Ok-NeedMore.field-0-is) at c.next.follows.holds-at-none in
+    let later = c.records.invariant.behind text handed stands is in
+    record { handed = later.0; stands = (h.1 text later.0 later.1).stands; behind = later.2; over = λ ended. absurd cc }
+
+pub returns-in-Ok-End-clause-behind : goal.returns-in-Ok-End-clause-behind
+returns-in-Ok-End-clause-behind g c = λ text handed stands is.
+    let h = rw (c.in-Ok-End.is, c.in-Ok-End.field-0-is) at c.next.follows.holds-at-none in
+    let later = c.records.invariant.behind text handed stands is in
+    let hands = h.1 text later.0 later.1 in
+    record { handed = later.0; stands = hands.stands; behind = later.2; over = λ ended. over_behind _ text later.0 c.records.batch.stage hands later.2 }
+
+pub returns-in_err-take-in-Ok-Record-clause-damaged : goal.returns-in_err-take-in-Ok-Record-clause-damaged
+returns-in_err-take-in-Ok-Record-clause-damaged g c = λ sector stated found honest is.
+    let p = err_from_is_err_and c.from_residual.result c.from_residual.ensures.1 in
+    let e = c.in_err-take-in-Ok-Record.ensures in
+    let mid = g.D.Disk.state c.records.io.disk.now in
+    let rows = c.args.kept.now.dir in
+    let target = c.args.ask.now.target in
+    let told = e.damaged sector stated found honest (ap (λ (f : RecvFault). Err f) (sym p.2 ∙ err_told Bool _ _ (sym p.1 ∙ is))) in
+    damaged_behind rows target sector stated found (g.D.Disk.state c.args.io.now.disk.now) mid c.args.io.now.space c.records.io.space c.records.invariant.fills.fills
+    (damaged_first rows target sector stated found mid c.records.io.space told)
+
+pub returns-in_err-take-in-Ok-Record-clause-known : goal.returns-in_err-take-in-Ok-Record-clause-known
+returns-in_err-take-in-Ok-Record-clause-known g c =
+    let p = err_from_is_err_and c.from_residual.result c.from_residual.ensures.1 in
+    rw (p.1, p.2) (record_known _ c.in_err-take-in-Ok-Record.ensures.known)
+
+pub returns-in_err-take-in-Ok-Record-clause-stream : goal.returns-in_err-take-in-Ok-Record-clause-stream
+returns-in_err-take-in-Ok-Record-clause-stream g c = λ text handed fault stands is.
+    let p = err_from_is_err_and c.from_residual.result c.from_residual.ensures.1 in
+    absurd (no_stream _ fault c.in_err-take-in-Ok-Record.ensures.known (sym p.2 ∙ err_told Bool _ _ (sym p.1 ∙ is)))
+
+pub returns-in-Err-clause-stream : goal.returns-in-Err-clause-stream
+returns-in-Err-clause-stream g c = λ text handed fault stands is.
+    let h = rw c.in-Err.is at c.next.follows.holds-at-none in
+    let later = c.records.invariant.reads text handed stands in
+    told_stream text later.0 c.in-Err.fault fault (h.1 text later.0 later.1).whole (err_told Bool _ _ is)

@@ -1,14 +1,14 @@
-use Rattle.std.proofs.Common.{◌≡◌, ◌-◌, ◌^◌, List, ℕ, false}
+use Rattle.std.proofs.Common.{◌≡◌, ◌+◌, ◌-◌, Bool, ◌^◌, List, ℕ, false, true}
 use Rattle.std.specs.Prelude.{None}
 use Rattle.zst_block.specs.Blocks.{Has}
+use Rattle.zst_image.specs.Reads.{bound_of}
 use Rattle.zst_model.specs.pools.Pool.{Pool}
-use Rattle.zst_plan.specs.Receipts.{TellsDates}
 use Rattle.zst_pool.specs.Calls.{IsUnderWay}
 use Rattle.zst_reader.specs.StandsFor.{StandsFor, handed_of, pushed_of}
 use Rattle.zst_record.specs.Heads.{Covered}
 use Rattle.zst_recv.specs.Faults.{Fills}
 use Rattle.zst_recv.specs.Receiving.{Work}
-use Rattle.zst_recv.specs.Stages.{IsWork, StageFits}
+use Rattle.zst_recv.specs.Stages.{IsWork, StageFits, StandsBehind, TellsBefore, waits_at}
 use Rattle.zst_recv.proofs.Draining.{Draining}
 use Rattle.zst_recv.proofs.reading.drain.Given as goal
 
@@ -17,13 +17,15 @@ abbrev pub invariant-records : goal.invariant-records
 invariant-records g l =
     let disk = g.D.Disk in
     record {
-      drained : (start : g.row.D.Denot) (running : Pool) (work : Work) (text : List ℕ) (handed : List Covered) → (disk.state l.io.disk.now).honest
-          → IsUnderWay false (disk.state start) (disk.state l.fn.io.disk.now) l.fn.io.space l.kept running → TellsDates l.kept.dir running
-          → StandsFor l.fn.reader text handed → IsWork (Has (disk.state l.fn.io.disk.now).seen l.fn.io.space) l.fn.batch work
-          → Draining l.ask running l.reader text handed (IsWork (Has (disk.state l.io.disk.now).seen l.io.space) l.batch) work;
+      drained : (tight : Bool) (start : g.row.D.Denot) (running : Pool) (work : Work) (text : List ℕ) (handed : List Covered) → (disk.state l.io.disk.now).honest
+          → IsUnderWay tight (disk.state start) (disk.state l.fn.io.disk.now) l.fn.io.space l.kept running → TellsBefore work.stage l.kept.dir running
+          → StandsFor l.fn.reader text handed → IsWork (bound_of tight (running.number + 1)) (Has (disk.state l.fn.io.disk.now).seen l.fn.io.space) l.fn.batch work
+          → Draining l.ask running l.reader text handed (IsWork (bound_of tight (running.number + 1)) (Has (disk.state l.io.disk.now).seen l.io.space) l.batch) work;
       stage : StageFits l.kept.dir l.ask.target l.batch.stage;
       idle : l.batch.taken ≡ false → l.batch ≡ l.fn.batch;
+      waits : waits_at l.batch.stage ≡ true → l.batch ≡ l.fn.batch;
       reads : (text : List ℕ) (handed : List Covered) → StandsFor l.fn.reader text handed → (later : List Covered) × StandsFor l.reader text later;
+      behind : (text : List ℕ) (handed : List Covered) → StandsFor l.fn.reader text handed → StandsBehind handed l.fn.batch.stage → (later : List Covered) × StandsFor l.reader text later × StandsBehind later l.batch.stage;
       pushed : pushed_of l.reader ≡ pushed_of l.fn.reader;
       fills : Fills (disk.state l.fn.io.disk.now) l.fn.io.space l.fn.io.failed (disk.state l.io.disk.now) l.io.space l.io.failed None;
       same : l.io.disk.ghost_name ≡ l.fn.io.disk.ghost_name;

@@ -1,22 +1,31 @@
-use Rattle.std.proofs.Common.{◌≡◌, ◌<◌, ◌==◌, ◌^◌, false, [], ◌++◌, length, take, drop, refl, sym, ap, ◌∙◌, Ok}
+use Rattle.std.proofs.Common.{◌≡◌, ◌+◌, Bool, ◌<◌, ◌==◌, ◌^◌, false, [], ◌++◌, length, take, drop, refl, sym, ap, ◌∙◌, Ok, Err, List, ℕ, subst, append_assoc}
 use Rattle.std.proofs.lemmas.List.Elements.{All-from_get_or}
 use Rattle.std.proofs.lemmas.Result.{err_from_is_err_and}
 use Rattle.zst_block.specs.Blocks.{Has}
-use Rattle.zst_reader.specs.StandsFor.{pushed_of, room_of}
-use Rattle.zst_recv.specs.Stages.{IsWork}
+use Rattle.std.proofs.lemmas.List.{append-nil}
+use Rattle.zst_reader.specs.StandsFor.{StandsFor, pushed_of, room_of}
+use Rattle.zst_image.specs.Reads.{bound_of}
+use Rattle.zst_model.specs.pools.Pool.{Pool}
+use Rattle.zst_recv.specs.Stages.{IsWork, waits_at}
 use Rattle.zst_recv.specs.declared.batch.Batch.{Batch}
 use Rattle.zst_recv.proofs.Draining.{Fills-none, Fills-then, goes_under}
-use Rattle.zst_recv.proofs.Piecing.{left_bytes, less_left, limit_left, more_bytes, piece_begins, piece_done, piece_ends, piece_goes_on, piece_left, piece_refused, piece_split, piece_waits}
+use Rattle.zst_recv.proofs.Piecing.{all_told, left_bytes, less_left, limit_left, more_bytes, piece_begins, piece_done, piece_ends, piece_goes_on, piece_left, piece_refused, piece_split, piece_waits, told_left, whole_read}
+use Rattle.zst_recv.specs.declared.fault.RecvFault.{RecvFault}
+use Rattle.zst_recv.proofs.Damaging.{damaged_behind, err_told, faulty_still}
+use Rattle.zst_recv.proofs.Behind.{over_reads, tells_on}
 use Rattle.zst_recv.proofs.reading.read.Goals as goal
 
 pub pushes-init : goal.pushes-init
 pushes-init g c =
-    let is_now = IsWork (Has (g.D.Disk.state c.args.io.now.disk.now).seen c.args.io.now.space) c.args.batch.now in
+    let is_now = λ (t : Bool) (r : Pool). IsWork (bound_of t (r.number + 1)) (Has (g.D.Disk.state c.args.io.now.disk.now).seen c.args.io.now.space) c.args.batch.now in
     record {
-      piece = ([], refl, λ start running work text handed told way tells hands is. piece_begins c.args.ask.now running text handed work c.args.reader.now is_now hands is);
+      piece = ([], refl, λ tight start running work text handed told way tells hands is. piece_begins c.args.ask.now running text handed work c.args.reader.now (is_now tight running) hands is);
       stage = c.requires.stage;
       idle = λ none. refl;
+      waits = λ waits. refl;
       reads = c.requires.reads;
+      front = ([], refl, λ text handed stands. (handed, rw (append-nil text) stands));
+      told = refl;
       bytes = All-from_get_or (λ byte. byte < 2 ^ 8) c.args.piece.now 0 (λ k within. (c.type_inv.piece k).fits);
       limit = c.requires.limit;
       fills = Fills-none _ _ _ c.requires.fits;
@@ -29,7 +38,7 @@ drain-requires-clause-reads g c =
     let r = i.reads in
     let n = c.push-count.result in
     let rest = c.pushes.rest.now in
-    (r.0 ++ take n rest, (more_bytes r.0 rest n r.1.0 i.bytes, (r.1.1.0, c.push-count.ensures.stands r.0 r.1.1.0 r.1.1.1)))
+    record { text = r.text ++ take n rest; bytes = more_bytes r.text rest n r.bytes i.bytes; handed = r.handed; stands = c.push-count.ensures.stands r.text r.handed r.stands; behind = r.behind }
 
 pub pushes-smaller : goal.pushes-smaller
 pushes-smaller g c =
@@ -44,24 +53,35 @@ pushes-preserved g c =
     let e = c.in_ok-drain.ensures in
     let n = c.push-count.result in
     let rest = c.pushes.rest.now in
-    let is_now = IsWork (Has (g.D.Disk.state c.drain.new.io.disk.now).seen c.drain.new.io.space) c.drain.new.batch in
+    let is_now = λ (t : Bool) (r : Pool). IsWork (bound_of t (r.number + 1)) (Has (g.D.Disk.state c.drain.new.io.disk.now).seen c.drain.new.io.space) c.drain.new.batch in
     record {
       piece = (
         i.piece.0 ++ take n rest,
         piece_left c.args.piece.now i.piece.0 rest n i.piece.1,
-        λ start running work text handed told way tells hands is.
-            let m = i.piece.2 start running work text handed (e.fills.fills.honest told) way tells hands is in
+        λ tight start running work text handed told way tells hands is.
+            let m = i.piece.2 tight start running work text handed (e.fills.fills.honest told) way tells hands is in
             let d =
-            e.drained start running m.after ((text ++ i.piece.0) ++ take n rest) (handed ++ m.records) told (goes_under _ _ _ _ _ _ running _ _ _ way i.fills) tells
+            e.drained tight start running m.after ((text ++ i.piece.0) ++ take n rest) (handed ++ m.records) told (goes_under _ _ _ _ _ _ running _ _ _ way i.fills) (tells_on c.args.kept.now.dir running c.args.ask.now m.records work m.after m.were_taken tells)
             (push.stands (text ++ i.piece.0) (handed ++ m.records) m.reads.stands) m.is in
-            piece_goes_on c.args.ask.now running text handed work hands.whole c.args.piece.now _ c.drain.new.reader i.piece.0 (take n rest) (drop n rest) _ is_now (piece_split c.args.piece.now i.piece.0 rest n i.piece.1) m
+            piece_goes_on c.args.ask.now running text handed work hands.whole c.args.piece.now _ c.drain.new.reader i.piece.0 (take n rest) (drop n rest) _ (is_now tight running) (piece_split c.args.piece.now i.piece.0 rest n i.piece.1) m
             c.in_ok-drain.field-0 c.if-branch.false d,
       );
       stage = e.stage;
       idle = λ none. let same = e.idle none in same ∙ i.idle (ap (λ (b : Batch). b.taken) (sym same) ∙ none);
+      waits = λ waits. let same = e.waits waits in same ∙ i.waits (ap (λ (b : Batch). waits_at b.stage) (sym same) ∙ waits);
       reads =
           let r = i.reads in
-          (r.0 ++ take n rest, (more_bytes r.0 rest n r.1.0 i.bytes, e.reads (r.0 ++ take n rest) r.1.1.0 (push.stands r.0 r.1.1.0 r.1.1.1)));
+          let later = e.behind (r.text ++ take n rest) r.handed (push.stands r.text r.handed r.stands) r.behind in
+          record { text = r.text ++ take n rest; bytes = more_bytes r.text rest n r.bytes i.bytes; handed = later.handed; stands = later.stands; behind = later.behind };
+      front = (
+        i.front.0 ++ take n rest,
+        piece_left c.args.piece.now i.front.0 rest n i.front.1,
+        λ text handed stands.
+            let m = i.front.2 text handed stands in
+            let d = e.reads ((text ++ i.front.0) ++ take n rest) m.0 (push.stands (text ++ i.front.0) m.0 m.1) in
+            (d.0, subst (λ (t : List ℕ). StandsFor c.drain.new.reader t d.0) (append_assoc text i.front.0 (take n rest)) d.1),
+      );
+      told = told_left rest n (room_of c.pushes.reader) _ _ _ _ push.count push.pushed e.pushed i.told;
       bytes = left_bytes rest n i.bytes;
       limit = limit_left rest n (room_of c.pushes.reader) (pushed_of c.pushes.reader) (pushed_of c.push-count.new.self) (pushed_of c.drain.new.reader) push.count push.pushed e.pushed i.limit;
       fills = Fills-then _ _ _ _ _ _ _ _ _ _ i.fills e.fills;
@@ -69,18 +89,18 @@ pushes-preserved g c =
     }
 
 pub returns-in_err-drain-clause-read : goal.returns-in_err-drain-clause-read
-returns-in_err-drain-clause-read g c = λ start running work text handed told way tells hands is.
+returns-in_err-drain-clause-read g c = λ tight start running work text handed told way tells hands is.
     let p = err_from_is_err_and c.from_residual.result c.from_residual.ensures.1 in
     let i = c.pushes.invariant in
     let e = c.in_err-drain.ensures in
     let n = c.push-count.result in
     let rest = c.pushes.rest.now in
-    let is_now = IsWork (Has (g.D.Disk.state c.drain.new.io.disk.now).seen c.drain.new.io.space) c.drain.new.batch in
-    let m = i.piece.2 start running work text handed (e.fills.fills.honest told) way tells hands is in
+    let is_now = λ (t : Bool) (r : Pool). IsWork (bound_of t (r.number + 1)) (Has (g.D.Disk.state c.drain.new.io.disk.now).seen c.drain.new.io.space) c.drain.new.batch in
+    let m = i.piece.2 tight start running work text handed (e.fills.fills.honest told) way tells hands is in
     let d =
-    e.drained start running m.after ((text ++ i.piece.0) ++ take n rest) (handed ++ m.records) told (goes_under _ _ _ _ _ _ running _ _ _ way i.fills) tells
+    e.drained tight start running m.after ((text ++ i.piece.0) ++ take n rest) (handed ++ m.records) told (goes_under _ _ _ _ _ _ running _ _ _ way i.fills) (tells_on c.args.kept.now.dir running c.args.ask.now m.records work m.after m.were_taken tells)
     (c.push-count.ensures.stands (text ++ i.piece.0) (handed ++ m.records) m.reads.stands) m.is in
-    rw (p.1, p.2) (piece_refused c.args.ask.now running text handed work hands.whole c.args.piece.now _ c.drain.new.reader i.piece.0 (take n rest) (drop n rest) _ is_now (piece_split c.args.piece.now i.piece.0 rest n i.piece.1) m _ d)
+    rw (p.1, p.2) (piece_refused c.args.ask.now running text handed work hands.whole c.args.piece.now _ c.drain.new.reader i.piece.0 (take n rest) (drop n rest) _ (is_now tight running) (piece_split c.args.piece.now i.piece.0 rest n i.piece.1) m _ d)
 
 pub returns-in_err-drain-clause-idle : goal.returns-in_err-drain-clause-idle
 returns-in_err-drain-clause-idle g c = λ none.
@@ -93,7 +113,8 @@ returns-in_err-drain-clause-reads g c =
     let r = i.reads in
     let n = c.push-count.result in
     let rest = c.pushes.rest.now in
-    (r.0 ++ take n rest, (more_bytes r.0 rest n r.1.0 i.bytes, c.in_err-drain.ensures.reads (r.0 ++ take n rest) r.1.1.0 (c.push-count.ensures.stands r.0 r.1.1.0 r.1.1.1)))
+    let later = c.in_err-drain.ensures.reads (r.text ++ take n rest) r.handed (c.push-count.ensures.stands r.text r.handed r.stands) in
+    record { text = r.text ++ take n rest; bytes = more_bytes r.text rest n r.bytes i.bytes; handed = later.0; stands = later.1; behind = tt }
 
 pub returns-in_err-drain-clause-fills : goal.returns-in_err-drain-clause-fills
 returns-in_err-drain-clause-fills g c =
@@ -101,17 +122,17 @@ returns-in_err-drain-clause-fills g c =
     rw (p.1, p.2) (Fills-then _ _ _ _ _ _ _ _ _ _ c.pushes.invariant.fills c.in_err-drain.ensures.fills)
 
 pub returns-then-branch-clause-read : goal.returns-then-branch-clause-read
-returns-then-branch-clause-read g c = λ start running work text handed told way tells hands is.
+returns-then-branch-clause-read g c = λ tight start running work text handed told way tells hands is.
     let i = c.pushes.invariant in
     let e = c.in_ok-drain.ensures in
     let n = c.push-count.result in
     let rest = c.pushes.rest.now in
-    let is_now = IsWork (Has (g.D.Disk.state c.drain.new.io.disk.now).seen c.drain.new.io.space) c.drain.new.batch in
-    let m = i.piece.2 start running work text handed (e.fills.fills.honest told) way tells hands is in
+    let is_now = λ (t : Bool) (r : Pool). IsWork (bound_of t (r.number + 1)) (Has (g.D.Disk.state c.drain.new.io.disk.now).seen c.drain.new.io.space) c.drain.new.batch in
+    let m = i.piece.2 tight start running work text handed (e.fills.fills.honest told) way tells hands is in
     let d =
-    e.drained start running m.after ((text ++ i.piece.0) ++ take n rest) (handed ++ m.records) told (goes_under _ _ _ _ _ _ running _ _ _ way i.fills) tells
+    e.drained tight start running m.after ((text ++ i.piece.0) ++ take n rest) (handed ++ m.records) told (goes_under _ _ _ _ _ _ running _ _ _ way i.fills) (tells_on c.args.kept.now.dir running c.args.ask.now m.records work m.after m.were_taken tells)
     (c.push-count.ensures.stands (text ++ i.piece.0) (handed ++ m.records) m.reads.stands) m.is in
-    piece_ends c.args.ask.now running text handed work hands.whole c.args.piece.now _ c.drain.new.reader i.piece.0 (take n rest) (drop n rest) _ is_now (piece_split c.args.piece.now i.piece.0 rest n i.piece.1) m
+    piece_ends c.args.ask.now running text handed work hands.whole c.args.piece.now _ c.drain.new.reader i.piece.0 (take n rest) (drop n rest) _ (is_now tight running) (piece_split c.args.piece.now i.piece.0 rest n i.piece.1) m
     c.in_ok-drain.field-0 c.if-branch.true d
 
 pub returns-then-branch-clause-idle : goal.returns-then-branch-clause-idle
@@ -125,14 +146,61 @@ returns-then-branch-clause-reads g c =
     let r = i.reads in
     let n = c.push-count.result in
     let rest = c.pushes.rest.now in
-    (r.0 ++ take n rest, (more_bytes r.0 rest n r.1.0 i.bytes, c.in_ok-drain.ensures.reads (r.0 ++ take n rest) r.1.1.0 (c.push-count.ensures.stands r.0 r.1.1.0 r.1.1.1)))
+    let later = c.in_ok-drain.ensures.reads (r.text ++ take n rest) r.handed (c.push-count.ensures.stands r.text r.handed r.stands) in
+    record { text = r.text ++ take n rest; bytes = more_bytes r.text rest n r.bytes i.bytes; handed = later.0; stands = later.1; behind = tt }
+
+pub returns-then-branch-clause-behind : goal.returns-then-branch-clause-behind
+returns-then-branch-clause-behind g c =
+    let i = c.pushes.invariant in
+    let r = i.reads in
+    let n = c.push-count.result in
+    let rest = c.pushes.rest.now in
+    let later = c.in_ok-drain.ensures.behind (r.text ++ take n rest) r.handed (c.push-count.ensures.stands r.text r.handed r.stands) r.behind in
+    record { text = r.text ++ take n rest; bytes = more_bytes r.text rest n r.bytes i.bytes; handed = later.handed; stands = later.stands; behind = later.behind }
+
+pub returns-then-branch-clause-waits : goal.returns-then-branch-clause-waits
+returns-then-branch-clause-waits g c = λ waits.
+    let same = c.in_ok-drain.ensures.waits waits in
+    same ∙ c.pushes.invariant.waits (ap (λ (b : Batch). waits_at b.stage) (sym same) ∙ waits)
+
+pub returns-then-branch-clause-all : goal.returns-then-branch-clause-all
+returns-then-branch-clause-all g c = λ live.
+    let r = c.pushes.invariant.reads in
+    let n = c.push-count.result in
+    let later = c.in_ok-drain.ensures.behind (r.text ++ take n c.pushes.rest.now) r.handed (c.push-count.ensures.stands r.text r.handed r.stands) r.behind in
+    let over = later.over c.if-branch.true in
+    absurd (let both = sym live ∙ over in cc)
 
 pub returns-then-branch-clause-fills : goal.returns-then-branch-clause-fills
 returns-then-branch-clause-fills g c = Fills-then _ _ _ _ _ _ _ _ _ _ c.pushes.invariant.fills c.in_ok-drain.ensures.fills
 
+pub returns-clause-reads : goal.returns-clause-reads
+returns-clause-reads g c = over_reads c.pushes.reader c.pushes.batch.stage c.pushes.invariant.reads
+
+pub returns-clause-all : goal.returns-clause-all
+returns-clause-all g c = λ live. all_told c.pushes.rest.now (pushed_of c.pushes.reader) _ c.pushes.invariant.told c.pushes-test.ensures
+
 pub returns-clause-read : goal.returns-clause-read
-returns-clause-read g c = λ start running work text handed told way tells hands is.
+returns-clause-read g c = λ tight start running work text handed told way tells hands is.
     let i = c.pushes.invariant in
-    let is_now = IsWork (Has (g.D.Disk.state c.pushes.io.disk.now).seen c.pushes.io.space) c.pushes.batch in
-    let m = i.piece.2 start running work text handed told way tells hands is in
-    piece_waits c.args.ask.now running text handed work hands.whole c.args.piece.now c.pushes.reader i.piece.0 is_now (piece_done c.args.piece.now i.piece.0 c.pushes.rest.now i.piece.1 c.pushes-test.ensures) m
+    let is_now = λ (t : Bool) (r : Pool). IsWork (bound_of t (r.number + 1)) (Has (g.D.Disk.state c.pushes.io.disk.now).seen c.pushes.io.space) c.pushes.batch in
+    let m = i.piece.2 tight start running work text handed told way tells hands is in
+    piece_waits c.args.ask.now running text handed work hands.whole c.args.piece.now c.pushes.reader i.piece.0 (is_now tight running) (piece_done c.args.piece.now i.piece.0 c.pushes.rest.now i.piece.1 c.pushes-test.ensures) m
+
+pub returns-in_err-drain-clause-damaged : goal.returns-in_err-drain-clause-damaged
+returns-in_err-drain-clause-damaged g c = λ sector stated found honest is.
+    let p = err_from_is_err_and c.from_residual.result c.from_residual.ensures.1 in
+    let e = c.in_err-drain.ensures in
+    let told = e.damaged sector stated found honest (ap (λ (f : RecvFault). Err f) (sym p.2 ∙ err_told (Unit {0}) _ _ (sym p.1 ∙ is))) in
+    damaged_behind c.args.kept.now.dir c.args.ask.now.target sector stated found (g.D.Disk.state c.args.io.now.disk.now) (g.D.Disk.state c.pushes.io.disk.now) c.args.io.now.space c.pushes.io.space c.pushes.invariant.fills.fills told
+
+pub returns-in_err-drain-clause-stream : goal.returns-in_err-drain-clause-stream
+returns-in_err-drain-clause-stream g c = λ text handed fault stands is.
+    let p = err_from_is_err_and c.from_residual.result c.from_residual.ensures.1 in
+    let i = c.pushes.invariant in
+    let n = c.push-count.result in
+    let rest = c.pushes.rest.now in
+    let m = i.front.2 text handed stands in
+    let read = (text ++ i.front.0) ++ take n rest in
+    let told = c.in_err-drain.ensures.stream read m.0 fault (c.push-count.ensures.stands (text ++ i.front.0) m.0 m.1) (ap (λ (f : RecvFault). Err f) (sym p.2 ∙ err_told (Unit {0}) _ _ (sym p.1 ∙ is))) in
+    faulty_still (text ++ c.args.piece.now) read (drop n rest) fault (whole_read text c.args.piece.now i.front.0 (take n rest) (drop n rest) (piece_split c.args.piece.now i.front.0 rest n i.front.1)) told

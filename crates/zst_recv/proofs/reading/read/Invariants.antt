@@ -1,8 +1,8 @@
-use Rattle.std.proofs.Common.{◌≡◌, ◌+◌, ◌-◌, ◌≤◌, ◌^◌, List, ℕ, false, ◌++◌, length}
+use Rattle.std.proofs.Common.{◌≡◌, ◌+◌, ◌-◌, ◌≤◌, Bool, ◌^◌, List, ℕ, false, true, ◌++◌, length}
 use Rattle.std.specs.Prelude.{None}
 use Rattle.zst_block.specs.Blocks.{Has}
+use Rattle.zst_image.specs.Reads.{bound_of}
 use Rattle.zst_model.specs.pools.Pool.{Pool}
-use Rattle.zst_plan.specs.Receipts.{TellsDates}
 use Rattle.zst_pool.specs.Calls.{IsUnderWay}
 use Rattle.zst_reader.specs.StandsFor.{HandsOut, StandsFor, pushed_of, room_of}
 use Rattle.zst_record.specs.Heads.{Covered}
@@ -10,7 +10,7 @@ use Rattle.zst_record.specs.Laws.{AreBytes}
 use Rattle.zst_stream.specs.Reading.{waiting}
 use Rattle.zst_recv.specs.Faults.{Fills}
 use Rattle.zst_recv.specs.Receiving.{Work}
-use Rattle.zst_recv.specs.Stages.{IsWork, StageFits}
+use Rattle.zst_recv.specs.Stages.{HasRead, IsWork, StageFits, TellsBefore, waits_at}
 use Rattle.zst_recv.proofs.Piecing.{Midway}
 use Rattle.zst_recv.proofs.reading.read.Given as goal
 
@@ -20,13 +20,16 @@ invariant-pushes g l =
     let disk = g.D.Disk in
     record {
       piece : (front : List ℕ) × (l.piece ≡ front ++ l.rest)
-          × ((start : g.row.D.Denot) (running : Pool) (work : Work) (text : List ℕ) (handed : List Covered) → (disk.state l.io.disk.now).honest
-          → IsUnderWay false (disk.state start) (disk.state l.fn.io.disk.now) l.fn.io.space l.kept running → TellsDates l.kept.dir running
-          → HandsOut l.fn.reader text handed waiting → IsWork (Has (disk.state l.fn.io.disk.now).seen l.fn.io.space) l.fn.batch work
-          → Midway l.ask running l.reader text front handed (IsWork (Has (disk.state l.io.disk.now).seen l.io.space) l.batch) work);
+          × ((tight : Bool) (start : g.row.D.Denot) (running : Pool) (work : Work) (text : List ℕ) (handed : List Covered) → (disk.state l.io.disk.now).honest
+          → IsUnderWay tight (disk.state start) (disk.state l.fn.io.disk.now) l.fn.io.space l.kept running → TellsBefore work.stage l.kept.dir running
+          → HandsOut l.fn.reader text handed waiting → IsWork (bound_of tight (running.number + 1)) (Has (disk.state l.fn.io.disk.now).seen l.fn.io.space) l.fn.batch work
+          → Midway l.ask running l.reader text front handed (IsWork (bound_of tight (running.number + 1)) (Has (disk.state l.io.disk.now).seen l.io.space) l.batch) work);
       stage : StageFits l.kept.dir l.ask.target l.batch.stage;
       idle : l.batch.taken ≡ false → l.batch ≡ l.fn.batch;
-      reads : (text : List ℕ) × (AreBytes text × ((handed : List Covered) × StandsFor l.reader text handed));
+      waits : waits_at l.batch.stage ≡ true → l.batch ≡ l.fn.batch;
+      reads : HasRead l.reader l.batch.stage;
+      front : (front : List ℕ) × (l.piece ≡ front ++ l.rest) × ((text : List ℕ) (handed : List Covered) → StandsFor l.fn.reader text handed → (later : List Covered) × StandsFor l.reader (text ++ front) later);
+      told : pushed_of l.reader + length l.rest ≡ pushed_of l.fn.reader + length l.piece;
       bytes : AreBytes l.rest;
       limit : pushed_of l.reader + length l.rest ≤ 2 ^ 62;
       fills : Fills (disk.state l.fn.io.disk.now) l.fn.io.space l.fn.io.failed (disk.state l.io.disk.now) l.io.space l.io.failed None;

@@ -4,5 +4,5 @@ use Rattle.zst_recv.proofs.Moving.{ended_is}
 use Rattle.zst_recv.proofs.batch.Batch.end.Goals as goal
 
 pub returns-in-Lives-clause-ended : goal.returns-in-Lives-clause-ended
-returns-in-Lives-clause-ended c = λ image space running ask work covered sums to end is.
-    ended_is (Has image space) ask running covered work c.args.self.now c.in-Lives.flags c.in-Lives.partial sums to (sym c.replace.ensures.value ∙ c.in-Lives.is) end is
+returns-in-Lives-clause-ended c = λ bound image space running ask work covered sums to end is.
+    ended_is bound (Has image space) ask running covered work c.args.self.now c.in-Lives.flags c.in-Lives.partial sums to (sym c.replace.ensures.value ∙ c.in-Lives.is) end is

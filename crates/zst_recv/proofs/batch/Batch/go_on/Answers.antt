@@ -1,4 +1,5 @@
-use Rattle.std.proofs.Common.{Ok, Result, ap, sym, ◌∙◌, subst}
+use Rattle.std.proofs.Common.{◌≡◌, ◌+◌, ℕ, Option, Ok, Result, ap, sym, ◌∙◌, subst}
+use Rattle.zst_image.specs.Reads.{PartialIs, bound_of}
 use Rattle.zst_block.specs.Blocks.{Has}
 use Rattle.zst_record.specs.Heads.{covered_of}
 use Rattle.zst_model.specs.states.Apply.{◌>>=◌}
@@ -14,36 +15,50 @@ use Rattle.zst_recv.proofs.Moving.{one_more, refuses_on, taken_is, under_way, wo
 use Rattle.zst_recv.proofs.batch.Batch.go_on.Goals as goal
 
 pub returns-in_err-move_by-in-Lives-clause-took : goal.returns-in_err-move_by-in-Lives-clause-took
-returns-in_err-move_by-in-Lives-clause-took g c = λ running ask work honest number is.
+returns-in_err-move_by-in-Lives-clause-took g c = λ tight running ask work honest number is.
+    let bound = bound_of tight (running.number + 1) in
+    let same : bound_of tight c.args.number ≡ bound = ap (bound_of tight) number in
     let covered = covered_of c.args.covered.now in
     let old = c.args.io.now in
     let new = c.move_by.new.io in
     let flags = c.in-Lives.flags in
-    let under = under_way (Has (g.D.Disk.state old.disk.now).seen old.space) c.args.self.now work flags c.in-Lives.partial c.in-Lives.is is in
+    let under = under_way bound (Has (g.D.Disk.state old.disk.now).seen old.space) c.args.self.now work flags c.in-Lives.partial c.in-Lives.is is in
     let fault = c.in_err-move_by-in-Lives.field-0.0 in
     let row = c.move_by.new.partial in
     let batch : Batch = record { stage = stages.Lives flags row; rolls = c.args.self.now.rolls; taken = c.args.self.now.taken; applied = c.args.self.now.applied } in
-    subst (Takes (IsWork (Has (g.D.Disk.state new.disk.now).seen new.space) batch) work (taken ask running covered work)) (sym (err_is c.from_residual.result fault c.from_residual.ensures.1)) (
+    subst (Takes (IsWork bound (Has (g.D.Disk.state new.disk.now).seen new.space) batch) work (taken ask running covered work)) (sym (err_is c.from_residual.result fault c.from_residual.ensures.1)) (
       refuses_on (moved_by c.args.number covered flags under.0) (λ next. Ok (with_applied flags next work)) (taken ask running covered work) fault
-          (taken_is ask running covered work c.args.number flags under.0 under.1 number c.requires.later c.requires.not_last) (c.in_err-move_by-in-Lives.ensures.moved under.0 honest under.2),
-      work_stays (g.D.Disk.state old.disk.now) (g.D.Disk.state new.disk.now) old.space new.space c.args.self.now work flags c.in-Lives.partial row under.0 c.in_err-move_by-in-Lives.ensures.fills.fills under.2 under.1
+          (taken_is ask running covered work c.args.number flags under.0 under.1 number c.requires.later c.requires.not_last) (c.in_err-move_by-in-Lives.ensures.moved tight under.0 honest (subst (λ (b : Option ℕ). PartialIs b (Has (g.D.Disk.state old.disk.now).seen old.space) c.in-Lives.partial under.0) (sym same) under.2)),
+      work_stays bound (g.D.Disk.state old.disk.now) (g.D.Disk.state new.disk.now) old.space new.space c.args.self.now work flags c.in-Lives.partial row under.0 c.in_err-move_by-in-Lives.ensures.fills.fills under.2 under.1
           c.in_err-move_by-in-Lives.ensures.stays is,
     )
 
 pub returns-clause-took : goal.returns-clause-took
-returns-clause-took g c = λ running ask work honest number is.
+returns-clause-took g c = λ tight running ask work honest number is.
+    let bound = bound_of tight (running.number + 1) in
+    let same : bound_of tight c.args.number ≡ bound = ap (bound_of tight) number in
     let covered = covered_of c.args.covered.now in
     let old = c.args.io.now in
     let new = c.move_by.new.io in
     let flags = c.in-Lives.flags in
-    let under = under_way (Has (g.D.Disk.state old.disk.now).seen old.space) c.args.self.now work flags c.in-Lives.partial c.in-Lives.is is in
-    let moved = c.in_ok-move_by-in-Lives.ensures.moved under.0 honest under.2 in (
+    let under = under_way bound (Has (g.D.Disk.state old.disk.now).seen old.space) c.args.self.now work flags c.in-Lives.partial c.in-Lives.is is in
+    let moved =
+    c.in_ok-move_by-in-Lives.ensures.moved tight under.0 honest (subst (λ (b : Option ℕ). PartialIs b (Has (g.D.Disk.state old.disk.now).seen old.space) c.in-Lives.partial under.0) (sym same) under.2) in (
       with_applied flags moved.0 work,
       taken_is ask running covered work c.args.number flags under.0 under.1 number c.requires.later c.requires.not_last
           ∙ ap (λ (r : Result plain.Partial Refusal). r >>= λ next. Ok (with_applied flags next work)) moved.1,
-      one_more (Has (g.D.Disk.state new.disk.now).seen new.space) c.args.self.now work flags c.saturating_add-self.result c.move_by.new.partial moved.0 moved.2 is.rolls is.applied c.saturating_add-self.ensures,
+      one_more bound (Has (g.D.Disk.state new.disk.now).seen new.space) c.args.self.now work flags c.saturating_add-self.result c.move_by.new.partial moved.0 (subst (λ (b : Option ℕ). PartialIs b (Has (g.D.Disk.state new.disk.now).seen new.space) c.move_by.new.partial moved.0) same moved.2) is.rolls is.applied c.saturating_add-self.ensures,
     )
 
 pub returns-clause-stage : goal.returns-clause-stage
 returns-clause-stage g c = λ rows target fits.
     c.in_ok-move_by-in-Lives.ensures.puts rows target (subst (StageFits rows target) c.in-Lives.is fits)
+
+pub returns-in_err-move_by-in-Lives-clause-damaged : goal.returns-in_err-move_by-in-Lives-clause-damaged
+returns-in_err-move_by-in-Lives-clause-damaged g c = λ rows target sector stated found honest fits is.
+    let fault = c.in_err-move_by-in-Lives.field-0.0 in
+    record {
+      row = c.in-Lives.partial;
+      can = subst (StageFits rows target) c.in-Lives.is fits;
+      damaged = c.in_err-move_by-in-Lives.ensures.damaged sector stated found honest (sym (err_is c.from_residual.result fault c.from_residual.ensures.1) ∙ is);
+    }

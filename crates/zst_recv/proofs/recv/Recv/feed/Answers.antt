@@ -1,45 +1,51 @@
-use Rattle.std.proofs.Common.{◌≡◌, ◌&&◌, Bool, true, false, Some, None, Ok, Err, sym, ap, ◌∙◌, subst, arith}
-use Rattle.std.specs.Prelude.{◌-◌, ℕ, not, sum_by}
+use Rattle.std.proofs.Common.{◌≡◌, ◌&&◌, Bool, true, false, Some, None, Ok, Err, refl, sym, ap, ◌∙◌, subst, arith}
+use Rattle.std.specs.Prelude.{◌+◌, ◌-◌, ℕ, IsSome, not, sum_by}
 use Rattle.zst_space.specs.FreeSectors.{FreeSectors}
+use Rattle.zst_reader.specs.StandsFor.{pushed_of}
 use Rattle.zst_record.specs.Heads.{size_of}
 use Rattle.zst_outside.specs.Images.{DiskState}
 use Rattle.zst_block.specs.Blocks.{Has}
 use Rattle.zst_image.specs.Committing.{Ready}
-use Rattle.zst_image.specs.Reads.{free_by}
+use Rattle.zst_image.specs.Reads.{bound_of, free_by}
 use Rattle.zst_image.specs.declared.kept.Kept.{Kept}
-use Rattle.zst_plan.specs.Receipts.{TellsDates}
+use Rattle.zst_model.specs.pools.Pool.{Pool}
 use Rattle.zst_plan.specs.declared.receive.RecvAsk.{RecvAsk}
 use Rattle.zst_pool.proofs.Resting.{commit_still, rests_on, rests_still}
-use Rattle.zst_recv.specs.Faults.{keeps_before, recv_refusal, stop_at}
+use Rattle.zst_recv.specs.Faults.{IsFeedFault, keeps_before, recv_refusal, stop_at}
 use Rattle.zst_recv.specs.Receiving.{Work, at_stage, is_kept, put}
 use Rattle.zst_recv.specs.Answers.{is_done}
 use Rattle.zst_recv.specs.Feeds.{new_records}
 use Rattle.zst_recv.specs.Settling.{Puts}
-use Rattle.zst_recv.specs.Stages.{IsStage, IsWork, has_partial}
+use Rattle.zst_recv.specs.Stages.{HasRead, IsStage, IsWork, StageFits, TellsBefore, has_partial, is_live, received_at, waits_at}
 use Rattle.zst_recv.specs.Taking.{ReadFault, TakesAll, fault_in, taken_of}
 use Rattle.zst_recv.specs.declared.batch.Batch as batches
+use Rattle.zst_recv.specs.declared.recv.Fed as coded_recv
 use Rattle.zst_recv.specs.declared.stage.Stage as coded
 use Rattle.zst_recv.proofs.Ending.{untaken}
 use Rattle.zst_recv.proofs.Feeding.{IsDue, due_some}
 use Rattle.zst_recv.proofs.Going.{done_is}
-use Rattle.zst_recv.proofs.Serving.{behind_fits, both_false, by_test, fed_so, first_stage, first_way, kept_is, left_rests, loose, lost, stopped, too_long, unmade, untaken_stands}
+use Rattle.zst_recv.proofs.Putting.{put_none, put_stands, same_ok}
+use Rattle.zst_recv.specs.declared.fault.RecvFault.{RecvFault}
+use Rattle.zst_recv.proofs.Damaging.{damaged_renewed, err_told, told_call}
+use Rattle.zst_recv.proofs.Behind.{over_reads}
+use Rattle.zst_recv.proofs.Serving.{behind_fits, both_false, by_test, fed_so, first_stage, first_way, fits_within, kept_is, left_rests, live_fits, loose, lost, not_false, not_not, over_fits, received_then, stopped, too_long, unmade, untaken_stands, waits_behind, known_call, still_open}
 use Rattle.zst_recv.proofs.recv.Recv.feed.Goals as goal
 use Rattle.zst_recv.proofs.recv.Recv.feed.Goals.{then-keeps_before+else-is_kept, else-keeps_before}
 
 pub returns-then-piece-started-clause-feeds : goal.returns-then-piece-started-clause-feeds
-returns-then-piece-started-clause-feeds g c = λ running text stage told alive rested tells is.
+returns-then-piece-started-clause-feeds g c = λ tight running text stage told alive rested tells is.
     let old = g.D.Disk.state c.args.pool.now.io.disk.now in
     let recv = c.args.self.now in
     let kept = c.args.pool.now.kept in
     let has = Has old.seen (free_by kept.body) in
     let last = ap (λ (io : _). g.D.Disk.state io.disk.now) c.give_up.ensures.io in
-    let left = left_rests has kept.dir recv.ask.target recv.stage stage running old c.give_up.new.pool.kept c.has_partial-held.result c.has_partial-held.ensures is.stands c.requires.recv.stage
-    (c.give_up.ensures.rests c.args.pool.now.io.disk.now running rested) in
-    too_long old (g.D.Disk.state c.give_up.new.pool.io.disk.now) c.give_up.new.pool.kept c.give_up.new.self text c.args.piece.now stage running last left
+    let left = left_rests (bound_of tight running.number) has kept.dir recv.ask.target recv.stage stage running old c.give_up.new.pool.kept c.has_partial-held.result c.has_partial-held.ensures is.stands c.requires.recv.stage
+    (c.give_up.ensures.rests tight c.args.pool.now.io.disk.now running rested) in
+    too_long tight old (g.D.Disk.state c.give_up.new.pool.io.disk.now) c.give_up.new.pool.kept c.give_up.new.self text c.args.piece.now stage running last left
     (omega (arith, c.if-piece-started.true, c.pushed-started.ensures, is.reads.stands.pushed)) c.give_up.result (c.give_up.ensures.fault ∙ c.too_long.ensures)
 
 pub returns-in-Err-2-clause-feeds : goal.returns-in-Err-2-clause-feeds
-returns-in-Err-2-clause-feeds g c = λ running text stage told alive rested tells is.
+returns-in-Err-2-clause-feeds g c = λ tight running text stage told alive rested tells is.
     let gave = c.give_up-in-Err-2 in
     let last = ap (λ (io : _). g.D.Disk.state io.disk.now) gave.ensures.io in
     let honest = subst (λ (d : DiskState). d.honest) last told in
@@ -55,24 +61,25 @@ returns-in-Err-2-clause-feeds g c = λ running text stage told alive rested tell
     let way2 = rests_still old one c.renew.new.self.io.space same running way two c.read.new.io.space c.read.ensures.fills.fills in
     let has = Has old.seen (free_by kept.body) in
     let now = Has two.seen c.read.new.io.space in
-    let stands = first_stage old one kept same c.renew.new.self.io.space disk c.renew.ensures.kept c.renew.ensures.space recv.stage stage is.stands in
-    let work = c.new-batch.ensures.work one.seen c.renew.new.self.io.space stage (subst (λ (s : coded.Stage). IsStage (Has one.seen c.renew.new.self.io.space) s stage) (sym c.replace.ensures.value) stands) in
-    let read = c.in-Err.ensures.read c.args.pool.now.io.disk.now running (at_stage stage) text is.handed honest way (subst (λ (k : Kept). TellsDates k.dir running) (sym c.renew.ensures.kept) tells) is.reads work in
+    let bound = bound_of tight (running.number + 1) in
+    let stands = first_stage old one kept same c.renew.new.self.io.space disk c.renew.ensures.kept c.renew.ensures.space tight running.number recv.stage stage is.stands in
+    let work = c.new-batch.ensures.work bound one.seen c.renew.new.self.io.space stage (subst (λ (s : coded.Stage). IsStage bound (Has one.seen c.renew.new.self.io.space) s stage) (sym c.replace.ensures.value) stands) in
+    let read = c.in-Err.ensures.read tight c.args.pool.now.io.disk.now running (at_stage stage) text is.handed honest way (subst (λ (k : Kept). TellsBefore stage k.dir running) (sym c.renew.ensures.kept) tells) is.reads work in
     let fault = c.in-Err.fault in
     let piece = c.args.piece.now in
-    let read2 = subst (λ (a : RecvAsk). ReadFault (fault_in a running text piece (at_stage stage)) fault × (fault_in a running text piece (at_stage stage) ≡ Some (recv_refusal fault) → IsWork now batch (taken_of a running text piece (at_stage stage)).work)) (sym gave.ensures.ask) read in
+    let read2 = subst (λ (a : RecvAsk). ReadFault (fault_in a running text piece (at_stage stage)) fault × (fault_in a running text piece (at_stage stage) ≡ Some (recv_refusal fault) → IsWork bound now batch (taken_of a running text piece (at_stage stage)).work)) (sym gave.ensures.ask) read in
     let stays = (taken_of gave.new.self.ask running text piece (at_stage stage)).work.stage in
-    let left = left_rests has kept.dir recv.ask.target recv.stage stage running two gave.new.pool.kept c.has_partial-held.result c.has_partial-held.ensures is.stands c.requires.recv.stage
-    (gave.ensures.rests c.read.new.io.disk.now running (rests_on old two c.read.new.io.space same running way2)) in
-    lost old (g.D.Disk.state gave.new.pool.io.disk.now) gave.new.pool.kept gave.new.self text piece stage running two same c.read.new.io.space gave.result fault way2 last gave.ensures.fault read2.0
+    let left = left_rests (bound_of tight running.number) has kept.dir recv.ask.target recv.stage stage running two gave.new.pool.kept c.has_partial-held.result c.has_partial-held.ensures is.stands c.requires.recv.stage
+    (gave.ensures.rests tight c.read.new.io.disk.now running (rests_on old two c.read.new.io.space same running way2)) in
+    lost tight old (g.D.Disk.state gave.new.pool.io.disk.now) gave.new.pool.kept gave.new.self text piece stage running two same c.read.new.io.space gave.result fault way2 last gave.ensures.fault read2.0
     (λ first. elim c.if-keeps_before.branch [
-      | then-keeps_before+else-is_kept w ↦ both_false (keeps_before fault) (is_kept stays) (sym (kept_is now batch.stage stays (let has_made = read2.1 first in has_made.stage)) ∙ sym w.is_kept.ensures ∙ w.if-is_kept.false)
+      | then-keeps_before+else-is_kept w ↦ both_false (keeps_before fault) (is_kept stays) (sym (kept_is bound now batch.stage stays (let has_made = read2.1 first in has_made.stage)) ∙ sym w.is_kept.ensures ∙ w.if-is_kept.false)
       | else-keeps_before w ↦ ap (λ (b : Bool). b && is_kept stays) (sym c.keeps_before.ensures ∙ w.if-keeps_before.false)
     ])
     (λ need largest full. let f = c.in-Err.ensures.fills.full need largest (ap stop_at full) in f.0) left
 
 pub returns-in-Err-put-clause-feeds : goal.returns-in-Err-put-clause-feeds
-returns-in-Err-put-clause-feeds g c = λ running text stage told alive rested tells is.
+returns-in-Err-put-clause-feeds g c = λ tight running text stage told alive rested tells is.
     let gave = c.give_up-in-Err-put in
     let three = g.D.Disk.state c.put.new.pool.io.disk.now in
     let last = ap (λ (io : _). g.D.Disk.state io.disk.now) gave.ensures.io in
@@ -90,20 +97,21 @@ returns-in-Err-put-clause-feeds g c = λ running text stage told alive rested te
     let way2 = rests_still old one c.renew.new.self.io.space same running way two c.read.new.io.space c.read.ensures.fills.fills in
     let has = Has old.seen (free_by kept.body) in
     let now = Has two.seen c.read.new.io.space in
-    let stands = first_stage old one kept same c.renew.new.self.io.space disk c.renew.ensures.kept c.renew.ensures.space recv.stage stage is.stands in
-    let work = c.new-batch.ensures.work one.seen c.renew.new.self.io.space stage (subst (λ (s : coded.Stage). IsStage (Has one.seen c.renew.new.self.io.space) s stage) (sym c.replace.ensures.value) stands) in
-    let read = c.in-Ok.ensures.read c.args.pool.now.io.disk.now running (at_stage stage) text is.handed honest way (subst (λ (k : Kept). TellsDates k.dir running) (sym c.renew.ensures.kept) tells) is.reads work in
+    let bound = bound_of tight (running.number + 1) in
+    let stands = first_stage old one kept same c.renew.new.self.io.space disk c.renew.ensures.kept c.renew.ensures.space tight running.number recv.stage stage is.stands in
+    let work = c.new-batch.ensures.work bound one.seen c.renew.new.self.io.space stage (subst (λ (s : coded.Stage). IsStage bound (Has one.seen c.renew.new.self.io.space) s stage) (sym c.replace.ensures.value) stands) in
+    let read = c.in-Ok.ensures.read tight c.args.pool.now.io.disk.now running (at_stage stage) text is.handed honest way (subst (λ (k : Kept). TellsBefore stage k.dir running) (sym c.renew.ensures.kept) tells) is.reads work in
     let fault = c.in-Err-put.fault in
     let piece = c.args.piece.now in
     let taken = (taken_of recv.ask running text piece (at_stage stage)).work in
-    let puts = c.in-Err-put.ensures.puts c.args.pool.now.io.disk.now running taken honest3 way2 read.is in
-    let both = subst (λ (a : RecvAsk). (IsDue a text piece stage running None) × (Puts old three c.put.new.pool.kept running (put (taken_of a running text piece (at_stage stage)).work running) (Err fault))) (sym gave.ensures.ask) (read.whole, puts) in
-    unmade old (g.D.Disk.state gave.new.pool.io.disk.now) gave.new.pool.kept gave.new.self text piece stage running three c.put.new.pool.kept None gave.result fault both.0 both.1 last gave.ensures.fault
-    (λ at. left_rests has kept.dir recv.ask.target recv.stage stage running three gave.new.pool.kept c.has_partial-held.result c.has_partial-held.ensures is.stands c.requires.recv.stage
-    (gave.ensures.rests c.put.new.pool.io.disk.now running at))
+    let puts = c.in-Err-put.ensures.puts tight c.args.pool.now.io.disk.now running taken honest3 way2 read.is in
+    let both = subst (λ (a : RecvAsk). (IsDue a text piece stage running None) × (Puts tight old three c.put.new.pool.kept running (put (taken_of a running text piece (at_stage stage)).work running) (Err fault))) (sym gave.ensures.ask) (read.whole, puts) in
+    unmade tight old (g.D.Disk.state gave.new.pool.io.disk.now) gave.new.pool.kept gave.new.self text piece stage running three c.put.new.pool.kept None gave.result fault both.0 both.1 last gave.ensures.fault
+    (λ at. left_rests (bound_of tight running.number) has kept.dir recv.ask.target recv.stage stage running three gave.new.pool.kept c.has_partial-held.result c.has_partial-held.ensures is.stands c.requires.recv.stage
+    (gave.ensures.rests tight c.put.new.pool.io.disk.now running at))
 
 pub returns-in-Err-put-2-clause-feeds : goal.returns-in-Err-put-2-clause-feeds
-returns-in-Err-put-2-clause-feeds g c = λ running text stage told alive rested tells is.
+returns-in-Err-put-2-clause-feeds g c = λ tight running text stage told alive rested tells is.
     let gave = c.give_up-in-Err-put-2 in
     let three = g.D.Disk.state c.put-in-Err.new.pool.io.disk.now in
     let last = ap (λ (io : _). g.D.Disk.state io.disk.now) gave.ensures.io in
@@ -121,23 +129,24 @@ returns-in-Err-put-2-clause-feeds g c = λ running text stage told alive rested 
     let way2 = rests_still old one c.renew.new.self.io.space same running way two c.read.new.io.space c.read.ensures.fills.fills in
     let has = Has old.seen (free_by kept.body) in
     let now = Has two.seen c.read.new.io.space in
-    let stands = first_stage old one kept same c.renew.new.self.io.space disk c.renew.ensures.kept c.renew.ensures.space recv.stage stage is.stands in
-    let work = c.new-batch.ensures.work one.seen c.renew.new.self.io.space stage (subst (λ (s : coded.Stage). IsStage (Has one.seen c.renew.new.self.io.space) s stage) (sym c.replace.ensures.value) stands) in
-    let read = c.in-Err.ensures.read c.args.pool.now.io.disk.now running (at_stage stage) text is.handed honest way (subst (λ (k : Kept). TellsDates k.dir running) (sym c.renew.ensures.kept) tells) is.reads work in
+    let bound = bound_of tight (running.number + 1) in
+    let stands = first_stage old one kept same c.renew.new.self.io.space disk c.renew.ensures.kept c.renew.ensures.space tight running.number recv.stage stage is.stands in
+    let work = c.new-batch.ensures.work bound one.seen c.renew.new.self.io.space stage (subst (λ (s : coded.Stage). IsStage bound (Has one.seen c.renew.new.self.io.space) s stage) (sym c.replace.ensures.value) stands) in
+    let read = c.in-Err.ensures.read tight c.args.pool.now.io.disk.now running (at_stage stage) text is.handed honest way (subst (λ (k : Kept). TellsBefore stage k.dir running) (sym c.renew.ensures.kept) tells) is.reads work in
     let fault = c.in-Err.fault in
     let other = c.in-Err-put-2.other in
     let piece = c.args.piece.now in
     let taken = (taken_of recv.ask running text piece (at_stage stage)).work in
     let keeps : keeps_before fault ≡ true = sym c.keeps_before.ensures ∙ c.if-keeps_before.true in
-    let due = due_some recv.ask text piece stage running fault read.0 keeps (λ first. sym (kept_is now batch.stage taken.stage (let has_made = read.1 first in has_made.stage)) ∙ sym c.is_kept.ensures ∙ c.if-is_kept.true) in
-    let puts = c.in-Err-put-2.ensures.puts c.args.pool.now.io.disk.now running taken honest3 way2 (read.1 due.0) in
-    let both = subst (λ (a : RecvAsk). (IsDue a text piece stage running (Some (recv_refusal fault))) × (Puts old three c.put-in-Err.new.pool.kept running (put (taken_of a running text piece (at_stage stage)).work running) (Err other))) (sym gave.ensures.ask) (due, puts) in
-    unmade old (g.D.Disk.state gave.new.pool.io.disk.now) gave.new.pool.kept gave.new.self text piece stage running three c.put-in-Err.new.pool.kept (Some (recv_refusal fault)) gave.result other both.0 both.1 last gave.ensures.fault
-    (λ at. left_rests has kept.dir recv.ask.target recv.stage stage running three gave.new.pool.kept c.has_partial-held.result c.has_partial-held.ensures is.stands c.requires.recv.stage
-    (gave.ensures.rests c.put-in-Err.new.pool.io.disk.now running at))
+    let due = due_some recv.ask text piece stage running fault read.0 keeps (λ first. sym (kept_is bound now batch.stage taken.stage (let has_made = read.1 first in has_made.stage)) ∙ sym c.is_kept.ensures ∙ c.if-is_kept.true) in
+    let puts = c.in-Err-put-2.ensures.puts tight c.args.pool.now.io.disk.now running taken honest3 way2 (read.1 due.0) in
+    let both = subst (λ (a : RecvAsk). (IsDue a text piece stage running (Some (recv_refusal fault))) × (Puts tight old three c.put-in-Err.new.pool.kept running (put (taken_of a running text piece (at_stage stage)).work running) (Err other))) (sym gave.ensures.ask) (due, puts) in
+    unmade tight old (g.D.Disk.state gave.new.pool.io.disk.now) gave.new.pool.kept gave.new.self text piece stage running three c.put-in-Err.new.pool.kept (Some (recv_refusal fault)) gave.result other both.0 both.1 last gave.ensures.fault
+    (λ at. left_rests (bound_of tight running.number) has kept.dir recv.ask.target recv.stage stage running three gave.new.pool.kept c.has_partial-held.result c.has_partial-held.ensures is.stands c.requires.recv.stage
+    (gave.ensures.rests tight c.put-in-Err.new.pool.io.disk.now running at))
 
 pub returns-in-Ok-put-2-clause-feeds : goal.returns-in-Ok-put-2-clause-feeds
-returns-in-Ok-put-2-clause-feeds g c = λ running text stage told alive rested tells is.
+returns-in-Ok-put-2-clause-feeds g c = λ tight running text stage told alive rested tells is.
     let three = g.D.Disk.state c.put-in-Err.new.pool.io.disk.now in
     let honest = c.put-in-Err.ensures.honest told in
     let old = g.D.Disk.state c.args.pool.now.io.disk.now in
@@ -152,20 +161,21 @@ returns-in-Ok-put-2-clause-feeds g c = λ running text stage told alive rested t
     let way2 = rests_still old one c.renew.new.self.io.space same running way two c.read.new.io.space c.read.ensures.fills.fills in
     let has = Has old.seen (free_by kept.body) in
     let now = Has two.seen c.read.new.io.space in
-    let stands = first_stage old one kept same c.renew.new.self.io.space disk c.renew.ensures.kept c.renew.ensures.space recv.stage stage is.stands in
-    let work = c.new-batch.ensures.work one.seen c.renew.new.self.io.space stage (subst (λ (s : coded.Stage). IsStage (Has one.seen c.renew.new.self.io.space) s stage) (sym c.replace.ensures.value) stands) in
-    let read = c.in-Err.ensures.read c.args.pool.now.io.disk.now running (at_stage stage) text is.handed honest way (subst (λ (k : Kept). TellsDates k.dir running) (sym c.renew.ensures.kept) tells) is.reads work in
+    let bound = bound_of tight (running.number + 1) in
+    let stands = first_stage old one kept same c.renew.new.self.io.space disk c.renew.ensures.kept c.renew.ensures.space tight running.number recv.stage stage is.stands in
+    let work = c.new-batch.ensures.work bound one.seen c.renew.new.self.io.space stage (subst (λ (s : coded.Stage). IsStage bound (Has one.seen c.renew.new.self.io.space) s stage) (sym c.replace.ensures.value) stands) in
+    let read = c.in-Err.ensures.read tight c.args.pool.now.io.disk.now running (at_stage stage) text is.handed honest way (subst (λ (k : Kept). TellsBefore stage k.dir running) (sym c.renew.ensures.kept) tells) is.reads work in
     let fault = c.in-Err.fault in
     let piece = c.args.piece.now in
     let taken = (taken_of recv.ask running text piece (at_stage stage)).work in
     let keeps : keeps_before fault ≡ true = sym c.keeps_before.ensures ∙ c.if-keeps_before.true in
-    let stays = λ (first : fault_in recv.ask running text piece (at_stage stage) ≡ Some (recv_refusal fault)). sym (kept_is now batch.stage taken.stage (let has_made = read.1 first in has_made.stage)) ∙ sym c.is_kept.ensures ∙ c.if-is_kept.true in
+    let stays = λ (first : fault_in recv.ask running text piece (at_stage stage) ≡ Some (recv_refusal fault)). sym (kept_is bound now batch.stage taken.stage (let has_made = read.1 first in has_made.stage)) ∙ sym c.is_kept.ensures ∙ c.if-is_kept.true in
     let due = due_some recv.ask text piece stage running fault read.0 keeps stays in
-    let puts = c.in-Ok-put-2.ensures.puts c.args.pool.now.io.disk.now running taken told way2 (read.1 due.0) in
-    stopped old three c.put-in-Err.new.pool.kept (record recv { reader = c.read.new.reader; stage = c.replace.new.dest }) text piece stage running same fault due read.0 keeps stays puts
+    let puts = c.in-Ok-put-2.ensures.puts tight c.args.pool.now.io.disk.now running taken told way2 (read.1 due.0) in
+    stopped tight old three c.put-in-Err.new.pool.kept (record recv { reader = c.read.new.reader; stage = c.replace.new.dest }) text piece stage running same fault due read.0 keeps stays puts
 
 pub returns-in-Ok-put-clause-feeds : goal.returns-in-Ok-put-clause-feeds
-returns-in-Ok-put-clause-feeds g c = λ running text stage told alive rested tells is.
+returns-in-Ok-put-clause-feeds g c = λ tight running text stage told alive rested tells is.
     let three = g.D.Disk.state c.put.new.pool.io.disk.now in
     let honest = c.put.ensures.honest told in
     let old = g.D.Disk.state c.args.pool.now.io.disk.now in
@@ -180,33 +190,40 @@ returns-in-Ok-put-clause-feeds g c = λ running text stage told alive rested tel
     let way2 = rests_still old one c.renew.new.self.io.space same running way two c.read.new.io.space c.read.ensures.fills.fills in
     let has = Has old.seen (free_by kept.body) in
     let now = Has two.seen c.read.new.io.space in
-    let stands = first_stage old one kept same c.renew.new.self.io.space disk c.renew.ensures.kept c.renew.ensures.space recv.stage stage is.stands in
-    let work = c.new-batch.ensures.work one.seen c.renew.new.self.io.space stage (subst (λ (s : coded.Stage). IsStage (Has one.seen c.renew.new.self.io.space) s stage) (sym c.replace.ensures.value) stands) in
-    let read = c.in-Ok.ensures.read c.args.pool.now.io.disk.now running (at_stage stage) text is.handed honest way (subst (λ (k : Kept). TellsDates k.dir running) (sym c.renew.ensures.kept) tells) is.reads work in
+    let bound = bound_of tight (running.number + 1) in
+    let stands = first_stage old one kept same c.renew.new.self.io.space disk c.renew.ensures.kept c.renew.ensures.space tight running.number recv.stage stage is.stands in
+    let work = c.new-batch.ensures.work bound one.seen c.renew.new.self.io.space stage (subst (λ (s : coded.Stage). IsStage bound (Has one.seen c.renew.new.self.io.space) s stage) (sym c.replace.ensures.value) stands) in
+    let read = c.in-Ok.ensures.read tight c.args.pool.now.io.disk.now running (at_stage stage) text is.handed honest way (subst (λ (k : Kept). TellsBefore stage k.dir running) (sym c.renew.ensures.kept) tells) is.reads work in
     let piece = c.args.piece.now in
     let after = c.put.new.pool.kept in
     let goes = c.go_on.new.self in
     let taken = (taken_of recv.ask running text piece (at_stage stage)).work in
-    let puts = c.in-Ok-put.ensures.puts c.args.pool.now.io.disk.now running taken told way2 read.is in
-    let live = sym (done_is has recv.stage stage is.stands) ∙ ap not c.requires.live in
-    let ends = λ (going : is_done taken.stage ≡ false).
-    by_test batch.taken (IsStage (Has three.seen (free_by after.body)) batch.stage taken.stage)
-    (λ was. let now3 = c.in-Ok-put.ensures.goes_on taken read.is in
-    by_test (has_partial batch.stage) (IsStage (Has three.seen (free_by after.body)) batch.stage taken.stage)
-    (λ lives. subst (λ (s : FreeSectors). IsStage (Has three.seen s) batch.stage taken.stage) (c.in-Ok-put.ensures.space was lives) now3.stage)
-    (λ none. loose (Has three.seen c.put.new.pool.io.space) (Has three.seen (free_by after.body)) batch.stage taken.stage none going now3.stage))
+    let puts = c.in-Ok-put.ensures.puts tight c.args.pool.now.io.disk.now running taken told way2 read.is in
+    let live = sym (done_is (bound_of tight running.number) has recv.stage stage is.stands) ∙ ap not c.requires.live in
+    let ends = λ (next : Pool) (made : put taken running ≡ Ok next) (going : is_done taken.stage ≡ false).
+    by_test batch.taken (IsStage (bound_of tight next.number) (Has three.seen (free_by after.body)) batch.stage taken.stage)
+    (λ was. let now3 = c.in-Ok-put.ensures.goes_on bound taken read.is in
+    by_test (has_partial batch.stage) (IsStage (bound_of tight next.number) (Has three.seen (free_by after.body)) batch.stage taken.stage)
+    (λ lives.
+    let same = subst (λ (s : FreeSectors). IsStage bound (Has three.seen s) batch.stage taken.stage) (c.in-Ok-put.ensures.space was lives) now3.stage in
+    put_stands tight (Has three.seen (free_by after.body)) taken running next batch.stage lives (sym read.is.taken ∙ was) made same)
+    (λ none. loose bound (bound_of tight next.number) (Has three.seen c.put.new.pool.io.space) (Has three.seen (free_by after.body)) batch.stage taken.stage none going now3.stage))
     (λ none.
     let unmade = untaken recv.ask running (new_records text piece) (at_stage stage) (sym read.is.taken ∙ none) in
     let code : batch.stage ≡ recv.stage = ap (λ (b : batches.Batch). b.stage) (c.read.ensures.idle none) ∙ c.new-batch.ensures.stage ∙ c.replace.ensures.value in
-    let first = subst (λ (k : Kept). IsStage (Has old.seen (free_by k.body)) recv.stage stage) (sym c.renew.ensures.kept) is.stands in
-    let second = untaken_stands old two c.read.new.io.space same running way2 recv.stage stage first in
-    let third = subst (λ (d : DiskState). IsStage (Has d.seen (free_by same.body)) recv.stage stage) (sym (ap (λ (d : g.row.D.Denot). g.D.Disk.state d) (c.put.ensures.idle_disk none))) second in
-    let fourth = subst (λ (k : Kept). IsStage (Has three.seen (free_by k.body)) recv.stage stage) (sym (c.put.ensures.idle_kept none)) third in
-    subst (λ (s : coded.Stage). IsStage (Has three.seen (free_by after.body)) s taken.stage) (sym code)
-    (subst (λ (w : Work). IsStage (Has three.seen (free_by after.body)) recv.stage w.stage) (sym unmade) fourth)) in
-    let all = subst (λ (a : RecvAsk). TakesAll a running c.read.new.reader text piece (IsWork now batch) (at_stage stage) × Puts old three after running (put (taken_of a running text piece (at_stage stage)).work running) (Ok tt)
-    × (is_done (taken_of a running text piece (at_stage stage)).work.stage ≡ false → IsStage (Has three.seen (free_by after.body)) batch.stage (taken_of a running text piece (at_stage stage)).work.stage)) (sym c.go_on.ensures.ask) (read, puts, ends) in
-    fed_so old three after goes text piece stage running is.handed is.reads.whole (is.reads.stands.front piece) live is.waits now batch c.read.new.reader all.0 c.go_on.result all.1 c.go_on.ensures.reader c.go_on.ensures.stage all.2 c.go_on.ensures.all
+    let number = bound_of tight running.number in
+    let first = subst (λ (k : Kept). IsStage number (Has old.seen (free_by k.body)) recv.stage stage) (sym c.renew.ensures.kept) is.stands in
+    let second = untaken_stands number old two c.read.new.io.space same running way2 recv.stage stage first in
+    let third = subst (λ (d : DiskState). IsStage number (Has d.seen (free_by same.body)) recv.stage stage) (sym (ap (λ (d : g.row.D.Denot). g.D.Disk.state d) (c.put.ensures.idle_disk none))) second in
+    let fourth = subst (λ (k : Kept). IsStage number (Has three.seen (free_by k.body)) recv.stage stage) (sym (c.put.ensures.idle_kept none)) third in
+    let still : running ≡ next = same_ok running next (sym (put_none taken running (sym read.is.taken ∙ none)) ∙ made) in
+    let fifth = subst (λ (s : coded.Stage). IsStage number (Has three.seen (free_by after.body)) s taken.stage) (sym code)
+    (subst (λ (w : Work). IsStage number (Has three.seen (free_by after.body)) recv.stage w.stage) (sym unmade) fourth) in
+    subst (λ (p : Pool). IsStage (bound_of tight p.number) (Has three.seen (free_by after.body)) batch.stage taken.stage) still fifth) in
+    let all = subst (λ (a : RecvAsk). TakesAll a running c.read.new.reader text piece (IsWork bound now batch) (at_stage stage) × Puts tight old three after running (put (taken_of a running text piece (at_stage stage)).work running) (Ok tt)
+    × ((next : Pool) → put (taken_of a running text piece (at_stage stage)).work running ≡ Ok next → is_done (taken_of a running text piece (at_stage stage)).work.stage ≡ false
+    → IsStage (bound_of tight next.number) (Has three.seen (free_by after.body)) batch.stage (taken_of a running text piece (at_stage stage)).work.stage)) (sym c.go_on.ensures.ask) (read, puts, ends) in
+    fed_so tight old three after goes text piece stage running is.handed is.reads.whole (is.reads.stands.front piece) live is.waits now batch c.read.new.reader bound all.0 c.go_on.result all.1 c.go_on.ensures.reader c.go_on.ensures.stage all.2 c.go_on.ensures.all
     (λ read all stands over. c.go_on.ensures.front read all stands over ∙ ap (λ (n : ℕ). sum_by (λ c. size_of c.head) all - n) (c.pushed-started.ensures ∙ is.reads.stands.pushed))
     c.go_on.ensures.applied c.go_on.ensures.point c.go_on.ensures.done
 
@@ -232,7 +249,7 @@ pub returns-in-Ok-put-clause-recv : goal.returns-in-Ok-put-clause-recv
 returns-in-Ok-put-clause-recv g c =
     let target = c.args.self.now.ask.target in
     behind_fits c.put.new.pool.kept.dir c.go_on.new.self c.read.new.reader target c.read.new.batch.stage (ap (λ (a : RecvAsk). a.target) c.go_on.ensures.ask) c.go_on.ensures.stage c.go_on.ensures.reader
-    (c.in-Ok-put.ensures.fits target c.read.ensures.stage) c.read.ensures.reads
+    (c.in-Ok-put.ensures.fits target c.read.ensures.stage) c.in-Ok.ensures.behind
 
 pub returns-in-Err-2-clause-ready : goal.returns-in-Err-2-clause-ready
 returns-in-Err-2-clause-ready g c = λ alive.
@@ -241,3 +258,151 @@ returns-in-Err-2-clause-ready g c = λ alive.
     c.read.ensures.fills.fills c.read.ensures.fills.fits c.read.ensures.fills.sectors in
     let last = ap (λ (io : _). g.D.Disk.state io.disk.now) gave.ensures.io in
     subst (λ (b : _). Ready (g.D.Disk.state gave.new.pool.io.disk.now) b) (sym gave.ensures.body) (subst (λ (d : DiskState). Ready d c.renew.new.self.kept.body) (sym last) can.ready)
+
+pub read-requires-clause-reads : goal.read-requires-clause-reads
+read-requires-clause-reads g c = subst (HasRead c.args.self.now.reader) (sym (c.new-batch.ensures.stage ∙ c.replace.ensures.value)) c.requires.recv.reads
+
+pub returns-in-Ok-put-clause-fed : goal.returns-in-Ok-put-clause-fed
+returns-in-Ok-put-clause-fed g c = λ goes.
+    let live : is_live c.read.new.batch.stage ≡ true = not_not (is_live c.read.new.batch.stage) (sym c.go_on.ensures.done ∙ goes) in
+    ap pushed_of c.go_on.ensures.reader ∙ c.in-Ok.ensures.all live
+
+pub returns-in-Ok-put-clause-within : goal.returns-in-Ok-put-clause-within
+returns-in-Ok-put-clause-within g c = fits_within _ _ (returns-in-Ok-put-clause-recv g c)
+
+pub returns-in-Ok-put-clause-waits : goal.returns-in-Ok-put-clause-waits
+returns-in-Ok-put-clause-waits g c = λ waits.
+    let still = waits_behind c.read.new.batch.stage (ap waits_at (sym c.go_on.ensures.stage) ∙ waits) in
+    let none = ap (λ (b : batches.Batch). b.taken) (c.in-Ok.ensures.waits still) ∙ c.new-batch.ensures.taken in
+    c.put.ensures.idle_kept none ∙ c.renew.ensures.kept
+
+pub returns-then-pool-clause-recv : goal.returns-then-pool-clause-recv
+returns-then-pool-clause-recv g c = over_fits _ _ c.args.self.now.reader refl refl (over_reads _ c.args.self.now.stage c.requires.recv.reads)
+
+pub returns-then-pool-clause-within : goal.returns-then-pool-clause-within
+returns-then-pool-clause-within g c = fits_within _ _ (returns-then-pool-clause-recv g c)
+
+pub returns-then-piece-started-clause-recv : goal.returns-then-piece-started-clause-recv
+returns-then-piece-started-clause-recv g c = over_fits _ _ c.args.self.now.reader c.give_up.ensures.over c.give_up.ensures.reader (over_reads _ c.args.self.now.stage c.requires.recv.reads)
+
+pub returns-then-piece-started-clause-within : goal.returns-then-piece-started-clause-within
+returns-then-piece-started-clause-within g c = fits_within _ _ (returns-then-piece-started-clause-recv g c)
+
+pub returns-in-Err-2-clause-recv : goal.returns-in-Err-2-clause-recv
+returns-in-Err-2-clause-recv g c = over_fits _ _ c.read.new.reader c.give_up-in-Err-2.ensures.over c.give_up-in-Err-2.ensures.reader c.read.ensures.reads
+
+pub returns-in-Err-2-clause-within : goal.returns-in-Err-2-clause-within
+returns-in-Err-2-clause-within g c = fits_within _ _ (returns-in-Err-2-clause-recv g c)
+
+pub returns-in-Err-put-clause-recv : goal.returns-in-Err-put-clause-recv
+returns-in-Err-put-clause-recv g c = over_fits _ _ c.read.new.reader c.give_up-in-Err-put.ensures.over c.give_up-in-Err-put.ensures.reader c.read.ensures.reads
+
+pub returns-in-Err-put-clause-within : goal.returns-in-Err-put-clause-within
+returns-in-Err-put-clause-within g c = fits_within _ _ (returns-in-Err-put-clause-recv g c)
+
+pub returns-in-Err-put-2-clause-recv : goal.returns-in-Err-put-2-clause-recv
+returns-in-Err-put-2-clause-recv g c = over_fits _ _ c.read.new.reader c.give_up-in-Err-put-2.ensures.over c.give_up-in-Err-put-2.ensures.reader c.read.ensures.reads
+
+pub returns-in-Err-put-2-clause-within : goal.returns-in-Err-put-2-clause-within
+returns-in-Err-put-2-clause-within g c = fits_within _ _ (returns-in-Err-put-2-clause-recv g c)
+
+pub returns-in-Ok-put-2-clause-recv : goal.returns-in-Ok-put-2-clause-recv
+returns-in-Ok-put-2-clause-recv g c = over_fits _ _ c.read.new.reader c.replace.ensures.after refl c.read.ensures.reads
+
+pub returns-in-Ok-put-2-clause-within : goal.returns-in-Ok-put-2-clause-within
+returns-in-Ok-put-2-clause-within g c = fits_within _ _ (returns-in-Ok-put-2-clause-recv g c)
+
+pub read-requires-clause-stage : goal.read-requires-clause-stage
+read-requires-clause-stage g c =
+    let recv = c.args.self.now in
+    let fits = live_fits c.args.pool.now.kept.dir recv.ask.target recv.stage c.requires.live c.requires.recv.stage in
+    subst (λ (k : Kept). StageFits k.dir recv.ask.target c.new-batch.result.stage) (sym c.renew.ensures.kept)
+    (subst (StageFits c.args.pool.now.kept.dir recv.ask.target) (sym (c.new-batch.ensures.stage ∙ c.replace.ensures.value)) fits)
+
+pub returns-in-Ok-put-clause-received : goal.returns-in-Ok-put-clause-received
+returns-in-Ok-put-clause-received g c = λ done.
+    let target = c.args.self.now.ask.target in
+    let batch = c.read.new.batch in
+    let over : is_live batch.stage ≡ false = not_false (is_live batch.stage) (sym c.go_on.ensures.done ∙ done) in
+    subst (λ (s : coded.Stage). IsSome (received_at s)) (sym c.go_on.ensures.stage) (received_then c.renew.new.self.kept.dir target batch.stage c.read.ensures.stage over)
+
+pub returns-then-pool-clause-known : goal.returns-then-pool-clause-known
+returns-then-pool-clause-known g c = λ alive. absurd (let failed = c.if-pool.true in cc)
+
+pub returns-then-piece-started-clause-known : goal.returns-then-piece-started-clause-known
+returns-then-piece-started-clause-known g c = λ alive. subst IsFeedFault (sym (c.give_up.ensures.fault ∙ c.too_long.ensures)) tt
+
+pub returns-in-Err-2-clause-known : goal.returns-in-Err-2-clause-known
+returns-in-Err-2-clause-known g c = λ alive. subst IsFeedFault (sym c.give_up-in-Err-2.ensures.fault) c.in-Err.ensures.known
+
+pub returns-in-Err-put-clause-known : goal.returns-in-Err-put-clause-known
+returns-in-Err-put-clause-known g c = λ alive. subst IsFeedFault (sym c.give_up-in-Err-put.ensures.fault) (known_call c.in-Err-put.fault c.in-Err-put.ensures.known)
+
+pub returns-in-Err-put-2-clause-known : goal.returns-in-Err-put-2-clause-known
+returns-in-Err-put-2-clause-known g c = λ alive. subst IsFeedFault (sym c.give_up-in-Err-put-2.ensures.fault) (known_call c.in-Err-put-2.other c.in-Err-put-2.ensures.known)
+
+pub returns-in-Ok-put-2-clause-known : goal.returns-in-Ok-put-2-clause-known
+returns-in-Ok-put-2-clause-known g c = λ alive. c.in-Err.ensures.known
+
+pub returns-in-Err-2-clause-open_still : goal.returns-in-Err-2-clause-open_still
+returns-in-Err-2-clause-open_still g c = λ alive is. still_open _ (returns-in-Err-2-clause-known g c alive) is
+
+pub returns-in-Err-put-clause-open_still : goal.returns-in-Err-put-clause-open_still
+returns-in-Err-put-clause-open_still g c = λ alive is. still_open _ (returns-in-Err-put-clause-known g c alive) is
+
+pub returns-in-Err-put-2-clause-open_still : goal.returns-in-Err-put-2-clause-open_still
+returns-in-Err-put-2-clause-open_still g c = λ alive is. still_open _ (returns-in-Err-put-2-clause-known g c alive) is
+
+pub returns-in-Ok-put-2-clause-open_still : goal.returns-in-Ok-put-2-clause-open_still
+returns-in-Ok-put-2-clause-open_still g c = λ alive is. still_open _ (returns-in-Ok-put-2-clause-known g c alive) is
+
+pub returns-then-pool-clause-damaged : goal.returns-then-pool-clause-damaged
+returns-then-pool-clause-damaged g c = λ sector stated found honest alive is. absurd (let failed = c.if-pool.true in cc)
+
+pub returns-then-piece-started-clause-damaged : goal.returns-then-piece-started-clause-damaged
+returns-then-piece-started-clause-damaged g c = λ sector stated found honest alive is.
+    absurd (cc (c.give_up.ensures.fault, c.too_long.ensures, is))
+
+pub returns-in-Err-2-clause-damaged : goal.returns-in-Err-2-clause-damaged
+returns-in-Err-2-clause-damaged g c = λ sector stated found honest alive is.
+    let gave = c.give_up-in-Err-2 in
+    let last = ap (λ (io : _). g.D.Disk.state io.disk.now) gave.ensures.io in
+    let now = subst (λ (d : DiskState). d.honest) last honest in
+    let told = c.in-Err.ensures.damaged sector stated found now (ap (λ (f : RecvFault). Err f) (sym gave.ensures.fault ∙ err_told coded_recv.Fed _ _ is)) in
+    damaged_renewed (g.D.Disk.state c.args.pool.now.io.disk.now) (g.D.Disk.state c.renew.new.self.io.disk.now) c.renew.new.self.io.space c.args.pool.now.kept c.renew.new.self.kept c.args.self.now.ask.target sector stated found
+    (ap (λ (d : g.row.D.Denot). g.D.Disk.state d) c.renew.ensures.disk) c.renew.ensures.space c.renew.ensures.kept told
+
+pub returns-in-Err-put-clause-damaged : goal.returns-in-Err-put-clause-damaged
+returns-in-Err-put-clause-damaged g c = λ sector stated found honest alive is.
+    absurd (told_call c.in-Err-put.fault sector stated found c.in-Err-put.ensures.known (sym c.give_up-in-Err-put.ensures.fault ∙ err_told coded_recv.Fed _ _ is))
+
+pub returns-in-Err-put-2-clause-damaged : goal.returns-in-Err-put-2-clause-damaged
+returns-in-Err-put-2-clause-damaged g c = λ sector stated found honest alive is.
+    absurd (told_call c.in-Err-put-2.other sector stated found c.in-Err-put-2.ensures.known (sym c.give_up-in-Err-put-2.ensures.fault ∙ err_told coded_recv.Fed _ _ is))
+
+pub returns-in-Ok-put-2-clause-damaged : goal.returns-in-Ok-put-2-clause-damaged
+returns-in-Ok-put-2-clause-damaged g c = λ sector stated found honest alive is.
+    absurd (let keeps : keeps_before c.in-Err.fault ≡ true = sym c.keeps_before.ensures ∙ c.if-keeps_before.true in
+    let none : keeps_before c.in-Err.fault ≡ false = ap keeps_before (err_told coded_recv.Fed c.in-Err.fault _ is) in cc)
+
+pub returns-then-pool-clause-stream : goal.returns-then-pool-clause-stream
+returns-then-pool-clause-stream g c = λ text handed fault stands is. absurd (cc is)
+
+pub returns-then-piece-started-clause-stream : goal.returns-then-piece-started-clause-stream
+returns-then-piece-started-clause-stream g c = λ text handed fault stands is.
+    absurd (cc (c.give_up.ensures.fault, c.too_long.ensures, is))
+
+pub returns-in-Err-2-clause-stream : goal.returns-in-Err-2-clause-stream
+returns-in-Err-2-clause-stream g c = λ text handed fault stands is.
+    c.in-Err.ensures.stream text handed fault stands (ap (λ (f : RecvFault). Err f) (sym c.give_up-in-Err-2.ensures.fault ∙ err_told coded_recv.Fed _ _ is))
+
+pub returns-in-Err-put-clause-stream : goal.returns-in-Err-put-clause-stream
+returns-in-Err-put-clause-stream g c = λ text handed fault stands is.
+    absurd (cc (c.give_up-in-Err-put.ensures.fault, is))
+
+pub returns-in-Err-put-2-clause-stream : goal.returns-in-Err-put-2-clause-stream
+returns-in-Err-put-2-clause-stream g c = λ text handed fault stands is.
+    absurd (cc (c.give_up-in-Err-put-2.ensures.fault, is))
+
+pub returns-in-Ok-put-2-clause-stream : goal.returns-in-Ok-put-2-clause-stream
+returns-in-Ok-put-2-clause-stream g c = λ text handed fault stands is. c.in-Err.ensures.stream text handed fault stands (ap (λ (f : RecvFault). Err f) (err_told coded_recv.Fed _ _ is))

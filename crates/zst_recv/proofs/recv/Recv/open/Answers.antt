@@ -3,4 +3,4 @@ use Rattle.zst_recv.proofs.Ordering.{nothing_read}
 use Rattle.zst_recv.proofs.recv.Recv.open.Goals as goal
 
 pub returns-clause-opens : goal.returns-clause-opens
-returns-clause-opens g c = λ image space. record { handed = []; reads = record { stands = c.in_ok-open.ensures.stands; whole = nothing_read }; waits = refl; stands = tt }
+returns-clause-opens g c = λ bound image space. record { handed = []; reads = record { stands = c.in_ok-open.ensures.stands; whole = nothing_read }; waits = refl; stands = tt }

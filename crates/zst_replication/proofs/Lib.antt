@@ -1,0 +1,15 @@
+mod Results
+mod Feeding
+mod Counted
+mod Rows
+mod Planned
+mod Moved
+mod Running
+mod Streamed
+mod Leading
+mod Ended
+mod Going
+mod Stopped
+mod Replicated
+mod Sendable
+mod Matched

@@ -1,0 +1,5 @@
+use Rattle.zst_replication.proofs.Going.{kept_left}
+use Rattle.zst_replication.proofs.laws.left_is_kept.Goals as goal
+
+pub returns : goal.returns
+returns c = kept_left

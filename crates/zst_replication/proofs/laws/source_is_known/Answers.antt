@@ -1,0 +1,5 @@
+use Rattle.zst_replication.proofs.Matched.{source_known}
+use Rattle.zst_replication.proofs.laws.source_is_known.Goals as goal
+
+pub returns : goal.returns
+returns c = source_known c.own_is_remembered.ensures.own

@@ -1,0 +1,4 @@
+pub mod Counting
+pub mod Matching
+pub mod Outcomes
+pub mod Replicas

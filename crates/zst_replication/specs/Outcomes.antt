@@ -1,0 +1,81 @@
+-- What a receive may have made of a pool: nothing yet, a partial state on its way to the target, or one snapshot more.
+use Rattle.std.specs.Prelude.{ℕ, ◌≡◌, ◌<◌, ◌≤◌, ◌⊎◌, true, false, List, Option, Some, None, Ok, bytes_eq}
+use Rattle.zst_model.specs.declared.sends.header.Header.{Header}
+use Rattle.zst_model.specs.pools.Pool.{Pool, Dataset, Snapshot, Partial, dataset_named, snapshot_named, partial_of, inserted, snapshot_is_before}
+use Rattle.zst_model.specs.sends.StandsFor.{StandsFor}
+use Rattle.zst_model.specs.sends.Target.{target}
+use Rattle.zst_model.specs.sends.View.{View}
+use Rattle.zst_model.specs.states.State.{State}
+use Rattle.zst_plan.specs.RecvPlan.{snapshot_name}
+use Rattle.zst_plan.specs.declared.receive.RecvAsk.{RecvAsk}
+use Rattle.zst_pool.specs.Partials.{rolled_back, partials_of_others}
+
+-- the target's head went back to its latest snapshot, as -F asks
+abbrev pub IsRolled : RecvAsk → Pool → Pool → Type 0
+IsRolled ask old new = (ask.force ≡ true) × (new.datasets ≡ rolled_back ask.target old)
+
+-- all is equal but the number of the last commit, the target's head where it went back, and the partial states
+pub record IsUntouched (ask : RecvAsk) (old new : Pool) : Type 0 where
+  pub id : new.id ≡ old.id
+  pub guids : new.guids ≡ old.guids
+  pub later : old.number ≤ new.number
+  pub datasets : (new.datasets ≡ old.datasets) ⊎ IsRolled ask old new
+  pub snapshots : new.snapshots ≡ old.snapshots
+  pub bookmarks : new.bookmarks ≡ old.bookmarks
+
+-- nothing of a receive is there
+pub record HasNothing (ask : RecvAsk) (old new : Pool) : Type 0 where
+  pub untouched : IsUntouched ask old new
+  pub partials : new.partials ≡ old.partials
+
+-- the target's partial state is this one, and the others are as before
+pub record HasPartial (ask : RecvAsk) (old new : Pool) (partial : Partial) : Type 0 where
+  pub untouched : IsUntouched ask old new
+  pub there : partial_of ask.target new ≡ Some partial
+  pub others : partials_of_others ask.target new ≡ old.partials
+
+-- One snapshot more, of this name, with the header's guid, time and redaction guids and this state, which the target's head is. The target
+-- is of the kind that it was of and has the origin that it had, or it is new, of the stream's kind and with this base as its origin. All
+-- else is equal but the number of the last commit.
+pub record HasOneMore (old new : Pool) (target component : List ℕ) (base : Option (List ℕ)) (header : Header) (state : State) : Type 0 where
+  pub id : new.id ≡ old.id
+  pub guids : new.guids ≡ old.guids
+  pub later : old.number < new.number
+  pub bookmarks : new.bookmarks ≡ old.bookmarks
+  pub partials : new.partials ≡ old.partials
+  pub snapshot : Snapshot
+  pub added : new.snapshots ≡ inserted snapshot_is_before snapshot old.snapshots
+  pub name : snapshot.name ≡ snapshot_name target component
+  pub name_is_new : snapshot_named (snapshot_name target component) old ≡ None
+  pub guid : snapshot.guid ≡ header.to
+  pub time : snapshot.time ≡ header.time
+  pub number : snapshot.number ≡ new.number
+  pub redact : snapshot.redact ≡ header.redact
+  pub state_is : snapshot.objects.state ≡ state
+  pub dataset : Dataset
+  pub there : dataset_named target new ≡ Some dataset
+  pub head : dataset.head ≡ snapshot.objects
+  pub head_redact : dataset.redact ≡ header.redact
+  pub kept : (before : Dataset) → dataset_named target old ≡ Some before → (dataset.kind ≡ before.kind) × (dataset.origin ≡ before.origin)
+  pub made : dataset_named target old ≡ None → (dataset.kind ≡ header.kind) × (dataset.origin ≡ base)
+  pub others : (name : List ℕ) → bytes_eq target name ≡ false → dataset_named name new ≡ dataset_named name old
+
+-- a partial state that is kept is there, and it is on its way from this base to what the view makes of it
+pub record IsOnItsWay (ask : RecvAsk) (view : View) (base : State) (old new : Pool) : Type 0 where
+  pub partial : Partial
+  pub has : HasPartial ask old new partial
+  pub kept : partial.keep ≡ true
+  pub header : partial.header ≡ view.header
+  pub stands : StandsFor view base partial.point partial.objects.state
+
+-- the snapshot is there, and it is what the view makes of this base
+pub record IsReceived (ask : RecvAsk) (view : View) (base : State) (old new : Pool) : Type 0 where
+  pub component : List ℕ
+  pub name : Option (List ℕ)
+  pub whole : State
+  pub is_target : target view base ≡ Ok whole
+  pub more : HasOneMore old new ask.target component name view.header whole
+
+-- how far a receive of this view from its start has come
+abbrev pub Progress : RecvAsk → View → State → Pool → Pool → Type 0
+Progress ask view base old new = HasNothing ask old new ⊎ (IsOnItsWay ask view base old new ⊎ IsReceived ask view base old new)

@@ -1,0 +1,78 @@
+-- The laws of a send that is received.
+use Rattle.std.specs.Prelude.{ℕ, ◌≡◌, ◌++◌, ◌<◌, false, List, length, take, None, Ok}
+use Rattle.std.specs.List.{concat}
+use Rattle.std.specs.Option.{option_map_or}
+use Rattle.zst_model.specs.declared.refusals.refusal.Refusal.{Refusal}
+use Rattle.zst_model.specs.pools.Kept.{kept_of}
+use Rattle.zst_model.specs.pools.Pool.{Pool, Partial, IsPool, partial_of, untouched}
+use Rattle.zst_model.specs.sends.Headers.{Sent, header_of, choice_of, sent_view}
+use Rattle.zst_model.specs.sends.Included.{no_pairs}
+use Rattle.zst_model.specs.sends.Items.{origin}
+use Rattle.zst_model.specs.sends.Target.{BaseOk, CanRedact}
+use Rattle.zst_model.specs.states.Dated.{DatedState}
+use Rattle.zst_plan.specs.RecvPlan.{Base, Begins, component_for, recv_plan}
+use Rattle.zst_plan.specs.declared.receive.RecvAsk.{RecvAsk}
+use Rattle.zst_stream.specs.Items.{CanSend}
+use Rattle.zst_send.specs.Sends.{sent_text}
+use Rattle.zst_recv.specs.Answers.{is_done}
+use Rattle.zst_recv.specs.Feeds.{receives}
+use Rattle.zst_recv.specs.Receiving.{Stage, Ends, Fed, Goes, Stops, left_by, pool_of}
+use Rattle.zst_replication.specs.Outcomes.{HasNothing, HasOneMore, Progress}
+
+-- a stream can state what is sent, of which nothing is to be redacted, and what is redacted already is user data
+pub record IsSendable (sent : Sent) : Type 0 where
+  pub stated : CanSend (header_of sent) sent.snapshot.objects (choice_of sent) origin
+  pub whole : sent.redaction ≡ None
+  pub redacted : CanRedact sent.snapshot.objects.state no_pairs
+
+-- the objects that a receive begins with
+abbrev pub base_objects : Base → DatedState
+base_objects base = option_map_or (λ snapshot. snapshot.objects) base.snapshot untouched
+
+-- what the receiver begins with is fit for what is sent
+abbrev pub MatchesBase : Sent → RecvAsk → Pool → Type 0
+MatchesBase sent ask pool =
+    (component : List ℕ) (base : Base) → recv_plan ask (header_of sent) pool ≡ Ok (Begins component base)
+    → BaseOk (base_objects base).state sent.snapshot.objects (choice_of sent)
+
+-- some pieces were read of an input that begins with what was sent
+abbrev pub AreOfStream : List (List ℕ) → Sent → Type 0
+AreOfStream pieces sent = (unread behind : List ℕ) × (concat pieces ++ unread ≡ sent_text sent ++ behind)
+
+-- However it is cut into pieces, a stream that was sent and is received to its end makes one snapshot more: the one that was sent.
+abbrev pub SentIsReceived : Type 0
+SentIsReceived =
+    (sent : Sent) (ask : RecvAsk) (pool after : Pool) (partial : Partial) (pieces : List (List ℕ))
+    → IsSendable sent → IsPool pool → partial_of ask.target pool ≡ None → MatchesBase sent ask pool
+    → AreOfStream pieces sent → receives ask pool pieces ≡ Goes after (Ends partial)
+    → (component_for ask (header_of sent) ≡ Ok partial.component)
+    × HasOneMore pool after ask.target partial.component partial.base (header_of sent) sent.snapshot.objects.state
+
+-- Every stop of a receive of a send, wherever its stream is cut off and however it is cut into pieces: what the image keeps is in its
+-- progress.
+abbrev pub StopsAreProgress : Type 0
+StopsAreProgress =
+    (sent : Sent) (ask : RecvAsk) (pool : Pool) (component : List ℕ) (base : Base) (pieces : List (List ℕ))
+    → IsSendable sent → IsPool pool → partial_of ask.target pool ≡ None → MatchesBase sent ask pool
+    → recv_plan ask (header_of sent) pool ≡ Ok (Begins component base) → AreOfStream pieces sent
+    → Progress ask (sent_view sent) (base_objects base).state (kept_of pool) (kept_of (pool_of (receives ask pool pieces)))
+
+-- a receive goes on, and hasn't come to END
+abbrev pub IsWaiting : Fed → Type 0
+IsWaiting fed = (now : Pool) × (stage : Stage) × (fed ≡ Goes now stage) × (is_done stage ≡ false)
+
+-- before each of the pieces the receive waited for more
+abbrev pub WaitedForEach : RecvAsk → Pool → List (List ℕ) → Type 0
+WaitedForEach ask pool pieces = (n : ℕ) → n < length pieces → IsWaiting (receives ask pool (take n pieces))
+
+-- Whatever is read, and however it is cut into pieces: of a receive without -s that is cut before END, or that is refused, the image keeps
+-- nothing.
+abbrev pub CutLeavesNothing : Type 0
+CutLeavesNothing =
+    (ask : RecvAsk) (pool : Pool) (pieces : List (List ℕ)) → partial_of ask.target pool ≡ None → ask.keep ≡ false
+    → ((now : Pool) (stage : Stage) → receives ask pool pieces ≡ Goes now stage → is_done stage ≡ false → HasNothing ask (kept_of pool) (kept_of now))
+    × ((after : Pool) (refusal : Refusal) → WaitedForEach ask pool pieces → receives ask pool pieces ≡ Stops after refusal → HasNothing ask (kept_of pool) (kept_of after))
+
+-- What goes where a session ends isn't kept before that either.
+abbrev pub LeftIsKept : Type 0
+LeftIsKept = (stage : Stage) (pool : Pool) → kept_of (left_by stage pool) ≡ kept_of pool

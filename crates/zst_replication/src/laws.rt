@@ -1,0 +1,90 @@
+ghost use Rattle.zst_replication.specs.Counting.{RecordsAreCounted};
+ghost use Rattle.zst_replication.specs.Matching.{BasesMatch, FullMatches, OneMoreIsKept, PlainCanBeSent, SourceIsKnown};
+ghost use Rattle.zst_replication.specs.Replicas.{CutLeavesNothing, LeftIsKept, SentIsReceived, StopsAreProgress};
+
+/// What a feed applies is counted by the records that its text covers.
+pub fn records_are_counted()
+    ensures { RecordsAreCounted }
+{
+    zst_stream::covered_in_order();
+    zst_stream::fronts_agree();
+}
+
+/// However it is cut into pieces, a stream that was sent and is received to its end makes one snapshot more: the one that was sent.
+pub fn sent_is_received()
+    ensures { SentIsReceived }
+{
+    zst_laws::send_is_exact();
+    zst_laws::snapshot_has_view();
+    zst_laws::start_stands();
+    zst_laws::cut_stands();
+    zst_laws::received_is_state();
+    zst_stream::fronts_agree();
+    zst_stream::view_is_a_stream();
+    zst_stream::view_is_read();
+    zst_stream::image_is_read();
+    zst_stream::covers_are_pieces();
+}
+
+/// Of a receive without `-s` that hasn't come to END the image keeps nothing, whatever was read.
+pub fn cut_leaves_nothing()
+    ensures { CutLeavesNothing }
+{}
+
+/// Wherever the stream of a send is cut off, what the image keeps of its receive is in its progress.
+pub fn stops_are_progress()
+    ensures { StopsAreProgress }
+{
+    zst_laws::send_is_exact();
+    zst_laws::snapshot_has_view();
+    zst_laws::start_stands();
+    zst_laws::cut_stands();
+    zst_laws::received_is_state();
+    zst_stream::fronts_agree();
+    zst_stream::view_is_a_stream();
+    zst_stream::view_is_read();
+    zst_stream::image_is_read();
+    zst_stream::covers_are_pieces();
+}
+
+/// What goes where a session ends isn't kept before that either.
+pub fn left_is_kept()
+    ensures { LeftIsKept }
+{}
+
+/// One snapshot more in the pool that runs is one more in what its image keeps.
+pub fn one_more_is_kept()
+    ensures { OneMoreIsKept }
+{}
+
+/// What is sent of a lawful pool can be stated and read, as long as no block of its snapshot is redacted.
+pub fn plain_can_be_sent()
+    ensures { PlainCanBeSent }
+{
+    zst_laws::plans_are_of_pool();
+    zst_laws::sends_are_stated();
+    zst_stream::plain_is_allowed();
+}
+
+/// A full stream matches whatever a lawful pool has.
+pub fn full_matches()
+    ensures { FullMatches }
+{
+    zst_laws::any_is_full_base();
+}
+
+/// An increment matches where the receiver's snapshots with its source's guid have what the source remembers.
+pub fn bases_match()
+    ensures { BasesMatch }
+{
+    zst_laws::any_is_full_base();
+    zst_laws::remembered_is_base();
+    zst_laws::plans_are_of_pool();
+}
+
+/// So it does where they have the state of the source's own snapshot.
+pub fn source_is_known()
+    ensures { SourceIsKnown }
+{
+    zst_laws::own_is_remembered();
+}

@@ -1,0 +1,71 @@
+ghost use Rattle.std.specs.Prelude.{◌≡◌};
+ghost use Rattle.zst_token.specs.Spelling.{numbers_of, check_text, token_text};
+
+use crate::digits::{checksum_of, push_digits};
+use arrayvec::{ArrayString, ArrayVec};
+use zst_model::{GuidSet, Point};
+
+/// A token has at most so many numbers: seven, and the guids of two sets.
+pub(crate) const MOST_NUMBERS: usize = 7 + 16 + 16;
+
+/// Where a cut receive goes on, and of which stream.
+#[derive(Drop)]
+pub struct Token {
+    /// Whether the stream has blocks larger than 131,072 bytes.
+    pub large: bool,
+    /// The guid of the snapshot that is sent.
+    pub to: u64,
+    /// The guid of the source snapshot, 0 in a full stream.
+    pub from: u64,
+    /// Where the receive goes on.
+    pub point: Point,
+    /// The guids of the redaction snapshots that the stream is made for.
+    pub redact: GuidSet,
+    /// The guids of the redaction snapshots of a source that is a redaction bookmark.
+    pub from_redact: GuidSet,
+}
+
+impl Token {
+    /// Its text: `zst1-`, its numbers in hexadecimal, `-` and a check. Takes no memory.
+    #[tactic(auto, unfolding(crate::specs::Spelling::token_text))]
+    pub fn print(&self) -> ArrayString<646>
+        ensures { result.bytes ≡ token_text self.now }
+    {
+        let numbers = self.numbers();
+        let mut text = ArrayString::new();
+        text.push_str("zst1-");
+        push_digits(&mut text, numbers.as_slice());
+        text.push_str("-");
+        text.push_str(checksum_of(numbers.as_slice()).as_str());
+        text
+    }
+
+    /// The numbers of its fields, the counts of both sets, and their guids.
+    fn numbers(&self) -> ArrayVec<u64, MOST_NUMBERS>
+        ensures { result.items ≡ numbers_of self.now }
+    {
+        let redact = self.redact.as_slice();
+        let from_redact = self.from_redact.as_slice();
+        let mut numbers = ArrayVec::new();
+        let _ = numbers.try_extend_from_slice(&[
+            u64::from(self.large),
+            self.to,
+            self.from,
+            self.point.object,
+            self.point.offset,
+            redact.len() as u64,
+            from_redact.len() as u64,
+        ]);
+        let _ = numbers.try_extend_from_slice(redact);
+        let _ = numbers.try_extend_from_slice(from_redact);
+        numbers
+    }
+
+    /// The check of its numbers, in sixteen digits.
+    #[tactic(auto, unfolding(crate::specs::Spelling::check_text))]
+    pub(crate) fn check(&self) -> ArrayString<16>
+        ensures { result.bytes ≡ check_text self.now }
+    {
+        checksum_of(self.numbers().as_slice())
+    }
+}
