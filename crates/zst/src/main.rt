@@ -4,29 +4,18 @@
 ghost use Rattle.std.specs.Prelude.{◌≡◌, []};
 ghost use Rattle.zst_file.specs.FileDisk.{history_of};
 
-mod dump;
-mod image;
-mod note;
-mod on_file;
-mod pools;
-mod receive;
-mod replicated;
-mod reply;
 #[cfg(test)]
 mod round_trip;
-mod run;
-mod send;
 #[cfg(test)]
 mod tests;
 
-use on_file::run_on_file;
-use run::run;
 use std::env;
 use std::io::{self, Stderr, Stdin, Stdout, Write};
 use std::process::ExitCode;
 use std::time::{SystemTime, UNIX_EPOCH};
 use zst_file::{FileDisk, Input, Output, Start, Unknown};
 use zst_outside::SureDisk;
+use zst_run::{open, opening_of, run, run_on_file};
 
 /// The status where a file can't be opened.
 const CANNOT_OPEN: u8 = 11;
@@ -101,10 +90,10 @@ fn run_over_none(rt: &HostRuntime, words: &[String]) -> io::Result<ExitCode> {
 fn main(rt: HostRuntime) -> io::Result<ExitCode> {
     let alloc = rt.alloc();
     let words: Vec<String> = env::args(&rt)?.skip(1).collect(alloc)?;
-    let Some((path, opening)) = image::opening_of(alloc, &words)? else {
+    let Some((path, opening)) = opening_of(alloc, &words)? else {
         return run_over_none(&rt, &words);
     };
-    match image::open(&rt, path.as_str(), opening, Unknown) {
+    match open(&rt, path.as_str(), opening, Unknown) {
         Ok(mut disk) => run_over_file(&rt, &words, &mut disk),
         Err(_) => {
             let _ = rt.stderr().write_all(b"zst: cannot open\n");

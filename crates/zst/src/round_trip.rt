@@ -2,12 +2,12 @@
 ghost use Rattle.std.specs.Prelude.{◌≡◌, ◌+◌, ◌*◌, ◌/◌};
 ghost use Rattle.zst_record.specs.Heads.{payload_len};
 
-use crate::run::run;
 use std::alloc::{AllocError, Global};
 use std::test::Fail;
 use zst_model::{GuidSet, Header, NameText};
 use zst_outside::{MemSink, MemSource, SureDisk};
 use zst_record::Head;
+use zst_run::run;
 use zst_writer::Writer;
 
 const GUID: u64 = 0x2_0000_0007;

@@ -13,6 +13,7 @@ mod runs;
 mod sends;
 mod sessions;
 mod spills;
+mod statuses;
 mod stops;
 mod streams;
 

@@ -1,13 +1,17 @@
 -- Where a receive stands behind the records that were handed out, whatever the image; and that BEGIN alone looks at dates.
-use Rattle.std.proofs.Common.{◌≡◌, ℕ, ◌+◌, ◌≤◌, Bool, true, false, List, [], ◌∷◌, ◌++◌, Some, None, Result, Ok, Err, inl, inr, refl, sym, ap, ◌∙◌, subst, arith}
+use Rattle.std.proofs.Common.{◌≡◌, ℕ, ◌+◌, ◌≤◌, Bool, true, false, List, [], ◌∷◌, ◌++◌, Option, Some, None, Result, Ok, Err, inl, inr, refl, sym, ap, ◌∙◌, subst, arith}
 use Rattle.std.specs.List.{All}
 use Rattle.std.proofs.lemmas.List.{append-nil}
 use Rattle.std.proofs.lemmas.List.Elements.{All-head, All-nil, All-push, All-tail}
 use Rattle.zst_dir.specs.Rows.{Rows}
+use Rattle.zst_model.specs.declared.refusals.plan_fault.PlanFault.{PlanFault}
 use Rattle.zst_model.specs.declared.refusals.refusal.Refusal.{Refusal}
+use Rattle.zst_model.specs.declared.sends.header.Header.{Header}
 use Rattle.zst_model.specs.pools.Pool.{Pool, Partial}
+use Rattle.zst_model.specs.refusals.Refusal.{refusal_of}
 use Rattle.zst_model.specs.states.Apply.{◌>>=◌}
-use Rattle.zst_plan.specs.Receipts.{TellsDates}
+use Rattle.zst_plan.specs.Receipts.{TellsNeeded}
+use Rattle.zst_plan.specs.RecvPlan.{RecvPlan, recv_plan}
 use Rattle.zst_plan.specs.declared.receive.RecvAsk.{RecvAsk}
 use Rattle.zst_reader.specs.StandsFor.{StandsFor, HandsOut, pushed_of}
 use Rattle.zst_reader.specs.declared.reader.Reader.{Reader}
@@ -15,9 +19,10 @@ use Rattle.zst_record.specs.Heads.{Covered}
 use Rattle.zst_record.specs.declared.head.Head.{Head}
 use Rattle.zst_record.specs.declared.head.Head.TheVariants as heads
 use Rattle.zst_stream.specs.Reading.{Reading, complete, reading}
+use Rattle.zst_tree.specs.Indices.{Blocks}
 use Rattle.zst_recv.specs.Faults.{stream_limit}
-use Rattle.zst_recv.specs.Receiving.{Stage, Waits, Lives, Ends, Work, Batch, batch, batch_by, moved_by, taken, taken_at, went_on, with_applied}
-use Rattle.zst_recv.specs.Stages.{HasRead, StandsBehind, TellsBefore, has_partial, is_begin, is_end, is_live, waits_at}
+use Rattle.zst_recv.specs.Receiving.{Stage, Waits, Lives, Ends, Work, Batch, batch, batch_by, began, moved_by, of_plan, opened, taken, taken_at, went_on, with_applied}
+use Rattle.zst_recv.specs.Stages.{HasRead, IsStage, StandsBehind, TellsBefore, TellsTarget, has_partial, is_begin, is_end, is_live, waits_at}
 use Rattle.zst_recv.specs.Taking.{AreTaken}
 use Rattle.zst_recv.specs.declared.stage.Stage as coded
 use Rattle.zst_recv.specs.declared.stage.Stage.TheVariants as stages
@@ -97,25 +102,39 @@ over_reads old stage has = record { text = has.text; bytes = has.bytes; handed =
 abbrev made : Work → Result Work Refusal
 made work = Ok work
 
+-- a receive that waits for BEGIN has what its plan looks at
+pub waits_tell : (ask : RecvAsk) (header : Header) (rows : Rows) (pool : Pool) (bound : Option ℕ) (has : Blocks) (stage : Stage) → IsStage bound has stages.Waits stage → TellsBefore ask stage rows pool
+    → (stage ≡ Waits) × TellsNeeded rows pool ask header
+waits_tell ask header rows pool bound has Waits is tells = (refl, λ full there. tells there)
+waits_tell ask header rows pool bound has (Lives flags partial) is tells = absurd is
+waits_tell ask header rows pool bound has (Ends partial) is tells = absurd is
+
+-- BEGIN is refused as its plan is
+pub refused_begin : (ask : RecvAsk) (header : Header) (pool : Pool) (c : Covered) (len : ℕ) (work : Work) (fault : PlanFault) → c.head ≡ heads.Begin header len → work.stage ≡ Waits
+    → recv_plan ask header pool ≡ Err fault → taken ask pool c work ≡ Err (refusal_of fault)
+refused_begin ask header pool c len work fault head waits is =
+    subst (λ (s : Stage). taken_at ask pool c work s ≡ Err (refusal_of fault)) (sym waits)
+    (subst (λ (h : Head). began ask pool work h ≡ Err (refusal_of fault)) (sym head) (ap (λ (p : Result RecvPlan PlanFault). of_plan p >>= λ plan. Ok (opened ask header plan)) is))
+
 module _ (rows : Rows) (pool : Pool) where
-  -- where the sets tell all dates they tell those that are needed
-  pub tells_all : (stage : Stage) → TellsDates rows pool → TellsBefore stage rows pool
-  tells_all Waits tells = tells
-  tells_all (Lives flags partial) tells = tt
-  tells_all (Ends partial) tells = tt
+  -- where the sets tell what a plan may look at they tell what is needed
+  pub tells_all : (ask : RecvAsk) (stage : Stage) → TellsTarget ask rows pool → TellsBefore ask stage rows pool
+  tells_all ask Waits tells = tells
+  tells_all ask (Lives flags partial) tells = tt
+  tells_all ask (Ends partial) tells = tt
 
   module _ (ask : RecvAsk) (c : Covered) (work after : Work) where
-    still : TellsBefore work.stage rows pool → made work ≡ made after → TellsBefore after.stage rows pool
-    still tells is = let same : work ≡ after = cc in subst (λ (w : Work). TellsBefore w.stage rows pool) same tells
+    still : TellsBefore ask work.stage rows pool → made work ≡ made after → TellsBefore ask after.stage rows pool
+    still tells is = let same : work ≡ after = cc in subst (λ (w : Work). TellsBefore ask w.stage rows pool) same tells
 
-    moved_tells : (flags : ℕ) (moved : Result Partial Refusal) → (moved >>= λ next. Ok (with_applied flags next work)) ≡ Ok after → TellsBefore after.stage rows pool
+    moved_tells : (flags : ℕ) (moved : Result Partial Refusal) → (moved >>= λ next. Ok (with_applied flags next work)) ≡ Ok after → TellsBefore ask after.stage rows pool
     moved_tells flags (Err refusal) is = absurd cc
-    moved_tells flags (Ok next) is = let same : with_applied flags next work ≡ after = cc in subst (λ (w : Work). TellsBefore w.stage rows pool) same tt
+    moved_tells flags (Ok next) is = let same : with_applied flags next work ≡ after = cc in subst (λ (w : Work). TellsBefore ask w.stage rows pool) same tt
 
-    ended_tells : (partial : Partial) → made (record work { stage = Ends partial; taken = true }) ≡ made after → TellsBefore after.stage rows pool
-    ended_tells partial is = let same : record work { stage = Ends partial; taken = true } ≡ after = cc in subst (λ (w : Work). TellsBefore w.stage rows pool) same tt
+    ended_tells : (partial : Partial) → made (record work { stage = Ends partial; taken = true }) ≡ made after → TellsBefore ask after.stage rows pool
+    ended_tells partial is = let same : record work { stage = Ends partial; taken = true } ≡ after = cc in subst (λ (w : Work). TellsBefore ask w.stage rows pool) same tt
 
-    went_tells : (flags : ℕ) (partial : Partial) (head : Head) → TellsBefore work.stage rows pool → went_on (pool.number + 1) c flags partial work head ≡ Ok after → TellsBefore after.stage rows pool
+    went_tells : (flags : ℕ) (partial : Partial) (head : Head) → TellsBefore ask work.stage rows pool → went_on (pool.number + 1) c flags partial work head ≡ Ok after → TellsBefore ask after.stage rows pool
     went_tells flags partial (heads.Begin header len) tells is = still tells is
     went_tells flags partial (heads.Object object kind bonus_kind block_size bonus_len max_block to) tells is = moved_tells flags (moved_by (pool.number + 1) c flags partial) is
     went_tells flags partial (heads.FreeObjects first count to) tells is = moved_tells flags (moved_by (pool.number + 1) c flags partial) is
@@ -125,19 +144,19 @@ module _ (rows : Rows) (pool : Pool) where
     went_tells flags partial (heads.Spill object size to) tells is = moved_tells flags (moved_by (pool.number + 1) c flags partial) is
     went_tells flags partial (heads.Redact object offset size to) tells is = moved_tells flags (moved_by (pool.number + 1) c flags partial) is
 
-    taken_tells : (stage : Stage) → TellsBefore stage rows pool → TellsBefore work.stage rows pool → taken_at ask pool c work stage ≡ Ok after → TellsBefore after.stage rows pool
-    taken_tells Waits dates tells is = tells_all after.stage dates
+    taken_tells : (stage : Stage) → TellsBefore ask stage rows pool → TellsBefore ask work.stage rows pool → taken_at ask pool c work stage ≡ Ok after → TellsBefore ask after.stage rows pool
+    taken_tells Waits dates tells is = tells_all ask after.stage dates
     taken_tells (Lives flags partial) dates tells is = went_tells flags partial c.head tells is
     taken_tells (Ends partial) dates tells is = still tells is
 
-  by_tells : (ask : RecvAsk) (c : Covered) (rest : List Covered) (work after : Work) → TellsBefore work.stage rows pool
-      → ((next : Work) → TellsBefore next.stage rows pool → AreTaken ask pool rest next after → TellsBefore after.stage rows pool)
-      → (r : Result Work Refusal) → taken ask pool c work ≡ r → batch_by r work (batch ask pool rest) ≡ record { work = after; fault = None } → TellsBefore after.stage rows pool
+  by_tells : (ask : RecvAsk) (c : Covered) (rest : List Covered) (work after : Work) → TellsBefore ask work.stage rows pool
+      → ((next : Work) → TellsBefore ask next.stage rows pool → AreTaken ask pool rest next after → TellsBefore ask after.stage rows pool)
+      → (r : Result Work Refusal) → taken ask pool c work ≡ r → batch_by r work (batch ask pool rest) ≡ record { work = after; fault = None } → TellsBefore ask after.stage rows pool
   by_tells ask c rest work after tells later (Err refusal) gave is = let e : Some refusal ≡ None = ap (λ (b : Batch). b.fault) is in absurd (cc e)
   by_tells ask c rest work after tells later (Ok next) gave is = later next (taken_tells ask c work next work.stage tells tells gave) is
 
   -- what was taken looks at no more dates
-  pub tells_on : (ask : RecvAsk) (records : List Covered) (work after : Work) → AreTaken ask pool records work after → TellsBefore work.stage rows pool → TellsBefore after.stage rows pool
+  pub tells_on : (ask : RecvAsk) (records : List Covered) (work after : Work) → AreTaken ask pool records work after → TellsBefore ask work.stage rows pool → TellsBefore ask after.stage rows pool
   unfolding batch
-  tells_on ask [] work after is tells = subst (λ (b : Batch). TellsBefore b.work.stage rows pool) is tells
+  tells_on ask [] work after is tells = subst (λ (b : Batch). TellsBefore ask b.work.stage rows pool) is tells
   tells_on ask (c ∷ rest) work after is tells = by_tells ask c rest work after tells (λ next t are. tells_on ask rest next after are t) (taken ask pool c work) refl is

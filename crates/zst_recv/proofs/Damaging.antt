@@ -18,6 +18,7 @@ use Rattle.zst_pool.specs.declared.fault.PoolFault.TheVariants as pools
 use Rattle.zst_recv.specs.Damage.{IsDamagedFeed, IsDamagedState}
 use Rattle.zst_model.specs.declared.refusals.stream_fault.StreamFault.{StreamFault}
 use Rattle.zst_record.specs.Heads.{Covered}
+use Rattle.zst_stream.specs.Findings.{FindsAtEnd, IsFound}
 use Rattle.zst_stream.specs.Reading.{FrontOf, Reading, faulty, reading, waiting}
 use Rattle.zst_stream.proofs.Growth.{front}
 use Rattle.zst_recv.specs.Faults.{IsFeedFault, IsRecordFault, of_record, stop_of}
@@ -91,6 +92,10 @@ no_stream fault told known is = subst IsRecordFault is known
 -- the one that a reading ends with
 pub told_stream : (text : List ℕ) (handed : List Covered) (one other : StreamFault) → reading text ≡ record { covered = handed; outcome = faulty one } → faults.Stream one ≡ faults.Stream other → (reading text).outcome ≡ faulty other
 told_stream text handed one other is same = let fault : one ≡ other = cc in ap (λ (r : Reading). r.outcome) is ∙ ap (λ (f : StreamFault). faulty f) fault
+
+-- and it is found in the stream, never that it is cut
+pub found_stream : (text : List ℕ) (handed : List Covered) (fault : StreamFault) → reading text ≡ record { covered = handed; outcome = faulty fault } → FindsAtEnd (reading text).outcome → IsFound fault
+found_stream text handed fault is found = subst (λ (r : Reading). FindsAtEnd r.outcome) is found
 
 -- what is faulty stays so, however the text goes on
 pub faulty_still : (whole read rest : List ℕ) (fault : StreamFault) → whole ≡ read ++ rest → (reading read).outcome ≡ faulty fault → (reading whole).outcome ≡ faulty fault

@@ -17,6 +17,7 @@ use Rattle.zst_objset.specs.declared.fault.ObjFault.{ObjFault}
 use Rattle.zst_objset.specs.declared.fault.ObjFault.TheVariants as sets
 use Rattle.zst_pool.specs.Faults.{of_set, pool_refusal}
 use Rattle.zst_pool.specs.declared.fault.PoolFault.TheVariants as pools
+use Rattle.zst_stream.specs.Findings.{IsFound}
 use Rattle.zst_recv.specs.declared.fault.RecvFault.{RecvFault}
 use Rattle.zst_recv.specs.declared.fault.RecvFault.TheVariants as faults
 
@@ -61,7 +62,8 @@ stop_of (Ok value) = None
 stop_of (Err fault) = stop_at fault
 
 -- the faults that a feed may answer on a pool that hasn't failed, whatever the image is: those of a plan (E2 to E15, E19, E23), a full disk
--- (E24), a damaged block (E25), a fault of the disk (E28), no memory (E32), those of a stream (E17 to E19), and a record that can't be applied (E21)
+-- (E24), a damaged block (E25), a fault of the disk (E28), no memory (E32), those found in a stream (E17 to E19, never that it is cut), and a record that
+-- can't be applied (E21)
 abbrev pub IsFeedFault : RecvFault → Type 0
 IsFeedFault (faults.Pool (pools.Plan fault)) = Unit {0}
 IsFeedFault (faults.Pool (pools.CannotApply fault)) = ⊥
@@ -71,7 +73,7 @@ IsFeedFault (faults.Pool (pools.Damaged sector stated found)) = Unit {0}
 IsFeedFault (faults.Pool pools.DiskFault) = Unit {0}
 IsFeedFault (faults.Pool pools.Failed) = ⊥
 IsFeedFault (faults.Pool pools.OutOfMemory) = Unit {0}
-IsFeedFault (faults.Stream fault) = Unit {0}
+IsFeedFault (faults.Stream fault) = IsFound fault
 IsFeedFault (faults.CannotApply index fault) = Unit {0}
 
 -- those that taking a record may answer

@@ -1,12 +1,13 @@
 -- What the code keeps of a receive, and what it stands for.
-use Rattle.std.specs.Prelude.{◌≡◌, ℕ, ◌-◌, ◌^◌, Bool, true, false, min, List, [], ◌∷◌, ◌++◌, All, IfSome, Option, Some, None}
+use Rattle.std.specs.Prelude.{◌≡◌, ℕ, ◌-◌, ◌^◌, Bool, true, false, min, List, [], ◌∷◌, ◌++◌, All, IfSome, Option, Some, None, is_some}
 use Rattle.zst_dir.specs.Rows.{Rows, HasSnapshot, IsPartialRow}
 use Rattle.zst_dir.specs.declared.rows.Partial.{Partial as Row}
 use Rattle.zst_image.specs.Reads.{PartialIs}
 use Rattle.zst_model.specs.declared.sends.header.Point.{Point}
 use Rattle.zst_model.specs.sends.Items.{origin}
-use Rattle.zst_model.specs.pools.Pool.{Pool}
+use Rattle.zst_model.specs.pools.Pool.{Pool, dataset_named}
 use Rattle.zst_plan.specs.Receipts.{TellsDates}
+use Rattle.zst_plan.specs.declared.receive.RecvAsk.{RecvAsk}
 use Rattle.zst_reader.specs.StandsFor.{StandsFor, HandsOut, pushed_of}
 use Rattle.zst_reader.specs.declared.reader.Reader.{Reader}
 use Rattle.zst_record.specs.Heads.{Covered}
@@ -166,11 +167,15 @@ pub record RecvFits (rows : Rows) (recv : Recv) : Type 0 where
   pub stage : LivesOn rows recv.ask.target recv.stage
   pub reads : HasRead recv.reader recv.stage
 
--- where BEGIN isn't covered yet, the sets tell the dates that its plan looks at
-abbrev pub TellsBefore : Stage → Rows → Pool → Type 0
-TellsBefore Waits rows pool = TellsDates rows pool
-TellsBefore (Lives flags partial) rows pool = Unit {0}
-TellsBefore (Ends partial) rows pool = Unit {0}
+-- the sets tell the dates that a plan may look at: none where the target isn't there
+abbrev pub TellsTarget : RecvAsk → Rows → Pool → Type 0
+TellsTarget ask rows pool = is_some (dataset_named ask.target pool) ≡ true → TellsDates rows pool
+
+-- so it is where BEGIN isn't covered yet
+abbrev pub TellsBefore : RecvAsk → Stage → Rows → Pool → Type 0
+TellsBefore ask Waits rows pool = TellsTarget ask rows pool
+TellsBefore ask (Lives flags partial) rows pool = Unit {0}
+TellsBefore ask (Ends partial) rows pool = Unit {0}
 
 -- nothing is covered while a receive waits for BEGIN
 abbrev pub WaitsAtBegin : List Covered → Stage → Type 0

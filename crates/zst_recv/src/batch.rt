@@ -98,7 +98,7 @@ impl Batch {
         requires fits { FitsDisk (D.state io.old.disk.now).size io.old.space }
         requires stage { StageFits kept.now.dir ask.now.target self.old.stage }
         requires covered { IsRead (covered_of covered.now) }
-        ensures took { (tight : Bool) (start : D) (running : Plain) (work : Work) → (D.state io.new.disk.now).honest → IsUnderWay tight (D.state start) (D.state io.old.disk.now) io.old.space kept.now running → TellsBefore work.stage kept.now.dir running
+        ensures took { (tight : Bool) (start : D) (running : Plain) (work : Work) → (D.state io.new.disk.now).honest → IsUnderWay tight (D.state start) (D.state io.old.disk.now) io.old.space kept.now running → TellsBefore ask.now work.stage kept.now.dir running
             → IsWork (bound_of tight (running.number + 1)) (Has (D.state io.old.disk.now).seen io.old.space) self.old work
             → Takes (IsWork (bound_of tight (running.number + 1)) (Has (D.state io.new.disk.now).seen io.new.space) self.new) work (taken ask.now running (covered_of covered.now) work) result }
         ensures stays { OnErr result (self.new ≡ self.old) }
@@ -130,7 +130,7 @@ impl Batch {
     fn begin(&mut self, dir: &Dir, ask: &RecvAsk, header: &Header) -> Result<(), RecvFault>
         requires header { IsStated header.now }
         requires stage { StageFits dir.now ask.now.target self.old.stage }
-        ensures began { (bound : Option ℕ) (image : List ℕ) (space : FreeSectors) (running : Plain) (work : Work) (c : Covered) (len : ℕ) → c.head ≡ heads.Begin header.now len → RunsBy bound (Has image space) dir.now running → TellsBefore work.stage dir.now running
+        ensures began { (bound : Option ℕ) (image : List ℕ) (space : FreeSectors) (running : Plain) (work : Work) (c : Covered) (len : ℕ) → c.head ≡ heads.Begin header.now len → RunsBy bound (Has image space) dir.now running → TellsBefore ask.now work.stage dir.now running
             → IsWork bound (Has image space) self.old work → Takes (IsWork bound (Has image space) self.new) work (taken ask.now running c work) result }
         ensures stays { OnErr result (self.new ≡ self.old) }
         ensures idle { self.new.taken ≡ false → self.new ≡ self.old }

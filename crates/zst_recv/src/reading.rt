@@ -23,6 +23,7 @@ use zst_outside::Disk;
 use zst_plan::RecvAsk;
 use zst_pool::PoolFault;
 use zst_reader::{Reader, Step};
+use zst_stream::faults_are_found;
 
 // Takes the covered records that are there, and answers whether END was one.
 fn drain<D: Disk>(
@@ -36,7 +37,7 @@ fn drain<D: Disk>(
     requires stage { StageFits kept.now.dir ask.now.target batch.old.stage }
     requires reads { HasRead reader.old batch.old.stage }
     ensures drained { (tight : Bool) (start : D) (running : Plain) (work : Work) (text : List ℕ) (handed : List Covered) → (D.state io.new.disk.now).honest
-        → IsUnderWay tight (D.state start) (D.state io.old.disk.now) io.old.space kept.now running → TellsBefore work.stage kept.now.dir running
+        → IsUnderWay tight (D.state start) (D.state io.old.disk.now) io.old.space kept.now running → TellsBefore ask.now work.stage kept.now.dir running
         → StandsFor reader.old text handed → IsWork (bound_of tight (running.number + 1)) (Has (D.state io.old.disk.now).seen io.old.space) batch.old work
         → Drains ask.now running reader.new text handed (IsWork (bound_of tight (running.number + 1)) (Has (D.state io.new.disk.now).seen io.new.space) batch.new) work result }
     ensures stage { StageFits kept.now.dir ask.now.target batch.new.stage }
@@ -53,6 +54,7 @@ fn drain<D: Disk>(
     ensures fills { Fills (D.state io.old.disk.now) io.old.space io.old.failed (D.state io.new.disk.now) io.new.space io.new.failed (stop_of result) }
     ensures same { io.new.disk.ghost_name ≡ io.old.disk.ghost_name }
 {
+    faults_are_found();
     'records: loop {
         match reader.next() {
             Ok(Step::Record(record)) => batch.take(io, kept, ask, &record)?,
@@ -77,7 +79,7 @@ pub(crate) fn read<D: Disk>(
     requires reads { HasRead reader.old batch.old.stage }
     requires limit { pushed_of reader.old + length piece.now ≤ 2 ^ 62 }
     ensures read { (tight : Bool) (start : D) (running : Plain) (work : Work) (text : List ℕ) (handed : List Covered) → (D.state io.new.disk.now).honest
-        → IsUnderWay tight (D.state start) (D.state io.old.disk.now) io.old.space kept.now running → TellsBefore work.stage kept.now.dir running
+        → IsUnderWay tight (D.state start) (D.state io.old.disk.now) io.old.space kept.now running → TellsBefore ask.now work.stage kept.now.dir running
         → HandsOut reader.old text handed waiting → IsWork (bound_of tight (running.number + 1)) (Has (D.state io.old.disk.now).seen io.old.space) batch.old work
         → Reads ask.now running reader.new text piece.now (IsWork (bound_of tight (running.number + 1)) (Has (D.state io.new.disk.now).seen io.new.space) batch.new) work result }
     ensures stage { StageFits kept.now.dir ask.now.target batch.new.stage }

@@ -122,7 +122,7 @@ impl Recv {
         requires ready { pool.old.io.failed ≡ false → Ready (D.state pool.old.io.disk.now) pool.old.kept.body }
         // What the definition makes of the pool that runs and of the receive, at every moment and in the end.
         ensures feeds { (tight : Bool) (running : Plain) (text : List ℕ) (stage : PlainStage) → (D.state pool.new.io.disk.now).honest → pool.old.io.failed ≡ false
-            → IsAtRest tight (D.state pool.old.io.disk.now) pool.old.kept running → TellsBefore stage pool.old.kept.dir running
+            → IsAtRest tight (D.state pool.old.io.disk.now) pool.old.kept running → TellsBefore self.old.ask stage pool.old.kept.dir running
             → Receives (bound_of tight running.number) (Has (D.state pool.old.io.disk.now).seen (free_by pool.old.kept.body)) self.old text stage
             → Feeds tight (D.state pool.old.io.disk.now) (D.state pool.new.io.disk.now) pool.new.kept self.new text piece.now stage running result }
         // Whatever the image, E24 comes only where the longest run that is then free is shorter than what is needed.

@@ -7,7 +7,7 @@ use Rattle.zst_model.specs.declared.sends.header.Header.{Header}
 use Rattle.zst_model.specs.pools.Kept.{kept_of}
 use Rattle.zst_model.specs.pools.Pool.{Pool, Dataset, Snapshot, Partial, dataset_named, inserted, is_before, partial_of}
 use Rattle.zst_model.specs.states.State.{State}
-use Rattle.zst_plan.specs.RecvPlan.{Begins, component_for, snapshot_name}
+use Rattle.zst_plan.specs.RecvPlan.{Begins, snapshot_name}
 use Rattle.zst_plan.specs.declared.receive.RecvAsk.{RecvAsk}
 use Rattle.zst_pool.specs.Partials.{changed_at, dataset_from, head_from, latest_snapshot, rolled, rolled_to}
 use Rattle.zst_replication.specs.Outcomes.{HasOneMore}
@@ -167,7 +167,7 @@ finished_there partial ds = go (find_named partial.target ds) refl
 -- ---- the whole
 
 pub one_more : (ask : RecvAsk) (header : Header) (start pool : Pool) (partial : Partial) → partial_of ask.target start ≡ None → (from : Began ask header start partial) → Finished ask start pool partial
-    → (component_for ask header ≡ Ok partial.component) × HasOneMore start pool ask.target partial.component partial.base header partial.objects.state
+    → HasOneMore start pool ask.target partial.component partial.base header partial.objects.state
 one_more ask header start pool partial none from finished =
     let fresh = begins_anew ask header start (Begins from.component from.base) none from.begins in
     let begins : Begins from.component from.base ≡ Begins fresh.component fresh.base = fresh.plan_is in
@@ -179,38 +179,35 @@ one_more ask header start pool partial none from finished =
     let began = heads_same ask start finished.datasets finished.heads in
     let headed = finished_there partial finished.datasets in
     let at : (ds : List Dataset) → find_named partial.target ds ≡ find_named ask.target ds = λ ds. ap (λ (t : List ℕ). find_named t ds) target in
-    let new : component_for ask header ≡ Ok partial.component = fresh.named ∙ ap (λ (c : List ℕ). Ok c) (same ∙ sym component) in (
-      new,
-      record {
-        id = ap (λ (p : Pool). p.id) is;
-        guids = ap (λ (p : Pool). p.guids) is;
-        later = subst (λ (n : ℕ). start.number < n) (sym (ap (λ (p : Pool). p.number) is)) finished.later;
-        bookmarks = ap (λ (p : Pool). p.bookmarks) is;
-        partials = ap (λ (p : Pool). p.partials) is;
-        snapshot = finished_snapshot finished.number partial;
-        added = ap (λ (p : Pool). p.snapshots) is;
-        name = ap (λ (t : List ℕ). snapshot_name t partial.component) target;
-        name_is_new = ap (λ (c : List ℕ). find (λ (s : Snapshot). bytes_eq s.name (snapshot_name ask.target c)) start.snapshots) (component ∙ sym same) ∙ fresh.new;
-        guid = ap (λ (h : Header). h.to) stated;
-        time = ap (λ (h : Header). h.time) stated;
-        number = sym (ap (λ (p : Pool). p.number) is);
-        redact = ap (λ (h : Header). h.redact) stated;
-        state_is = refl;
-        dataset = headed.dataset;
-        there = ap (λ (p : Pool). dataset_named ask.target p) is ∙ sym (at (finished_datasets partial finished.datasets)) ∙ headed.there;
-        head = headed.head;
-        head_redact = headed.redact ∙ ap (λ (h : Header). h.redact) stated;
-        kept = λ d e.
-            let found = began.there d e in
-            let kept = headed.kept found.0 (at finished.datasets ∙ found.1) in
-            (kept.0 ∙ found.2, kept.1 ∙ found.3);
-        made = λ e. let made = headed.made (at finished.datasets ∙ began.none e) in (made.0 ∙ ap (λ (h : Header). h.kind) stated, made.1);
-        others = λ name e.
-            ap (λ (p : Pool). dataset_named name p) is
-            ∙ finished_others partial finished.datasets name (subst (λ (t : List ℕ). bytes_eq t name ≡ false) (sym target) e)
-            ∙ began.others name e;
-      },
-    )
+    record {
+      id = ap (λ (p : Pool). p.id) is;
+      guids = ap (λ (p : Pool). p.guids) is;
+      later = subst (λ (n : ℕ). start.number < n) (sym (ap (λ (p : Pool). p.number) is)) finished.later;
+      bookmarks = ap (λ (p : Pool). p.bookmarks) is;
+      partials = ap (λ (p : Pool). p.partials) is;
+      snapshot = finished_snapshot finished.number partial;
+      added = ap (λ (p : Pool). p.snapshots) is;
+      name = ap (λ (t : List ℕ). snapshot_name t partial.component) target;
+      name_is_new = ap (λ (c : List ℕ). find (λ (s : Snapshot). bytes_eq s.name (snapshot_name ask.target c)) start.snapshots) (component ∙ sym same) ∙ fresh.new;
+      guid = ap (λ (h : Header). h.to) stated;
+      time = ap (λ (h : Header). h.time) stated;
+      number = sym (ap (λ (p : Pool). p.number) is);
+      redact = ap (λ (h : Header). h.redact) stated;
+      state_is = refl;
+      dataset = headed.dataset;
+      there = ap (λ (p : Pool). dataset_named ask.target p) is ∙ sym (at (finished_datasets partial finished.datasets)) ∙ headed.there;
+      head = headed.head;
+      head_redact = headed.redact ∙ ap (λ (h : Header). h.redact) stated;
+      kept = λ d e.
+          let found = began.there d e in
+          let kept = headed.kept found.0 (at finished.datasets ∙ found.1) in
+          (kept.0 ∙ found.2, kept.1 ∙ found.3);
+      made = λ e. let made = headed.made (at finished.datasets ∙ began.none e) in (made.0 ∙ ap (λ (h : Header). h.kind) stated, made.1);
+      others = λ name e.
+          ap (λ (p : Pool). dataset_named name p) is
+          ∙ finished_others partial finished.datasets name (subst (λ (t : List ℕ). bytes_eq t name ≡ false) (sym target) e)
+          ∙ began.others name e;
+    }
 
 -- the same of what the image keeps
 pub one_more_kept : (start pool : Pool) (target component : List ℕ) (base : Option (List ℕ)) (header : Header) (state : State)

@@ -16,7 +16,7 @@ use Rattle.zst_record.specs.declared.head.Head.TheVariants as heads
 use Rattle.zst_record.specs.Heads.{Covered}
 use Rattle.zst_stream.specs.Items.{items_by, items_of}
 use Rattle.zst_recv.specs.Receiving.{Stage, Waits, Lives, Ends, Work, batch, batch_by, began, begun, moved_by, of_plan, opened, taken, taken_at, went_on, with_applied}
-use Rattle.zst_replication.specs.Replicas.{base_objects}
+use Rattle.zst_replication.specs.Outcomes.{base_objects}
 use Rattle.zst_replication.proofs.Moved.{all_applied, applied_on, moves, points_on}
 use Rattle.zst_replication.proofs.Planned.{begins_anew}
 use Rattle.zst_replication.proofs.Results.{bound, ok_parts, plan_ok}

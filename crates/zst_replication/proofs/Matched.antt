@@ -19,7 +19,8 @@ use Rattle.zst_model.specs.states.State.{IsState, State}
 use Rattle.zst_plan.specs.RecvPlan.{Base, Begins, base_for, recv_plan}
 use Rattle.zst_plan.specs.declared.receive.RecvAsk.{RecvAsk}
 use Rattle.zst_replication.specs.Matching.{BasesMatch, FullMatches, KnowsSource, SourceIsKnown}
-use Rattle.zst_replication.specs.Replicas.{MatchesBase, base_objects}
+use Rattle.zst_replication.specs.Outcomes.{base_objects}
+use Rattle.zst_replication.specs.Replicas.{MatchesBase}
 use Rattle.zst_replication.proofs.Planned.{base_there, begins_anew, lawful_base}
 
 -- the base that a receive begins with

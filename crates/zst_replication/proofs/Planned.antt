@@ -25,7 +25,7 @@ use Rattle.zst_model.specs.states.State.{IsState, no_objects}
 use Rattle.zst_plan.specs.RecvPlan as planning
 use Rattle.zst_plan.specs.RecvPlan.{Base, RecvPlan, Begins, Resumes, base_anew, base_by_guid, base_by_head, base_by_origin, base_for, base_onto, cloned_base, component_for, find_latest, fresh_plan, if_contained, if_frees, if_from_origin, if_increment, if_kind, if_new, if_plain, if_room, if_source, if_within, is_dated_after, is_full, last_of, latest_of, new_datasets, recv_plan, resumed_plan, rolled_back, snapshot_name}
 use Rattle.zst_plan.specs.declared.receive.RecvAsk.{RecvAsk}
-use Rattle.zst_replication.specs.Replicas.{base_objects}
+use Rattle.zst_replication.specs.Outcomes.{base_objects}
 use Rattle.zst_replication.proofs.Results.{bound, ok_parts, some_parts, unless_ok}
 
 -- the plan of a target without a partial state

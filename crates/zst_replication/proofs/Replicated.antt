@@ -15,7 +15,7 @@ use Rattle.zst_model.specs.sends.Target.{CanRedact, redacted, redacted_object, t
 use Rattle.zst_model.specs.sends.View.{IsView}
 use Rattle.zst_model.specs.states.Apply.{apply_all}
 use Rattle.zst_model.specs.states.State.{IsState, Object, State}
-use Rattle.zst_plan.specs.RecvPlan.{Base, Begins, component_for, recv_plan}
+use Rattle.zst_plan.specs.RecvPlan.{Base, Begins, recv_plan}
 use Rattle.zst_plan.specs.declared.receive.RecvAsk.{RecvAsk}
 use Rattle.zst_record.specs.Heads.{Covered}
 use Rattle.zst_stream.specs.Items.{ViewIsRead, ViewIsStream}
@@ -24,11 +24,11 @@ use Rattle.zst_stream.specs.Reading.{Outcome, after, complete, reading, reading_
 use Rattle.zst_send.specs.Sends.{sent_text}
 use Rattle.zst_recv.specs.Feeds.{feeds}
 use Rattle.zst_recv.specs.Receiving.{Stage, Waits, Lives, Ends, Fed, Goes, Stops, pool_of}
-use Rattle.zst_replication.specs.Outcomes.{HasOneMore, Progress}
-use Rattle.zst_replication.specs.Replicas.{AreOfStream, IsSendable, MatchesBase, SentIsReceived, StopsAreProgress, base_objects}
+use Rattle.zst_replication.specs.Outcomes.{HasOneMore, Progress, base_name, base_objects}
+use Rattle.zst_replication.specs.Replicas.{AreOfStream, IsSendable, MatchesBase, SentIsReceived, StopsAreProgress}
 use Rattle.zst_replication.proofs.Ended.{one_more, one_more_kept}
 use Rattle.zst_replication.proofs.Going.{Stands, Way, feeds_way}
-use Rattle.zst_replication.proofs.Leading.{Came, Leads, Lived}
+use Rattle.zst_replication.proofs.Leading.{Began, Came, Leads, Lived}
 use Rattle.zst_replication.proofs.Planned.{begins_anew, lawful_base}
 use Rattle.zst_replication.proofs.Results.{ok_parts}
 use Rattle.zst_replication.proofs.Stopped.{living_nothing, living_partial, start_untouched}
@@ -99,66 +99,94 @@ module _ (laws : Grounds) (sent : Sent) (ask : RecvAsk) (start : Pool) (can : Is
   state_is : (partial : Partial) → Came ask (header_of sent) (items (sent_view sent) origin) start partial → partial.objects.state ≡ sent.snapshot.objects.state
   state_is partial came = ok_parts _ _ (sym came.whole ∙ made came.from.component came.from.base came.from.begins)
 
+  component_of : (partial : Partial) (from : Began ask (header_of sent) start partial) → partial.component ≡ from.component
+  component_of partial from = ap (λ (p : Partial). p.component) from.further
+
+  base_of : (partial : Partial) (from : Began ask (header_of sent) start partial) → partial.base ≡ base_name from.base
+  base_of partial from = ap (λ (p : Partial). p.base) from.further
+
   pub received : (after : Pool) (partial : Partial) (pieces : List (List ℕ)) → AreOfStream pieces sent → feeds ask [] pieces Waits start ≡ Goes after (Ends partial)
-      → (component_for ask (header_of sent) ≡ Ok partial.component) × HasOneMore start after ask.target partial.component partial.base (header_of sent) sent.snapshot.objects.state
+      → (base : Base) × (recv_plan ask (header_of sent) start ≡ Ok (Begins partial.component base))
+      × HasOneMore start after ask.target partial.component (base_name base) (header_of sent) sent.snapshot.objects.state
   received after partial pieces of e =
       let came = subst (λ (f : Fed). Way laws.applied ask (header_of sent) (items (sent_view sent) origin) start none f) e (way pieces of) in
-      let more = one_more ask (header_of sent) start after partial none came.2.1.from came.0.runs in
-      (more.0, subst (λ (s : State). HasOneMore start after ask.target partial.component partial.base (header_of sent) s) (state_is partial came.2.1) more.1)
+      let from = came.2.1.from in
+      let more = one_more ask (header_of sent) start after partial none from came.0.runs in (
+        from.base,
+        subst (λ (c : List ℕ). recv_plan ask (header_of sent) start ≡ Ok (Begins c from.base)) (sym (component_of partial from)) from.begins,
+        subst (λ (b : Option (List ℕ)). HasOneMore start after ask.target partial.component b (header_of sent) sent.snapshot.objects.state) (base_of partial from)
+            (subst (λ (s : State). HasOneMore start after ask.target partial.component partial.base (header_of sent) s) (state_is partial came.2.1) more),
+      )
 
   -- ---- stops
 
   is_view : IsView (sent_view sent)
   is_view = laws.views (header_of sent) sent.snapshot.objects (choice_of sent) can.stated.lawful can_redact
 
-  same_base : (c d : List ℕ) (a b : Base) → recv_plan ask (header_of sent) start ≡ Ok (Begins c a) → recv_plan ask (header_of sent) start ≡ Ok (Begins d b) → a ≡ b
-  same_base c d a b x y = let both : Begins c a ≡ Begins d b = ok_parts _ _ (sym x ∙ y) in cc
+  same_plan : (c d : List ℕ) (a b : Base) → recv_plan ask (header_of sent) start ≡ Ok (Begins c a) → recv_plan ask (header_of sent) start ≡ Ok (Begins d b) → (c ≡ d) × (a ≡ b)
+  same_plan c d a b x y =
+      let both : Begins c a ≡ Begins d b = ok_parts _ _ (sym x ∙ y) in
+      let named : c ≡ d = cc in
+      let based : a ≡ b = cc in
+      (named, based)
 
   module _ (component : List ℕ) (base : Base) (begins : recv_plan ask (header_of sent) start ≡ Ok (Begins component base)) where
+    plan_of : (partial : Partial) (from : Began ask (header_of sent) start partial) → (from.component ≡ component) × (from.base ≡ base)
+    plan_of partial from = same_plan from.component component from.base base from.begins begins
+
+    named : (partial : Partial) (from : Began ask (header_of sent) start partial) → partial.component ≡ component
+    named partial from = component_of partial from ∙ (plan_of partial from).0
+
+    based : (partial : Partial) (from : Began ask (header_of sent) start partial) → partial.base ≡ base_name base
+    based partial from = base_of partial from ∙ ap base_name (plan_of partial from).1
+
     stands_for : (flags : ℕ) (partial : Partial) (left : List Covered) → Lived ask (header_of sent) (items (sent_view sent) origin) start flags partial left → StandsFor (sent_view sent) (base_objects base).state partial.point partial.objects.state
     stands_for flags partial left lived =
-        let same = same_base lived.from.component component lived.from.base base lived.from.begins begins in
+        let same = plan_of partial lived.from in
         let state = (base_objects base).state in
         subst (λ (point : Point). StandsFor (sent_view sent) state point partial.objects.state) (sym lived.point)
         (laws.cuts (sent_view sent) state origin state lived.done _ partial.objects.state is_view
         (laws.starts (sent_view sent) state sent.snapshot.objects.state is_view (made component base begins)) lived.split
-        (subst (λ (b : Base). apply_all lived.done (base_objects b).state ≡ Ok partial.objects.state) same lived.applied))
+        (subst (λ (b : Base). apply_all lived.done (base_objects b).state ≡ Ok partial.objects.state) same.1 lived.applied))
 
     living : (flags : ℕ) (partial : Partial) (pool : Pool) (left : List Covered) → Stands ask start (Lives flags partial) pool → Lived ask (header_of sent) (items (sent_view sent) origin) start flags partial left
-        → Progress ask (sent_view sent) (base_objects base).state (kept_of start) (kept_of pool)
+        → Progress ask (sent_view sent) component base (kept_of start) (kept_of pool)
     living flags partial pool left stands lived = go partial.keep refl
       where
-        go : (t : Bool) → partial.keep ≡ t → Progress ask (sent_view sent) (base_objects base).state (kept_of start) (kept_of pool)
+        go : (t : Bool) → partial.keep ≡ t → Progress ask (sent_view sent) component base (kept_of start) (kept_of pool)
         go false is = inl (living_nothing ask start pool partial none stands.asked stands.runs is)
         go true is = inr (inl (record {
           partial = partial;
           has = living_partial ask start pool partial none stands.asked stands.runs is;
           kept = is;
           header = ap (λ (p : Partial). p.header) lived.from.further;
+          named = named partial lived.from;
+          based = based partial lived.from;
           stands = stands_for flags partial left lived;
         }))
 
     on_way : (stage : Stage) (pool : Pool) (left : List Covered) → Stands ask start stage pool → Leads ask (header_of sent) (items (sent_view sent) origin) start pool stage left
-        → Progress ask (sent_view sent) (base_objects base).state (kept_of start) (kept_of pool)
+        → Progress ask (sent_view sent) component base (kept_of start) (kept_of pool)
     on_way Waits pool left stands leads = inl (start_untouched ask start pool stands.runs)
     on_way (Lives flags partial) pool left stands leads = living flags partial pool left stands leads
     on_way (Ends partial) pool left stands leads =
-        let more = one_more ask (header_of sent) start pool partial none leads.1.from stands.runs in
+        let from = leads.1.from in
+        let more = one_more ask (header_of sent) start pool partial none from stands.runs in
+        let whole = subst (λ (s : State). HasOneMore start pool ask.target partial.component partial.base (header_of sent) s) (state_is partial leads.1) more in
         inr (inr (record {
-          component = partial.component;
-          name = partial.base;
           whole = sent.snapshot.objects.state;
           is_target = made component base begins;
-          more = one_more_kept start pool ask.target partial.component partial.base (header_of sent) sent.snapshot.objects.state
-              (subst (λ (s : State). HasOneMore start pool ask.target partial.component partial.base (header_of sent) s) (state_is partial leads.1) more.1);
+          more = one_more_kept start pool ask.target component (base_name base) (header_of sent) sent.snapshot.objects.state
+              (subst (λ (c : List ℕ). HasOneMore start pool ask.target c (base_name base) (header_of sent) sent.snapshot.objects.state) (named partial from)
+              (subst (λ (b : Option (List ℕ)). HasOneMore start pool ask.target partial.component b (header_of sent) sent.snapshot.objects.state) (based partial from) whole));
         }))
 
-    ways : (f : Fed) → Way laws.applied ask (header_of sent) (items (sent_view sent) origin) start none f → Progress ask (sent_view sent) (base_objects base).state (kept_of start) (kept_of (pool_of f))
+    ways : (f : Fed) → Way laws.applied ask (header_of sent) (items (sent_view sent) origin) start none f → Progress ask (sent_view sent) component base (kept_of start) (kept_of (pool_of f))
     ways (Goes next stage) w = on_way stage next w.1 w.0 w.2
     ways (Stops next refusal) w =
-        subst (λ (p : Pool). Progress ask (sent_view sent) (base_objects base).state (kept_of start) p) (sym w.keeps) (on_way w.stage w.standing w.left w.stands w.leads)
+        subst (λ (p : Pool). Progress ask (sent_view sent) component base (kept_of start) p) (sym w.keeps) (on_way w.stage w.standing w.left w.stands w.leads)
 
-    pub progressed : (pieces : List (List ℕ)) → AreOfStream pieces sent → Progress ask (sent_view sent) (base_objects base).state (kept_of start) (kept_of (pool_of (feeds ask [] pieces Waits start)))
+    pub progressed : (pieces : List (List ℕ)) → AreOfStream pieces sent → Progress ask (sent_view sent) component base (kept_of start) (kept_of (pool_of (feeds ask [] pieces Waits start)))
     progressed pieces of = ways (feeds ask [] pieces Waits start) (way pieces of)
 
 pub sent_received : Grounds → SentIsReceived

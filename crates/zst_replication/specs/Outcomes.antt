@@ -1,14 +1,24 @@
 -- What a receive may have made of a pool: nothing yet, a partial state on its way to the target, or one snapshot more.
-use Rattle.std.specs.Prelude.{ℕ, ◌≡◌, ◌<◌, ◌≤◌, ◌⊎◌, true, false, List, Option, Some, None, Ok, bytes_eq}
+use Rattle.std.specs.Prelude.{ℕ, ◌≡◌, ◌<◌, ◌≤◌, ◌⊎◌, true, false, List, Option, Some, None, Ok, bytes_eq, option_map}
+use Rattle.std.specs.Option.{option_map_or}
 use Rattle.zst_model.specs.declared.sends.header.Header.{Header}
-use Rattle.zst_model.specs.pools.Pool.{Pool, Dataset, Snapshot, Partial, dataset_named, snapshot_named, partial_of, inserted, snapshot_is_before}
+use Rattle.zst_model.specs.pools.Pool.{Pool, Dataset, Snapshot, Partial, dataset_named, snapshot_named, partial_of, inserted, snapshot_is_before, untouched}
 use Rattle.zst_model.specs.sends.StandsFor.{StandsFor}
 use Rattle.zst_model.specs.sends.Target.{target}
 use Rattle.zst_model.specs.sends.View.{View}
+use Rattle.zst_model.specs.states.Dated.{DatedState}
 use Rattle.zst_model.specs.states.State.{State}
-use Rattle.zst_plan.specs.RecvPlan.{snapshot_name}
+use Rattle.zst_plan.specs.RecvPlan.{Base, snapshot_name}
 use Rattle.zst_plan.specs.declared.receive.RecvAsk.{RecvAsk}
 use Rattle.zst_pool.specs.Partials.{rolled_back, partials_of_others}
+
+-- the objects that a receive begins with
+abbrev pub base_objects : Base → DatedState
+base_objects base = option_map_or (λ snapshot. snapshot.objects) base.snapshot untouched
+
+-- and the name of the snapshot that they are of
+abbrev pub base_name : Base → Option (List ℕ)
+base_name base = option_map (λ snapshot. snapshot.name) base.snapshot
 
 -- the target's head went back to its latest snapshot, as -F asks
 abbrev pub IsRolled : RecvAsk → Pool → Pool → Type 0
@@ -35,9 +45,9 @@ pub record HasPartial (ask : RecvAsk) (old new : Pool) (partial : Partial) : Typ
   pub others : partials_of_others ask.target new ≡ old.partials
 
 -- One snapshot more, of this name, with the header's guid, time and redaction guids and this state, which the target's head is. The target
--- is of the kind that it was of and has the origin that it had, or it is new, of the stream's kind and with this base as its origin. All
+-- is of the kind that it was of and has the origin that it had, or it is new, of the stream's kind and with this origin. All
 -- else is equal but the number of the last commit.
-pub record HasOneMore (old new : Pool) (target component : List ℕ) (base : Option (List ℕ)) (header : Header) (state : State) : Type 0 where
+pub record HasOneMore (old new : Pool) (target component : List ℕ) (origin : Option (List ℕ)) (header : Header) (state : State) : Type 0 where
   pub id : new.id ≡ old.id
   pub guids : new.guids ≡ old.guids
   pub later : old.number < new.number
@@ -57,25 +67,25 @@ pub record HasOneMore (old new : Pool) (target component : List ℕ) (base : Opt
   pub head : dataset.head ≡ snapshot.objects
   pub head_redact : dataset.redact ≡ header.redact
   pub kept : (before : Dataset) → dataset_named target old ≡ Some before → (dataset.kind ≡ before.kind) × (dataset.origin ≡ before.origin)
-  pub made : dataset_named target old ≡ None → (dataset.kind ≡ header.kind) × (dataset.origin ≡ base)
+  pub made : dataset_named target old ≡ None → (dataset.kind ≡ header.kind) × (dataset.origin ≡ origin)
   pub others : (name : List ℕ) → bytes_eq target name ≡ false → dataset_named name new ≡ dataset_named name old
 
--- a partial state that is kept is there, and it is on its way from this base to what the view makes of it
-pub record IsOnItsWay (ask : RecvAsk) (view : View) (base : State) (old new : Pool) : Type 0 where
+-- a partial state that is kept is there, of this component and base, and it is on its way from that to what the view makes of it
+pub record IsOnItsWay (ask : RecvAsk) (view : View) (component : List ℕ) (base : Base) (old new : Pool) : Type 0 where
   pub partial : Partial
   pub has : HasPartial ask old new partial
   pub kept : partial.keep ≡ true
   pub header : partial.header ≡ view.header
-  pub stands : StandsFor view base partial.point partial.objects.state
+  pub named : partial.component ≡ component
+  pub based : partial.base ≡ base_name base
+  pub stands : StandsFor view (base_objects base).state partial.point partial.objects.state
 
--- the snapshot is there, and it is what the view makes of this base
-pub record IsReceived (ask : RecvAsk) (view : View) (base : State) (old new : Pool) : Type 0 where
-  pub component : List ℕ
-  pub name : Option (List ℕ)
+-- the snapshot of this component is there, and it is what the view makes of this base
+pub record IsReceived (ask : RecvAsk) (view : View) (component : List ℕ) (base : Base) (old new : Pool) : Type 0 where
   pub whole : State
-  pub is_target : target view base ≡ Ok whole
-  pub more : HasOneMore old new ask.target component name view.header whole
+  pub is_target : target view (base_objects base).state ≡ Ok whole
+  pub more : HasOneMore old new ask.target component (base_name base) view.header whole
 
--- how far a receive of this view from its start has come
-abbrev pub Progress : RecvAsk → View → State → Pool → Pool → Type 0
-Progress ask view base old new = HasNothing ask old new ⊎ (IsOnItsWay ask view base old new ⊎ IsReceived ask view base old new)
+-- how far a receive of this view, into a snapshot of this component and from this base, has come
+abbrev pub Progress : RecvAsk → View → List ℕ → Base → Pool → Pool → Type 0
+Progress ask view component base old new = HasNothing ask old new ⊎ (IsOnItsWay ask view component base old new ⊎ IsReceived ask view component base old new)

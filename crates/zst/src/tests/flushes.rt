@@ -3,12 +3,12 @@
 use super::runs::sink;
 use super::streams::ten_records;
 use super::{TEN, covered};
-use crate::run::run;
 use std::alloc::Global;
 use std::process::Abort;
 use std::str;
 use std::test::Fail;
 use zst_outside::{Fault, MemSource, Sink, SureDisk};
+use zst_run::run;
 
 /// The number of no call.
 const NONE: u64 = u64::MAX;

@@ -1,11 +1,11 @@
 // Runs on an image in memory, one for each line, as the program makes them.
 
 use super::runs::{Ran, check, sink};
-use crate::run::run;
 use std::alloc::Global;
 use std::process::Abort;
 use std::test::Fail;
 use zst_outside::{Disk, MemDisk, MemSink, MemSource, SureDisk};
+use zst_run::run;
 
 /// The time of each run.
 const NOW: u64 = 1_700_000_000;

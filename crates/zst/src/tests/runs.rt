@@ -1,12 +1,12 @@
 // Runs over inputs and outputs in memory.
 
 use super::streams::{sums_at, sums_before};
-use crate::run::run;
 use std::alloc::Global;
 use std::process::Abort;
 use std::str;
 use std::test::Fail;
 use zst_outside::{MemSink, MemSource, SureDisk};
+use zst_run::run;
 
 /// What came of a run.
 #[derive(Drop)]

@@ -9,7 +9,7 @@ use Rattle.zst_recv.specs.Stages.{IsWork, waits_at}
 use Rattle.zst_recv.specs.declared.batch.Batch.{Batch}
 use Rattle.zst_recv.proofs.Draining.{Fills-none, Fills-then, drain_begins, drain_ends, drain_goes_on, drain_refused, goes_under, handed_within, is_read}
 use Rattle.zst_recv.specs.declared.fault.RecvFault.{RecvFault}
-use Rattle.zst_recv.proofs.Damaging.{damaged_behind, damaged_first, err_told, no_stream, record_known, told_stream}
+use Rattle.zst_recv.proofs.Damaging.{damaged_behind, damaged_first, err_told, found_stream, no_stream, record_known, told_stream}
 use Rattle.zst_recv.proofs.Behind.{behind_more, over_behind, tells_on}
 use Rattle.zst_recv.proofs.reading.drain.Goals as goal
 
@@ -169,3 +169,10 @@ returns-in-Err-clause-stream g c = λ text handed fault stands is.
     let h = rw c.in-Err.is at c.next.follows.holds-at-none in
     let later = c.records.invariant.reads text handed stands in
     told_stream text later.0 c.in-Err.fault fault (h.1 text later.0 later.1).whole (err_told Bool _ _ is)
+
+pub returns-in-Err-clause-known : goal.returns-in-Err-clause-known
+returns-in-Err-clause-known g c =
+    let h = rw c.in-Err.is at c.next.follows.holds-at-none in
+    let r = c.requires.reads in
+    let later = c.records.invariant.reads r.text r.handed r.stands in
+    found_stream r.text later.0 c.in-Err.fault (h.1 r.text later.0 later.1).whole (c.faults_are_found.ensures r.text)

@@ -18,7 +18,7 @@ invariant-records g l =
     let disk = g.D.Disk in
     record {
       drained : (tight : Bool) (start : g.row.D.Denot) (running : Pool) (work : Work) (text : List ℕ) (handed : List Covered) → (disk.state l.io.disk.now).honest
-          → IsUnderWay tight (disk.state start) (disk.state l.fn.io.disk.now) l.fn.io.space l.kept running → TellsBefore work.stage l.kept.dir running
+          → IsUnderWay tight (disk.state start) (disk.state l.fn.io.disk.now) l.fn.io.space l.kept running → TellsBefore l.ask work.stage l.kept.dir running
           → StandsFor l.fn.reader text handed → IsWork (bound_of tight (running.number + 1)) (Has (disk.state l.fn.io.disk.now).seen l.fn.io.space) l.fn.batch work
           → Draining l.ask running l.reader text handed (IsWork (bound_of tight (running.number + 1)) (Has (disk.state l.io.disk.now).seen l.io.space) l.batch) work;
       stage : StageFits l.kept.dir l.ask.target l.batch.stage;

@@ -1,8 +1,0 @@
-use Rattle.zst_outside.specs.Printing.{Prints-then, Prints-longer}
-use Rattle.zst.proofs.receive.write_both.Goals as goal
-
-pub returns-in_err-write_all : goal.returns-in_err-write_all
-returns-in_err-write_all g c = Prints-longer _ _ _ _ _ _ c.from_residual.ensures.0 c.in_err-write_all.ensures
-
-pub returns : goal.returns
-returns g c = Prints-then _ _ _ _ _ _ c.in_ok-write_all.ensures.whole c.write_all-2.ensures

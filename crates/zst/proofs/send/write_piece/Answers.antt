@@ -1,7 +1,0 @@
-use Rattle.std.proofs.Common.{arith}
-use Rattle.zst.proofs.SendLemmas.{piece_too_long}
-use Rattle.zst.proofs.send.write_piece.Goals as goal
-
-pub returns-then-piece-count : goal.returns-then-piece-count
-returns-then-piece-count g c =
-    piece_too_long c.args.piece.now c.args.is_last c.args.count.now c.args.count.now _ _ _ (let more = c.if-piece-count.true in let within = c.requires in omega arith) c.hand_on.ensures

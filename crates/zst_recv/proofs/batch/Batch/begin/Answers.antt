@@ -1,0 +1,21 @@
+use Rattle.std.proofs.Common.{◌≡◌, sym, subst, ◌∙◌}
+use Rattle.zst_block.specs.Blocks.{Has}
+use Rattle.zst_plan.specs.RecvPlan.{recv_plan}
+use Rattle.zst_recv.specs.Receiving.{opened}
+use Rattle.zst_recv.specs.Stages.{IsStage, IsWork}
+use Rattle.zst_recv.specs.declared.stage.Stage as coded
+use Rattle.zst_recv.specs.declared.stage.Stage.TheVariants as stages
+use Rattle.zst_recv.proofs.Answering.{err_alike}
+use Rattle.zst_recv.proofs.Behind.{refused_begin, waits_tell}
+use Rattle.zst_recv.proofs.batch.Batch.begin.Goals.{in-Waits, in_default}
+use Rattle.zst_recv.proofs.batch.Batch.begin.Goals as goal
+
+pub returns-in-Err-clause-began : goal.returns-in-Err-clause-began
+returns-in-Err-clause-began c = λ bound image space running work covered len head runs tells is.
+    let ask = c.args.ask.now in
+    let header = c.args.header.now in
+    let has = Has image space in
+    let waits : c.args.self.now.stage ≡ stages.Waits = elim c.match-matches.branch [ in-Waits w ↦ w.in-Waits.is | in_default w ↦ absurd (let both = sym w.matches-is ∙ c.if-not-matches.false in cc) ] in
+    let told = waits_tell ask header c.args.dir.now running bound has work.stage (subst (λ (s : coded.Stage). IsStage bound has s work.stage) waits is.stage) tells in
+    let refused = err_alike (λ batch plan. IsWork bound has batch (opened ask header plan)) c.in-Err.fault (recv_plan ask header running) (c.in-Err.ensures.exact bound image space running runs told.1) in
+    (refused_begin ask header running covered len work c.in-Err.fault head told.0 refused, is)

@@ -1,0 +1,48 @@
+-- What a line does that sends, and one that receives.
+use Rattle.std.proofs.Common.{◌≡◌, ℕ, Some, Result, sym, subst}
+use Rattle.zst_outside.specs.Images.{DiskState}
+use Rattle.zst_model.specs.declared.refusals.refusal.Refusal.{Refusal}
+use Rattle.zst_model.specs.declared.sends.ask.SendAsk.{SendAsk}
+use Rattle.zst_line.specs.declared.line.Line.{Line}
+use Rattle.zst_line.specs.declared.line.Line.TheVariants.{Dump, Create, Step, Redact, Send, Resume, Receive, Abort, Token, Check, Gen, Reclaim, Replay}
+use Rattle.zst_run.specs.Devices.{Devices}
+use Rattle.zst_plan.specs.declared.receive.RecvAsk.{RecvAsk}
+use Rattle.zst_run.specs.Lines.{DoesLine, asked, wanted}
+use Rattle.zst_run.specs.Receives.{Receives, receipt_of}
+use Rattle.zst_run.specs.Sends.{Sends, ask_of}
+
+pub does_send : {D : Type 0} → (state : D → DiskState) (now : ℕ) (line : Line) (ask : SendAsk) (old new : Devices D) (result : Result (Unit {0}) Refusal) → asked line ≡ Some ask
+    → Sends ask (state old.here) (state new.here) old.out new.out result → new.input ≡ old.input → DoesLine state now line old new result
+does_send state now (Send image from redacts snapshot) ask old new result is sends input =
+    let same : ask_of from redacts snapshot ≡ ask = cc is in
+    (subst (λ (a : SendAsk). Sends a (state old.here) (state new.here) old.out new.out result) (sym same) sends, input)
+does_send state now Dump ask old new result is sends input = absurd (cc is)
+does_send state now (Create image sectors id) ask old new result is sends input = absurd (cc is)
+does_send state now (Step image command) ask old new result is sends input = absurd (cc is)
+does_send state now (Redact image snapshot bookmark kept) ask old new result is sends input = absurd (cc is)
+does_send state now (Resume image token) ask old new result is sends input = absurd (cc is)
+does_send state now (Receive image keeps forces origin target) ask old new result is sends input = absurd (cc is)
+does_send state now (Abort image dataset) ask old new result is sends input = absurd (cc is)
+does_send state now (Token image dataset) ask old new result is sends input = absurd (cc is)
+does_send state now (Check image) ask old new result is sends input = absurd (cc is)
+does_send state now (Gen image steps) ask old new result is sends input = absurd (cc is)
+does_send state now (Reclaim image) ask old new result is sends input = absurd (cc is)
+does_send state now (Replay here there) ask old new result is sends input = absurd (cc is)
+
+pub does_receive : {D : Type 0} → (state : D → DiskState) (now : ℕ) (line : Line) (ask : RecvAsk) (old new : Devices D) (result : Result (Unit {0}) Refusal) → wanted line ≡ Some ask
+    → Receives ask (state old.here) (state new.here) old.input new.input old.out new.out result → DoesLine state now line old new result
+does_receive state now (Receive image keeps forces origin target) ask old new result is receives =
+    let same : receipt_of keeps forces origin target ≡ ask = cc is in
+    subst (λ (a : RecvAsk). Receives a (state old.here) (state new.here) old.input new.input old.out new.out result) (sym same) receives
+does_receive state now Dump ask old new result is receives = absurd (cc is)
+does_receive state now (Create image sectors id) ask old new result is receives = absurd (cc is)
+does_receive state now (Step image command) ask old new result is receives = absurd (cc is)
+does_receive state now (Redact image snapshot bookmark kept) ask old new result is receives = absurd (cc is)
+does_receive state now (Send image from redacts snapshot) ask old new result is receives = absurd (cc is)
+does_receive state now (Resume image token) ask old new result is receives = absurd (cc is)
+does_receive state now (Abort image dataset) ask old new result is receives = absurd (cc is)
+does_receive state now (Token image dataset) ask old new result is receives = absurd (cc is)
+does_receive state now (Check image) ask old new result is receives = absurd (cc is)
+does_receive state now (Gen image steps) ask old new result is receives = absurd (cc is)
+does_receive state now (Reclaim image) ask old new result is receives = absurd (cc is)
+does_receive state now (Replay here there) ask old new result is receives = absurd (cc is)

@@ -1,0 +1,287 @@
+-- What each piece of a send leaves, and how a send ends.
+use Rattle.std.proofs.Common.{◌≡◌, ◌≢◌, inl, inr, ⊎_elim, ℕ, ◌+◌, zero, suc, ◌<◌, ◌≤◌, Bool, true, Option, Some, None, Result, List, [], ◌∷◌, ◌++◌, length, take, drop, Ok, Err, IfErr, refl, sym, ap, ◌∙◌, subst, arith, length-append}
+use Rattle.std.specs.Prelude.{Contains, IfSome, slice_index_or}
+use Rattle.std.proofs.lemmas.List.{append-nil, drop_all}
+use Rattle.zst_outside.specs.Causes.{Rose, Rose-earlier}
+use Rattle.zst_outside.specs.Images.{DiskState}
+use Rattle.zst_outside.specs.States.{SinkState}
+use Rattle.zst_outside.specs.Printing.{Wrote, Printed, Wrote-kept, Wrote-then, Wrote-longer, Wrote-start, Printed-start, Printed-then}
+use Rattle.zst_model.specs.declared.refusals.faults.Quantity.TheVariants.{Stream}
+use Rattle.zst_model.specs.declared.refusals.plan_fault.PlanFault.{PlanFault}
+use Rattle.zst_model.specs.declared.refusals.refusal.Refusal.{Refusal}
+use Rattle.zst_model.specs.declared.refusals.refusal.Refusal.TheVariants as refusals
+use Rattle.zst_model.specs.refusals.Refusal.{refusal_of}
+use Rattle.zst_model.specs.sends.Headers.{Sent}
+use Rattle.zst_dir.specs.Rows.{Rows}
+use Rattle.zst_model.specs.declared.refusals.named.Name.{Name}
+use Rattle.zst_tree.specs.Damage.{IsSeen}
+use Rattle.zst_tree.specs.declared.tree.ObjSet.{ObjSet}
+use Rattle.zst_objset.specs.Damage.{DamageFact}
+use Rattle.zst_pool.specs.Damage.{IsOf, OfSet}
+use Rattle.zst_pool.specs.Finding.{set_named}
+use Rattle.zst_pool.specs.Faults.{pool_refusal}
+use Rattle.zst_pool.specs.Telling.{stop_of}
+use Rattle.zst_block.specs.declared.fault.BlockFault.TheVariants as blocks
+use Rattle.zst_pool.specs.declared.fault.PoolFault.{PoolFault}
+use Rattle.zst_pool.specs.declared.fault.PoolFault.TheVariants as faults
+use Rattle.zst_reader.specs.Filling.{stream_limit}
+use Rattle.zst_send.proofs.Knowing.{send_more}
+use Rattle.zst_send.specs.Damage.{IsDamagedSend}
+use Rattle.zst_send.specs.Knowing.{IsAmong}
+use Rattle.zst_send.specs.Sends as given
+use Rattle.zst_send.specs.Sends.{sent_text}
+use Rattle.zst_send.specs.declared.send.Send.{Send}
+use Rattle.zst_tree.specs.Indices.{Blocks}
+use Rattle.zst_run.specs.Replies.{HandsOn}
+use Rattle.zst_run.specs.Sends.{IsSendRefusal, OfGiving, RefusalEnds, SendsBy, TellsOf, TextEnds, send_damage}
+use Rattle.zst_run.specs.Sending.{IfUnplanned, IsOpenRefusal, OpensBy, Passed, PieceWritten, PlansOpen, Sending, WritesPiece}
+use Rattle.zst_run.proofs.Commanded.{damaged_only, disk_fault, failed_before, full_only, of_plan, plan_named}
+
+-- ---- refusals
+
+-- a pool's fault is never the output's
+no_sink : (fault : PoolFault) → pool_refusal fault ≢ refusals.SinkFault
+no_sink (faults.Plan fault) is = absurd (of_plan (λ r. r ≡ refusals.SinkFault → ⊥) (λ f e. absurd (cc e)) (λ w n e. absurd (cc e)) fault is)
+no_sink (faults.CannotApply fault) is = absurd (cc is)
+no_sink (faults.Redacted object block) is = absurd (cc is)
+no_sink (faults.Full need largest) is = absurd (cc is)
+no_sink (faults.Damaged sector stated found) is = absurd (cc is)
+no_sink faults.DiskFault is = absurd (cc is)
+no_sink faults.Failed is = absurd (cc is)
+no_sink faults.OutOfMemory is = absurd (cc is)
+
+-- a refusal of a later part is one of the whole
+refusal_earlier : (here mid here' : DiskState) (out between out' : SinkState) (refusal : Refusal) → here.faults ≤ mid.faults → out.faults ≤ between.faults
+    → IsSendRefusal OfGiving mid here' between out' refusal → IsSendRefusal OfGiving here here' out out' refusal
+refusal_earlier here mid here' out between out' refusal disk sink is = record {
+  pool = record { one = is.pool.one; alive = is.pool.alive; cause = λ e. Rose-earlier here.faults mid.faults here'.faults disk (is.pool.cause e) };
+  never_full = is.never_full;
+  cause = λ e. Rose-earlier out.faults between.faults out'.faults sink (is.cause e);
+}
+
+pub refused_earlier : (here mid here' : DiskState) (out between out' : SinkState) (result : Result (Unit {0}) Refusal) → here.faults ≤ mid.faults → out.faults ≤ between.faults
+    → IfErr result (IsSendRefusal OfGiving mid here' between out') → IfErr result (IsSendRefusal OfGiving here here' out out')
+refused_earlier here mid here' out between out' (Ok done) disk sink is = tt
+refused_earlier here mid here' out between out' (Err refusal) disk sink is = refusal_earlier here mid here' out between out' refusal disk sink is
+
+-- what a take refuses is handed on: no plan's refusal, and E25 of its damage alone
+no_plan : (fault : PoolFault) → ((plan : PlanFault) → fault ≢ faults.Plan plan) → (plan : PlanFault) → pool_refusal fault ≢ refusals.Plan plan
+no_plan (faults.Plan fault) never plan is = never fault refl
+no_plan (faults.CannotApply fault) never plan is = absurd (cc is)
+no_plan (faults.Redacted object block) never plan is = absurd (cc is)
+no_plan (faults.Full need largest) never plan is = absurd (cc is)
+no_plan (faults.Damaged sector stated found) never plan is = absurd (cc is)
+no_plan faults.DiskFault never plan is = absurd (cc is)
+no_plan faults.Failed never plan is = absurd (cc is)
+no_plan faults.OutOfMemory never plan is = absurd (cc is)
+
+module _ (fault : PoolFault) (out out' : SinkState) (result : Result (Unit {0}) Refusal) (hands : HandsOn out out' (Err (pool_refusal fault)) result) where
+  pub hands_no_plan : ((plan : PlanFault) → fault ≢ faults.Plan plan) → (plan : PlanFault) → result ≢ Err (refusals.Plan plan)
+  hands_no_plan never plan is =
+      ⊎_elim (λ done. let same : pool_refusal fault ≡ refusals.Plan plan = cc (done.0, is) in no_plan fault never plan same)
+      (λ lost. absurd (cc (lost.0, is))) hands.outcome
+
+  pub hands_damage : (Is : DamageFact) → IsOf Is fault → TellsOf Is result
+  hands_damage Is told = λ sector stated found is.
+      ⊎_elim (λ done. let same : pool_refusal fault ≡ refusals.Damaged sector stated found = cc (done.0, is) in told sector stated found (damaged_only fault sector stated found same))
+      (λ lost. absurd (cc (lost.0, is))) hands.outcome
+
+-- ---- pieces
+
+-- a piece is refused by no plan, and tells no damage
+module _ (piece : List ℕ) (is_last : Bool) (old new : ℕ) (out out' : SinkState) where
+  pub piece_no_plan : (result : Option (Result (Unit {0}) Refusal)) → WritesPiece piece is_last old new out out' result → (plan : PlanFault) → result ≢ Some (Err (refusals.Plan plan))
+  piece_no_plan result writes plan is = subst (λ (r : Option (Result (Unit {0}) Refusal)). WritesPiece piece is_last old new out out' r) is writes
+
+  pub piece_no_damage : (Is : DamageFact) (result : Option (Result (Unit {0}) Refusal)) → WritesPiece piece is_last old new out out' result → IfSome result (TellsOf Is)
+  piece_no_damage Is None writes = tt
+  piece_no_damage Is (Some result) writes = λ sector stated found is.
+      absurd (subst (λ (r : Result (Unit {0}) Refusal). WritesPiece piece is_last old new out out' (Some r)) is writes)
+
+-- a piece that would go past a stream's bytes
+pub piece_too_long : (piece : List ℕ) (is_last : Bool) (old new : ℕ) (out out' : SinkState) (result : Result (Unit {0}) Refusal) → stream_limit < old + length piece
+    → HandsOn out out' (Err (refusals.Limit Stream stream_limit)) result → WritesPiece piece is_last old new out out' (Some result)
+piece_too_long piece is_last old new out out' result longer hands =
+    ⊎_elim (λ done. rw done.0 (refl, refl, record { longer = longer; kept = hands.written; later = hands.later; is_out = (done.1, done.2) }))
+    (λ lost. rw lost.0 (record { front = (piece, Wrote-kept out out out' piece piece (Wrote-start out piece) hands.written hands.later); rose = lost.1 }))
+    hands.outcome
+
+-- a text that is written is a front of a longer one
+front_of : (out out' : SinkState) (text left whole : List ℕ) → text ++ left ≡ whole → Wrote out out' text [] → (rest : List ℕ) × Wrote out out' whole rest
+front_of out out' text left whole is wrote = (left, subst (λ (t : List ℕ). Wrote out out' t left) is (Wrote-longer out out' text [] left wrote))
+
+-- a piece was taken behind a text of which so much was left
+module _ (has : Blocks) (sent : Sent) (send : Send) (before after : ℕ) (begun out out' : SinkState) (into text left : List ℕ) (taken old new : ℕ) (is_last : Bool)
+    (takes : given.Takes has send sent text left into (Ok taken)) (whole : text ++ left ≡ sent_text sent) (counted : old ≡ length text) (printed : Printed begun out text) where
+  longer : length (text ++ take taken left) ≡ old + length (take taken into)
+  longer = omega (arith, length-append text (take taken left), ap length takes.1, counted)
+
+  all : (count : ℕ) → PieceWritten (take taken into) old count out out' → Printed begun out' (text ++ take taken left)
+  all count w = Printed-then begun out out' text (take taken left) printed (subst (λ (t : List ℕ). Printed out out' t) takes.1 w.printed)
+
+  -- what a piece that wasn't filled leaves
+  last_is : taken < length into → text ++ take taken left ≡ sent_text sent
+  last_is short =
+      let none = drop_all taken left (omega (arith, takes.0, short)) in
+      sym (append-nil (text ++ take taken left)) ∙ ap (λ (rest : List ℕ). (text ++ take taken left) ++ rest) (sym none) ∙ takes.2.text
+
+  pub passed : (result : Option (Result (Unit {0}) Refusal)) → (is_last ≡ true → taken < length into) → WritesPiece (take taken into) is_last old new out out' result
+      → Passed has sent send before after begun out' new result
+  passed None last w = record { text = text ++ take taken left; left = drop taken left; stands = takes.2; counted = w.1.counted ∙ sym longer; printed = all new w.1 }
+  passed (Some (Ok done)) last w =
+      let is = last_is (last w.0) in
+      let printed_all = subst (λ (t : List ℕ). Printed begun out' t) is (all (old + length (take taken into)) w.1) in
+      record {
+        front = ([], printed_all.wrote);
+        ends = record { within = omega (arith, w.1.within, longer, ap length is); printed = printed_all; handed_on = w.2 };
+      }
+  passed (Some (Err (refusals.Limit which number))) last w = record {
+    front = front_of begun out' text left (sent_text sent) whole (Wrote-kept begun out out' text [] printed.wrote w.2.kept w.2.later);
+    ends = (
+      w.0,
+      w.1,
+      record {
+        longer = omega (arith, w.2.longer, longer, ap length takes.2.text, length-append (text ++ take taken left) (drop taken left));
+        is_out = (w.2.is_out.0 ∙ printed.stays, w.2.is_out.1);
+      },
+    );
+  }
+  passed (Some (Err refusals.SinkFault)) last w =
+      let front = Wrote-then begun out out' text (take taken left) w.front.0 printed.wrote (subst (λ (t : List ℕ). Wrote out out' t w.front.0) takes.1 w.front.1) in
+      record {
+        front = (
+          w.front.0 ++ drop taken left,
+          subst (λ (t : List ℕ). Wrote begun out' t (w.front.0 ++ drop taken left)) takes.2.text
+              (Wrote-longer begun out' (text ++ take taken left) w.front.0 (drop taken left) front),
+        );
+        ends = Rose-earlier begun.faults out.faults out'.faults printed.wrote.later w.rose;
+      }
+  passed (Some (Err other)) last w = absurd w
+
+-- a take that fails leaves a front of the text written, as far as it was, and hands that on
+module _ (sent : Sent) (before after : ℕ) (begun out out' : SinkState) (text left : List ℕ) (whole : text ++ left ≡ sent_text sent) (printed : Printed begun out text) where
+  pub take_failed : (fault : PoolFault) (result : Result (Unit {0}) Refusal) → given.IsTakeFault fault → (stop_of {T = ℕ} (Err fault) ≡ Some blocks.DiskFault → Rose before after) → ¬ (fault ≡ faults.Failed)
+      → HandsOn out out' (Err (pool_refusal fault)) result → SendsBy (Ok sent) before after begun out' result
+  take_failed faults.DiskFault result is rose alive hands =
+      let front = front_of begun out' text left (sent_text sent) whole (Wrote-kept begun out out' text [] printed.wrote hands.written hands.later) in
+      ⊎_elim (λ done. rw done.0 (record { front = front; ends = (rose refl, inr (done.1 ∙ printed.stays, done.2)) }))
+      (λ lost. rw lost.0 (record { front = front; ends = Rose-earlier begun.faults out.faults out'.faults printed.wrote.later lost.1 }))
+      hands.outcome
+  take_failed faults.Failed result is rose alive hands = absurd (alive refl)
+  take_failed (faults.Plan fault) result is rose alive hands = absurd is
+  take_failed (faults.CannotApply fault) result is rose alive hands = absurd is
+  take_failed (faults.Redacted object block) result is rose alive hands = absurd is
+  take_failed (faults.Full need largest) result is rose alive hands = absurd is
+  take_failed (faults.Damaged sector stated found) result is rose alive hands = absurd is
+  take_failed faults.OutOfMemory result is rose alive hands = absurd is
+
+-- ---- the whole
+
+text_earlier : (text : List ℕ) (before mid after : ℕ) (out out' : SinkState) (result : Result (Unit {0}) Refusal) → before ≤ mid → TextEnds text mid after out out' result
+    → TextEnds text before after out out' result
+text_earlier text before mid after out out' (Ok done) later e = e
+text_earlier text before mid after out out' (Err (refusals.Limit which number)) later e = e
+text_earlier text before mid after out out' (Err refusals.DiskFault) later e = (Rose-earlier before mid after later e.0, e.1)
+text_earlier text before mid after out out' (Err refusals.SinkFault) later e = e
+text_earlier text before mid after out out' (Err refusals.OutOfMemory) later e = e
+text_earlier text before mid after out out' (Err other) later e = absurd e
+
+-- how a later part of a send ends, the whole does
+pub sent_earlier : (sent : Sent) (before mid after : ℕ) (out out' : SinkState) (result : Result (Unit {0}) Refusal) → before ≤ mid → SendsBy (Ok sent) mid after out out' result
+    → SendsBy (Ok sent) before after out out' result
+sent_earlier sent before mid after out out' result later s = record { front = s.front; ends = text_earlier (sent_text sent) before mid after out out' result later s.ends }
+
+-- ---- opening
+
+-- a send that was opened has all of its text left
+pub sends_from : (has : Blocks) (planned : Result Sent PlanFault) (send : Send) (before after : ℕ) (out out' : SinkState) (result : Result (Unit {0}) Refusal) → OpensBy has planned (Ok send)
+    → ((sent : Sent) → Sending has sent send out out 0 → SendsBy (Ok sent) before after out out' result) → SendsBy planned before after out out' result
+sends_from has (Ok sent) send before after out out' result opens gives =
+    gives sent (record { text = []; left = sent_text sent; stands = opens; counted = refl; printed = Printed-start out })
+sends_from has (Err fault) send before after out out' result opens gives = absurd opens
+
+pub wants_memory : (has : Blocks) (planned : Result Sent PlanFault) → OpensBy has planned (Err refusals.OutOfMemory)
+wants_memory has (Ok sent) = refl
+wants_memory has (Err fault) = inr refl
+
+-- a plan's refusal is how its send ends
+by_plan : (fault : PlanFault) (before after : ℕ) → RefusalEnds fault before after (Err (refusal_of fault))
+by_plan fault before after = of_plan (λ r. r ≡ refusal_of fault → RefusalEnds fault before after (Err r)) (λ f is. is) (λ which number is. is) fault refl
+
+-- a send that isn't opened writes nothing
+pub unopened_by : (has : Blocks) (planned : Result Sent PlanFault) (before after : ℕ) (out : SinkState) (refusal : Refusal) → OpensBy has planned (Err refusal)
+    → SendsBy planned before after out out (Err refusal)
+unopened_by has (Ok sent) before after out refusal is = rw is (record { front = (sent_text sent, Wrote-start out (sent_text sent)); ends = refl })
+unopened_by has (Err fault) before after out refusal is =
+    ⊎_elim (λ plan. rw plan (record { front = ([], Wrote-start out []); ends = (by_plan fault before after, refl) }))
+    (λ memory. rw memory (record { front = ([], Wrote-start out []); ends = (tt, refl) }))
+    is
+
+pub memory_refused : (here here' : DiskState) (out out' : SinkState) → IsSendRefusal OfGiving here here' out out' refusals.OutOfMemory
+memory_refused here here' out out' = record {
+  pool = record { one = inl (faults.OutOfMemory, refl); alive = λ is. absurd (cc is); cause = λ is. absurd (cc is) };
+  never_full = λ need largest is. absurd (cc is);
+  cause = λ is. absurd (cc is);
+}
+
+pub open_refused : (here here' : DiskState) (out out' : SinkState) (refusal : Refusal) → IsOpenRefusal refusal → IsSendRefusal OfGiving here here' out out' refusal
+open_refused here here' out out' refusal (inl plan) = rw plan.1 (record {
+  pool = record {
+    one = inl (faults.Plan plan.0, refl);
+    alive = λ is. let same = failed_before (faults.Plan plan.0) is in absurd (cc same);
+    cause = λ is. let same = disk_fault (faults.Plan plan.0) is in absurd (cc same);
+  };
+  never_full = λ need largest is. let same = full_only (faults.Plan plan.0) need largest is in absurd (cc same);
+  cause = λ is. absurd (no_sink (faults.Plan plan.0) is);
+})
+open_refused here here' out out' refusal (inr memory) = rw memory (memory_refused here here' out out')
+
+-- ---- what its plan says of a send, whatever the image
+
+-- what wasn't opened ends as its plan says
+pub unopened_planned : (planned : Result Sent PlanFault) (out : SinkState) (refusal : Refusal) → PlansOpen planned (Err refusal) → IfUnplanned planned out out (Err refusal)
+unopened_planned (Ok sent) out refusal is = tt
+unopened_planned (Err fault) out refusal is =
+    ⊎_elim (λ plan. let one : plan.0 ≡ fault = cc plan.1 in (ap (λ (r : Refusal). Err r) (plan.2 ∙ ap refusal_of one), refl))
+    (λ memory. let passed = memory.1 in absurd (cc passed))
+    is
+
+-- what was opened has a plan that passes
+pub opened_planned : (planned : Result Sent PlanFault) (send : Send) (out out' : SinkState) (result : Result (Unit {0}) Refusal) → PlansOpen planned (Ok send)
+    → IfUnplanned planned out out' result
+opened_planned (Ok sent) send out out' result is = tt
+opened_planned (Err fault) send out out' result is = let passed = is.1 in absurd (cc passed)
+
+-- ---- why a plan's refusal comes, and of what E25
+
+-- what wasn't opened for a plan's refusal has that plan
+pub unopened_because : (planned : Result Sent PlanFault) (refusal : Refusal) → PlansOpen planned (Err refusal) → (fault : PlanFault) → refusal ≡ refusals.Plan fault → planned ≡ Err fault
+unopened_because planned refusal is fault same =
+    ⊎_elim (λ plan. plan.1 ∙ ap (λ (f : PlanFault). Err f) (plan_named plan.0 fault (sym plan.2 ∙ same)))
+    (λ memory. absurd (cc (memory.2, same)))
+    is
+
+-- and tells no damage
+pub unopened_damage : (Is : DamageFact) (refusal : Refusal) → IsOpenRefusal refusal → TellsOf Is (Err refusal)
+unopened_damage Is refusal is = λ sector stated found same.
+    let told : refusal ≡ refusals.Damaged sector stated found = cc same in
+    ⊎_elim (λ plan. absurd (of_plan (λ r. r ≡ refusals.Damaged sector stated found → ⊥) (λ f e. absurd (cc e)) (λ w n e. absurd (cc e)) plan.0 (sym plan.1 ∙ told)))
+    (λ memory. absurd (cc (memory, told)))
+    is
+
+-- an image alone is among itself, and nothing else is
+pub among_one : (seen : List ℕ) → Contains (seen ∷ []) seen
+among_one seen = (0, omega arith, refl)
+
+is_one : (seen image : List ℕ) → IsAmong (seen ∷ []) image → IsSeen seen image
+is_one seen image among = go among.0 among.1 among.2
+  where
+    go : (k : ℕ) → k < length (seen ∷ []) → slice_index_or (seen ∷ []) k image ≡ image → image ≡ seen
+    go zero below is = sym is
+    go (suc k) below is = absurd (omega (arith, below))
+
+-- the damage of the set of a name is told of that name
+pub set_damage : (rows : Rows) (name : Name) (disk : DiskState) (set : ObjSet) (result : Result (Unit {0}) Refusal) → set_named name rows ≡ Some set
+    → TellsOf (IsDamagedSend (IsAmong (disk.seen ∷ [])) disk.size set) result → TellsOf (OfSet rows name (send_damage disk)) result
+set_damage rows name disk set result named told = λ sector stated found is.
+    (set, named, send_more (IsAmong (disk.seen ∷ [])) (IsSeen disk.seen) (is_one disk.seen) disk.size set sector stated found (told sector stated found is))

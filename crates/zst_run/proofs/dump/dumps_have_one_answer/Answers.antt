@@ -1,0 +1,5 @@
+use Rattle.zst_run.proofs.OneAnswer.{one_answer}
+use Rattle.zst_run.proofs.dump.dumps_have_one_answer.Goals as goal
+
+pub returns : goal.returns
+returns c = one_answer

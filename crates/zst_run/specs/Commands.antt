@@ -1,0 +1,181 @@
+-- What a line that works on a pool leaves of its image, and what it answers.
+use Rattle.std.specs.Prelude.{ℕ, ◌≡◌, ◌≢◌, ◌⊎◌, ◌↔◌, ◌*◌, ◌<◌, ◌≤◌, Bool, false, true, IfErr, OnErr, List, [], ◌∷◌, None, Some, Result, Ok, Err}
+use Rattle.zst_outside.specs.Causes.{Rose}
+use Rattle.zst_outside.specs.Images.{DiskState, Leaves, OnlyReads}
+use Rattle.zst_outside.specs.States.{SinkState}
+use Rattle.zst_bytes.specs.Bytes.{number_at}
+use Rattle.zst_space.specs.FreeSectors.{FreeSectors}
+use Rattle.zst_block.specs.Blocks.{SparesTaken}
+use Rattle.zst_uber.specs.Slots.{latest}
+use Rattle.zst_uber.specs.declared.TheConstants.{VERSION}
+use Rattle.zst_uber.specs.declared.uber.Uber.{Uber}
+use Rattle.zst_model.specs.pools.Lines.{ok_line}
+use Rattle.zst_model.specs.pools.Pool.{Pool}
+use Rattle.zst_model.specs.pools.Step.{Stepped, commits, stepped}
+use Rattle.zst_model.specs.refusals.Refusal.{refusal_of}
+use Rattle.zst_model.specs.declared.pools.command.Command.{Command}
+use Rattle.zst_model.specs.declared.refusals.faults.Quantity.TheVariants as quantities
+use Rattle.zst_model.specs.declared.refusals.named.Present.TheVariants as present
+use Rattle.zst_model.specs.declared.refusals.plan_fault.PlanFault.{PlanFault}
+use Rattle.zst_model.specs.declared.refusals.plan_fault.PlanFault.TheVariants as plans
+use Rattle.zst_model.specs.declared.refusals.refusal.Refusal.{Refusal}
+use Rattle.zst_model.specs.declared.refusals.refusal.Refusal.TheVariants as refusals
+use Rattle.zst_dir.specs.Rows.{Rows}
+use Rattle.zst_image.specs.Faults.{create_refusal, open_refusal}
+use Rattle.zst_image.specs.Creating.{IsNew}
+use Rattle.zst_image.specs.Opening.{IsOpened, TellsBody, TellsDir}
+use Rattle.zst_image.specs.Reads.{IsNamedBy, Reads, ReadsAs, Rests, free_by, kept_rows, new_pool}
+use Rattle.zst_image.specs.declared.create_fault.CreateFault.{CreateFault}
+use Rattle.zst_image.specs.declared.open_fault.OpenFault.{OpenFault}
+use Rattle.zst_image.specs.declared.kept.Kept.{Kept}
+use Rattle.zst_pool.specs.Cost.{Grows, HasNoRoom, cost_of, most_sectors}
+use Rattle.zst_pool.specs.Damage.{TellsDamage}
+use Rattle.zst_pool.specs.Faults.{pool_refusal}
+use Rattle.zst_pool.specs.Plans.{IsLimitOf, indices_end, is_by_rows, numbers_end}
+use Rattle.zst_pool.specs.declared.fault.PoolFault.{PoolFault}
+use Rattle.zst_run.specs.Replies.{Replied}
+
+-- an image that stood before a command, or one that reads as the pool before it or as the pool after it
+abbrev pub OldOrReads : (tight : Bool) → DiskState → Pool → Result Stepped Refusal → List ℕ → Type 0
+OldOrReads tight here pool after image = here.images image ⊎ (Reads tight pool image ⊎ ((done : Stepped) × (after ≡ Ok done) × Reads tight done.pool image))
+
+-- a refusal of making a pool, and one of opening it or of a command on it
+abbrev pub OfMaking : Refusal → Type 0
+OfMaking refusal = (fault : CreateFault) × (refusal ≡ create_refusal fault)
+
+abbrev pub OfStepping : Refusal → Type 0
+OfStepping refusal = ((fault : OpenFault) × (refusal ≡ open_refusal fault)) ⊎ ((fault : PoolFault) × (refusal ≡ pool_refusal fault))
+
+-- one of these refusals, but not that the disk had failed before (E31); the disk's (E28) only where its count of faults rose
+pub record IsPoolRefusal (Is : Refusal → Type 0) (here here' : DiskState) (refusal : Refusal) : Type 0 where
+  pub one : Is refusal
+  pub alive : refusal ≢ refusals.Failed
+  pub cause : refusal ≡ refusals.DiskFault → Rose here.faults here'.faults
+
+-- ---- commands
+
+-- so many sectors a command takes at most in this pool, whose directory has these rows that last
+abbrev pub most_of : Command → Rows → Pool → ℕ
+most_of command rows pool = most_sectors (cost_of command).cells ((cost_of command).block pool) (kept_rows rows)
+
+-- The command was done: the lines and the pool are the definition's, and no more sectors are taken than it costs.
+pub record IsDone (tight : Bool) (command : Command) (uber : Uber) (rows : Rows) (pool : Pool) (here' : DiskState) (after : Result Stepped Refusal) (lines : List (List ℕ)) : Type 0 where
+  pub done : Stepped
+  pub accepts : after ≡ Ok done
+  pub reply : lines ≡ done.reply
+  pub body : Uber
+  pub directory : Rows
+  pub rests : Rests tight here' body directory done.pool
+  pub grows : Grows (most_of command rows pool) uber body
+
+-- there was no room for the sectors that are needed, by a command that costs so many cells and so many sectors of data
+abbrev pub IsShort : ℕ → ℕ → Uber → Rows → ℕ → ℕ → Type 0
+IsShort cells block uber rows need largest = (left : FreeSectors) × HasNoRoom cells block uber (kept_rows rows) left need largest
+
+-- E24: the definition accepts, and there was less room than the command costs
+pub record IsFull (command : Command) (uber : Uber) (rows : Rows) (pool : Pool) (after : Result Stepped Refusal) (need largest : ℕ) : Type 0 where
+  pub done : Stepped
+  pub accepts : after ≡ Ok done
+  pub short : IsShort (cost_of command).cells ((cost_of command).block pool) uber rows need largest
+
+-- What stands after a command on the pool of this body and these rows. A refusal leaves the pool as it was, unless the
+-- disk failed, and is the definition's, unless the disk is full or no memory is left.
+abbrev pub Answers : (tight : Bool) → Command → Uber → Rows → Pool → DiskState → Result Stepped Refusal → Result (List (List ℕ)) Refusal → Type 0
+Answers tight command uber rows pool here' after (Ok lines) = IsDone tight command uber rows pool here' after lines
+Answers tight command uber rows pool here' after (Err refusals.DiskFault) = Unit {0}
+Answers tight command uber rows pool here' after (Err (refusals.Full need largest)) = IsFull command uber rows pool after need largest × Rests tight here' uber rows pool
+Answers tight command uber rows pool here' after (Err refusals.OutOfMemory) = Rests tight here' uber rows pool
+Answers tight command uber rows pool here' after (Err refusal) = (after ≡ Err refusal) × Rests tight here' uber rows pool
+
+-- the latest body has this version, which is another
+pub record HasVersion (here : DiskState) (number : ℕ) : Type 0 where
+  pub body : List ℕ
+  pub there : latest here.seen ≡ Some body
+  pub version : number ≡ number_at body 8 4
+  pub other : number ≢ VERSION
+
+-- the latest body and its directory, with these rows, are of the layout
+abbrev pub Opens : DiskState → Uber → Rows → Type 0
+Opens here uber rows = (body : List ℕ) × (latest here.seen ≡ Some body) × IsOpened here body uber rows
+
+-- What the directory tells alone: E3 to E6, and E23 of datasets, snapshots, bookmarks and guids come exactly where the definition
+-- refuses a pool that the body and the rows name, whatever its object sets hold. Any other E23 is past a limit.
+pub record Planned (now : ℕ) (command : Command) (uber : Uber) (rows : Rows) (answer : Result (List (List ℕ)) Refusal) : Type 0 where
+  pub exact : (pool : Pool) (fault : PlanFault) → IsNamedBy uber (kept_rows rows) pool → is_by_rows fault ≡ true
+      → (stepped [] now command pool ≡ Err (refusal_of fault)) ↔ (answer ≡ Err (refusal_of fault))
+  pub limits : (fault : PlanFault) → answer ≡ Err (refusal_of fault)
+      → (is_by_rows fault ≡ true) ⊎ IsLimitOf (numbers_end command) (indices_end command) uber fault
+
+-- A command on a pool that was opened by this body and these rows, whether or not the image reads as a pool: a refusal, but
+-- for E28, wrote into sectors alone that the body leaves free; E24 comes only where there is less room than the command may
+-- cost, and E25 only of a block that is damaged in the object set that the command names.
+pub record Ran (now : ℕ) (command : Command) (here here' : DiskState) (answer : Result (List (List ℕ)) Refusal) (uber : Uber) (rows : Rows) : Type 0 where
+  pub opens : Opens here uber rows
+  pub spares : OnErr answer (SparesTaken (free_by uber) here.seen here'.seen)
+  pub full : (need largest : ℕ) → answer ≡ Err (refusals.Full need largest)
+      → (block : ℕ) × (block ≤ (cost_of command).most) × IsShort (cost_of command).cells block uber rows need largest
+  pub damaged : (sector : ℕ) (stated found : List ℕ) → answer ≡ Err (refusals.Damaged sector stated found)
+      → TellsDamage command (kept_rows rows) here (free_by uber) sector stated found
+  pub planned : answer ≢ Err refusals.OutOfMemory → Planned now command uber rows answer
+
+-- What an answer says of any image. E26 comes where there is no latest body, E27 where it has another version, E25 where it
+-- or its directory isn't of the layout: then nothing is written. Any other answer comes where both are, E28 and E32 aside.
+abbrev pub Opened : ℕ → Command → DiskState → DiskState → Result (List (List ℕ)) Refusal → Type 0
+Opened now command here here' (Err refusals.NoPool) = (latest here.seen ≡ None) × OnlyReads here here'
+Opened now command here here' (Err (refusals.BadVersion number)) = HasVersion here number × OnlyReads here here'
+Opened now command here here' (Err (refusals.Damaged sector stated found)) =
+    ((TellsBody here sector stated found ⊎ TellsDir here sector stated found) × OnlyReads here here')
+    ⊎ ((uber : Uber) × (rows : Rows) × Ran now command here here' (Err (refusals.Damaged sector stated found)) uber rows)
+Opened now command here here' (Err refusals.DiskFault) = Unit {0}
+Opened now command here here' (Err refusals.OutOfMemory) =
+    OnlyReads here here' ⊎ ((uber : Uber) × (rows : Rows) × Ran now command here here' (Err refusals.OutOfMemory) uber rows)
+Opened now command here here' answer = (uber : Uber) × (rows : Rows) × Ran now command here here' answer uber rows
+
+-- One command on the pool of an image: at every moment, and in the end, each image stood before it, or reads as the pool
+-- before it or as what the definition makes of it, by tight object sets where it stood so. One that only answers reads the image.
+pub record Stepping (now : ℕ) (command : Command) (here here' : DiskState) (answer : Result (List (List ℕ)) Refusal) : Type 0 where
+  pub moments : (tight : Bool) (pool : Pool) → here'.honest → Reads tight pool here.seen → Leaves here here' (OldOrReads tight here pool (stepped [] now command pool))
+  pub images : (tight : Bool) (pool : Pool) → here'.honest → Reads tight pool here.seen → (c : List ℕ) → here'.images c → OldOrReads tight here pool (stepped [] now command pool) c
+  pub answers : (tight : Bool) (uber : Uber) (rows : Rows) (pool : Pool) → here'.honest → ReadsAs tight uber rows pool here.seen
+      → Answers tight command uber rows pool here' (stepped [] now command pool) answer
+  pub opened : here'.honest → Opened now command here here' answer
+  pub refused : IfErr answer (IsPoolRefusal OfStepping here here')
+  pub idle : commits command ≡ false → OnlyReads here here'
+  pub later : here.faults ≤ here'.faults
+
+-- and its lines are written
+pub record Steps (now : ℕ) (command : Command) (here here' : DiskState) (out out' : SinkState) (result : Result (Unit {0}) Refusal) : Type 0 where
+  pub answer : Result (List (List ℕ)) Refusal
+  pub stepping : Stepping now command here here' answer
+  pub replied : Replied out out' answer result
+
+-- ---- making a pool
+
+-- an empty pool with this id and so many sectors stands, by tight sets too
+abbrev pub HasNew : ℕ → ℕ → DiskState → Type 0
+HasNew sectors id here' = (kept : Kept) × IsNew sectors kept × ((tight : Bool) → Rests tight here' kept.body kept.dir (new_pool id))
+
+-- What stands after making a pool, and why it is refused: E4 where one is there, also a damaged one or one of another
+-- version; E23 where the disk is too small. Both change nothing, and without memory there still is no pool.
+abbrev pub Makes : ℕ → ℕ → DiskState → DiskState → Result (List (List ℕ)) Refusal → Type 0
+Makes sectors id here here' (Ok lines) =
+    (lines ≡ ok_line 1 ∷ []) × (latest here.seen ≡ None) × ¬ (here.size < 512 * sectors) × HasNew sectors id here'
+Makes sectors id here here' (Err (refusals.Plan fault)) = (fault ≡ plans.Exists present.Pool) × (latest here.seen ≢ None) × OnlyReads here here'
+Makes sectors id here here' (Err (refusals.Limit which number)) =
+    (which ≡ quantities.Device) × (number ≡ sectors) × (latest here.seen ≡ None) × (here.size < 512 * sectors) × OnlyReads here here'
+Makes sectors id here here' (Err refusals.OutOfMemory) = (latest here.seen ≡ None) × (latest here'.seen ≡ None)
+Makes sectors id here here' (Err refusals.DiskFault) = Unit {0}
+Makes sectors id here here' (Err refusal) = ⊥
+
+-- Making a pool in an image: at every moment each image has the latest body that one had before, or reads as the new pool.
+pub record Making (sectors id : ℕ) (here here' : DiskState) (answer : Result (List (List ℕ)) Refusal) : Type 0 where
+  pub moments : (tight : Bool) → here'.honest → Leaves here here' (λ c. ((d : List ℕ) × here.images d × (latest c ≡ latest d)) ⊎ Reads tight (new_pool id) c)
+  pub makes : here'.honest → Makes sectors id here here' answer
+  pub refused : IfErr answer (IsPoolRefusal OfMaking here here')
+  pub later : here.faults ≤ here'.faults
+
+-- and its line is written
+pub record Creates (sectors id : ℕ) (here here' : DiskState) (out out' : SinkState) (result : Result (Unit {0}) Refusal) : Type 0 where
+  pub answer : Result (List (List ℕ)) Refusal
+  pub making : Making sectors id here here' answer
+  pub replied : Replied out out' answer result

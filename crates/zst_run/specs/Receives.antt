@@ -1,0 +1,192 @@
+-- What a receive reads, what it leaves of an image, and why it ends.
+use Rattle.std.specs.Prelude.{ℕ, ◌-◌, ◌≡◌, ◌⊎◌, ◌<◌, ◌≤◌, Bool, IsTrue, IfErr, List, [], ◌∷◌, length, take, codes, decimal, Option, Some, None, Result, Ok, Err}
+use Rattle.std.specs.List.{concat}
+use Rattle.zst_outside.specs.Causes.{Rose}
+use Rattle.zst_outside.specs.Images.{DiskState, Leaves, OnlyReads}
+use Rattle.zst_outside.specs.States.{SourceState, SinkState, Gave}
+use Rattle.zst_uber.specs.Slots.{latest}
+use Rattle.zst_uber.specs.declared.uber.Uber.{Uber}
+use Rattle.zst_names.specs.Names.{dataset_of}
+use Rattle.zst_model.specs.declared.refusals.faults.Quantity.TheVariants.{Stream}
+use Rattle.zst_model.specs.declared.refusals.named.Name.{Name}
+use Rattle.zst_model.specs.declared.refusals.named.Name.TheVariants as names
+use Rattle.zst_model.specs.declared.refusals.refusal.Refusal.{Refusal}
+use Rattle.zst_model.specs.declared.refusals.refusal.Refusal.TheVariants as refusals
+use Rattle.zst_model.specs.declared.refusals.stream_fault.StreamFault.TheVariants.{Truncated}
+use Rattle.zst_model.specs.pools.Kept.{kept_of}
+use Rattle.zst_model.specs.pools.Pool.{Pool, Partial}
+use Rattle.zst_model.specs.refusals.Texts.{guid_text}
+use Rattle.zst_dir.specs.Rows.{Rows}
+use Rattle.zst_image.specs.Faults.{open_refusal}
+use Rattle.zst_image.specs.Opening.{TellsBody, TellsDir}
+use Rattle.zst_image.specs.Reads.{Reads, ReadsAs, Rests}
+use Rattle.zst_image.specs.declared.open_fault.OpenFault.{OpenFault}
+use Rattle.zst_plan.specs.RecvPlan.{snapshot_name}
+use Rattle.zst_plan.specs.declared.receive.RecvAsk.{RecvAsk}
+use Rattle.zst_stream.specs.Reading.{reading}
+use Rattle.zst_recv.specs.Faults.{recv_refusal, stream_limit}
+use Rattle.zst_recv.specs.Feeds.{receives}
+use Rattle.zst_recv.specs.Receiving.{Stage, Waits, Lives, Ends, Goes, Stops, left_by, pool_of}
+use Rattle.zst_recv.specs.Stages.{TellsTarget}
+use Rattle.zst_recv.specs.declared.fault.RecvFault.{RecvFault}
+use Rattle.zst_run.specs.Commands.{HasVersion, IsPoolRefusal, Opens}
+use Rattle.zst_run.specs.Dumps.{NoFault}
+use Rattle.zst_run.specs.Replies.{Replied}
+
+-- ---- what is asked
+
+-- a name that a receive may be into: a dataset's, or a snapshot's
+abbrev pub IsTarget : Name → Type 0
+IsTarget (names.Bookmark name) = ⊥
+IsTarget name = Unit {0}
+
+-- the dataset that the stream comes into
+abbrev pub target_of : Name → List ℕ
+target_of (names.Snapshot name) = dataset_of 64 name
+target_of (names.Dataset name) = name
+target_of (names.Bookmark name) = name
+
+-- the snapshot's name, where one is asked for
+abbrev pub snapshot_of : Name → Option (List ℕ)
+snapshot_of (names.Snapshot name) = Some name
+snapshot_of (names.Dataset name) = None
+snapshot_of (names.Bookmark name) = None
+
+-- what the words of a line ask for
+abbrev pub receipt_of : (keeps forces : Bool) → Option (List ℕ) → Name → RecvAsk
+receipt_of keeps forces origin target = record { target = target_of target; snap = snapshot_of target; keep = keeps; force = forces; origin = origin }
+
+-- ---- the pieces that are read
+
+-- a receive reads so many bytes at once
+abbrev pub piece_size : ℕ
+piece_size = 1048576
+
+-- each piece but the last has that size, and the last has no more, and some
+abbrev pub ArePieces : List (List ℕ) → Type 0
+ArePieces [] = Unit {0}
+ArePieces (piece ∷ []) = (0 < length piece) × (length piece ≤ piece_size)
+ArePieces (piece ∷ next ∷ rest) = (length piece ≡ piece_size) × ArePieces (next ∷ rest)
+
+-- ---- what stands after pieces were fed
+
+-- END isn't covered: more is waited for
+abbrev pub IsOpen : Stage → Type 0
+IsOpen Waits = Unit {0}
+IsOpen (Lives flags partial) = Unit {0}
+IsOpen (Ends partial) = ⊥
+
+-- the image rests, and reads as what is kept of this pool
+abbrev pub Keeps : (tight : Bool) → DiskState → Pool → Type 0
+Keeps tight here' pool = (uber : Uber) × (rows : Rows) × Rests tight here' uber rows (kept_of pool)
+
+-- an image that stood before the receive, or one that reads as what is kept of the pool that stands after some of the pieces
+abbrev pub IsOnTheWay : (tight : Bool) → DiskState → RecvAsk → Pool → List (List ℕ) → List ℕ → Type 0
+IsOnTheWay tight here ask pool pieces image = here.images image ⊎ ((n : ℕ) × Reads tight (kept_of (pool_of (receives ask pool (take n pieces)))) image)
+
+-- the pieces were taken, and more is waited for: in the end stands what is left of that
+pub record Waited (tight : Bool) (ask : RecvAsk) (pool : Pool) (pieces : List (List ℕ)) (here' : DiskState) : Type 0 where
+  pub after : Pool
+  pub stage : Stage
+  pub is : receives ask pool pieces ≡ Goes after stage
+  pub live : IsOpen stage
+  pub keeps : Keeps tight here' (left_by stage after)
+
+-- all pieces but the last were taken, and nothing of that one stays
+abbrev pub Stopped : (tight : Bool) → RecvAsk → Pool → List (List ℕ) → DiskState → Type 0
+Stopped tight ask pool pieces here' = Waited tight ask pool (take (length pieces - 1) pieces) here'
+
+-- the line of a snapshot that was received, with this guid, by so many records between BEGIN and END
+abbrev pub receipt_line : (target component : List ℕ) → (guid items : ℕ) → List ℕ
+receipt_line target component guid items = concat (
+    codes "received " ∷ snapshot_name target component ∷ codes " guid " ∷ guid_text guid ∷ codes " items " ∷ decimal items ∷ [])
+
+-- the line of a receive of this text: of its covered records the first is BEGIN, and the last END
+abbrev pub received_line : Partial → List ℕ → List ℕ
+received_line partial text = receipt_line partial.target partial.component partial.header.to (length (reading text).covered - 2)
+
+-- END was covered: the snapshot stands, and this is the line
+pub record Received (tight : Bool) (ask : RecvAsk) (pool : Pool) (pieces : List (List ℕ)) (here' : DiskState) (lines : List (List ℕ)) : Type 0 where
+  pub after : Pool
+  pub partial : Partial
+  pub is : receives ask pool pieces ≡ Goes after (Ends partial)
+  pub line : lines ≡ received_line partial (concat pieces) ∷ []
+  pub keeps : Keeps tight here' after
+
+-- the pieces are refused so, and what that leaves stands
+pub record Refused (tight : Bool) (ask : RecvAsk) (pool : Pool) (pieces : List (List ℕ)) (here' : DiskState) (refusal : Refusal) : Type 0 where
+  pub after : Pool
+  pub is : receives ask pool pieces ≡ Stops after refusal
+  pub keeps : Keeps tight here' after
+
+-- How a receive into a pool ends, and what then stands: the snapshot, with its line; E20 where the input ended, and E29 where it failed, with all that was
+-- read taken; E23 of a stream of more bytes than one has, E24 and E32 with nothing of the last piece taken; else as the definition refuses what was
+-- read. Nothing is damaged.
+abbrev pub ReceiveEnds : (tight : Bool) → RecvAsk → Pool → List (List ℕ) → DiskState → SourceState → SourceState → Result (List (List ℕ)) Refusal → Type 0
+ReceiveEnds tight ask pool pieces here' input input' (Ok lines) = Received tight ask pool pieces here' lines
+ReceiveEnds tight ask pool pieces here' input input' (Err (refusals.Stream (Truncated at))) =
+    (at ≡ length (concat pieces)) × IsTrue input'.ended × NoFault input input' × Waited tight ask pool pieces here'
+ReceiveEnds tight ask pool pieces here' input input' (Err refusals.SourceFault) = Waited tight ask pool pieces here'
+ReceiveEnds tight ask pool pieces here' input input' (Err refusals.DiskFault) = Unit {0}
+ReceiveEnds tight ask pool pieces here' input input' (Err refusals.OutOfMemory) = Stopped tight ask pool pieces here'
+ReceiveEnds tight ask pool pieces here' input input' (Err (refusals.Full need largest)) = (largest < need) × Stopped tight ask pool pieces here'
+ReceiveEnds tight ask pool pieces here' input input' (Err (refusals.Limit Stream number)) =
+    (number ≡ stream_limit) × (stream_limit < length (concat pieces)) × Stopped tight ask pool pieces here'
+ReceiveEnds tight ask pool pieces here' input input' (Err (refusals.Damaged sector stated found)) = ⊥
+ReceiveEnds tight ask pool pieces here' input input' (Err refusals.NoPool) = ⊥
+ReceiveEnds tight ask pool pieces here' input input' (Err (refusals.BadVersion number)) = ⊥
+ReceiveEnds tight ask pool pieces here' input input' (Err refusal) = Refused tight ask pool pieces here' refusal
+
+-- ---- receiving into an image
+
+-- a refusal of opening a pool, of a receive, or E29
+abbrev pub OfReceiving : Refusal → Type 0
+OfReceiving refusal = ((fault : OpenFault) × (refusal ≡ open_refusal fault)) ⊎ (((fault : RecvFault) × (refusal ≡ recv_refusal fault)) ⊎ (refusal ≡ refusals.SourceFault))
+
+-- one of these, but not that the disk had failed before (E31); that of the disk (E28) and that of the input (E29) only where their counts of faults rose
+pub record IsReceiveRefusal (here here' : DiskState) (input input' : SourceState) (refusal : Refusal) : Type 0 where
+  pub pool : IsPoolRefusal OfReceiving here here' refusal
+  pub cause : refusal ≡ refusals.SourceFault → Rose input.faults input'.faults
+
+-- a receive into a pool that was opened by this body and these rows, whether or not the image reads as a pool: E24 comes only where the longest run is shorter than what is needed
+pub record ReceiveRan (here : DiskState) (answer : Result (List (List ℕ)) Refusal) (uber : Uber) (rows : Rows) : Type 0 where
+  pub opens : Opens here uber rows
+  pub full : (need largest : ℕ) → answer ≡ Err (refusals.Full need largest) → largest < need
+
+-- What an answer says of any image. E26 comes where there is no latest body, E27 where it has another version, E25 where it
+-- or its directory isn't of the layout: then nothing is written or read. Any other answer comes where both are, E28 and E32 aside.
+abbrev pub ReceiveOpened : DiskState → DiskState → SourceState → SourceState → Result (List (List ℕ)) Refusal → Type 0
+ReceiveOpened here here' input input' (Err refusals.NoPool) = (latest here.seen ≡ None) × OnlyReads here here' × (input' ≡ input)
+ReceiveOpened here here' input input' (Err (refusals.BadVersion number)) = HasVersion here number × OnlyReads here here' × (input' ≡ input)
+ReceiveOpened here here' input input' (Err (refusals.Damaged sector stated found)) =
+    ((TellsBody here sector stated found ⊎ TellsDir here sector stated found) × OnlyReads here here' × (input' ≡ input))
+    ⊎ ((uber : Uber) × (rows : Rows) × ReceiveRan here (Err (refusals.Damaged sector stated found)) uber rows)
+ReceiveOpened here here' input input' (Err refusals.DiskFault) = Unit {0}
+ReceiveOpened here here' input input' (Err refusals.OutOfMemory) =
+    (OnlyReads here here' × (input' ≡ input)) ⊎ ((uber : Uber) × (rows : Rows) × ReceiveRan here (Err refusals.OutOfMemory) uber rows)
+ReceiveOpened here here' input input' answer = (uber : Uber) × (rows : Rows) × ReceiveRan here answer uber rows
+
+-- A receive of what is asked, into an image: some pieces were read of the input, each behind pieces that left the receive waiting. At every moment,
+-- and in the end, each image stood before it or reads as what stands after some of the pieces, by tight object sets where it stood so.
+pub record Receiving (ask : RecvAsk) (here here' : DiskState) (input input' : SourceState) (answer : Result (List (List ℕ)) Refusal) : Type 0 where
+  pub pieces : List (List ℕ)
+  pub are_pieces : ArePieces pieces
+  pub consumed : Gave input input' (concat pieces)
+  pub wanted : (tight : Bool) (uber : Uber) (rows : Rows) (pool : Pool) → here'.honest → ReadsAs tight uber rows pool here.seen → TellsTarget ask rows pool
+      → (n : ℕ) → n < length pieces → (after : Pool) × (stage : Stage) × (receives ask pool (take n pieces) ≡ Goes after stage) × IsOpen stage
+  pub moments : (tight : Bool) (uber : Uber) (rows : Rows) (pool : Pool) → here'.honest → ReadsAs tight uber rows pool here.seen → TellsTarget ask rows pool
+      → Leaves here here' (IsOnTheWay tight here ask pool pieces)
+  pub images : (tight : Bool) (uber : Uber) (rows : Rows) (pool : Pool) → here'.honest → ReadsAs tight uber rows pool here.seen → TellsTarget ask rows pool
+      → (c : List ℕ) → here'.images c → IsOnTheWay tight here ask pool pieces c
+  pub ends : (tight : Bool) (uber : Uber) (rows : Rows) (pool : Pool) → here'.honest → ReadsAs tight uber rows pool here.seen → TellsTarget ask rows pool
+      → ReceiveEnds tight ask pool pieces here' input input' answer
+  pub opened : here'.honest → ReceiveOpened here here' input input' answer
+  pub refused : IfErr answer (IsReceiveRefusal here here' input input')
+  pub later : here.faults ≤ here'.faults
+  pub input_later : input.faults ≤ input'.faults
+
+-- and its line is written
+pub record Receives (ask : RecvAsk) (here here' : DiskState) (input input' : SourceState) (out out' : SinkState) (result : Result (Unit {0}) Refusal) : Type 0 where
+  pub answer : Result (List (List ℕ)) Refusal
+  pub receiving : Receiving ask here here' input input' answer
+  pub replied : Replied out out' answer result

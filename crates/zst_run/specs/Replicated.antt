@@ -1,0 +1,93 @@
+-- What one run sends and another receives.
+use Rattle.std.specs.Prelude.{ℕ, ◌≡◌, ◌≢◌, ◌⊎◌, ◌++◌, Bool, false, List, Option, None, Result, Ok, Err}
+use Rattle.zst_outside.specs.Images.{DiskState, Leaves}
+use Rattle.zst_outside.specs.States.{SourceState, SinkState, Gave}
+use Rattle.zst_uber.specs.declared.uber.Uber.{Uber}
+use Rattle.zst_model.specs.declared.refusals.refusal.Refusal.{Refusal}
+use Rattle.zst_model.specs.declared.refusals.refusal.Refusal.TheVariants as refusals
+use Rattle.zst_model.specs.declared.sends.ask.SendAsk.{SendAsk}
+use Rattle.zst_model.specs.pools.Kept.{kept_of}
+use Rattle.zst_model.specs.pools.Pool.{Pool, partial_of}
+use Rattle.zst_model.specs.sends.Headers.{Sent, header_of, sent_view}
+use Rattle.zst_dir.specs.Rows.{Rows}
+use Rattle.zst_image.specs.Reads.{Reads, ReadsAs}
+use Rattle.zst_plan.specs.RecvPlan.{Base, Begins, recv_plan}
+use Rattle.zst_plan.specs.declared.receive.RecvAsk.{RecvAsk}
+use Rattle.zst_stream.specs.Items.{IsUnredacted}
+use Rattle.zst_send.specs.Opening.{opening}
+use Rattle.zst_send.specs.Sends.{sent_text}
+use Rattle.zst_recv.specs.Stages.{TellsTarget}
+use Rattle.zst_replication.specs.Matching.{KnowsSource}
+use Rattle.zst_replication.specs.Outcomes.{HasNothing, HasOneMore, Progress, base_name}
+use Rattle.zst_run.specs.Receives.{Keeps, Receives}
+use Rattle.zst_run.specs.Sends.{Sends}
+
+-- an image is read as this pool, and this is what an asked send of it is to give; no block of the snapshot is redacted
+pub record IsSender (ask : SendAsk) (from : Pool) (sent : Sent) (here : DiskState) : Type 0 where
+  pub reads : Reads false from here.seen
+  pub is : opening ask from ≡ Ok sent
+  pub plain : IsUnredacted sent.snapshot.objects.state
+
+-- an image is read as this pool, whose sets tell the dates of its heads where the target is there; the target has no partial state, and the receiver's
+-- snapshots with the source's guid have what the source remembers
+pub record IsReceiver (tight : Bool) (ask : RecvAsk) (into from : Pool) (sent : Sent) (there there' : DiskState) : Type 0 where
+  pub uber : Uber
+  pub rows : Rows
+  pub honest : there'.honest
+  pub reads : ReadsAs tight uber rows into there.seen
+  pub tells : TellsTarget ask rows into
+  pub alone : partial_of ask.target into ≡ None
+  pub knows : KnowsSource from sent.source into
+
+-- what was read of an input is a front of something that begins with this text
+pub record IsReadOf (text : List ℕ) (input input' : SourceState) : Type 0 where
+  pub read : List ℕ
+  pub gave : Gave input input' read
+  pub unread : List ℕ
+  pub behind : List ℕ
+  pub is : read ++ unread ≡ text ++ behind
+
+-- the text that one run wrote is what another run read of
+abbrev pub IsPiped : (out out' : SinkState) → (input input' : SourceState) → Type 0
+IsPiped out out' input input' = (text : List ℕ) × (out'.written ≡ out.written ++ text) × IsReadOf text input input'
+
+-- one snapshot more stands: the one that was sent, under the name and over the base that the plan gives it
+pub record IsReplicated (tight : Bool) (ask : RecvAsk) (into : Pool) (sent : Sent) (there' : DiskState) : Type 0 where
+  pub after : Pool
+  pub keeps : Keeps tight there' after
+  pub component : List ℕ
+  pub base : Base
+  pub planned : recv_plan ask (header_of sent) into ≡ Ok (Begins component base)
+  pub more : HasOneMore into (kept_of after) ask.target component (base_name base) (header_of sent) sent.snapshot.objects.state
+
+-- A run of `send` that ended with status 0, and one of `receive` that read what it wrote and ended with status 0, leave one snapshot more: the one that
+-- was sent, with its guid, objects, contents and holes; and all else as it was.
+abbrev pub SentSnapshotStands : (here here' there there' : DiskState) → Type 0
+SentSnapshotStands here here' there there' =
+    (tight : Bool) (ask : SendAsk) (receive : RecvAsk) (from into : Pool) (sent : Sent) (out out' other other' : SinkState) (input input' : SourceState)
+    → IsSender ask from sent here → here'.honest → IsReceiver tight receive into from sent there there'
+    → Sends ask here here' out out' (Ok tt) → Receives receive there there' input input' other other' (Ok tt) → IsPiped out out' input input'
+    → IsReplicated tight receive into sent there'
+
+-- Whatever is read: a run of `receive` without -s that is refused, but for a fault of the disk or of the output, leaves nothing of the receive.
+abbrev pub RefusedLeavesNothing : (there there' : DiskState) → Type 0
+RefusedLeavesNothing there there' =
+    (tight : Bool) (ask : RecvAsk) (uber : Uber) (rows : Rows) (into : Pool) (refusal : Refusal) (out out' : SinkState) (input input' : SourceState)
+    → there'.honest → ReadsAs tight uber rows into there.seen → TellsTarget ask rows into → partial_of ask.target into ≡ None → ask.keep ≡ false
+    → Receives ask there there' input input' out out' (Err refusal) → refusal ≢ refusals.DiskFault → refusal ≢ refusals.SinkFault
+    → (after : Pool) × Keeps tight there' after × HasNothing ask into (kept_of after)
+
+-- Wherever the stream of a send is cut off, and wherever in a write the receiver stops: each image on the way, and in the end, stood before or is in the
+-- progress of the receive: nothing, a partial state that is kept, or the whole snapshot.
+abbrev pub IsOnItsWay : (tight : Bool) → RecvAsk → Pool → Sent → List ℕ → Base → DiskState → List ℕ → Type 0
+IsOnItsWay tight ask into sent component base there image =
+    there.images image ⊎ ((after : Pool) × Reads tight (kept_of after) image × Progress ask (sent_view sent) component base into (kept_of after))
+
+abbrev pub StopsAreProgress : (here there there' : DiskState) → Type 0
+StopsAreProgress here there there' =
+    (tight : Bool) (ask : SendAsk) (receive : RecvAsk) (from into : Pool) (sent : Sent) (component : List ℕ) (base : Base) (result : Result (Unit {0}) Refusal)
+    (out out' : SinkState) (input input' : SourceState)
+    → IsSender ask from sent here → IsReceiver tight receive into from sent there there'
+    → recv_plan receive (header_of sent) into ≡ Ok (Begins component base)
+    → Receives receive there there' input input' out out' result → IsReadOf (sent_text sent) input input'
+    → Leaves there there' (IsOnItsWay tight receive into sent component base there) × ((c : List ℕ) → there'.images c → IsOnItsWay tight receive into sent component base there c)

@@ -1,0 +1,193 @@
+-- What a send writes, and why it ends.
+use Rattle.std.specs.Prelude.{ℕ, ◌≡◌, ◌≢◌, ◌⊎◌, ◌<◌, ◌≤◌, IfErr, List, [], ◌++◌, length, Option, None, Some, Result, Ok, Err, false}
+use Rattle.zst_outside.specs.Causes.{Rose}
+use Rattle.zst_outside.specs.Images.{DiskState, OnlyReads}
+use Rattle.zst_outside.specs.Printing.{Printed, Wrote}
+use Rattle.zst_outside.specs.States.{SinkState, HandedOn}
+use Rattle.zst_uber.specs.Slots.{latest}
+use Rattle.zst_uber.specs.declared.uber.Uber.{Uber}
+use Rattle.zst_model.specs.declared.refusals.faults.Quantity.TheVariants.{Stream}
+use Rattle.zst_model.specs.declared.refusals.named.Name.{Name}
+use Rattle.zst_model.specs.declared.refusals.named.Name.TheVariants as names
+use Rattle.zst_model.specs.declared.refusals.plan_fault.PlanFault.{PlanFault}
+use Rattle.zst_model.specs.declared.refusals.refusal.Refusal.{Refusal}
+use Rattle.zst_model.specs.declared.refusals.refusal.Refusal.TheVariants as refusals
+use Rattle.zst_model.specs.declared.sends.ask.FromName.{FromName}
+use Rattle.zst_model.specs.declared.sends.ask.FromName.TheVariants.{Snap, Book}
+use Rattle.zst_model.specs.declared.sends.ask.SendAsk.{SendAsk}
+use Rattle.zst_model.specs.pools.Pool.{Pool}
+use Rattle.zst_model.specs.refusals.Refusal.{refusal_of}
+use Rattle.zst_model.specs.sends.Headers.{Sent, header_of, sent_view}
+use Rattle.zst_tree.specs.Damage.{IsSeen}
+use Rattle.zst_tree.specs.declared.tree.ObjSet.{ObjSet}
+use Rattle.zst_objset.specs.Damage.{DamageFact}
+use Rattle.zst_dir.specs.Rows.{Rows}
+use Rattle.zst_image.specs.Faults.{open_refusal}
+use Rattle.zst_image.specs.Opening.{TellsBody, TellsDir}
+use Rattle.zst_image.specs.Reads.{IsNamedBy, Reads, kept_rows}
+use Rattle.zst_image.specs.declared.open_fault.OpenFault.{OpenFault}
+use Rattle.zst_pool.specs.Damage.{OfSet}
+use Rattle.zst_pool.specs.Faults.{pool_refusal}
+use Rattle.zst_pool.specs.declared.fault.PoolFault.{PoolFault}
+use Rattle.zst_reader.specs.Filling.{stream_limit}
+use Rattle.zst_send.specs.Damage.{IsDamagedSend}
+use Rattle.zst_send.specs.Opening.{opening}
+use Rattle.zst_send.specs.Sends.{sent_text}
+use Rattle.zst_run.specs.Commands.{HasVersion, IsPoolRefusal, Opens}
+
+-- ---- what is asked
+
+-- a name that a send may be from: a snapshot's or a bookmark's
+abbrev pub IsSource : Name → Type 0
+IsSource (names.Dataset name) = ⊥
+IsSource name = Unit {0}
+
+-- what an increment is asked to be sent from
+abbrev pub source_of : Option Name → Option FromName
+source_of None = None
+source_of (Some (names.Snapshot name)) = Some (Snap name)
+source_of (Some (names.Bookmark name)) = Some (Book name)
+source_of (Some (names.Dataset name)) = None
+
+-- what the names of a line ask for
+abbrev pub ask_of : Option Name → Option (List ℕ) → List ℕ → SendAsk
+ask_of from redacts snapshot = record { snap = snapshot; from = source_of from; redact = redacts }
+
+-- ---- how a send of a pool ends
+
+-- the text of what is to be sent, and none where it is refused
+abbrev pub text_for : Result Sent PlanFault → List ℕ
+text_for (Ok sent) = sent_text sent
+text_for (Err fault) = []
+
+-- all that was written was handed on, and no fault of the output was counted
+abbrev pub IsOut : SinkState → SinkState → Type 0
+IsOut out out' = (out'.faults ≡ out.faults) × HandedOn out'
+
+-- all of a text, which is no longer than a stream may be, was written and handed on without a fault
+pub record SentAll (text : List ℕ) (out out' : SinkState) : Type 0 where
+  pub within : length text ≤ stream_limit
+  pub printed : Printed out out' text
+  pub handed_on : HandedOn out'
+
+-- E23: the text is longer than a stream may be, and what was written of it is out
+pub record PastStream (text : List ℕ) (out out' : SinkState) : Type 0 where
+  pub longer : stream_limit < length text
+  pub is_out : IsOut out out'
+
+-- How the send of a text ends, where the disk counted so many faults before and after: with all of it, or by E23. The disk's
+-- refusal and the output's come only where their counts rose, and that of memory before a byte is written.
+abbrev pub TextEnds : List ℕ → (before after : ℕ) → SinkState → SinkState → Result (Unit {0}) Refusal → Type 0
+TextEnds text before after out out' (Ok done) = SentAll text out out'
+TextEnds text before after out out' (Err (refusals.Limit which number)) = (which ≡ Stream) × (number ≡ stream_limit) × PastStream text out out'
+TextEnds text before after out out' (Err refusals.DiskFault) = Rose before after × ((out' ≡ out) ⊎ IsOut out out')
+TextEnds text before after out out' (Err refusals.SinkFault) = Rose out.faults out'.faults
+TextEnds text before after out out' (Err refusals.OutOfMemory) = out' ≡ out
+TextEnds text before after out out' (Err other) = ⊥
+
+-- why a send is refused that its plan refuses: for that, unless the disk failed or no memory was left
+abbrev pub RefusalEnds : PlanFault → (before after : ℕ) → Result (Unit {0}) Refusal → Type 0
+RefusalEnds fault before after (Ok done) = ⊥
+RefusalEnds fault before after (Err refusals.DiskFault) = Rose before after
+RefusalEnds fault before after (Err refusals.OutOfMemory) = Unit {0}
+RefusalEnds fault before after (Err refusal) = refusal ≡ refusal_of fault
+
+-- how a send ends by its plan; where that refuses, nothing is written
+abbrev pub SendEnds : Result Sent PlanFault → (before after : ℕ) → SinkState → SinkState → Result (Unit {0}) Refusal → Type 0
+SendEnds (Ok sent) before after out out' result = TextEnds (sent_text sent) before after out out' result
+SendEnds (Err fault) before after out out' result = RefusalEnds fault before after result × (out' ≡ out)
+
+-- a front of the text of the plan was written, whatever the answer, and the send ended as its plan says
+pub record SendsBy (planned : Result Sent PlanFault) (before after : ℕ) (out out' : SinkState) (result : Result (Unit {0}) Refusal) : Type 0 where
+  pub front : (rest : List ℕ) × Wrote out out' (text_for planned) rest
+  pub ends : SendEnds planned before after out out' result
+
+-- ---- sending from an image
+
+-- what a send of this object set may tell as damaged, as the disk had it
+abbrev pub send_damage : DiskState → ObjSet → DamageFact
+send_damage disk set = IsDamagedSend (IsSeen disk.seen) disk.size set
+
+-- E25 comes only of such a damage
+abbrev pub TellsOf : DamageFact → Result (Unit {0}) Refusal → Type 0
+TellsOf Is result = (sector : ℕ) (stated found : List ℕ) → result ≡ Err (refusals.Damaged sector stated found) → Is sector stated found
+
+-- A send from a pool that was opened by this body and these rows, whether or not the image reads as a pool. What the directory
+-- tells alone: E3, E6, E7 and E19 come exactly where the definition refuses the plan of a pool that the body and the rows name,
+-- whatever its object sets hold, and then nothing is written. E25 comes only of a block of the asked snapshot's own object set.
+pub record SendRan (ask : SendAsk) (here : DiskState) (out out' : SinkState) (result : Result (Unit {0}) Refusal) (uber : Uber) (rows : Rows) : Type 0 where
+  pub opens : Opens here uber rows
+  pub planned : (pool : Pool) (fault : PlanFault) → IsNamedBy uber (kept_rows rows) pool → opening ask pool ≡ Err fault
+      → (result ≡ Err (refusal_of fault)) × (out' ≡ out)
+  pub because : (pool : Pool) (fault : PlanFault) → IsNamedBy uber (kept_rows rows) pool → result ≡ Err (refusals.Plan fault)
+      → opening ask pool ≡ Err fault
+  pub damaged : TellsOf (OfSet (kept_rows rows) (names.Snapshot ask.snap) (send_damage here)) result
+
+-- What an answer says of any image. E26 comes where there is no latest body, E27 where it has another version, E25 where it
+-- or its directory isn't of the layout: then nothing is written. Any other answer comes where both are, but for E28 and E32
+-- before anything is written.
+abbrev pub SendOpened : SendAsk → DiskState → SinkState → SinkState → Result (Unit {0}) Refusal → Type 0
+SendOpened ask here out out' (Err refusals.NoPool) = (latest here.seen ≡ None) × (out' ≡ out)
+SendOpened ask here out out' (Err (refusals.BadVersion number)) = HasVersion here number × (out' ≡ out)
+SendOpened ask here out out' (Err (refusals.Damaged sector stated found)) =
+    ((TellsBody here sector stated found ⊎ TellsDir here sector stated found) × (out' ≡ out))
+    ⊎ ((uber : Uber) × (rows : Rows) × SendRan ask here out out' (Err (refusals.Damaged sector stated found)) uber rows)
+SendOpened ask here out out' (Err refusals.DiskFault) = (out' ≡ out) ⊎ ((uber : Uber) × (rows : Rows) × SendRan ask here out out' (Err refusals.DiskFault) uber rows)
+SendOpened ask here out out' (Err refusals.OutOfMemory) = (out' ≡ out) ⊎ ((uber : Uber) × (rows : Rows) × SendRan ask here out out' (Err refusals.OutOfMemory) uber rows)
+SendOpened ask here out out' answer = (uber : Uber) × (rows : Rows) × SendRan ask here out out' answer uber rows
+
+-- a refusal of a pool that was opened, E30, or E23 of a stream; and one of opening the pool
+abbrev pub OfGiving : Refusal → Type 0
+OfGiving refusal = ((fault : PoolFault) × (refusal ≡ pool_refusal fault)) ⊎ ((refusal ≡ refusals.SinkFault) ⊎ (refusal ≡ refusals.Limit Stream stream_limit))
+
+abbrev pub OfSending : Refusal → Type 0
+OfSending refusal = ((fault : OpenFault) × (refusal ≡ open_refusal fault)) ⊎ OfGiving refusal
+
+-- one of these refusals, but not that the disk is full (E24); that of the output (E30) only where its count of faults rose
+pub record IsSendRefusal (Is : Refusal → Type 0) (here here' : DiskState) (out out' : SinkState) (refusal : Refusal) : Type 0 where
+  pub pool : IsPoolRefusal Is here here' refusal
+  pub never_full : (need largest : ℕ) → refusal ≢ refusals.Full need largest
+  pub cause : refusal ≡ refusals.SinkFault → Rose out.faults out'.faults
+
+-- A send of what is asked, from an image, which is only read. Of a pool a front of the text of its plan is written.
+pub record Sends (ask : SendAsk) (here here' : DiskState) (out out' : SinkState) (result : Result (Unit {0}) Refusal) : Type 0 where
+  pub reads : OnlyReads here here'
+  pub sends : (pool : Pool) → here'.honest → Reads false pool here.seen → SendsBy (opening ask pool) here.faults here'.faults out out' result
+  pub opened : here'.honest → SendOpened ask here out out' result
+  pub refused : IfErr result (IsSendRefusal OfSending here here' out out')
+  pub later : here.faults ≤ here'.faults
+
+-- ---- sends that are alike
+
+-- a pool that reads of an image as this send was asked, with what is sent of it
+pub record SendsOf (sent : Sent) (here here' : DiskState) (out out' : SinkState) (result : Result (Unit {0}) Refusal) : Type 0 where
+  pub ask : SendAsk
+  pub pool : Pool
+  pub honest : here'.honest
+  pub reads : Reads false pool here.seen
+  pub is : opening ask pool ≡ Ok sent
+  pub sends : Sends ask here here' out out' result
+
+-- two outputs got bytes of which those of one are a front of those of the other
+pub record WroteAlike (out out' into into' : SinkState) : Type 0 where
+  pub one : List ℕ
+  pub other : List ℕ
+  pub wrote : out'.written ≡ out.written ++ one
+  pub wrote_too : into'.written ≡ into.written ++ other
+  pub front : ((rest : List ℕ) × (other ≡ one ++ rest)) ⊎ ((rest : List ℕ) × (one ≡ other ++ rest))
+
+-- two outputs got the same bytes
+pub record WroteSame (out out' into into' : SinkState) : Type 0 where
+  pub bytes : List ℕ
+  pub wrote : out'.written ≡ out.written ++ bytes
+  pub wrote_too : into'.written ≡ into.written ++ bytes
+
+-- Two sends of one header and one view write the same bytes where both end well, whatever else their pools hold and wherever
+-- it stands; where either stops early, what one wrote is a front of what the other did.
+pub record SentAlike (here here' there there' : DiskState) : Type 0 where
+  pub front : (sent also : Sent) (out out' into into' : SinkState) (one other : Result (Unit {0}) Refusal)
+      → header_of sent ≡ header_of also → sent_view sent ≡ sent_view also → SendsOf sent here here' out out' one → SendsOf also there there' into into' other
+      → WroteAlike out out' into into'
+  pub equal : (sent also : Sent) (out out' into into' : SinkState)
+      → header_of sent ≡ header_of also → sent_view sent ≡ sent_view also → SendsOf sent here here' out out' (Ok tt) → SendsOf also there there' into into' (Ok tt)
+      → WroteSame out out' into into'

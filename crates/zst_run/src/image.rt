@@ -1,0 +1,141 @@
+// How the program opens the image that a line names.
+ghost use Rattle.std.specs.Prelude.{◌≡◌, IfOk, [], option_map};
+ghost use Rattle.zst_file.specs.FileDisk.{history_of};
+ghost use Rattle.zst_run.specs.Lines.{IsInRange};
+ghost use Rattle.zst_run.specs.Openings.{is_shared, shares};
+
+use std::alloc::{AllocError, Global};
+use std::fs::{self, File};
+use std::io::{self, ErrorKind};
+use std::path::Path;
+use zst_file::{FileDisk, Start};
+use zst_line::{Line, LineFault, Text, parse};
+
+/// The bytes of a sector.
+const SECTOR: u64 = 512;
+
+/// How the image of a line is opened.
+#[derive(Clone, Copy)]
+pub enum Opening {
+    /// It is only read, beside others that only read it.
+    Shared,
+    /// It is read and written, with nobody beside.
+    Alone,
+    /// As `Alone`, and a file that isn't there is made, of so many bytes, all zero.
+    Made { bytes: u64 },
+}
+
+/// How a line opens its image: one that commits nothing needs no leave to write. None where it names no image, or asks
+/// for what isn't built.
+fn opening_for(line: &Line) -> Option<Opening>
+    requires { IsInRange line.now }
+    ensures { option_map is_shared result ≡ shares line.now }
+{
+    match line {
+        Line::Create { sectors, .. } => {
+            let bytes = *sectors * SECTOR;
+            Some(Opening::Made { bytes })
+        }
+        Line::Step { command, .. } if command.commits() => Some(Opening::Alone),
+        Line::Receive { .. } => Some(Opening::Alone),
+        Line::Step { .. } | Line::Send { .. } => Some(Opening::Shared),
+        _ => None,
+    }
+}
+
+/// The image that a line names, where it is built.
+fn image_of(line: Line) -> Option<Text> {
+    match line {
+        Line::Create { image, .. } => Some(image),
+        Line::Step { image, .. } => Some(image),
+        Line::Send { image, .. } => Some(image),
+        Line::Receive { image, .. } => Some(image),
+        _ => None,
+    }
+}
+
+/// The image that the words name, and how it is opened; None where they name none, are no line, or ask for what isn't
+/// built.
+pub fn opening_of(alloc: Global, words: &[String]) -> Result<Option<(Text, Opening)>, AllocError> {
+    let line = match parse(alloc, words) {
+        Ok(line) => line,
+        Err(LineFault::Memory) => return Err(AllocError),
+        Err(_) => return Ok(None),
+    };
+    let opening = opening_for(&line);
+    match (image_of(line), opening) {
+        (Some(image), Some(opening)) => Ok(Some((image, opening))),
+        _ => Ok(None),
+    }
+}
+
+/// Syncs the folder of a path, and with it the entry of a file that was made there.
+fn sync_folder(rt: &HostRuntime, path: &str) -> io::Result<()> {
+    let folder = match Path::new(path).parent() {
+        Some(folder) if !folder.as_str().is_empty() => folder,
+        _ => Path::new("."),
+    };
+    File::open(rt, folder)?.sync_all()
+}
+
+/// Locks a file that was just made, gives it its length, and makes sure of both it and its folder's entry.
+fn settle(rt: &HostRuntime, path: &str, file: &File, bytes: u64) -> io::Result<()> {
+    file.try_lock()?;
+    file.set_len(bytes)?;
+    file.sync_all()?;
+    sync_folder(rt, path)
+}
+
+/// Makes the file of a new image, which is on the disk before anything is said of it. Where that can't be had, the file
+/// that was made is taken away again.
+fn make(rt: &HostRuntime, path: &str, bytes: u64) -> io::Result<File> {
+    let file = File::options()
+        .read(true)
+        .write(true)
+        .create_new(true)
+        .open(rt, path)?;
+    match settle(rt, path, &file, bytes) {
+        Ok(()) => Ok(file),
+        Err(error) => {
+            let _ = fs::remove_file(rt, path);
+            Err(error)
+        }
+    }
+}
+
+/// Takes the lock that keeps an image from being written by two. It goes with the last descriptor of this opening, also
+/// where the program is killed.
+fn lock(file: &File, opening: Opening) -> io::Result<()> {
+    match opening {
+        Opening::Shared => file.try_lock_shared()?,
+        Opening::Alone | Opening::Made { .. } => file.try_lock()?,
+    }
+    Ok(())
+}
+
+/// Opens an image and locks it before anything is read of it. Where another has its lock, this fails at once.
+///
+/// The descriptor that is kept is a copy, which is 3 or more: where a standard stream is closed, the file itself may have
+/// got its number, and what is written to that stream must not land in the image.
+pub fn open<S: Start>(
+    rt: &HostRuntime,
+    path: &str,
+    opening: Opening,
+    start: S,
+) -> io::Result<FileDisk<S>>
+    ensures { IfOk result (λ disk. history_of disk ≡ []) }
+{
+    let writes = !matches!(opening, Opening::Shared);
+    let there = File::options().read(true).write(writes).open(rt, path);
+    let file = match (there, opening) {
+        (Err(error), Opening::Made { bytes }) if error.kind() == ErrorKind::NotFound => {
+            make(rt, path, bytes)?
+        }
+        (there, _) => {
+            let file = there?;
+            lock(&file, opening)?;
+            file
+        }
+    };
+    FileDisk::new(file.try_clone()?, start)
+}

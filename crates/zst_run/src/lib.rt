@@ -1,0 +1,21 @@
+//! What the program does with the words of a line: each command over an image and the standard streams.
+#![tactic(auto)]
+
+mod dump;
+mod image;
+mod note;
+mod on_file;
+mod pools;
+mod receive;
+mod replicated;
+mod reply;
+mod running;
+mod send;
+
+pub use dump::dumps_have_one_answer;
+pub use image::{Opening, open, opening_of};
+pub use note::status_of;
+pub use on_file::run_on_file;
+pub use replicated::{refused_leaves_nothing, sent_snapshot_stands, stops_are_progress};
+pub use running::run;
+pub use send::equal_views_are_written_alike;

@@ -1,0 +1,43 @@
+// What the runs of a send and of a receive come to together.
+ghost use Rattle.zst_run.specs.Replicated.{RefusedLeavesNothing, SentSnapshotStands, StopsAreProgress};
+
+use zst_image::images_keep_partials;
+use zst_laws::keeping_is_done;
+use zst_outside::Disk;
+use zst_replication::{
+    bases_match, cut_leaves_nothing, left_is_kept, one_more_is_kept, plain_can_be_sent,
+    sent_is_received,
+};
+
+/// What one run sent and another received stands as one snapshot more, and all else is as it was.
+pub fn sent_snapshot_stands<D: Disk, E: Disk>()
+    ensures { (here now : D) (there later : E) → SentSnapshotStands (D.state here) (D.state now) (E.state there) (E.state later) }
+{
+    keeping_is_done();
+    images_keep_partials();
+    plain_can_be_sent();
+    bases_match();
+    sent_is_received();
+    one_more_is_kept();
+}
+
+/// A receive that is refused leaves nothing of it.
+pub fn refused_leaves_nothing<E: Disk>()
+    ensures { (there later : E) → RefusedLeavesNothing (E.state there) (E.state later) }
+{
+    keeping_is_done();
+    images_keep_partials();
+    cut_leaves_nothing();
+    left_is_kept();
+}
+
+/// Wherever a receive of a send is cut off or stopped, each image is in its progress.
+pub fn stops_are_progress<D: Disk, E: Disk>()
+    ensures { (here : D) (there later : E) → StopsAreProgress (D.state here) (E.state there) (E.state later) }
+{
+    keeping_is_done();
+    images_keep_partials();
+    plain_can_be_sent();
+    bases_match();
+    zst_replication::stops_are_progress();
+}

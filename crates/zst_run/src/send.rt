@@ -1,0 +1,231 @@
+// The line that sends a snapshot: its stream is written piece by piece, as it is read of the image.
+ghost use Rattle.std.specs.Prelude.{◌≡◌, ◌≢◌, ◌≤◌, ◌<◌, ℕ, Contains, List, false, length, IfErr, IfOk, IfSome, None, Some, Ok, Err};
+ghost use Rattle.zst_outside.specs.Images.{OnlyReads};
+ghost use Rattle.zst_outside.specs.States.{SinkState};
+ghost use Rattle.zst_space.specs.FreeSectors.{FreeSectors};
+ghost use Rattle.zst_block.specs.Blocks.{FitsDisk, Has};
+ghost use Rattle.zst_dir.specs.Named.{AreNamed};
+ghost use Rattle.zst_image.specs.Reads.{RunsBy};
+ghost use Rattle.zst_model.specs.pools.Pool.{Pool as Plain};
+ghost use Rattle.zst_model.specs.declared.refusals.plan_fault.PlanFault.{PlanFault};
+ghost use Rattle.zst_model.specs.sends.Headers.{Sent};
+ghost use Rattle.zst_pool.specs.Damage.{OfSet};
+ghost use Rattle.zst_pool.specs.Finding.{set_named};
+ghost use Rattle.zst_reader.specs.Filling.{stream_limit};
+ghost use Rattle.zst_send.specs.Damage.{IsDamagedSend};
+ghost use Rattle.zst_send.specs.Knowing.{IsAmong, Knows};
+ghost use Rattle.zst_send.specs.Opening.{opening};
+ghost use Rattle.zst_send.specs.Sends.{SendFits, sent_set};
+ghost use Rattle.zst_run.specs.Sends.{IsSendRefusal, IsSource, OfGiving, Sends, SendsBy, SentAlike, TellsOf, ask_of, send_damage, source_of};
+ghost use Rattle.zst_run.specs.Sending.{Advances, IfUnplanned, IsOpenRefusal, OpensBy, Passed, PlansOpen, Sending, WritesPiece};
+
+use crate::reply::hand_on;
+use std::alloc::Global;
+use zst_image::Kept;
+use zst_model::{Name, Quantity, Refusal};
+use zst_names::{BookName, SnapName};
+use zst_outside::{Disk, Sink, write_all};
+use zst_pool::{Pool, PoolFault};
+use zst_reader::STREAM_LIMIT;
+use zst_send::{FromName, Send, SendAsk};
+
+/// The bytes of a piece, which stay in a processor's cache from where they are read to where they are written.
+const PIECE: usize = 262_144;
+
+/// What an increment is asked to be sent from.
+fn source_of(from: &Option<Name>) -> Option<FromName>
+    requires { IfSome from.now IsSource }
+    ensures { result ≡ source_of from.now }
+{
+    match from {
+        Some(Name::Snapshot(name)) => Some(FromName::Snap(name.duplicate())),
+        Some(Name::Bookmark(name)) => Some(FromName::Book(name.duplicate())),
+        Some(Name::Dataset(_)) => unreachable!(),
+        None => None,
+    }
+}
+
+/// What the names of a line ask for.
+pub(crate) fn ask_of(
+    from: &Option<Name>,
+    redacts: &Option<BookName>,
+    snapshot: &SnapName,
+) -> SendAsk
+    requires { IfSome from.now IsSource }
+    ensures { result ≡ ask_of from.now redacts.now snapshot.now }
+{
+    SendAsk {
+        snap: snapshot.duplicate(),
+        from: source_of(from),
+        redact: match redacts {
+            Some(name) => Some(name.duplicate()),
+            None => None,
+        },
+    }
+}
+
+// Writes a piece behind so many bytes, which it makes more. After the last one all is handed on.
+fn write_piece<K: Sink>(
+    piece: &[u8],
+    is_last: bool,
+    count: &mut u64,
+    out: &mut K,
+) -> Option<Result<(), Refusal>>
+    requires { count.old ≤ stream_limit }
+    ensures { WritesPiece piece.now is_last count.old count.new (K.state out.old) (K.state out.new) result }
+{
+    if piece.len() as u64 > STREAM_LIMIT - *count {
+        let refusal = Refusal::Limit {
+            which: Quantity::Stream,
+            number: STREAM_LIMIT,
+        };
+        return Some(hand_on(Err(refusal), out));
+    }
+    match write_all(out, piece) {
+        Ok(()) if is_last => Some(hand_on(Ok(()), out)),
+        Ok(()) => {
+            *count += piece.len() as u64;
+            None
+        }
+        Err(_) => Some(Err(Refusal::SinkFault)),
+    }
+}
+
+// One step: the next piece is taken and written, behind so many bytes, or the send ends.
+fn pass_piece<D: Disk, K: Sink>(
+    pool: &mut Pool<'_, D>,
+    send: &mut Send,
+    count: &mut u64,
+    room: &mut [u8],
+    out: &mut K,
+) -> Option<Result<(), Refusal>>
+    requires room { 0 < length room.old }
+    requires send { SendFits send.old }
+    requires fits { FitsDisk (D.state pool.old.io.disk.now).size pool.old.io.space }
+    requires works { pool.old.io.failed ≡ false }
+    requires within { count.old ≤ stream_limit }
+    ensures passed { (sent : Sent) (begun : SinkState) → (D.state pool.new.io.disk.now).honest → Sending (Has (D.state pool.old.io.disk.now).seen pool.old.io.space) sent send.old begun (K.state out.old) count.old
+        → Passed (Has (D.state pool.new.io.disk.now).seen pool.new.io.space) sent send.new (D.state pool.old.io.disk.now).faults (D.state pool.new.io.disk.now).faults begun (K.state out.new) count.new result }
+    ensures advances { Advances count.old count.new result }
+    ensures refused { IfSome result (λ answer. IfErr answer (IsSendRefusal OfGiving (D.state pool.old.io.disk.now) (D.state pool.new.io.disk.now) (K.state out.old) (K.state out.new))) }
+    ensures unplanned { (fault : PlanFault) → result ≢ Some (Err (Refusal.Plan fault)) }
+    ensures set { sent_set send.new ≡ sent_set send.old }
+    ensures knows { (images : List (List ℕ)) → Contains images (D.state pool.old.io.disk.now).seen → (D.state pool.new.io.disk.now).honest → Knows (IsAmong images) send.old → Knows (IsAmong images) send.new }
+    ensures damaged { (images : List (List ℕ)) → Contains images (D.state pool.old.io.disk.now).seen → (D.state pool.new.io.disk.now).honest → Knows (IsAmong images) send.old
+        → IfSome result (TellsOf (IsDamagedSend (IsAmong images) (D.state pool.old.io.disk.now).size (sent_set send.old))) }
+    ensures room { length room.new ≡ length room.old }
+    ensures send { SendFits send.new }
+    ensures works { result ≡ None → pool.new.io.failed ≡ false }
+    ensures reads { OnlyReads (D.state pool.old.io.disk.now) (D.state pool.new.io.disk.now) }
+    ensures later { (D.state pool.old.io.disk.now).faults ≤ (D.state pool.new.io.disk.now).faults }
+    ensures out_later { (K.state out.old).faults ≤ (K.state out.new).faults }
+    ensures fits { FitsDisk (D.state pool.new.io.disk.now).size pool.new.io.space }
+    ensures same { pool.new.io.disk.ghost_name ≡ pool.old.io.disk.ghost_name }
+{
+    match send.take(pool, room) {
+        Ok(taken) => {
+            let is_last = taken < room.len();
+            write_piece(&room[..taken], is_last, count, out)
+        }
+        Err(fault) => Some(hand_on(Err(Refusal::from(fault)), out)),
+    }
+}
+
+// Writes all that a send gives, and hands it on.
+fn pass_all<D: Disk, K: Sink>(
+    pool: &mut Pool<'_, D>,
+    mut send: Send,
+    room: &mut [u8],
+    out: &mut K,
+) -> Result<(), Refusal>
+    requires room { 0 < length room.old }
+    requires send { SendFits send }
+    requires fits { FitsDisk (D.state pool.old.io.disk.now).size pool.old.io.space }
+    requires works { pool.old.io.failed ≡ false }
+    ensures sends { (sent : Sent) → (D.state pool.new.io.disk.now).honest → Sending (Has (D.state pool.old.io.disk.now).seen pool.old.io.space) sent send (K.state out.old) (K.state out.old) 0
+        → SendsBy (Ok sent) (D.state pool.old.io.disk.now).faults (D.state pool.new.io.disk.now).faults (K.state out.old) (K.state out.new) result }
+    ensures unplanned { (fault : PlanFault) → result ≢ Err (Refusal.Plan fault) }
+    ensures damaged { (images : List (List ℕ)) → Contains images (D.state pool.old.io.disk.now).seen → (D.state pool.new.io.disk.now).honest → Knows (IsAmong images) send
+        → TellsOf (IsDamagedSend (IsAmong images) (D.state pool.old.io.disk.now).size (sent_set send)) result }
+    ensures refused { IfErr result (IsSendRefusal OfGiving (D.state pool.old.io.disk.now) (D.state pool.new.io.disk.now) (K.state out.old) (K.state out.new)) }
+    ensures reads { OnlyReads (D.state pool.old.io.disk.now) (D.state pool.new.io.disk.now) }
+    ensures later { (D.state pool.old.io.disk.now).faults ≤ (D.state pool.new.io.disk.now).faults }
+    ensures same { pool.new.io.disk.ghost_name ≡ pool.old.io.disk.ghost_name }
+{
+    let mut count = 0;
+    'pieces: loop {
+        match pass_piece(pool, &mut send, &mut count, room, out) {
+            Some(result) => return result,
+            None => {}
+        }
+    }
+}
+
+// Opens a send. That reads nothing, so that it is refused by its plan or for want of memory alone.
+fn open<D: Disk>(alloc: Global, pool: &mut Pool<'_, D>, ask: &SendAsk) -> Result<Send, Refusal>
+    requires { pool.old.io.failed ≡ false }
+    ensures opens { (image : List ℕ) (space : FreeSectors) (running : Plain) → RunsBy None (Has image space) pool.old.kept.dir running → OpensBy (Has image space) (opening ask.now running) result }
+    ensures planned { (running : Plain) → AreNamed pool.old.kept.dir running → PlansOpen (opening ask.now running) result }
+    ensures set { IfOk result (λ send. set_named (Name.Snapshot ask.now.snap) pool.old.kept.dir ≡ Some (sent_set send)) }
+    ensures knows { (images : List (List ℕ)) → IfOk result (Knows (IsAmong images)) }
+    ensures fits { IfOk result SendFits }
+    ensures refused { IfErr result IsOpenRefusal }
+    ensures disk { pool.new.io.disk.now ≡ pool.old.io.disk.now }
+    ensures space { pool.new.io.space ≡ pool.old.io.space }
+    ensures failed { pool.new.io.failed ≡ pool.old.io.failed }
+    ensures same { pool.new.io.disk.ghost_name ≡ pool.old.io.disk.ghost_name }
+{
+    match Send::open(pool, alloc, ask) {
+        Ok(send) => Ok(send),
+        Err(PoolFault::Plan(fault)) => Err(Refusal::from(fault)),
+        Err(_) => Err(Refusal::OutOfMemory),
+    }
+}
+
+// Sends what is asked from a pool that was opened.
+fn send_from<D: Disk, K: Sink>(
+    alloc: Global,
+    pool: &mut Pool<'_, D>,
+    ask: &SendAsk,
+    out: &mut K,
+) -> Result<(), Refusal>
+    requires fits { FitsDisk (D.state pool.old.io.disk.now).size pool.old.io.space }
+    requires works { pool.old.io.failed ≡ false }
+    ensures sends { (running : Plain) → (D.state pool.new.io.disk.now).honest → RunsBy None (Has (D.state pool.old.io.disk.now).seen pool.old.io.space) pool.old.kept.dir running
+        → SendsBy (opening ask.now running) (D.state pool.old.io.disk.now).faults (D.state pool.new.io.disk.now).faults (K.state out.old) (K.state out.new) result }
+    ensures planned { (running : Plain) → AreNamed pool.old.kept.dir running → IfUnplanned (opening ask.now running) (K.state out.old) (K.state out.new) result }
+    ensures because { (running : Plain) (fault : PlanFault) → AreNamed pool.old.kept.dir running → result ≡ Err (Refusal.Plan fault) → opening ask.now running ≡ Err fault }
+    ensures damaged { (D.state pool.new.io.disk.now).honest → TellsOf (OfSet pool.old.kept.dir (Name.Snapshot ask.now.snap) (send_damage (D.state pool.old.io.disk.now))) result }
+    ensures refused { IfErr result (IsSendRefusal OfGiving (D.state pool.old.io.disk.now) (D.state pool.new.io.disk.now) (K.state out.old) (K.state out.new)) }
+    ensures reads { OnlyReads (D.state pool.old.io.disk.now) (D.state pool.new.io.disk.now) }
+    ensures later { (D.state pool.old.io.disk.now).faults ≤ (D.state pool.new.io.disk.now).faults }
+    ensures same { pool.new.io.disk.ghost_name ≡ pool.old.io.disk.ghost_name }
+{
+    let send = open(alloc, pool, ask)?;
+    let Ok(mut room) = vec![in alloc; 0; PIECE] else {
+        return Err(Refusal::OutOfMemory);
+    };
+    pass_all(pool, send, room.as_mut_slice(), out)
+}
+
+/// Sends what is asked from the pool of an image.
+pub(crate) fn send<D: Disk, K: Sink>(
+    alloc: Global,
+    here: &mut D,
+    ask: &SendAsk,
+    out: &mut K,
+) -> Result<(), Refusal>
+    ensures { Sends ask.now (D.state here.old) (D.state here.new) (K.state out.old) (K.state out.new) result }
+{
+    let kept = Kept::open(alloc, here)?;
+    let mut pool = Pool::new(alloc, here, kept);
+    let result = send_from(alloc, &mut pool, ask, out);
+    // Only of a disk that was given back is it known what stands on it.
+    pool.into_disk();
+    result
+}
+
+/// Sends of equal headers and equal views write equal bytes.
+pub fn equal_views_are_written_alike<D: Disk, E: Disk>()
+    ensures { (here now : D) (there later : E) → SentAlike (D.state here) (D.state now) (E.state there) (E.state later) }
+{}
