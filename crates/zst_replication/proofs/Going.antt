@@ -38,10 +38,10 @@ module _ (ask : RecvAsk) (start : Pool) (none : partial_of ask.target start ≡ 
       let same : pool ≡ start = subst (λ (s : Stage). Runs ask start s pool) waits stands.runs in
       ap (λ (p : Pool). partial_of ask.target p) same ∙ none
 
-  feed_worked : (before : Stage) (pool : Pool) (records : List Covered) → Stands ask start before pool → Worked ask before (batch ask pool records (at_stage before)).work
+  pub feed_worked : (before : Stage) (pool : Pool) (records : List Covered) → Stands ask start before pool → Worked ask before (batch ask pool records (at_stage before)).work
   feed_worked before pool records stands = batch_worked ask pool before (none_waiting before pool stands) records (at_stage before) (nothing_worked ask before stands.asked)
 
-  put_stands : (before : Stage) (pool next : Pool) (records : List Covered) → is_done before ≡ false → Stands ask start before pool
+  pub put_stands : (before : Stage) (pool next : Pool) (records : List Covered) → is_done before ≡ false → Stands ask start before pool
       → put (batch ask pool records (at_stage before)).work pool ≡ Ok next → Stands ask start (batch ask pool records (at_stage before)).work.stage next
   put_stands before pool next records unended stands e =
       let worked = feed_worked before pool records stands in

@@ -13,3 +13,10 @@ mod Stopped
 mod Replicated
 mod Sendable
 mod Matched
+mod Agreeing
+mod Standing
+mod Grown
+mod Over
+mod SoundUnder
+mod SoundFinished
+mod SoundFeeds

@@ -92,7 +92,7 @@ last_there [] x e = absurd cc
 last_there {A = A} (y ∷ []) x e = subst (λ (z : A). Contains (y ∷ []) z) (some_parts y x e) (contains_first y [])
 last_there (y ∷ z ∷ zs) x e = contains_later y (z ∷ zs) x (last_there (z ∷ zs) x e)
 
-filtered_there : {A : Type 0} (p : A → Bool) (xs : List A) (x : A) → Contains (filter p xs) x → Contains xs x
+pub filtered_there : {A : Type 0} (p : A → Bool) (xs : List A) (x : A) → Contains (filter p xs) x → Contains xs x
 filtered_there p [] x h = h
 filtered_there {A = A} p (y ∷ ys) x h = go (p y) (filtered_there p ys x) h
   where
@@ -110,7 +110,7 @@ pub record IsGood (ask : RecvAsk) (header : Header) (pool : Pool) (base : Base) 
   pub by_guid : is_full header ≡ false → (snapshot : Snapshot) × (base.snapshot ≡ Some snapshot) × (snapshot.guid ≡ header.from)
   pub rolls : base.rolls ≡ true → ask.force ≡ true
 
-or_parts : {A : Type 0} (o : Option A) (fault : PlanFault) (x : A) → ok_or o fault ≡ Ok x → o ≡ Some x
+pub or_parts : {A : Type 0} (o : Option A) (fault : PlanFault) (x : A) → ok_or o fault ≡ Ok x → o ≡ Some x
 or_parts None fault x e = absurd cc
 or_parts (Some y) fault x e = ap (λ y. Some y) (ok_parts y x e)
 

@@ -165,7 +165,7 @@ batch_ended ask pool (c ∷ rest) partial = batch_ended ask pool rest partial
 
 -- ---- the commit
 
-commit_is : (pool next : Pool) → next_commit pool ≡ Ok next → next ≡ record pool { number = pool.number + 1 }
+pub commit_is : (pool next : Pool) → next_commit pool ≡ Ok next → next ≡ record pool { number = pool.number + 1 }
 commit_is pool next e =
     let last : Result Pool Refusal = Ok (record pool { number = pool.number + 1 }) in
     let a = unless_ok (nat_lt most_partials (length pool.partials)) (refusals.Limit quantities.Partials most_partials) _ next e in

@@ -2,3 +2,4 @@ pub mod Counting
 pub mod Matching
 pub mod Outcomes
 pub mod Replicas
+pub mod Soundness

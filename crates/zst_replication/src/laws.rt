@@ -1,6 +1,7 @@
 ghost use Rattle.zst_replication.specs.Counting.{RecordsAreCounted};
 ghost use Rattle.zst_replication.specs.Matching.{BasesMatch, FullMatches, OneMoreIsKept, PlainCanBeSent, SourceIsKnown};
 ghost use Rattle.zst_replication.specs.Replicas.{CutLeavesNothing, LeftIsKept, SentIsReceived, StopsAreProgress};
+ghost use Rattle.zst_replication.specs.Soundness.{ReceivesKeepSound};
 
 /// What a feed applies is counted by the records that its text covers.
 pub fn records_are_counted()
@@ -87,4 +88,12 @@ pub fn source_is_known()
     ensures { SourceIsKnown }
 {
     zst_laws::own_is_remembered();
+}
+
+/// Whatever is read, and however it is cut into pieces, a receive into a target with a dataset's name leaves a sound pool
+/// sound: the one that runs, and what the image keeps of it.
+pub fn receives_keep_sound()
+    ensures { ReceivesKeepSound }
+{
+    zst_laws::received_is_state();
 }

@@ -31,8 +31,9 @@ use Rattle.zst_replication.specs.Matching.{BasesMatch, OneMoreIsKept, PlainCanBe
 use Rattle.zst_replication.specs.Outcomes.{HasNothing, HasOneMore, Progress, base_name}
 use Rattle.zst_replication.specs.Replicas.{AreOfStream, CutLeavesNothing, IsSendable, LeftIsKept, MatchesBase, SentIsReceived, WaitedForEach}
 use Rattle.zst_replication.specs.Replicas as replicas
+use Rattle.zst_replication.specs.Soundness.{ReceivesKeepSound}
 use Rattle.zst_run.specs.Receives.{IsOnTheWay, Keeps, ReceiveEnds, Received, Refused, Stopped, Waited}
-use Rattle.zst_run.specs.Replicated.{IsOnItsWay, IsReadOf, IsReceiver, IsSender, RefusedLeavesNothing, SentSnapshotStands, StopsAreProgress}
+use Rattle.zst_run.specs.Replicated.{IsOnItsWay, IsReadOf, IsReceiver, IsSender, IsSoundAfter, RefusedLeavesNothing, SentSnapshotStands, SoundStaysSound, StopsAreProgress}
 use Rattle.zst_run.specs.Replies.{Replied}
 use Rattle.zst_run.specs.Sends.{SendEnds, Sends}
 use Rattle.zst_run.proofs.FedPieces.{open_live}
@@ -203,4 +204,16 @@ stops_so keeps fits law here there there' tight ask receive from into sent compo
       Leaves-weaker there there' (IsOnTheWay tight there receive into run.pieces) (IsOnItsWay tight receive into sent component base there)
           (run.moments tight receiver.uber receiver.rows into receiver.honest receiver.reads receiver.tells) on_way,
       λ c image. on_way c (run.images tight receiver.uber receiver.rows into receiver.honest receiver.reads receiver.tells c image),
+    )
+
+-- ---- a sound pool
+
+pub sound_so : ReceivesKeepSound → (there there' : DiskState) → SoundStaysSound there there'
+sound_so law there there' tight ask uber rows into result out out' input input' honest reads tells named sound none received =
+    let run = received.receiving in
+    let on_way : (c : List ℕ) → IsOnTheWay tight there ask into run.pieces c → IsSoundAfter tight there c =
+    λ c. ⊎_elim (λ stood. inl stood)
+    (λ came. inr (pool_of (receives ask into (take came.0 run.pieces)), came.1, (law ask into (take came.0 run.pieces) named reads.described.lawful sound none).1)) in (
+      Leaves-weaker there there' (IsOnTheWay tight there ask into run.pieces) (IsSoundAfter tight there) (run.moments tight uber rows into honest reads tells) on_way,
+      λ c image. on_way c (run.images tight uber rows into honest reads tells c image),
     )

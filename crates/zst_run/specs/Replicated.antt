@@ -3,11 +3,13 @@ use Rattle.std.specs.Prelude.{ℕ, ◌≡◌, ◌≢◌, ◌⊎◌, ◌++◌, Bo
 use Rattle.zst_outside.specs.Images.{DiskState, Leaves}
 use Rattle.zst_outside.specs.States.{SourceState, SinkState, Gave}
 use Rattle.zst_uber.specs.declared.uber.Uber.{Uber}
+use Rattle.zst_names.specs.Names.{IsDataset}
 use Rattle.zst_model.specs.declared.refusals.refusal.Refusal.{Refusal}
 use Rattle.zst_model.specs.declared.refusals.refusal.Refusal.TheVariants as refusals
 use Rattle.zst_model.specs.declared.sends.ask.SendAsk.{SendAsk}
 use Rattle.zst_model.specs.pools.Kept.{kept_of}
 use Rattle.zst_model.specs.pools.Pool.{Pool, partial_of}
+use Rattle.zst_model.specs.pools.Sound.{Sound}
 use Rattle.zst_model.specs.sends.Headers.{Sent, header_of, sent_view}
 use Rattle.zst_dir.specs.Rows.{Rows}
 use Rattle.zst_image.specs.Reads.{Reads, ReadsAs}
@@ -91,3 +93,14 @@ StopsAreProgress here there there' =
     → recv_plan receive (header_of sent) into ≡ Ok (Begins component base)
     → Receives receive there there' input input' out out' result → IsReadOf (sent_text sent) input input'
     → Leaves there there' (IsOnItsWay tight receive into sent component base there) × ((c : List ℕ) → there'.images c → IsOnItsWay tight receive into sent component base there c)
+
+-- Whatever is read: of a receive into a sound pool each image on the way, and in the end, stood before or reads as a sound pool.
+abbrev pub IsSoundAfter : (tight : Bool) → DiskState → List ℕ → Type 0
+IsSoundAfter tight there image = there.images image ⊎ ((after : Pool) × Reads tight (kept_of after) image × Sound (kept_of after))
+
+abbrev pub SoundStaysSound : (there there' : DiskState) → Type 0
+SoundStaysSound there there' =
+    (tight : Bool) (ask : RecvAsk) (uber : Uber) (rows : Rows) (into : Pool) (result : Result (Unit {0}) Refusal) (out out' : SinkState) (input input' : SourceState)
+    → there'.honest → ReadsAs tight uber rows into there.seen → TellsTarget ask rows into → IsDataset ask.target → Sound into → partial_of ask.target into ≡ None
+    → Receives ask there there' input input' out out' result
+    → Leaves there there' (IsSoundAfter tight there) × ((c : List ℕ) → there'.images c → IsSoundAfter tight there c)

@@ -1,12 +1,12 @@
 // What the runs of a send and of a receive come to together.
-ghost use Rattle.zst_run.specs.Replicated.{RefusedLeavesNothing, SentSnapshotStands, StopsAreProgress};
+ghost use Rattle.zst_run.specs.Replicated.{RefusedLeavesNothing, SentSnapshotStands, SoundStaysSound, StopsAreProgress};
 
 use zst_image::images_keep_partials;
 use zst_laws::keeping_is_done;
 use zst_outside::Disk;
 use zst_replication::{
     bases_match, cut_leaves_nothing, left_is_kept, one_more_is_kept, plain_can_be_sent,
-    sent_is_received,
+    receives_keep_sound, sent_is_received,
 };
 
 /// What one run sent and another received stands as one snapshot more, and all else is as it was.
@@ -40,4 +40,11 @@ pub fn stops_are_progress<D: Disk, E: Disk>()
     plain_can_be_sent();
     bases_match();
     zst_replication::stops_are_progress();
+}
+
+/// Whatever is read, and wherever a receive is stopped, a sound pool stays sound.
+pub fn sound_stays_sound<E: Disk>()
+    ensures { (there later : E) → SoundStaysSound (E.state there) (E.state later) }
+{
+    receives_keep_sound();
 }

@@ -1,0 +1,172 @@
+-- What a receive is planned over, and what its partial state has become of it.
+use Rattle.std.proofs.Common.{◌≡◌, ◌≢◌, ◌⊎◌, inl, inr, ℕ, ◌≤◌, Bool, true, false, List, [], ◌∷◌, ◌++◌, Option, Some, None, IfSome, option_map, AllPairs, Contains, filter, if◌then◌else◌, refl, sym, ap, ◌∙◌, subst, cond, arith}
+use Rattle.std.specs.Prelude.{bytes_eq}
+use Rattle.std.proofs.lemmas.Bool.{true≢false, cases_lt}
+use Rattle.std.proofs.lemmas.List.Elements.{All-contains}
+use Rattle.zst_model.proofs.InsertedLaws.{AllPairs-head, AllPairs-tail, contains_cases, contains_first, contains_later, contains_nothing}
+use Rattle.zst_model.proofs.OrderLaws.{bytes_same, same_bytes}
+use Rattle.zst_model.specs.pools.Pool.{Pool, Snapshot, Partial, HasDataset, HasSnapshot, IsNamed, dataset_of_snapshot}
+use Rattle.zst_model.specs.pools.Before.{IsOrigin, OfSnapshot, StandsBefore, Earlier, AtOrigin, BeforeOrigin}
+use Rattle.zst_model.specs.pools.Rows.{snapshot_row}
+use Rattle.zst_model.specs.pools.Sound.{Agrees, DatedUpTo, Sound}
+use Rattle.zst_plan.specs.RecvPlan.{last_of}
+use Rattle.zst_pool.specs.Partials.{last_from, last_where, latest_snapshot}
+use Rattle.zst_replication.proofs.Standing.{Rises, SnapshotRow, agrees_itself, same_element, same_snapshot, sound_agrees}
+use Rattle.zst_replication.proofs.Results.{some_parts}
+
+-- ---- the last that passes a test
+
+-- the last that passes is the last of those that pass
+last_of_all : {A : Type 0} (x : A) (xs : List A) → last_from (λ y. true) (Some x) xs ≡ last_of (x ∷ xs)
+last_of_all x [] = refl
+last_of_all x (y ∷ ys) = last_of_all y ys
+
+last_kept : {A : Type 0} (p : A → Bool) (found : Option A) (xs : List A) → last_from p found xs ≡ last_from (λ y. true) found (filter p xs)
+last_kept p found [] = refl
+last_kept {A = A} p found (x ∷ xs) = go (p x) (λ o. last_kept p o xs)
+  where
+    go : (t : Bool) → ((o : Option A) → last_from p o xs ≡ last_from (λ y. true) o (filter p xs))
+        → last_from p (if t then Some x else found) xs ≡ last_from (λ y. true) found (cond t (x ∷ filter p xs) (filter p xs))
+    go true rest = rest (Some x)
+    go false rest = rest found
+
+pub last_is : {A : Type 0} (p : A → Bool) (xs : List A) → last_of (filter p xs) ≡ last_where p xs
+last_is {A = A} p xs = go (filter p xs) ∙ sym (last_kept p None xs)
+  where
+    go : (ys : List A) → last_of ys ≡ last_from (λ y. true) None ys
+    go [] = refl
+    go (y ∷ ys) = sym (last_of_all y ys)
+
+-- all others that pass stand before it
+abbrev IsLast : {A : Type 0} → (A → A → Type 0) → (A → Bool) → List A → A → Type 0
+IsLast {A = A} R p xs last = Contains xs last × (p last ≡ true) × ((x : A) → Contains xs x → p x ≡ true → (x ≡ last) ⊎ R x last)
+
+last_stands : {A : Type 0} (R : A → A → Type 0) (p : A → Bool) (xs : List A) (found : Option A) (last : A) → AllPairs R xs → last_from p found xs ≡ Some last
+    → ((found ≡ Some last) × ((x : A) → Contains xs x → p x ≡ false)) ⊎ IsLast R p xs last
+last_stands R p [] found last pairs e = inl (e, λ x there. absurd (contains_nothing x there))
+last_stands {A = A} R p (y ∷ ys) found last pairs e =
+    go (p y) refl (last_stands R p ys (if p y then Some y else found) last (AllPairs-tail R y ys pairs) e)
+  where
+    fails : (x : A) → p y ≡ false → ((x : A) → Contains ys x → p x ≡ false) → (y ≡ x) ⊎ Contains ys x → p x ≡ false
+    fails x is rest (inl same) = ap p (sym same) ∙ is
+    fails x is rest (inr later) = rest x later
+
+    behind : (x : A) → Contains ys last → (y ≡ x) ⊎ Contains ys x → (Contains ys x → (x ≡ last) ⊎ R x last) → (x ≡ last) ⊎ R x last
+    behind x there (inl same) rest = inr (subst (λ (z : A). R z last) same (All-contains (R y) ys last (AllPairs-head R y ys pairs) there))
+    behind x there (inr later) rest = rest later
+
+    only : (x : A) → y ≡ last → ((x : A) → Contains ys x → p x ≡ false) → p x ≡ true → (y ≡ x) ⊎ Contains ys x → (x ≡ last) ⊎ R x last
+    only x same none passes (inl first) = inl (sym first ∙ same)
+    only x same none passes (inr later) = absurd (true≢false (sym passes ∙ none x later))
+
+    go : (t : Bool) → p y ≡ t → (((if t then Some y else found) ≡ Some last) × ((x : A) → Contains ys x → p x ≡ false)) ⊎ IsLast R p ys last
+        → ((found ≡ Some last) × ((x : A) → Contains (y ∷ ys) x → p x ≡ false)) ⊎ IsLast R p (y ∷ ys) last
+    go t is (inr later) = inr (contains_later y ys last later.0, later.1, λ x there passes. behind x later.0 (contains_cases y ys x there) (λ k. later.2 x k passes))
+    go true is (inl now) =
+        let same = some_parts y last now.0 in
+        inr (subst (λ (z : A). Contains (y ∷ ys) z) same (contains_first y ys), ap p (sym same) ∙ is, λ x there passes. only x same now.1 passes (contains_cases y ys x there))
+    go false is (inl before) = inl (before.0, λ x there. fails x is before.1 (contains_cases y ys x there))
+
+last_where_stands : {A : Type 0} (R : A → A → Type 0) (p : A → Bool) (xs : List A) (last : A) → AllPairs R xs → last_where p xs ≡ Some last → IsLast R p xs last
+last_where_stands {A = A} R p xs last pairs e = go (last_stands R p xs None last pairs e)
+  where
+    go : ((◌≡◌ {A = Option A} None (Some last)) × ((x : A) → Contains xs x → p x ≡ false)) ⊎ IsLast R p xs last → IsLast R p xs last
+    go (inl none) = absurd (let no = none.0 in cc)
+    go (inr is) = is
+
+-- ---- what a receive is planned over
+
+-- the latest snapshot of a dataset
+pub record IsLatest (pool : Pool) (name : List ℕ) (latest : Snapshot) : Type 0 where
+  pub there : Contains pool.snapshots latest
+  pub own : dataset_of_snapshot latest ≡ name
+  pub most : (other : Snapshot) → Contains pool.snapshots other → dataset_of_snapshot other ≡ name → other.number ≤ latest.number
+
+-- it is the last one of the dataset
+pub latest_is : (pool : Pool) (name : List ℕ) → AllPairs Rises pool.snapshots → (latest : Snapshot) → latest_snapshot name pool ≡ Some latest → IsLatest pool name latest
+latest_is pool name rise latest e =
+    let is = last_where_stands Rises (λ s. bytes_eq (dataset_of_snapshot s) name) pool.snapshots latest rise e in
+    let own = same_bytes (dataset_of_snapshot latest) name is.1 in record {
+      there = is.0;
+      own = own;
+      most = λ other there same. elim (is.2 other there (bytes_same (dataset_of_snapshot other) name same)) [
+        | inl one ↦ let e = ap (λ (s : Snapshot). s.number) one in omega arith
+        | inr less ↦ let l = less (same ∙ sym own) in omega arith
+      ];
+    }
+
+-- an old snapshot or none, and the latest one of a target that is there
+pub record IsOver (pool : Pool) (target : List ℕ) (base : Option Snapshot) : Type 0 where
+  pub there : IfSome base (λ snapshot. Contains pool.snapshots snapshot)
+  pub onto : ((latest : Snapshot) × (base ≡ Some latest) × IsLatest pool target latest) ⊎ (HasDataset pool target → ⊥)
+
+-- a partial state that has grown from its base: what agrees with the base agrees with it, and its snapshot's name is free
+pub record Grown (start : Pool) (number : ℕ) (partial : Partial) : Type 0 where
+  pub base : Option Snapshot
+  pub over : IsOver start partial.target base
+  pub named : partial.base ≡ option_map (λ snapshot. snapshot.name) base
+  pub free : HasSnapshot start (partial.target ++ 64 ∷ partial.component) → ⊥
+  pub agrees : (snapshot earlier : Snapshot) → base ≡ Some snapshot → earlier.number ≤ start.number → Agrees earlier snapshot.objects → Agrees earlier partial.objects
+  pub dated : DatedUpTo number partial.objects
+
+-- snapshots whose names differ and that have one name are one
+pub same_named : (snapshots : List Snapshot) → AllPairs (λ a b. a.name ≢ b.name) snapshots → (a b : Snapshot) → Contains snapshots a → Contains snapshots b → a.name ≡ b.name → a ≡ b
+same_named snapshots differ a b here there same = same_element (λ c d. c.name ≢ d.name) snapshots differ a b here there (λ h. h same) (λ h. h (sym same))
+
+module _ (start : Pool) (named : IsNamed start) (sound : Sound start) where
+  pub old_number : (earlier : Snapshot) → Contains start.snapshots earlier → earlier.number ≤ start.number
+  old_number earlier here = All-contains (λ s. s.number ≤ start.number) start.snapshots earlier sound.dated.numbers here
+
+  -- what stands before a dataset's head, or before another snapshot of it, agrees with its latest snapshot
+  pub agrees_latest : (latest earlier : Snapshot) (name : List ℕ) (bound : Option ℕ) → IsLatest start name latest → Contains start.snapshots earlier → StandsBefore start (OfSnapshot earlier) name bound
+      → Agrees earlier latest.objects
+  agrees_latest latest earlier name bound is here (Earlier _ _ same below) = elim (cases_lt earlier.number latest.number) [
+    | inl less ↦ sound_agrees start sound earlier here (snapshot_row latest) (SnapshotRow latest is.there) (Earlier (dataset_of_snapshot latest) (Some latest.number) (same ∙ sym is.own) less)
+    | inr past ↦
+        let up = is.most earlier here same in
+        let one = same_snapshot start.snapshots sound.dated.rise earlier latest here is.there (same ∙ sym is.own) (omega arith) in
+        subst (λ (s : Snapshot). Agrees earlier s.objects) one (agrees_itself earlier)
+  ]
+  agrees_latest latest earlier name bound is here (AtOrigin _ _ origin of marks) =
+      sound_agrees start sound earlier here (snapshot_row latest) (SnapshotRow latest is.there)
+      (AtOrigin (dataset_of_snapshot latest) (Some latest.number) origin (subst (IsOrigin start origin) (sym is.own) of) marks)
+  agrees_latest latest earlier name bound is here (BeforeOrigin _ _ origin of before) =
+      sound_agrees start sound earlier here (snapshot_row latest) (SnapshotRow latest is.there)
+      (BeforeOrigin (dataset_of_snapshot latest) (Some latest.number) origin (subst (IsOrigin start origin) (sym is.own) of) before)
+
+  -- what is a snapshot of the pool, or stands before it, agrees with it
+  pub agrees_marked : (snapshot earlier : Snapshot) → Contains start.snapshots snapshot → Contains start.snapshots earlier
+      → (earlier ≡ snapshot) ⊎ StandsBefore start (OfSnapshot earlier) (dataset_of_snapshot snapshot) (Some snapshot.number) → Agrees earlier snapshot.objects
+  agrees_marked snapshot earlier there here (inl same) = subst (λ (s : Snapshot). Agrees earlier s.objects) same (agrees_itself earlier)
+  agrees_marked snapshot earlier there here (inr before) = sound_agrees start sound earlier here (snapshot_row snapshot) (SnapshotRow snapshot there) before
+
+  module _ (number : ℕ) (partial : Partial) (grown : Grown start number partial) where
+    -- the base is the snapshot of its name
+    pub own_base : (other : Snapshot) → Contains start.snapshots other → partial.base ≡ Some other.name → grown.base ≡ Some other
+    own_base other there e = go grown.base grown.over.there (sym grown.named ∙ e)
+      where
+        go : (o : Option Snapshot) → IfSome o (λ snapshot. Contains start.snapshots snapshot) → option_map (λ snapshot. snapshot.name) o ≡ Some other.name → o ≡ Some other
+        go None has e = absurd cc
+        go (Some snapshot) has e = ap (λ (s : Snapshot). Some s) (same_named start.snapshots named.snapshots_differ snapshot other has there (some_parts snapshot.name other.name e))
+
+    -- it is there
+    pub base_named : (name : List ℕ) → partial.base ≡ Some name → HasSnapshot start name
+    base_named name e = go grown.base grown.over.there (sym grown.named ∙ e)
+      where
+        go : (o : Option Snapshot) → IfSome o (λ snapshot. Contains start.snapshots snapshot) → option_map (λ snapshot. snapshot.name) o ≡ Some name → HasSnapshot start name
+        go None has e = absurd cc
+        go (Some snapshot) has e = (snapshot, has, some_parts snapshot.name name e)
+
+    -- what stands before a clone of the base agrees with the partial state
+    pub clone_agrees : (snapshot earlier : Snapshot) → Contains start.snapshots snapshot → Contains start.snapshots earlier → partial.base ≡ Some snapshot.name
+        → (earlier ≡ snapshot) ⊎ StandsBefore start (OfSnapshot earlier) (dataset_of_snapshot snapshot) (Some snapshot.number) → Agrees earlier partial.objects
+    clone_agrees snapshot earlier there here e before =
+        grown.agrees snapshot earlier (own_base snapshot there e) (old_number earlier here) (agrees_marked snapshot earlier there here before)
+
+    -- and so does what stands before the head of a target that is there
+    pub target_agrees : (earlier : Snapshot) (bound : Option ℕ) → HasDataset start partial.target → Contains start.snapshots earlier → StandsBefore start (OfSnapshot earlier) partial.target bound
+        → Agrees earlier partial.objects
+    target_agrees earlier bound has here before = elim grown.over.onto [
+      | inl (latest, is, last) ↦ grown.agrees latest earlier is (old_number earlier here) (agrees_latest latest earlier partial.target bound last here before)
+      | inr absent ↦ absurd (absent has)
+    ]

@@ -1,0 +1,166 @@
+-- A sound pool with a partial state that has grown, and with its target's head rolled back or as it was, is sound.
+use Rattle.std.proofs.Common.{◌≡◌, ◌⊎◌, inl, inr, ℕ, ◌≤◌, Bool, true, false, List, Option, Some, None, AllPairs, Contains, map, refl, sym, ◌∙◌, subst, cond, arith}
+use Rattle.std.specs.Prelude.{bytes_eq}
+use Rattle.std.proofs.lemmas.List.Elements.{All-contains}
+use Rattle.zst_model.proofs.InsertedLaws.{All-from_contains, contains-inserted, contains-map, map_contains}
+use Rattle.zst_model.proofs.OrderLaws.{same_bytes}
+use Rattle.zst_model.specs.pools.Pool.{Pool, Dataset, Snapshot, Bookmark, Partial, HasDataset, IsLinked, IsNamed, dataset_of_snapshot, dataset_of_bookmark, inserted, is_before}
+use Rattle.zst_model.specs.pools.Before.{IsOrigin, OfSnapshot, StandsBefore, IsBefore, IsBeforePartial}
+use Rattle.zst_model.specs.pools.Rows.{Row, snapshot_row, head_row, partial_row, rows}
+use Rattle.zst_model.specs.pools.Sound.{Agrees, DatedUpTo, IsBookmarkOf, Sound}
+use Rattle.zst_model.specs.states.Dated.{DatedState}
+use Rattle.zst_pool.specs.Partials.{changed_at, latest_snapshot, rolled, rolled_back, rolled_to}
+use Rattle.zst_replication.proofs.Agreeing.{dated_higher}
+use Rattle.zst_replication.proofs.Standing.{HasOldOrigins, IsRow, SnapshotRow, HeadRow, PartialRow, Rises, old_origins, owner, row_cases, sound_agrees, sound_dated, stood_before, stood_before_partial}
+use Rattle.zst_replication.proofs.Grown.{Grown, IsLatest, agrees_latest, clone_agrees, latest_is, old_number, target_agrees}
+
+-- ---- the datasets
+
+-- a dataset has the head that an old one had, or that of the target's latest snapshot
+abbrev pub IsHeadOf : Pool → List ℕ → Dataset → Dataset → Type 0
+IsHeadOf start target old dataset = (old ≡ dataset) ⊎ ((dataset.name ≡ target) × (latest : Snapshot) × IsLatest start target latest × (dataset.head ≡ latest.objects))
+
+-- and its name and origin
+pub record IsOldOf (start : Pool) (target : List ℕ) (old dataset : Dataset) : Type 0 where
+  pub name : old.name ≡ dataset.name
+  pub origin : old.origin ≡ dataset.origin
+  pub head : IsHeadOf start target old dataset
+
+-- the datasets are the old ones, but for the head of the target, which may be rolled back
+pub record AreOlds (start : Pool) (target : List ℕ) (datasets : List Dataset) : Type 0 where
+  pub olds : (dataset : Dataset) → Contains datasets dataset → (old : Dataset) × Contains start.datasets old × IsOldOf start target old dataset
+  pub names : (name : List ℕ) → HasDataset start name → (dataset : Dataset) × Contains datasets dataset × (dataset.name ≡ name)
+
+pub same_olds : (start : Pool) (target : List ℕ) → AreOlds start target start.datasets
+same_olds start target = record { olds = λ dataset there. (dataset, there, record { name = refl; origin = refl; head = inl refl }); names = λ name has. has }
+
+module _ (start : Pool) (target : List ℕ) (rise : AllPairs Rises start.snapshots) where
+  module _ (latest : Snapshot) (is : IsLatest start target latest) where
+    abbrev roll : Dataset → Dataset
+    roll = changed_at target (rolled_to latest)
+
+    rolled_one : (old : Dataset) → IsOldOf start target old (roll old)
+    rolled_one old = go (bytes_eq old.name target) refl
+      where
+        go : (t : Bool) → bytes_eq old.name target ≡ t → IsOldOf start target old (cond t (rolled_to latest old) old)
+        go true e = record { name = refl; origin = refl; head = inr (same_bytes old.name target e, latest, is, refl) }
+        go false e = record { name = refl; origin = refl; head = inl refl }
+
+    rolled_olds : AreOlds start target (map roll start.datasets)
+    rolled_olds = record {
+      olds = λ dataset there.
+          let found = map_contains roll start.datasets dataset there in
+          (found.0, found.1, subst (λ (d : Dataset). IsOldOf start target found.0 d) found.2 (rolled_one found.0));
+      names = λ name has. (roll has.0, contains-map roll start.datasets has.0 has.1, sym (rolled_one has.0).name ∙ has.2);
+    }
+
+  pub back_olds : AreOlds start target (rolled_back target start)
+  back_olds = go (latest_snapshot target start) refl
+    where
+      go : (o : Option Snapshot) → latest_snapshot target start ≡ o → AreOlds start target (rolled target o start.datasets)
+      go None e = same_olds start target
+      go (Some latest) e = rolled_olds latest (latest_is start target rise latest e)
+
+-- ---- the pool
+
+module _ (start : Pool) (linked : IsLinked start) (named : IsNamed start) (sound : Sound start) (number : ℕ) (later : start.number ≤ number)
+    (datasets : List Dataset) (partial : Partial) (heads : AreOlds start partial.target datasets) (grown : Grown start number partial)
+  where
+    abbrev under : Pool
+    under = record start { number = number; datasets = datasets; partials = inserted (λ a b. is_before a.target b.target) partial start.partials }
+
+    under_origin : (origin : Snapshot) (name : List ℕ) → IsOrigin under origin name → IsOrigin start origin name
+    under_origin origin name is =
+        let old = heads.olds is.dataset is.there in
+        record { dataset = old.0; there = old.1; named = old.2.name ∙ is.named; snapshot_there = is.snapshot_there; is_origin = old.2.origin ∙ is.is_origin }
+
+    under_origins : HasOldOrigins (HasDataset start) start under
+    under_origins = old_origins start under linked (λ origin name has is. under_origin origin name is)
+
+    had : (name : List ℕ) → HasDataset under name → HasDataset start name
+    had name has = let old = heads.olds has.0 has.1 in (old.0, old.1, old.2.name ∙ has.2)
+
+    stood : (earlier : Snapshot) (name : List ℕ) (bound : Option ℕ) → HasDataset start name → StandsBefore under (OfSnapshot earlier) name bound → StandsBefore start (OfSnapshot earlier) name bound
+    stood earlier name bound has before = stood_before (HasDataset start) start under (OfSnapshot earlier) under_origins name bound has before
+
+    head_agrees : (earlier : Snapshot) (old dataset : Dataset) → Contains start.snapshots earlier → Contains start.datasets old → old.name ≡ dataset.name → IsHeadOf start partial.target old dataset
+        → StandsBefore under (OfSnapshot earlier) dataset.name None → Agrees earlier dataset.head
+    head_agrees earlier old dataset here there same (inl one) before =
+        subst (λ (d : Dataset). Agrees earlier d.head) one
+        (sound_agrees start sound earlier here (head_row start.number old) (HeadRow old there)
+        (stood earlier old.name None (old, there, refl) (subst (λ (n : List ℕ). StandsBefore under (OfSnapshot earlier) n None) (sym same) before)))
+    head_agrees earlier old dataset here there same (inr (at, latest, is, head)) before =
+        subst (λ (d : DatedState). Agrees earlier d) (sym head)
+        (agrees_latest start named sound latest earlier partial.target None is here
+        (stood earlier partial.target None (old, there, same ∙ at) (subst (λ (n : List ℕ). StandsBefore under (OfSnapshot earlier) n None) at before)))
+
+    partial_agrees : (earlier : Snapshot) → Contains start.snapshots earlier → IsBeforePartial under (OfSnapshot earlier) partial → Agrees earlier partial.objects
+    partial_agrees earlier here (inl at) =
+        let has = had partial.target at.target in
+        target_agrees start named sound number partial grown earlier None has here (stood earlier partial.target None has at.before)
+    partial_agrees earlier here (inr at) =
+        let clone = at.1 in
+        let there = clone.is_base.there in
+        clone_agrees start named sound number partial grown clone.base earlier there here clone.is_base.is_base (elim clone.before [
+          | inl marks ↦ inl marks
+          | inr before ↦ inr (stood earlier (dataset_of_snapshot clone.base) (Some clone.base.number) (owner start linked clone.base there) before)
+        ])
+
+    other_agrees : (earlier : Snapshot) (other : Partial) → Contains start.snapshots earlier → Contains start.partials other → IsBeforePartial under (OfSnapshot earlier) other → Agrees earlier other.objects
+    other_agrees earlier other here there before =
+        sound_agrees start sound earlier here (partial_row start.number other) (PartialRow other there)
+        (stood_before_partial (HasDataset start) start under earlier other under_origins
+        (λ base is. (record { there = is.there; is_base = is.is_base }, owner start linked base is.there)) (λ has. let was = had other.target has in (was, was)) before)
+
+    -- a partial state is the new one or another
+    new_or_other : (other : Partial) → Contains under.partials other → (partial ≡ other) ⊎ Contains start.partials other
+    new_or_other other there = contains-inserted (λ a b. is_before a.target b.target) partial start.partials other there
+
+    row_agrees : (earlier : Snapshot) (row : Row) → Contains start.snapshots earlier → IsRow under row → IsBefore under (OfSnapshot earlier) row.place → Agrees earlier row.objects
+    row_agrees earlier row here (SnapshotRow snapshot there) before =
+        sound_agrees start sound earlier here (snapshot_row snapshot) (SnapshotRow snapshot there)
+        (stood earlier (dataset_of_snapshot snapshot) (Some snapshot.number) (owner start linked snapshot there) before)
+    row_agrees earlier row here (HeadRow dataset there) before = let old = heads.olds dataset there in head_agrees earlier old.0 dataset here old.1 old.2.name old.2.head before
+    row_agrees earlier row here (PartialRow other there) before = go (new_or_other other there) before
+      where
+        go : (partial ≡ other) ⊎ Contains start.partials other → IsBeforePartial under (OfSnapshot earlier) other → Agrees earlier other.objects
+        go (inl one) before = subst (λ (p : Partial). Agrees earlier p.objects) one (partial_agrees earlier here (subst (λ (p : Partial). IsBeforePartial under (OfSnapshot earlier) p) (sym one) before))
+        go (inr old) before = other_agrees earlier other here old before
+
+    up_to : (state : DatedState) → DatedUpTo start.number state → DatedUpTo number state
+    up_to state h = dated_higher start.number number later state h
+
+    head_dated : (old dataset : Dataset) → Contains start.datasets old → IsHeadOf start partial.target old dataset → DatedUpTo number dataset.head
+    head_dated old dataset there (inl one) = subst (λ (d : Dataset). DatedUpTo number d.head) one (up_to old.head (sound_dated start sound (head_row start.number old) (HeadRow old there)))
+    head_dated old dataset there (inr (at, latest, is, head)) =
+        let up = old_number start named sound latest is.there in
+        subst (λ (d : DatedState). DatedUpTo number d) (sym head)
+        (dated_higher latest.number number (omega (arith, up, later)) latest.objects (sound_dated start sound (snapshot_row latest) (SnapshotRow latest is.there)))
+
+    row_dated : (row : Row) → IsRow under row → DatedUpTo row.number row.objects
+    row_dated row (SnapshotRow snapshot there) = sound_dated start sound (snapshot_row snapshot) (SnapshotRow snapshot there)
+    row_dated row (HeadRow dataset there) = let old = heads.olds dataset there in head_dated old.0 dataset old.1 old.2.head
+    row_dated row (PartialRow other there) = elim (new_or_other other there) [
+      | inl one ↦ subst (λ (p : Partial). DatedUpTo number p.objects) one grown.dated
+      | inr old ↦ up_to other.objects (sound_dated start sound (partial_row start.number other) (PartialRow other old))
+    ]
+
+    bookmark_stays : (bookmark : Bookmark) → IsBookmarkOf start bookmark → IsBookmarkOf under bookmark
+    bookmark_stays bookmark is = record {
+      dataset = heads.names (dataset_of_bookmark bookmark) is.dataset;
+      above = λ origin of. is.above origin (under_origin origin (dataset_of_bookmark bookmark) of);
+      number = let l = is.number in omega (arith, l, later);
+      guid = is.guid;
+    }
+
+    pub under_sound : Sound under
+    under_sound = record {
+      agree = λ earlier row here there before. row_agrees earlier row here (row_cases under row there) before;
+      dated = record {
+        states = All-from_contains (λ r. DatedUpTo r.number r.objects) (rows under) (λ row there. row_dated row (row_cases under row there));
+        numbers = All-from_contains (λ s. s.number ≤ number) start.snapshots (λ s there. let l = old_number start named sound s there in omega (arith, l, later));
+        rise = sound.dated.rise;
+        above = λ origin snapshot there is. sound.dated.above origin snapshot there (under_origin origin (dataset_of_snapshot snapshot) is);
+      };
+      bookmarks = All-from_contains (IsBookmarkOf under) start.bookmarks (λ b there. bookmark_stays b (All-contains (IsBookmarkOf start) start.bookmarks b sound.bookmarks there));
+    }

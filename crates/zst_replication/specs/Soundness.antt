@@ -1,0 +1,17 @@
+-- What a receive makes of a sound pool.
+use Rattle.std.specs.Prelude.{ℕ, ◌≡◌, List, None}
+use Rattle.zst_names.specs.Names.{IsDataset}
+use Rattle.zst_model.specs.pools.Kept.{kept_of}
+use Rattle.zst_model.specs.pools.Pool.{Pool, IsPool, partial_of}
+use Rattle.zst_model.specs.pools.Sound.{Sound}
+use Rattle.zst_plan.specs.declared.receive.RecvAsk.{RecvAsk}
+use Rattle.zst_recv.specs.Feeds.{receives}
+use Rattle.zst_recv.specs.Receiving.{pool_of}
+
+-- Whatever is read, and however it is cut into pieces, a receive into a target with a dataset's name leaves a sound pool sound: the one that
+-- runs, and what the image keeps of it.
+abbrev pub ReceivesKeepSound : Type 0
+ReceivesKeepSound =
+    (ask : RecvAsk) (pool : Pool) (pieces : List (List ℕ))
+    → IsDataset ask.target → IsPool pool → Sound pool → partial_of ask.target pool ≡ None
+    → Sound (pool_of (receives ask pool pieces)) × Sound (kept_of (pool_of (receives ask pool pieces)))
