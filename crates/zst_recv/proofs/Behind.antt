@@ -31,7 +31,7 @@ use Rattle.zst_recv.proofs.Ordering.{EndsBy, FirstBegins, begins_first, ends_las
 -- ---- what was handed out
 
 -- it is a front of what the text covers
-covered_front : (reader : Reader) (text : List ℕ) (handed : List Covered) → StandsFor reader text handed → (rest : List Covered) × ((reading text).covered ≡ handed ++ rest)
+pub covered_front : (reader : Reader) (text : List ℕ) (handed : List Covered) → StandsFor reader text handed → (rest : List Covered) × ((reading text).covered ≡ handed ++ rest)
 covered_front reader text handed stands =
     let f = stands.front [] in
     (f.0, ap (λ (t : List ℕ). (reading t).covered) (sym (append-nil text)) ∙ f.1)

@@ -7,6 +7,7 @@ mod Draining
 mod Piecing
 mod Ordering
 mod Behind
+mod Covering
 mod Ending
 mod Limiting
 mod Feeding

@@ -108,6 +108,8 @@ impl Batch {
         ensures begins { OnOk result (is_begin covered.now.head.now ≡ true → waits_at self.new.stage ≡ false) }
         ensures ends { is_end covered.now.head.now ≡ true → has_partial self.new.stage ≡ false }
         ensures lives { has_partial self.new.stage ≡ true → is_live self.old.stage ≡ true }
+        // END alone ends one that goes on.
+        ensures over { is_live self.old.stage ≡ true → is_live self.new.stage ≡ false → is_end covered.now.head.now ≡ true }
         ensures known { IfErr result IsRecordFault }
         // E25 tells a damage of the set as the refused record found it.
         ensures damaged { (sector : ℕ) (stated found : List ℕ) → (D.state io.new.disk.now).honest → result ≡ Err (RecvFault.Pool (PoolFault.Damaged sector stated found))
@@ -137,6 +139,7 @@ impl Batch {
         ensures waits { waits_at self.new.stage ≡ true → self.new ≡ self.old }
         ensures begins { OnOk result (waits_at self.new.stage ≡ false) }
         ensures lives { has_partial self.new.stage ≡ true → is_live self.old.stage ≡ true }
+        ensures still { is_live self.old.stage ≡ true → is_live self.new.stage ≡ true }
         ensures known { IfErr result IsRecordFault }
         ensures stage { StageFits dir.now ask.now.target self.new.stage }
         ensures no_block { stop_of result ≡ None }
@@ -189,6 +192,7 @@ impl Batch {
         ensures idle { self.new.taken ≡ false → self.new ≡ self.old }
         ensures waits { waits_at self.new.stage ≡ true → self.new ≡ self.old }
         ensures lives { has_partial self.new.stage ≡ true → is_live self.old.stage ≡ true }
+        ensures still { is_live self.old.stage ≡ true → is_live self.new.stage ≡ true }
         ensures known { IfErr result IsRecordFault }
         ensures damaged { (rows : Rows) (target : List ℕ) (sector : ℕ) (stated found : List ℕ) → (D.state io.new.disk.now).honest → StageFits rows target self.old.stage → result ≡ Err (RecvFault.Pool (PoolFault.Damaged sector stated found))
             → IsDamagedState (SparesTaken io.old.space (D.state io.old.disk.now).seen) (D.state io.old.disk.now).size rows target sector stated found }

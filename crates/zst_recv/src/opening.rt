@@ -11,7 +11,7 @@ ghost use Rattle.zst_plan.specs.Places.{AnswerAlike, FindAlike, StandsAt};
 ghost use Rattle.zst_plan.specs.Receipts.{TellsNeeded};
 ghost use Rattle.zst_plan.specs.RecvPlan.{Base, recv_plan, snapshot_name};
 ghost use Rattle.zst_recv.specs.Receiving.{begun, opened};
-ghost use Rattle.zst_recv.specs.Stages.{CanPut, IsWork, StageFits, has_partial};
+ghost use Rattle.zst_recv.specs.Stages.{CanPut, IsWork, StageFits, has_partial, is_live};
 ghost use Rattle.zst_tree.specs.Sets.{SetFits};
 
 use crate::batch::Batch;
@@ -102,6 +102,7 @@ pub(crate) fn open(dir: &Dir, ask: &RecvAsk, header: &Header) -> Result<Batch, P
     requires header { IsStated header.now }
     ensures fits { IfOk result (λ batch. StageFits dir.now ask.now.target batch.stage) }
     ensures lives { IfOk result (λ batch. has_partial batch.stage ≡ true) }
+    ensures live { IfOk result (λ batch. is_live batch.stage ≡ true) }
     ensures taken { IfOk result (λ batch. batch.taken ≡ true) }
     ensures exact { (bound : Option ℕ) (image : List ℕ) (space : FreeSectors) (running : Plain) → RunsBy bound (Has image space) dir.now running → TellsNeeded dir.now running ask.now header.now
         → AnswerAlike (λ batch plan. IsWork bound (Has image space) batch (opened ask.now header.now plan)) result (recv_plan ask.now header.now running) }

@@ -7,7 +7,7 @@ ghost use Rattle.zst_pool.specs.Calls.{IsUnderWay};
 ghost use Rattle.zst_reader.specs.StandsFor.{HandsOut, StandsFor, pushed_of, room_of};
 ghost use Rattle.zst_record.specs.Heads.{Covered};
 ghost use Rattle.zst_model.specs.declared.refusals.stream_fault.StreamFault.{StreamFault};
-ghost use Rattle.zst_stream.specs.Reading.{faulty, reading, waiting};
+ghost use Rattle.zst_stream.specs.Reading.{complete, faulty, reading, waiting};
 ghost use Rattle.zst_recv.specs.Damage.{IsDamagedFeed};
 ghost use Rattle.zst_recv.specs.Faults.{Fills, IsFeedFault, stop_of};
 ghost use Rattle.zst_recv.specs.Receiving.{Work};
@@ -48,6 +48,8 @@ fn drain<D: Disk>(
     ensures damaged { (sector : ℕ) (stated found : List ℕ) → (D.state io.new.disk.now).honest → result ≡ Err (RecvFault.Pool (PoolFault.Damaged sector stated found))
         → IsDamagedFeed (D.state io.old.disk.now) io.old.space kept.now.dir ask.now.target sector stated found }
     ensures reads { (text : List ℕ) (handed : List Covered) → StandsFor reader.old text handed → (later : List Covered) × StandsFor reader.new text later }
+    // A receive that is over then has covered END.
+    ensures over { (text : List ℕ) (handed : List Covered) → StandsFor reader.old text handed → is_live batch.old.stage ≡ true → is_live batch.new.stage ≡ false → (reading text).outcome ≡ complete }
     ensures behind { (text : List ℕ) (handed : List Covered) → StandsFor reader.old text handed → StandsBehind handed batch.old.stage → IfOk result (HandedOn reader.new text batch.new.stage) }
     ensures pushed { pushed_of reader.new ≡ pushed_of reader.old }
     ensures room { result ≡ Ok false → 0 < room_of reader.new }
@@ -93,6 +95,9 @@ pub(crate) fn read<D: Disk>(
     // Where no fault was found the batch stands behind what was read; where it goes on that is all of the piece.
     ensures behind { OnOk result (HasRead reader.new batch.new.stage) }
     ensures all { OnOk result (is_live batch.new.stage ≡ true → pushed_of reader.new ≡ pushed_of reader.old + length piece.now) }
+    // Whatever the text: a receive that goes on stands for all of it, and one that is over has covered END.
+    ensures stands { OnOk result (is_live batch.new.stage ≡ true → (text : List ℕ) (handed : List Covered) → StandsFor reader.old text handed → (later : List Covered) × StandsFor reader.new (text ++ piece.now) later) }
+    ensures over { (text : List ℕ) (handed : List Covered) → StandsFor reader.old text handed → is_live batch.old.stage ≡ true → is_live batch.new.stage ≡ false → (reading (text ++ piece.now)).outcome ≡ complete }
     ensures fills { Fills (D.state io.old.disk.now) io.old.space io.old.failed (D.state io.new.disk.now) io.new.space io.new.failed (stop_of result) }
     ensures same { io.new.disk.ghost_name ≡ io.old.disk.ghost_name }
 {

@@ -51,7 +51,7 @@ impl Recv {
     ghost use Rattle.zst_pool.specs.Partials.{without_unkept};
     ghost use Rattle.zst_reader.specs.StandsFor.{StandsFor, pushed_of};
     ghost use Rattle.zst_record.specs.Heads.{Covered, size_of};
-    ghost use Rattle.zst_stream.specs.Reading.{faulty, reading};
+    ghost use Rattle.zst_stream.specs.Reading.{complete, faulty, reading};
     ghost use Rattle.zst_space.specs.FreeSectors.{FreeSectors, largest_of};
     ghost use Rattle.zst_recv.specs.Answers.{Feeds, goes_on};
     ghost use Rattle.zst_recv.specs.Damage.{IsDamagedFeed};
@@ -66,6 +66,7 @@ impl Recv {
         ask: RecvAsk,
     ) -> Result<Recv, PoolFault>
         ensures opens { (bound : Option ℕ) (image : List ℕ) (space : FreeSectors) → IfOk result (λ recv. Receives bound (Has image space) recv [] Waits) }
+        ensures stands { IfOk result (λ recv. StandsFor recv.reader [] []) }
         ensures ask { IfOk result (λ recv. recv.ask ≡ ask) }
         ensures fits { IfOk result (RecvFits pool.new.kept.dir) }
         ensures live { IfOk result (λ recv. is_live recv.stage ≡ true) }
@@ -144,6 +145,10 @@ impl Recv {
         ensures known { pool.old.io.failed ≡ false → IfErr result IsFeedFault }
         // E17 to E19 are of the stream alone.
         ensures stream { (text : List ℕ) (handed : List Covered) (fault : PlainFault) → StandsFor self.old.reader text handed → result ≡ Err (RecvFault.Stream fault) → (reading (text ++ piece.now)).outcome ≡ faulty fault }
+        // Whatever the image, a receive that goes on stands for all that it was fed.
+        ensures stands { (text : List ℕ) (handed : List Covered) → StandsFor self.old.reader text handed → IfOk result (λ told. told.done ≡ false → (later : List Covered) × StandsFor self.new.reader (text ++ piece.now) later) }
+        // With END the reading of all that it was fed is complete.
+        ensures whole { (text : List ℕ) (handed : List Covered) → StandsFor self.old.reader text handed → IfOk result (λ told. told.done ≡ true → (reading (text ++ piece.now)).outcome ≡ complete) }
         // Whatever the image, E25 tells a damage of a set of this target's partial state, as the refused record found it.
         ensures damaged { (sector : ℕ) (stated found : List ℕ) → (D.state pool.new.io.disk.now).honest → pool.old.io.failed ≡ false → result ≡ Err (RecvFault.Pool (PoolFault.Damaged sector stated found))
             → IsDamagedFeed (D.state pool.old.io.disk.now) (free_by pool.old.kept.body) pool.old.kept.dir self.old.ask.target sector stated found }

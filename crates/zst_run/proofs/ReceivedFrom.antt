@@ -1,6 +1,6 @@
 -- What a receive into an image leaves, from what opening the pool and feeding say.
 use Rattle.std.specs.Prelude.{Result, Ok, Err, IfErr}
-use Rattle.std.proofs.Common.{◌≡◌, ◌≢◌, inl, inr, ⊎_elim, ℕ, ◌<◌, ◌≤◌, Bool, false, List, [], refl, sym, ap, ◌∙◌, subst, arith}
+use Rattle.std.proofs.Common.{◌≡◌, ◌≢◌, inl, inr, ℕ, ◌<◌, ◌≤◌, Bool, false, List, [], refl, sym, ap, ◌∙◌, subst, arith}
 use Rattle.std.proofs.lemmas.Bool.{false≢true}
 use Rattle.std.proofs.lemmas.List.{append-nil}
 use Rattle.zst_outside.specs.Causes.{Rose-earlier}
@@ -9,6 +9,7 @@ use Rattle.zst_outside.specs.States.{SourceState, SinkState}
 use Rattle.zst_uber.specs.declared.uber.Uber.{Uber}
 use Rattle.zst_model.specs.declared.refusals.refusal.Refusal.{Refusal}
 use Rattle.zst_model.specs.declared.refusals.refusal.Refusal.TheVariants as refusals
+use Rattle.zst_model.specs.declared.refusals.stream_fault.StreamFault.{StreamFault}
 use Rattle.zst_model.specs.pools.Kept.{KeepsAll, kept_of}
 use Rattle.zst_model.specs.pools.Pool.{Pool}
 use Rattle.zst_dir.specs.Rows.{Rows}
@@ -35,6 +36,7 @@ use Rattle.zst_run.specs.Underway.{Along, Fed, IsEnd, IsReady, told}
 use Rattle.zst_run.specs.declared.receive.Receipt.{Receipt}
 use Rattle.zst_run.proofs.Commanded.{images_after, of_plan, open_alive, open_disk, rests_read}
 use Rattle.zst_run.proofs.FedPieces.{none_fed}
+use Rattle.zst_run.proofs.Receiving.{says_other}
 use Rattle.zst_run.proofs.SentFrom.{is_of_opening, pool_is_open}
 
 -- ---- where the pool can't be opened
@@ -42,6 +44,13 @@ use Rattle.zst_run.proofs.SentFrom.{is_of_opening, pool_is_open}
 -- what is kept of a pool that an image reads as is all of it
 abbrev pub KeepsWhole : Type 0
 KeepsWhole = ((pool : Pool) → KeepsAll pool → kept_of pool ≡ pool) × ((tight : Bool) (uber : Uber) (rows : Rows) (pool : Pool) (image : List ℕ) → ReadsAs tight uber rows pool image → KeepsAll pool)
+
+open_no_stream : (fault : OpenFault) (told : StreamFault) → open_refusal fault ≢ refusals.Stream told
+open_no_stream (opens.Damaged sector stated found) told is = absurd (cc is)
+open_no_stream opens.NoPool told is = absurd (cc is)
+open_no_stream (opens.BadVersion version) told is = absurd (cc is)
+open_no_stream opens.DiskFault told is = absurd (cc is)
+open_no_stream opens.OutOfMemory told is = absurd (cc is)
 
 open_no_source : (fault : OpenFault) → open_refusal fault ≢ refusals.SourceFault
 open_no_source (opens.Damaged sector stated found) is = absurd (cc is)
@@ -90,6 +99,7 @@ unopened whole ask here here' input fault there answer reads synced cause = reco
       unopened_ends tight ask here' input uber rows pool fault (whole.0 pool (whole.1 tight uber rows pool here.seen is)) (there tight uber rows pool told is)
       (λ alive. rests_read here here' uber rows pool is reads (synced alive));
   opened = λ told. unopened_says here here' input fault reads (answer told);
+  text = says_other [] input input (open_refusal fault) (open_no_stream fault);
   refused = record {
     pool = record { one = inl (fault, refl); alive = open_alive fault; cause = λ is. cause.fault (ap (λ (f : OpenFault). Err f) (open_disk fault is)) };
     cause = λ is. absurd (open_no_source fault is);
@@ -123,18 +133,26 @@ recv_is_open (faults.CannotApply index fault) = refl
 module _ (here mid here' : DiskState) (input input' : SourceState) where
   -- none of opening
   is_open : (refusal : Refusal) → IsEnd mid here' input input' refusal → is_of_opening refusal ≡ false
-  is_open refusal is = ⊎_elim (λ r. ap is_of_opening r.one.1 ∙ recv_is_open r.one.0) (λ source. ap is_of_opening source.0) is
+  is_open refusal (inl r) = ap is_of_opening r.one.2 ∙ recv_is_open r.one.0
+  is_open refusal (inr (inl cut)) = ap is_of_opening cut.1
+  is_open refusal (inr (inr source)) = ap is_of_opening source.0
 
   ends_full : (refusal : Refusal) (need largest : ℕ) → IsEnd mid here' input input' refusal → refusal ≡ refusals.Full need largest → largest < need
-  ends_full refusal need largest is full = ⊎_elim (λ r. r.full need largest full) (λ source. absurd (let e = source.0 in cc (e, full))) is
+  ends_full refusal need largest (inl r) full = r.full need largest full
+  ends_full refusal need largest (inr (inl cut)) full = absurd (let e = cut.1 in cc (e, full))
+  ends_full refusal need largest (inr (inr source)) full = absurd (let e = source.0 in cc (e, full))
 
   whole_refusal : (refusal : Refusal) → here.faults ≤ mid.faults → IsEnd mid here' input input' refusal → IsReceiveRefusal here here' input input' refusal
   whole_refusal refusal later (inl r) = record {
     pool = record { one = inr (inl r.one); alive = r.alive; cause = λ e. Rose-earlier here.faults mid.faults here'.faults later (r.cause e) };
-    cause = λ e. absurd (recv_no_source r.one.0 (sym r.one.1 ∙ e));
+    cause = λ e. absurd (recv_no_source r.one.0 (sym r.one.2 ∙ e));
   }
-  whole_refusal refusal later (inr source) = record {
-    pool = record { one = inr (inr source.0); alive = λ e. (let s = source.0 in cc (s, e)); cause = λ e. absurd (let s = source.0 in cc (s, e)) };
+  whole_refusal refusal later (inr (inl cut)) = record {
+    pool = record { one = inr (inr (inl cut)); alive = λ e. (let s = cut.1 in cc (s, e)); cause = λ e. absurd (let s = cut.1 in cc (s, e)) };
+    cause = λ e. absurd (let s = cut.1 in cc (s, e));
+  }
+  whole_refusal refusal later (inr (inr source)) = record {
+    pool = record { one = inr (inr (inr source.0)); alive = λ e. (let s = source.0 in cc (s, e)); cause = λ e. absurd (let s = source.0 in cc (s, e)) };
     cause = λ e. source.1;
   }
 
@@ -191,6 +209,7 @@ module _ (ask : RecvAsk) (here mid here' : DiskState) (input input' : SourceStat
         opened = λ honest. let was = answers (falls honest) in
             opened_says here mid here' input input' kept.body was.1 (told result)
             (record { opens = (was.0, was.2, was.3); full = λ need largest is. full_in here mid here' input input' (told result) need largest ends is }) ends;
+        text = f.text;
         refused = refused_in here mid here' input input' (told result) later ends;
         later = omega (arith, later, still);
         input_later = input_later;

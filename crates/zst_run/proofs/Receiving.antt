@@ -14,13 +14,14 @@ use Rattle.zst_image.specs.Reads.{bound_of, free_by}
 use Rattle.zst_image.specs.declared.kept.Kept.{Kept}
 use Rattle.zst_model.specs.declared.refusals.refusal.Refusal.{Refusal}
 use Rattle.zst_model.specs.declared.refusals.refusal.Refusal.TheVariants as refusals
+use Rattle.zst_model.specs.declared.refusals.stream_fault.StreamFault.{StreamFault}
 use Rattle.zst_model.specs.declared.refusals.stream_fault.StreamFault.TheVariants.{Truncated}
 use Rattle.zst_model.specs.pools.Pool.{Pool}
 use Rattle.zst_plan.specs.declared.receive.RecvAsk.{RecvAsk}
 use Rattle.zst_pool.specs.Calls.{IsAtRest}
 use Rattle.zst_pool.specs.declared.fault.PoolFault.TheVariants as pools
 use Rattle.zst_recv.specs.Answers.{received_of}
-use Rattle.zst_recv.specs.Faults.{recv_refusal, stop_at}
+use Rattle.zst_recv.specs.Faults.{IsFeedFault, recv_refusal, stop_at}
 use Rattle.zst_recv.specs.Receiving.{Stage, Waits, left_by}
 use Rattle.zst_recv.specs.Stages as standing
 use Rattle.zst_recv.specs.Stages.{TellsTarget, fed_of, received_by}
@@ -28,9 +29,12 @@ use Rattle.zst_recv.specs.declared.fault.RecvFault.{RecvFault}
 use Rattle.zst_recv.specs.declared.fault.RecvFault.TheVariants as faults
 use Rattle.zst_recv.specs.declared.received.Received.{Received as Snapshot}
 use Rattle.zst_recv.specs.declared.recv.Recv.{Recv}
-use Rattle.zst_stream.specs.Reading.{Reading}
-use Rattle.zst_run.specs.Receives.{ReceiveEnds, Waited, piece_size, receipt_line}
-use Rattle.zst_run.specs.Underway.{Along, Fed, Feeding, IsEnd, IsFeedRefusal, IsInputOf, IsReady, IsReceived, Turned, Turns, Underway, cut_refusal, line_of, told, with_piece}
+use Rattle.zst_stream.specs.Findings.{IsFound}
+use Rattle.zst_stream.specs.Reading.{Reading, complete, reading}
+use Rattle.zst_reader.specs.StandsFor.{StandsFor}
+use Rattle.zst_run.specs.Receives.{ReceiveEnds, SaysOfText, Waited, piece_size, receipt_line}
+use Rattle.zst_run.specs.Underway.{Along, Fed, Feeding, HasFed, IsEnd, IsFeedRefusal, IsInputOf, IsReady, IsReceived, TurnReads, Turned, Turns, Underway, cut_refusal, line_of, told, with_piece}
+use Rattle.zst_run.specs.Dumps.{NoFault}
 use Rattle.zst_run.specs.declared.receive.End.{End}
 use Rattle.zst_run.specs.declared.receive.End.TheVariants.{Ended, Failed}
 use Rattle.zst_run.specs.declared.receive.Receipt.{Receipt}
@@ -58,20 +62,20 @@ recv_full (faults.Stream fault) need largest is = absurd (cc is)
 recv_full (faults.CannotApply index fault) need largest is = absurd (cc is)
 
 -- what a feed refuses
-pub feed_refused : (old now : DiskState) (fault : RecvFault) → HasCause old.faults now.faults (stop_at fault) → (fault ≡ faults.Pool pools.Failed → ⊥)
+pub feed_refused : (old now : DiskState) (fault : RecvFault) → IsFeedFault fault → HasCause old.faults now.faults (stop_at fault)
     → ((need largest : ℕ) → fault ≡ faults.Pool (pools.Full need largest) → largest < need) → IsFeedRefusal old now (recv_refusal fault)
-feed_refused old now fault cause alive full = record {
-  one = (fault, refl);
-  alive = λ is. alive (recv_failed fault is);
+feed_refused old now fault known cause full = record {
+  one = (fault, known, refl);
+  alive = λ is. subst IsFeedFault (recv_failed fault is) known;
   cause = λ is. cause.fault (ap stop_at (recv_disk fault is));
   full = λ need largest is. full need largest (recv_full fault need largest is);
 }
 
 -- a refusal that isn't the disk's, nor of a full disk
-pub plain_refused : (old now : DiskState) (fault : RecvFault) (refusal : Refusal) → refusal ≡ recv_refusal fault → refusal ≢ refusals.DiskFault → refusal ≢ refusals.Failed
+pub plain_refused : (old now : DiskState) (fault : RecvFault) (refusal : Refusal) → IsFeedFault fault → refusal ≡ recv_refusal fault → refusal ≢ refusals.DiskFault → refusal ≢ refusals.Failed
     → ((need largest : ℕ) → refusal ≢ refusals.Full need largest) → IsFeedRefusal old now refusal
-plain_refused old now fault refusal is disk alive full = record {
-  one = (fault, is);
+plain_refused old now fault refusal known is disk alive full = record {
+  one = (fault, known, is);
   alive = alive;
   cause = λ e. absurd (disk e);
   full = λ need largest e. absurd (full need largest e);
@@ -80,7 +84,7 @@ plain_refused old now fault refusal is disk alive full = record {
 -- no memory was left
 pub without_memory : (old now : DiskState) (input input' : SourceState) → IsEnd old now input input' refusals.OutOfMemory
 without_memory old now input input' =
-    inl (plain_refused old now (faults.Pool pools.OutOfMemory) refusals.OutOfMemory refl (λ e. absurd (cc e)) (λ e. absurd (cc e)) (λ need largest e. absurd (cc e)))
+    inl (plain_refused old now (faults.Pool pools.OutOfMemory) refusals.OutOfMemory tt refl (λ e. absurd (cc e)) (λ e. absurd (cc e)) (λ need largest e. absurd (cc e)))
 
 -- it is one of a whole in which more faults were counted
 pub refused_earlier : (old mid now : DiskState) (refusal : Refusal) → old.faults ≤ mid.faults → IsFeedRefusal mid now refusal → IsFeedRefusal old now refusal
@@ -89,14 +93,38 @@ refused_earlier old mid now refusal later is = record { one = is.one; alive = is
 -- what cuts a receive
 pub cut_refused : (old now : DiskState) (input input' : SourceState) (end : End) (count : ℕ) (refusal : Refusal) → refusal ≡ cut_refusal end count → (end ≡ Failed → Rose input.faults input'.faults)
     → IsEnd old now input input' refusal
-cut_refused old now input input' Ended count refusal is rose =
-    inl (plain_refused old now (faults.Stream (Truncated count)) refusal is (λ e. cc (is, e)) (λ e. cc (is, e)) (λ need largest e. cc (is, e)))
-cut_refused old now input input' Failed count refusal is rose = inr (is, rose refl)
+cut_refused old now input input' Ended count refusal is rose = inr (inl (count, is))
+cut_refused old now input input' Failed count refusal is rose = inr (inr (is, rose refl))
 
 -- the input failed since the start
 pub rose_behind : (input mid input' : SourceState) (end : End) → input.faults ≤ mid.faults → IsInputOf mid input' (turns.Over end) → end ≡ Failed → Rose input.faults input'.faults
 rose_behind input mid input' Ended later is failed = absurd (cc failed)
 rose_behind input mid input' Failed later is failed = Rose-earlier input.faults mid.faults input'.faults later is
+
+-- ---- what an answer says of the text
+
+says_line : (pieces : List (List ℕ)) (input input' : SourceState) (lines : List (List ℕ)) → (reading (concat pieces)).outcome ≡ complete → SaysOfText pieces input input' (Ok lines)
+says_line pieces input input' lines whole = record { stream = λ fault found is. absurd (cc is); cut = λ at is. absurd (cc is); whole = λ others is. whole }
+
+-- a refusal that isn't of a stream says nothing of it
+pub says_other : (pieces : List (List ℕ)) (input input' : SourceState) (refusal : Refusal) → ((fault : StreamFault) → refusal ≢ refusals.Stream fault) → SaysOfText pieces input input' (Err refusal)
+says_other pieces input input' refusal not = record { stream = λ fault found is. absurd (not fault (cc is)); cut = λ at is. absurd (not (Truncated at) (cc is)); whole = λ lines is. absurd (cc is) }
+
+says_refused : (pieces : List (List ℕ)) (input input' : SourceState) (recv : Recv) (refusal : Refusal) → TurnReads recv (concat pieces) (turns.Refused refusal) → SaysOfText pieces input input' (Err refusal)
+says_refused pieces input input' recv refusal reads = record {
+  stream = λ fault found is. (reads fault (cc is)).1;
+  cut = λ at is. absurd (reads (Truncated at) (cc is)).0;
+  whole = λ lines is. absurd (cc is);
+}
+
+says_cut : (pieces : List (List ℕ)) (input mid input' : SourceState) (recv : Recv) (end : End) (refusal : Refusal) → refusal ≡ cut_refusal end (fed_of recv) → NoFault input mid → IsInputOf mid input' (turns.Over end)
+    → HasFed recv (concat pieces) → SaysOfText pieces input input' (Err refusal)
+says_cut pieces input mid input' recv Ended refusal is none after has = record {
+  stream = λ fault found e. let same : fault ≡ Truncated (fed_of recv) = cc (is, e) in absurd (subst IsFound same found);
+  cut = λ at e. let same : at ≡ fed_of recv = cc (is, e) in (same ∙ has.1.pushed, after.0, after.1 ∙ none);
+  whole = λ lines e. absurd (cc e);
+}
+says_cut pieces input mid input' recv Failed refusal is none after has = says_other pieces input input' refusal (λ fault e. cc (is, e))
 
 -- ---- turns
 
@@ -110,6 +138,10 @@ module _ (start old now : DiskState) (first kept kept' : Kept) (begun recv recv'
 
   consumed : Gave input input' (concat all_pieces)
   consumed = subst (λ (text : List ℕ). Gave input input' text) (sym (concat_with f.pieces t.piece)) (gave_then input mid input' (concat f.pieces) t.piece f.consumed t.gave)
+
+  -- what the turn says of all that was fed
+  reads : TurnReads recv' (concat all_pieces) turn
+  reads = subst (λ (text : List ℕ). TurnReads recv' text turn) (sym (concat_with f.pieces t.piece)) (t.reads (concat f.pieces) f.reads)
 
   turned : (tight : Bool) (pool : Pool) → now.honest → Underway tight start first begun begun.ask pool [] 0 → Turned tight start now kept' recv' begun.ask pool all_pieces items' turn
   turned tight pool honest begins =
@@ -125,13 +157,14 @@ module _ (start old now : DiskState) (first kept kept' : Kept) (begun recv recv'
       }
 
   -- an end by this answer, where each pool that the pieces came from ends so
-  ended : (answer : Result (List (List ℕ)) Refusal) → length t.piece ≤ piece_size
+  ended : (answer : Result (List (List ℕ)) Refusal) → length t.piece ≤ piece_size → SaysOfText all_pieces input input' answer
       → ((tight : Bool) (pool : Pool) → now.honest → Turned tight start now kept' recv' begun.ask pool all_pieces items' turn → ReceiveEnds tight begun.ask pool all_pieces now input input' answer)
       → Fed (λ tight pool. Underway tight start first begun begun.ask pool [] 0) start now begun.ask input input' answer
-  ended answer most ends = record {
+  ended answer most text ends = record {
     pieces = all_pieces;
     are_pieces = pieces_then f.pieces t.piece f.whole most;
     consumed = consumed;
+    text = text;
     says = λ tight pool honest begins. let done = turned tight pool honest begins in record { wanted = done.wanted; moments = done.moments; ends = ends tight pool honest done };
   }
 
@@ -144,6 +177,7 @@ module _ (start old now : DiskState) (first kept kept' : Kept) (begun recv recv'
     whole = whole_then f.pieces t.piece f.whole t.sized;
     consumed = consumed start old now first kept kept' begun recv recv' items items' input mid input' turns.More f t same falls;
     no_fault = t.input_is ∙ f.no_fault;
+    reads = reads start old now first kept kept' begun recv recv' items items' input mid input' turns.More f t same falls;
     says = turned start old now first kept kept' begun recv recv' items items' input mid input' turns.More f t same falls;
   }
 
@@ -167,6 +201,7 @@ module _ (start old now : DiskState) (first kept kept' : Kept) (begun recv recv'
       → Fed (λ tight pool. Underway tight start first begun begun.ask pool [] 0) start now begun.ask input input' (told (Ok receipt))
   received_fed t receipt snapshot count =
       ended start old now first kept kept' begun recv recv' items items' input mid input' turns.Received f t same falls (Ok (line_of receipt ∷ [])) t.sized.1
+      (says_line (with_piece f.pieces t.piece) input input' (line_of receipt ∷ []) (reads start old now first kept kept' begun recv recv' items items' input mid input' turns.Received f t same falls))
       (λ tight pool honest done. line_is tight pool (with_piece f.pieces t.piece) receipt snapshot count done.stands)
 
   -- the piece was refused
@@ -174,6 +209,7 @@ module _ (start old now : DiskState) (first kept kept' : Kept) (begun recv recv'
       → Fed (λ tight pool. Underway tight start first begun begun.ask pool [] 0) start now begun.ask input input' (told (Err refusal))
   refused_fed refusal t =
       ended start old now first kept kept' begun recv recv' items items' input mid input' (turns.Refused refusal) f t same falls (Err refusal) t.sized.1
+      (says_refused (with_piece f.pieces t.piece) input input' recv' refusal (reads start old now first kept kept' begun recv recv' items items' input mid input' (turns.Refused refusal) f t same falls))
       (λ tight pool honest done. done.stands input input')
 
   -- what is left of a receive that waits for more
@@ -195,17 +231,19 @@ module _ (start old now : DiskState) (first kept kept' : Kept) (begun recv recv'
         → Fed (λ tight pool. Underway tight start first begun begun.ask pool [] 0) start now begun.ask input input' (told (Err refusal))
     cut_fed end refusal t is =
         ended start old now first kept kept' begun recv recv' items items' input mid input' (turns.Over end) f t same falls (Err refusal) t.sized
+        (says_cut (with_piece f.pieces t.piece) input mid input' recv' end refusal is f.no_fault t.input_is (reads start old now first kept kept' begun recv recv' items items' input mid input' (turns.Over end) f t same falls))
         (λ tight pool honest done. cut_so end refusal t is tight pool (with_piece f.pieces t.piece) done.stands)
 
 -- ---- the start
 
 -- nothing was read yet
-pub fed_none : (start : DiskState) (first : Kept) (begun : Recv) (input : SourceState) → Feeding start start first first begun begun 0 input input
-fed_none start first begun input = record {
+pub fed_none : (start : DiskState) (first : Kept) (begun : Recv) (input : SourceState) → StandsFor begun.reader [] [] → Feeding start start first first begun begun 0 input input
+fed_none start first begun input stands = record {
   pieces = [];
   whole = All-nil (λ (piece : List ℕ). length piece ≡ piece_size);
   consumed = sym (append-nil input.given);
   no_fault = refl;
+  reads = ([], stands);
   says = λ tight pool honest u. record { wanted = u.wanted; moments = Leaves-none start (Along tight begun.ask pool []); stands = u };
 }
 
@@ -231,7 +269,7 @@ pub fed_weaker : (Starts Then : (tight : Bool) → Pool → Type 0) (start now :
     → Fed Starts start now ask input input' answer → Fed Then start now asked input input' answer
 fed_weaker Starts Then start now ask asked input input' answer same is f =
     subst (λ (a : RecvAsk). Fed Then start now a input input' answer) same
-    (record { pieces = f.pieces; are_pieces = f.are_pieces; consumed = f.consumed; says = λ tight pool honest begins. f.says tight pool honest (is tight pool begins) })
+    (record { pieces = f.pieces; are_pieces = f.are_pieces; consumed = f.consumed; text = f.text; says = λ tight pool honest begins. f.says tight pool honest (is tight pool begins) })
 
 -- no memory was left for it
 pub unread : (start : DiskState) (first : Kept) (ask : RecvAsk) (input : SourceState) → Fed (λ tight. IsReady ask tight start first) start start ask input input (Err refusals.OutOfMemory)
@@ -239,6 +277,7 @@ unread start first ask input = record {
   pieces = [];
   are_pieces = tt;
   consumed = sym (append-nil input.given);
+  text = says_other [] input input refusals.OutOfMemory (λ fault is. absurd (cc is));
   says = λ tight pool honest ready. record {
     wanted = λ n less. absurd (omega (arith, less));
     moments = Leaves-none start (Along tight ask pool []);

@@ -1,30 +1,64 @@
 -- How a turn of a receive ends, from what reading and feeding its piece say.
 use Rattle.std.specs.Prelude.{min, ◌^◌, ◌-◌, Option, Some, None, Result, Ok, Err}
-use Rattle.std.proofs.Common.{◌≡◌, ◌≢◌, ℕ, ◌+◌, ◌<◌, ◌≤◌, Bool, true, false, List, length, take, ◌∙◌, arith}
-use Rattle.std.proofs.lemmas.List.{length-take-le}
+use Rattle.std.proofs.Common.{◌≡◌, ◌≢◌, ℕ, ◌+◌, ◌<◌, ◌≤◌, Bool, true, false, List, [], ◌++◌, length, take, sym, ap, ◌∙◌, subst, arith}
+use Rattle.std.proofs.lemmas.List.{append-nil, length-take-le, nil_from_length}
 use Rattle.zst_outside.specs.Images.{DiskState}
 use Rattle.zst_outside.specs.States.{SourceState, Gave}
 use Rattle.zst_block.specs.Blocks.{Has}
 use Rattle.zst_image.specs.Reads.{bound_of, free_by}
 use Rattle.zst_image.specs.declared.kept.Kept.{Kept}
+use Rattle.zst_model.specs.declared.refusals.refusal.Refusal.TheVariants as refusals
+use Rattle.zst_model.specs.declared.refusals.stream_fault.StreamFault.{StreamFault}
 use Rattle.zst_model.specs.pools.Pool.{Pool}
 use Rattle.zst_pool.specs.Calls.{IsAtRest}
+use Rattle.zst_pool.specs.Faults.{pool_refusal}
+use Rattle.zst_pool.specs.declared.fault.PoolFault.{PoolFault}
+use Rattle.zst_pool.specs.declared.fault.PoolFault.TheVariants as pools
+use Rattle.zst_reader.specs.StandsFor.{StandsFor}
+use Rattle.zst_record.specs.Heads.{Covered}
 use Rattle.zst_record.specs.Laws.{AreBytes}
+use Rattle.zst_stream.specs.Reading.{complete, faulty, reading}
 use Rattle.zst_recv.specs.Answers.{Feeds}
 use Rattle.zst_recv.specs.Faults.{IsFeedFault, recv_refusal}
 use Rattle.zst_recv.specs.Receiving.{Stage}
 use Rattle.zst_recv.specs.Stages as standing
 use Rattle.zst_recv.specs.Stages.{TellsBefore, fed_of, is_live, is_waiting}
 use Rattle.zst_recv.specs.declared.fault.RecvFault.{RecvFault}
+use Rattle.zst_recv.specs.declared.fault.RecvFault.TheVariants as faults
 use Rattle.zst_recv.specs.declared.recv.Fed as coded
 use Rattle.zst_recv.specs.declared.recv.Recv.{Recv}
 use Rattle.zst_replication.specs.Counting.{RecordsAreCounted}
 use Rattle.zst_run.specs.Receives.{piece_size}
-use Rattle.zst_run.specs.Underway.{Fills, IsInputOf, IsPieceOf, Turned, TurnLeaves, Turns, Underway, turn_behind, with_piece}
+use Rattle.zst_run.specs.Underway.{Fills, HasFed, IsInputOf, IsPieceOf, Turned, TurnLeaves, TurnReads, Turns, Underway, turn_behind, with_piece}
 use Rattle.zst_run.specs.declared.receive.End.{End}
 use Rattle.zst_run.specs.declared.receive.End.TheVariants.{Ended, Failed}
 use Rattle.zst_run.specs.declared.receive.Turn.TheVariants as turns
+use Rattle.zst_run.proofs.Commanded.{of_plan}
 use Rattle.zst_run.proofs.Turning.{turn_without, turned_more, turned_over, turned_received, turned_refused}
+
+-- ---- faults of the stream
+
+pool_no_stream : (fault : PoolFault) (told : StreamFault) → pool_refusal fault ≢ refusals.Stream told
+pool_no_stream (pools.Plan fault) told is = of_plan (λ r. r ≡ refusals.Stream told → ⊥) (λ f e. absurd (cc e)) (λ which number e. absurd (cc e)) fault is
+pool_no_stream (pools.CannotApply fault) told is = absurd (cc is)
+pool_no_stream (pools.Redacted object block) told is = absurd (cc is)
+pool_no_stream (pools.Full need largest) told is = absurd (cc is)
+pool_no_stream (pools.Damaged sector stated found) told is = absurd (cc is)
+pool_no_stream pools.DiskFault told is = absurd (cc is)
+pool_no_stream pools.Failed told is = absurd (cc is)
+pool_no_stream pools.OutOfMemory told is = absurd (cc is)
+
+recv_stream : (fault : RecvFault) (told : StreamFault) → recv_refusal fault ≡ refusals.Stream told → fault ≡ faults.Stream told
+recv_stream (faults.Pool fault) told is = absurd (pool_no_stream fault told is)
+recv_stream (faults.Stream fault) told is = let same : fault ≡ told = cc is in ap (λ (f : StreamFault). faults.Stream f) same
+recv_stream (faults.CannotApply index fault) told is = absurd (cc is)
+
+-- ---- a turn
+
+-- a receive that goes on stands for all that was fed
+goes_reads : (e : Option End) (recv : Recv) (text : List ℕ) → HasFed recv text → TurnReads recv text (turn_behind e)
+goes_reads None recv text has = has
+goes_reads (Some end) recv text has = has
 
 module _ (input input' : SourceState) (room : List ℕ) (count : ℕ) (end : Option End) (within : count ≤ length room) (size : length room ≡ piece_size) (gave : Gave input input' (take count room))
     (fills : Fills input input' (length room) count end) where
@@ -50,8 +84,21 @@ module _ (input input' : SourceState) (room : List ℕ) (count : ℕ) (end : Opt
     without None is tight pool pieces honest u = absurd (let full = is.0 in omega (arith, full, none, size))
     without (Some e) is tight pool pieces honest u = turn_without tight now kept recv recv.ask pool pieces (take count room) items e (long ∙ none) u
 
+    -- it stands for the same text
+    same_text : (text : List ℕ) → HasFed recv text → HasFed recv (text ++ take count room)
+    same_text text has =
+        let nothing : take count room ≡ [] = nil_from_length (take count room) (long ∙ none) in
+        subst (HasFed recv) (sym (ap (λ (piece : List ℕ). text ++ piece) nothing ∙ append-nil text)) has
+
     pub turns_without : Turns now now kept kept recv recv items items input input' (turn_behind end)
-    turns_without = record { piece = take count room; gave = gave; sized = sized end fills; input_is = input_is end fills; says = without end fills }
+    turns_without = record {
+      piece = take count room;
+      gave = gave;
+      sized = sized end fills;
+      input_is = input_is end fills;
+      reads = λ text has. goes_reads end recv (text ++ take count room) (same_text text has);
+      says = without end fills;
+    }
 
     leaves_by : (e : Option End) → Fills input input' (length room) count e → (failed : Bool) → is_live recv.stage ≡ true → failed ≡ false → TurnLeaves now now recv recv failed (turn_behind e)
     leaves_by None is failed live works = absurd (let full = is.0 in omega (arith, full, none, size))
@@ -80,26 +127,39 @@ module _ (input input' : SourceState) (room : List ℕ) (count : ℕ) (end : Opt
           turned_over law tight old now kept kept' recv recv' recv.ask pool pieces (take count room) items u has_some same told (feeds tight u.after _ u.stage honest u.rests u.tells u.fed) bytes most items' adds e not still
 
       -- more is waited for
-      pub turns_on : told.done ≡ false → (is_waiting recv' ≡ true → kept' ≡ kept) → Turns old now kept kept' recv recv' items items' input input' (turn_behind end)
-      turns_on not still = record { piece = take count room; gave = gave; sized = sized end fills; input_is = input_is end fills; says = behind end not still }
+      pub turns_on : told.done ≡ false → (is_waiting recv' ≡ true → kept' ≡ kept)
+          → ((text : List ℕ) (handed : List Covered) → StandsFor recv.reader text handed → HasFed recv' (text ++ take count room)) → Turns old now kept kept' recv recv' items items' input input' (turn_behind end)
+      turns_on not still stands = record {
+        piece = take count room;
+        gave = gave;
+        sized = sized end fills;
+        input_is = input_is end fills;
+        reads = λ text has. goes_reads end recv' (text ++ take count room) (stands text has.0 has.1);
+        says = behind end not still;
+      }
 
       -- END was covered
-      pub turns_received : told.done ≡ true → Turns old now kept kept' recv recv' items items' input input' turns.Received
-      turns_received over = record {
+      pub turns_received : told.done ≡ true → ((text : List ℕ) (handed : List Covered) → StandsFor recv.reader text handed → (reading (text ++ take count room)).outcome ≡ complete)
+          → Turns old now kept kept' recv recv' items items' input input' turns.Received
+      turns_received over whole = record {
         piece = take count room;
         gave = gave;
         sized = (has_some, most);
         input_is = tt;
+        reads = λ text has. whole text has.0 has.1;
         says = λ tight pool pieces honest u.
             turned_received law tight old now kept kept' recv recv' recv.ask pool pieces (take count room) items u has_some same told (feeds tight u.after _ u.stage honest u.rests u.tells u.fed) bytes most items' adds over;
       }
 
-    pub turns_refused : (items' : ℕ) (fault : RecvFault) → IsFeedFault fault → FedSo (Err fault) → Turns old now kept kept' recv recv' items items' input input' (turns.Refused (recv_refusal fault))
-    turns_refused items' fault known feeds = record {
+    pub turns_refused : (items' : ℕ) (fault : RecvFault) → IsFeedFault fault → FedSo (Err fault)
+        → ((text : List ℕ) (handed : List Covered) (told : StreamFault) → StandsFor recv.reader text handed → fault ≡ faults.Stream told → (reading (text ++ take count room)).outcome ≡ faulty told)
+        → Turns old now kept kept' recv recv' items items' input input' (turns.Refused (recv_refusal fault))
+    turns_refused items' fault known feeds stream = record {
       piece = take count room;
       gave = gave;
       sized = (has_some, most);
       input_is = tt;
+      reads = λ text has told is. let same = recv_stream fault told is in (subst IsFeedFault same known, stream text has.0 told has.1 same);
       says = λ tight pool pieces honest u.
           turned_refused law tight old now kept kept' recv recv' recv.ask pool pieces (take count room) items u has_some same items' fault known (feeds tight u.after _ u.stage honest u.rests u.tells u.fed);
     }

@@ -12,6 +12,7 @@ use Rattle.zst_model.specs.declared.refusals.named.Name.{Name}
 use Rattle.zst_model.specs.declared.refusals.named.Name.TheVariants as names
 use Rattle.zst_model.specs.declared.refusals.refusal.Refusal.{Refusal}
 use Rattle.zst_model.specs.declared.refusals.refusal.Refusal.TheVariants as refusals
+use Rattle.zst_model.specs.declared.refusals.stream_fault.StreamFault.{StreamFault}
 use Rattle.zst_model.specs.declared.refusals.stream_fault.StreamFault.TheVariants.{Truncated}
 use Rattle.zst_model.specs.pools.Kept.{kept_of}
 use Rattle.zst_model.specs.pools.Pool.{Pool, Partial}
@@ -23,8 +24,9 @@ use Rattle.zst_image.specs.Reads.{Reads, ReadsAs, Rests}
 use Rattle.zst_image.specs.declared.open_fault.OpenFault.{OpenFault}
 use Rattle.zst_plan.specs.RecvPlan.{snapshot_name}
 use Rattle.zst_plan.specs.declared.receive.RecvAsk.{RecvAsk}
-use Rattle.zst_stream.specs.Reading.{reading}
-use Rattle.zst_recv.specs.Faults.{recv_refusal, stream_limit}
+use Rattle.zst_stream.specs.Findings.{IsFound}
+use Rattle.zst_stream.specs.Reading.{complete, faulty, reading}
+use Rattle.zst_recv.specs.Faults.{IsFeedFault, recv_refusal, stream_limit}
 use Rattle.zst_recv.specs.Feeds.{receives}
 use Rattle.zst_recv.specs.Receiving.{Stage, Waits, Lives, Ends, Goes, Stops, left_by, pool_of}
 use Rattle.zst_recv.specs.Stages.{TellsTarget}
@@ -139,11 +141,13 @@ ReceiveEnds tight ask pool pieces here' input input' (Err refusal) = Refused tig
 
 -- ---- receiving into an image
 
--- a refusal of opening a pool, of a receive, or E29
+-- a refusal of opening a pool; of a feed, of whose faults of a stream each is found in it; E20; or E29
 abbrev pub OfReceiving : Refusal → Type 0
-OfReceiving refusal = ((fault : OpenFault) × (refusal ≡ open_refusal fault)) ⊎ (((fault : RecvFault) × (refusal ≡ recv_refusal fault)) ⊎ (refusal ≡ refusals.SourceFault))
+OfReceiving refusal =
+    ((fault : OpenFault) × (refusal ≡ open_refusal fault))
+    ⊎ (((fault : RecvFault) × IsFeedFault fault × (refusal ≡ recv_refusal fault)) ⊎ (((at : ℕ) × (refusal ≡ refusals.Stream (Truncated at))) ⊎ (refusal ≡ refusals.SourceFault)))
 
--- one of these, but not that the disk had failed before (E31); that of the disk (E28) and that of the input (E29) only where their counts of faults rose
+-- one of these, but neither that the disk had failed before (E31) nor E22; that of the disk (E28) and that of the input (E29) only where their counts of faults rose
 pub record IsReceiveRefusal (here here' : DiskState) (input input' : SourceState) (refusal : Refusal) : Type 0 where
   pub pool : IsPoolRefusal OfReceiving here here' refusal
   pub cause : refusal ≡ refusals.SourceFault → Rose input.faults input'.faults
@@ -166,6 +170,13 @@ ReceiveOpened here here' input input' (Err refusals.OutOfMemory) =
     (OnlyReads here here' × (input' ≡ input)) ⊎ ((uber : Uber) × (rows : Rows) × ReceiveRan here (Err refusals.OutOfMemory) uber rows)
 ReceiveOpened here here' input input' answer = (uber : Uber) × (rows : Rows) × ReceiveRan here answer uber rows
 
+-- What an answer says of the pieces that were read, whatever the image: a fault that is found in a stream is that of their reading, E20 tells the count of
+-- their bytes at the end of an input that didn't fail, and there is a line only where their reading is complete.
+pub record SaysOfText (pieces : List (List ℕ)) (input input' : SourceState) (answer : Result (List (List ℕ)) Refusal) : Type 0 where
+  pub stream : (fault : StreamFault) → IsFound fault → answer ≡ Err (refusals.Stream fault) → (reading (concat pieces)).outcome ≡ faulty fault
+  pub cut : (at : ℕ) → answer ≡ Err (refusals.Stream (Truncated at)) → (at ≡ length (concat pieces)) × IsTrue input'.ended × NoFault input input'
+  pub whole : (lines : List (List ℕ)) → answer ≡ Ok lines → (reading (concat pieces)).outcome ≡ complete
+
 -- A receive of what is asked, into an image: some pieces were read of the input, each behind pieces that left the receive waiting. At every moment,
 -- and in the end, each image stood before it or reads as what stands after some of the pieces, by tight object sets where it stood so.
 pub record Receiving (ask : RecvAsk) (here here' : DiskState) (input input' : SourceState) (answer : Result (List (List ℕ)) Refusal) : Type 0 where
@@ -181,6 +192,7 @@ pub record Receiving (ask : RecvAsk) (here here' : DiskState) (input input' : So
   pub ends : (tight : Bool) (uber : Uber) (rows : Rows) (pool : Pool) → here'.honest → ReadsAs tight uber rows pool here.seen → TellsTarget ask rows pool
       → ReceiveEnds tight ask pool pieces here' input input' answer
   pub opened : here'.honest → ReceiveOpened here here' input input' answer
+  pub text : SaysOfText pieces input input' answer
   pub refused : IfErr answer (IsReceiveRefusal here here' input input')
   pub later : here.faults ≤ here'.faults
   pub input_later : input.faults ≤ input'.faults

@@ -1,5 +1,5 @@
 -- What one run sends and another receives.
-use Rattle.std.specs.Prelude.{ℕ, ◌≡◌, ◌≢◌, ◌⊎◌, ◌++◌, Bool, false, List, Option, None, Result, Ok, Err}
+use Rattle.std.specs.Prelude.{ℕ, ◌≡◌, ◌≢◌, ◌⊎◌, ◌++◌, Bool, false, List, None, Result, Ok, Err}
 use Rattle.zst_outside.specs.Images.{DiskState, Leaves}
 use Rattle.zst_outside.specs.States.{SourceState, SinkState, Gave}
 use Rattle.zst_uber.specs.declared.uber.Uber.{Uber}

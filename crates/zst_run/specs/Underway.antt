@@ -7,6 +7,7 @@ use Rattle.zst_outside.specs.States.{SourceState, Gave}
 use Rattle.zst_block.specs.Blocks.{Has}
 use Rattle.zst_model.specs.declared.refusals.refusal.Refusal.{Refusal}
 use Rattle.zst_model.specs.declared.refusals.refusal.Refusal.TheVariants as refusals
+use Rattle.zst_model.specs.declared.refusals.stream_fault.StreamFault.{StreamFault}
 use Rattle.zst_model.specs.declared.refusals.stream_fault.StreamFault.TheVariants.{Truncated}
 use Rattle.zst_model.specs.pools.Kept.{kept_of}
 use Rattle.zst_model.specs.pools.Pool.{Pool, Partial}
@@ -15,9 +16,12 @@ use Rattle.zst_image.specs.declared.kept.Kept.{Kept}
 use Rattle.zst_plan.specs.declared.receive.RecvAsk.{RecvAsk}
 use Rattle.zst_pool.specs.Calls.{IsAtRest}
 use Rattle.zst_record.specs.Laws.{AreBytes}
-use Rattle.zst_stream.specs.Reading.{reading}
+use Rattle.zst_reader.specs.StandsFor.{StandsFor}
+use Rattle.zst_record.specs.Heads.{Covered}
+use Rattle.zst_stream.specs.Findings.{IsFound}
+use Rattle.zst_stream.specs.Reading.{complete, faulty, reading}
 use Rattle.zst_recv.specs.Answers.{received_of}
-use Rattle.zst_recv.specs.Faults.{recv_refusal}
+use Rattle.zst_recv.specs.Faults.{IsFeedFault, recv_refusal}
 use Rattle.zst_recv.specs.Feeds.{receives}
 use Rattle.zst_recv.specs.Receiving.{Stage, Goes, Ends, pool_of}
 use Rattle.zst_recv.specs.Stages as standing
@@ -26,7 +30,7 @@ use Rattle.zst_recv.specs.declared.fault.RecvFault.{RecvFault}
 use Rattle.zst_recv.specs.declared.recv.Recv.{Recv}
 use Rattle.zst_replication.specs.Counting.{Counts}
 use Rattle.zst_run.specs.Dumps.{NoFault}
-use Rattle.zst_run.specs.Receives.{ArePieces, IsOpen, ReceiveEnds, piece_size, receipt_line}
+use Rattle.zst_run.specs.Receives.{ArePieces, IsOpen, ReceiveEnds, SaysOfText, piece_size, receipt_line}
 use Rattle.zst_run.specs.declared.receive.End.{End}
 use Rattle.zst_run.specs.declared.receive.End.TheVariants.{Ended, Failed}
 use Rattle.zst_run.specs.declared.receive.Receipt.{Receipt}
@@ -117,18 +121,30 @@ pub record Turned (tight : Bool) (old now : DiskState) (kept : Kept) (recv : Rec
   pub moments : Leaves old now (Along tight ask pool pieces)
   pub stands : TurnStands tight now kept recv ask pool pieces items turn
 
+-- Whatever the image, the receive stands for this text
+abbrev pub HasFed : Recv → List ℕ → Type 0
+HasFed recv text = (handed : List Covered) × StandsFor recv.reader text handed
+
+-- and what a turn says of all that was fed: one that goes on stands for it, END comes where its reading is complete, and a refusal that is a fault of a stream is that of its reading.
+abbrev pub TurnReads : Recv → List ℕ → Turn → Type 0
+TurnReads recv text turns.More = HasFed recv text
+TurnReads recv text turns.Received = (reading text).outcome ≡ complete
+TurnReads recv text (turns.Over end) = HasFed recv text
+TurnReads recv text (turns.Refused refusal) = (fault : StreamFault) → refusal ≡ refusals.Stream fault → IsFound fault × ((reading text).outcome ≡ faulty fault)
+
 -- One turn: a piece was read, and fed behind those before.
 pub record Turns (old now : DiskState) (kept kept' : Kept) (recv recv' : Recv) (items items' : ℕ) (input input' : SourceState) (turn : Turn) : Type 0 where
   pub piece : List ℕ
   pub gave : Gave input input' piece
   pub sized : IsPieceOf turn piece
   pub input_is : IsInputOf input input' turn
+  pub reads : (text : List ℕ) → HasFed recv text → TurnReads recv' (text ++ piece) turn
   pub says : (tight : Bool) (pool : Pool) (pieces : List (List ℕ)) → now.honest → Underway tight old kept recv recv.ask pool pieces items
       → Turned tight old now kept' recv' recv.ask pool (with_piece pieces piece) items' turn
 
--- a refusal of a receive, but not that the disk had failed before; that of the disk only where its count of faults rose
+-- a refusal of a feed, but not that the disk had failed before; that of the disk only where its count of faults rose
 pub record IsFeedRefusal (old now : DiskState) (refusal : Refusal) : Type 0 where
-  pub one : (fault : RecvFault) × (refusal ≡ recv_refusal fault)
+  pub one : (fault : RecvFault) × IsFeedFault fault × (refusal ≡ recv_refusal fault)
   pub alive : refusal ≡ refusals.Failed → ⊥
   pub cause : refusal ≡ refusals.DiskFault → Rose old.faults now.faults
   pub full : (need largest : ℕ) → refusal ≡ refusals.Full need largest → largest < need
@@ -146,13 +162,15 @@ pub record Feeding (old now : DiskState) (kept kept' : Kept) (recv recv' : Recv)
   pub whole : All (λ piece. length piece ≡ piece_size) pieces
   pub consumed : Gave input input' (concat pieces)
   pub no_fault : NoFault input input'
+  pub reads : HasFed recv' (concat pieces)
   pub says : (tight : Bool) (pool : Pool) → now.honest → Underway tight old kept recv recv.ask pool [] 0 → Turned tight old now kept' recv' recv.ask pool pieces items turns.More
 
 -- ---- all of them
 
--- so it is refused, or the input failed, and its count of faults rose
+-- so it is refused, by E20, or the input failed, and its count of faults rose
 abbrev pub IsEnd : (old now : DiskState) → (input input' : SourceState) → Refusal → Type 0
-IsEnd old now input input' refusal = IsFeedRefusal old now refusal ⊎ ((refusal ≡ refusals.SourceFault) × Rose input.faults input'.faults)
+IsEnd old now input input' refusal =
+    IsFeedRefusal old now refusal ⊎ (((at : ℕ) × (refusal ≡ refusals.Stream (Truncated at))) ⊎ ((refusal ≡ refusals.SourceFault) × Rose input.faults input'.faults))
 
 -- what ends a receive whose input gave no more
 abbrev pub cut_refusal : End → ℕ → Refusal
@@ -178,6 +196,7 @@ pub record Fed (Starts : (tight : Bool) → Pool → Type 0) (old now : DiskStat
   pub pieces : List (List ℕ)
   pub are_pieces : ArePieces pieces
   pub consumed : Gave input input' (concat pieces)
+  pub text : SaysOfText pieces input input' answer
   pub says : (tight : Bool) (pool : Pool) → now.honest → Starts tight pool → Outcome tight old now ask pool pieces input input' answer
 
 -- a pool at rest, whose sets tell the dates that a plan may look at

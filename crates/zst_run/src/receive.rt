@@ -10,6 +10,7 @@ ghost use Rattle.zst_image.specs.Reads.{free_by};
 ghost use Rattle.zst_model.specs.pools.Pool.{Pool as Plain};
 ghost use Rattle.zst_plan.specs.RecvPlan.{snapshot_name};
 ghost use Rattle.zst_pool.specs.Calls.{IsAtRest};
+ghost use Rattle.zst_reader.specs.StandsFor.{StandsFor};
 ghost use Rattle.zst_record.specs.Laws.{AreBytes};
 ghost use Rattle.zst_recv.specs.Faults.{stream_limit};
 ghost use Rattle.zst_recv.specs.Receiving.{Stage, left_by};
@@ -235,6 +236,7 @@ fn feed_all<D: Disk, S: Source>(
 ) -> Result<Receipt, Refusal>
     requires live { is_live recv.stage ≡ true }
     requires recv { RecvFits pool.old.kept.dir recv }
+    requires reads { StandsFor recv.reader [] [] }
     requires works { pool.old.io.failed ≡ false }
     requires ready { Ready (D.state pool.old.io.disk.now) pool.old.kept.body }
     requires room { length room.old ≡ piece_size }

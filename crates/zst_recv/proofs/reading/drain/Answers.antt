@@ -11,6 +11,7 @@ use Rattle.zst_recv.proofs.Draining.{Fills-none, Fills-then, drain_begins, drain
 use Rattle.zst_recv.specs.declared.fault.RecvFault.{RecvFault}
 use Rattle.zst_recv.proofs.Damaging.{damaged_behind, damaged_first, err_told, found_stream, no_stream, record_known, told_stream}
 use Rattle.zst_recv.proofs.Behind.{behind_more, over_behind, tells_on}
+use Rattle.zst_recv.proofs.Covering.{over_more}
 use Rattle.zst_recv.proofs.reading.drain.Goals as goal
 
 pub records-init : goal.records-init
@@ -22,6 +23,7 @@ records-init g c =
       idle = λ none. refl;
       waits = λ waits. refl;
       reads = λ text handed stands. (handed, stands);
+      over = λ text handed stands live over. absurd (let both = sym live ∙ over in cc);
       behind = λ text handed stands is. (handed, stands, is);
       pushed = refl;
       fills = Fills-none _ _ _ c.requires.fits;
@@ -60,6 +62,9 @@ records-preserved g c =
       idle = λ none. let same = e.idle none in same ∙ i.idle (ap (λ (b : Batch). b.taken) (sym same) ∙ none);
       waits = λ waits. let same = e.waits waits in same ∙ i.waits (ap (λ (b : Batch). waits_at b.stage) (sym same) ∙ waits);
       reads = λ text handed stands. let later = i.reads text handed stands in (later.0 ++ next ∷ [], h.1 text later.0 later.1);
+      over = λ text handed stands live over.
+          let later = i.reads text handed stands in
+          over_more _ text later.0 next c.records.batch.stage c.take.new.self.stage (h.1 text later.0 later.1) e.over (i.over text handed stands live) over;
       behind = λ text handed stands is.
           let later = i.behind text handed stands is in
           let more = h.1 text later.0 later.1 in
@@ -176,3 +181,19 @@ returns-in-Err-clause-known g c =
     let r = c.requires.reads in
     let later = c.records.invariant.reads r.text r.handed r.stands in
     found_stream r.text later.0 c.in-Err.fault (h.1 r.text later.0 later.1).whole (c.faults_are_found.ensures r.text)
+
+pub returns-in_err-take-in-Ok-Record-clause-over : goal.returns-in_err-take-in-Ok-Record-clause-over
+returns-in_err-take-in-Ok-Record-clause-over g c = λ text handed stands live over.
+    let h = rw (c.in-Ok-Record.is, c.in-Ok-Record.field-0-is) at c.next.follows.holds-at-none in
+    let i = c.records.invariant in
+    let later = i.reads text handed stands in
+    over_more _ text later.0 (covered_of c.in-Ok-Record.record) c.records.batch.stage c.take.new.self.stage (h.1 text later.0 later.1) c.in_err-take-in-Ok-Record.ensures.over (i.over text handed stands live) over
+
+pub returns-in-Ok-NeedMore-clause-over : goal.returns-in-Ok-NeedMore-clause-over
+returns-in-Ok-NeedMore-clause-over g c = c.records.invariant.over
+
+pub returns-in-Ok-End-clause-over : goal.returns-in-Ok-End-clause-over
+returns-in-Ok-End-clause-over g c = c.records.invariant.over
+
+pub returns-in-Err-clause-over : goal.returns-in-Err-clause-over
+returns-in-Err-clause-over g c = c.records.invariant.over

@@ -6,9 +6,10 @@ use Rattle.zst_model.specs.pools.Pool.{Pool}
 use Rattle.zst_pool.specs.Calls.{IsUnderWay}
 use Rattle.zst_reader.specs.StandsFor.{StandsFor, handed_of, pushed_of}
 use Rattle.zst_record.specs.Heads.{Covered}
+use Rattle.zst_stream.specs.Reading.{complete, reading}
 use Rattle.zst_recv.specs.Faults.{Fills}
 use Rattle.zst_recv.specs.Receiving.{Work}
-use Rattle.zst_recv.specs.Stages.{IsWork, StageFits, StandsBehind, TellsBefore, waits_at}
+use Rattle.zst_recv.specs.Stages.{IsWork, StageFits, StandsBehind, TellsBefore, is_live, waits_at}
 use Rattle.zst_recv.proofs.Draining.{Draining}
 use Rattle.zst_recv.proofs.reading.drain.Given as goal
 
@@ -25,6 +26,7 @@ invariant-records g l =
       idle : l.batch.taken ≡ false → l.batch ≡ l.fn.batch;
       waits : waits_at l.batch.stage ≡ true → l.batch ≡ l.fn.batch;
       reads : (text : List ℕ) (handed : List Covered) → StandsFor l.fn.reader text handed → (later : List Covered) × StandsFor l.reader text later;
+      over : (text : List ℕ) (handed : List Covered) → StandsFor l.fn.reader text handed → is_live l.fn.batch.stage ≡ true → is_live l.batch.stage ≡ false → (reading text).outcome ≡ complete;
       behind : (text : List ℕ) (handed : List Covered) → StandsFor l.fn.reader text handed → StandsBehind handed l.fn.batch.stage → (later : List Covered) × StandsFor l.reader text later × StandsBehind later l.batch.stage;
       pushed : pushed_of l.reader ≡ pushed_of l.fn.reader;
       fills : Fills (disk.state l.fn.io.disk.now) l.fn.io.space l.fn.io.failed (disk.state l.io.disk.now) l.io.space l.io.failed None;

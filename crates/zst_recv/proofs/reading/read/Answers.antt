@@ -6,6 +6,7 @@ use Rattle.std.proofs.lemmas.List.{append-nil}
 use Rattle.zst_reader.specs.StandsFor.{StandsFor, pushed_of, room_of}
 use Rattle.zst_image.specs.Reads.{bound_of}
 use Rattle.zst_model.specs.pools.Pool.{Pool}
+use Rattle.zst_stream.specs.Reading.{complete, reading}
 use Rattle.zst_recv.specs.Stages.{IsWork, waits_at}
 use Rattle.zst_recv.specs.declared.batch.Batch.{Batch}
 use Rattle.zst_recv.proofs.Draining.{Fills-none, Fills-then, goes_under}
@@ -13,6 +14,7 @@ use Rattle.zst_recv.proofs.Piecing.{all_told, left_bytes, less_left, limit_left,
 use Rattle.zst_recv.specs.declared.fault.RecvFault.{RecvFault}
 use Rattle.zst_recv.proofs.Damaging.{damaged_behind, err_told, faulty_still}
 use Rattle.zst_recv.proofs.Behind.{over_reads, tells_on}
+use Rattle.zst_recv.proofs.Covering.{complete_still, over_piece}
 use Rattle.zst_recv.proofs.reading.read.Goals as goal
 
 pub pushes-init : goal.pushes-init
@@ -24,7 +26,7 @@ pushes-init g c =
       idle = λ none. refl;
       waits = λ waits. refl;
       reads = c.requires.reads;
-      front = ([], refl, λ text handed stands. (handed, rw (append-nil text) stands));
+      front = ([], refl, λ text handed stands. (handed, rw (append-nil text) stands), λ text handed stands live over. absurd (let both = sym live ∙ over in cc));
       told = refl;
       bytes = All-from_get_or (λ byte. byte < 2 ^ 8) c.args.piece.now 0 (λ k within. (c.type_inv.piece k).fits);
       limit = c.requires.limit;
@@ -80,6 +82,10 @@ pushes-preserved g c =
             let m = i.front.2 text handed stands in
             let d = e.reads ((text ++ i.front.0) ++ take n rest) m.0 (push.stands (text ++ i.front.0) m.0 m.1) in
             (d.0, subst (λ (t : List ℕ). StandsFor c.drain.new.reader t d.0) (append_assoc text i.front.0 (take n rest)) d.1),
+        λ text handed stands live over.
+            let m = i.front.2 text handed stands in
+            subst (λ (t : List ℕ). (reading t).outcome ≡ complete) (append_assoc text i.front.0 (take n rest))
+            (over_piece text i.front.0 (take n rest) c.pushes.batch.stage (i.front.3 text handed stands live) (λ lives. e.over ((text ++ i.front.0) ++ take n rest) m.0 (push.stands (text ++ i.front.0) m.0 m.1) lives over)),
       );
       told = told_left rest n (room_of c.pushes.reader) _ _ _ _ push.count push.pushed e.pushed i.told;
       bytes = left_bytes rest n i.bytes;
@@ -204,3 +210,42 @@ returns-in_err-drain-clause-stream g c = λ text handed fault stands is.
     let read = (text ++ i.front.0) ++ take n rest in
     let told = c.in_err-drain.ensures.stream read m.0 fault (c.push-count.ensures.stands (text ++ i.front.0) m.0 m.1) (ap (λ (f : RecvFault). Err f) (sym p.2 ∙ err_told (Unit {0}) _ _ (sym p.1 ∙ is))) in
     faulty_still (text ++ c.args.piece.now) read (drop n rest) fault (whole_read text c.args.piece.now i.front.0 (take n rest) (drop n rest) (piece_split c.args.piece.now i.front.0 rest n i.front.1)) told
+
+pub returns-in_err-drain-clause-over : goal.returns-in_err-drain-clause-over
+returns-in_err-drain-clause-over g c = λ text handed stands live over.
+    let i = c.pushes.invariant in
+    let n = c.push-count.result in
+    let rest = c.pushes.rest.now in
+    let m = i.front.2 text handed stands in
+    let read = (text ++ i.front.0) ++ take n rest in
+    complete_still (text ++ c.args.piece.now) read (drop n rest) (whole_read text c.args.piece.now i.front.0 (take n rest) (drop n rest) (piece_split c.args.piece.now i.front.0 rest n i.front.1))
+    (over_piece text i.front.0 (take n rest) c.pushes.batch.stage (i.front.3 text handed stands live) (λ lives. c.in_err-drain.ensures.over read m.0 (c.push-count.ensures.stands (text ++ i.front.0) m.0 m.1) lives over))
+
+pub returns-then-branch-clause-over : goal.returns-then-branch-clause-over
+returns-then-branch-clause-over g c = λ text handed stands live over.
+    let i = c.pushes.invariant in
+    let n = c.push-count.result in
+    let rest = c.pushes.rest.now in
+    let m = i.front.2 text handed stands in
+    let read = (text ++ i.front.0) ++ take n rest in
+    complete_still (text ++ c.args.piece.now) read (drop n rest) (whole_read text c.args.piece.now i.front.0 (take n rest) (drop n rest) (piece_split c.args.piece.now i.front.0 rest n i.front.1))
+    (over_piece text i.front.0 (take n rest) c.pushes.batch.stage (i.front.3 text handed stands live) (λ lives. c.in_ok-drain.ensures.over read m.0 (c.push-count.ensures.stands (text ++ i.front.0) m.0 m.1) lives over))
+
+pub returns-then-branch-clause-stands : goal.returns-then-branch-clause-stands
+returns-then-branch-clause-stands g c = λ live text handed stands.
+    let r = c.pushes.invariant.reads in
+    let n = c.push-count.result in
+    let later = c.in_ok-drain.ensures.behind (r.text ++ take n c.pushes.rest.now) r.handed (c.push-count.ensures.stands r.text r.handed r.stands) r.behind in
+    let over = later.over c.if-branch.true in
+    absurd (let both = sym live ∙ over in cc)
+
+pub returns-clause-stands : goal.returns-clause-stands
+returns-clause-stands g c = λ live text handed stands.
+    let i = c.pushes.invariant in
+    let m = i.front.2 text handed stands in
+    (m.0, subst (λ (t : List ℕ). StandsFor c.pushes.reader (text ++ t) m.0) (sym (piece_done c.args.piece.now i.front.0 c.pushes.rest.now i.front.1 c.pushes-test.ensures)) m.1)
+
+pub returns-clause-over : goal.returns-clause-over
+returns-clause-over g c = λ text handed stands live over.
+    let i = c.pushes.invariant in
+    subst (λ (t : List ℕ). (reading (text ++ t)).outcome ≡ complete) (sym (piece_done c.args.piece.now i.front.0 c.pushes.rest.now i.front.1 c.pushes-test.ensures)) (i.front.3 text handed stands live over)

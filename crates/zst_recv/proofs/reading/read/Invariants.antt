@@ -7,10 +7,10 @@ use Rattle.zst_pool.specs.Calls.{IsUnderWay}
 use Rattle.zst_reader.specs.StandsFor.{HandsOut, StandsFor, pushed_of, room_of}
 use Rattle.zst_record.specs.Heads.{Covered}
 use Rattle.zst_record.specs.Laws.{AreBytes}
-use Rattle.zst_stream.specs.Reading.{waiting}
+use Rattle.zst_stream.specs.Reading.{complete, reading, waiting}
 use Rattle.zst_recv.specs.Faults.{Fills}
 use Rattle.zst_recv.specs.Receiving.{Work}
-use Rattle.zst_recv.specs.Stages.{HasRead, IsWork, StageFits, TellsBefore, waits_at}
+use Rattle.zst_recv.specs.Stages.{HasRead, IsWork, StageFits, TellsBefore, is_live, waits_at}
 use Rattle.zst_recv.proofs.Piecing.{Midway}
 use Rattle.zst_recv.proofs.reading.read.Given as goal
 
@@ -28,7 +28,8 @@ invariant-pushes g l =
       idle : l.batch.taken ≡ false → l.batch ≡ l.fn.batch;
       waits : waits_at l.batch.stage ≡ true → l.batch ≡ l.fn.batch;
       reads : HasRead l.reader l.batch.stage;
-      front : (front : List ℕ) × (l.piece ≡ front ++ l.rest) × ((text : List ℕ) (handed : List Covered) → StandsFor l.fn.reader text handed → (later : List Covered) × StandsFor l.reader (text ++ front) later);
+      front : (front : List ℕ) × (l.piece ≡ front ++ l.rest) × ((text : List ℕ) (handed : List Covered) → StandsFor l.fn.reader text handed → (later : List Covered) × StandsFor l.reader (text ++ front) later)
+          × ((text : List ℕ) (handed : List Covered) → StandsFor l.fn.reader text handed → is_live l.fn.batch.stage ≡ true → is_live l.batch.stage ≡ false → (reading (text ++ front)).outcome ≡ complete);
       told : pushed_of l.reader + length l.rest ≡ pushed_of l.fn.reader + length l.piece;
       bytes : AreBytes l.rest;
       limit : pushed_of l.reader + length l.rest ≤ 2 ^ 62;

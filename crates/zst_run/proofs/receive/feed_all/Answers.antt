@@ -5,7 +5,7 @@ use Rattle.zst_run.proofs.receive.feed_all.Goals as goal
 
 pub pieces-init : goal.pieces-init
 pieces-init g c = record {
-  feeding = fed_none _ _ _ _;
+  feeding = fed_none _ _ _ _ c.requires.reads;
   live = c.requires.live;
   recv = c.requires.recv;
   works = c.requires.works;

@@ -1,7 +1,8 @@
-use Rattle.std.proofs.Common.{◌≡◌, ◌&&◌, Bool, true, false, Some, None, Ok, Err, refl, sym, ap, ◌∙◌, subst, arith}
+use Rattle.std.proofs.Common.{◌≡◌, ◌&&◌, ◌++◌, Bool, true, false, Some, None, Ok, Err, refl, sym, ap, ◌∙◌, subst, arith}
 use Rattle.std.specs.Prelude.{◌+◌, ◌-◌, ℕ, IsSome, not, sum_by}
 use Rattle.zst_space.specs.FreeSectors.{FreeSectors}
-use Rattle.zst_reader.specs.StandsFor.{pushed_of}
+use Rattle.zst_reader.specs.StandsFor.{StandsFor, pushed_of}
+use Rattle.zst_reader.specs.declared.reader.Reader.{Reader}
 use Rattle.zst_record.specs.Heads.{size_of}
 use Rattle.zst_outside.specs.Images.{DiskState}
 use Rattle.zst_block.specs.Blocks.{Has}
@@ -406,3 +407,15 @@ returns-in-Err-put-2-clause-stream g c = λ text handed fault stands is.
 
 pub returns-in-Ok-put-2-clause-stream : goal.returns-in-Ok-put-2-clause-stream
 returns-in-Ok-put-2-clause-stream g c = λ text handed fault stands is. c.in-Err.ensures.stream text handed fault stands (ap (λ (f : RecvFault). Err f) (err_told coded_recv.Fed _ _ is))
+
+pub returns-in-Ok-put-clause-stands : goal.returns-in-Ok-put-clause-stands
+returns-in-Ok-put-clause-stands g c = λ text handed stands goes.
+    let live : is_live c.read.new.batch.stage ≡ true = not_not (is_live c.read.new.batch.stage) (sym c.go_on.ensures.done ∙ goes) in
+    let later = c.in-Ok.ensures.stands live text handed stands in
+    (later.0, subst (λ (r : Reader). StandsFor r (text ++ c.args.piece.now) later.0) (sym c.go_on.ensures.reader) later.1)
+
+pub returns-in-Ok-put-clause-whole : goal.returns-in-Ok-put-clause-whole
+returns-in-Ok-put-clause-whole g c = λ text handed stands done.
+    let batch = c.read.new.batch in
+    let over : is_live batch.stage ≡ false = not_false (is_live batch.stage) (sym c.go_on.ensures.done ∙ done) in
+    c.in-Ok.ensures.over text handed stands (ap is_live (c.new-batch.ensures.stage ∙ c.replace.ensures.value) ∙ c.requires.live) over
