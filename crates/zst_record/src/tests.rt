@@ -173,7 +173,12 @@ fn judges_an_object_field_by_field(rt: HostRuntime) {
         (8, 8, LIMIT - 1, None),
         (8, 8, LIMIT, grammar(AT + 8, Flaw::Object)),
         (16, 4, 0, grammar(AT + 16, Flaw::ObjectType)),
+        (16, 4, 0xffff_ffff, None),
+        (20, 4, 0xffff_ffff, None),
+        (24, 4, 0, grammar(AT + 24, Flaw::BlockSize)),
         (24, 4, 511, grammar(AT + 24, Flaw::BlockSize)),
+        (24, 4, 513, grammar(AT + 24, Flaw::BlockSize)),
+        (24, 4, 1536, None),
         (24, 4, 131_072, None),
         (24, 4, 131_584, grammar(AT + 24, Flaw::BlockSize)),
         (28, 4, 320, None),
@@ -181,12 +186,14 @@ fn judges_an_object_field_by_field(rt: HostRuntime) {
         (34, 1, 0, None),
         (34, 1, 2, lack(AT + 34, Lack::LargeDnode)),
         (36, 4, 1, lack(AT + 36, Lack::Raw)),
+        (36, 4, 1 << 31, lack(AT + 36, Lack::Raw)),
         (0, 4, 0, grammar(AT, Flaw::SecondBegin)),
         (0, 4, 2, None),
         (0, 4, 6, lack(AT, Lack::ByReference)),
         (0, 4, 8, lack(AT, Lack::Embedded)),
         (0, 4, 9, lack(AT, Lack::ObjectRange)),
         (0, 4, 11, grammar(AT, Flaw::RecordType)),
+        (0, 4, 0x105, grammar(AT, Flaw::RecordType)),
     ];
     judge(&rt, &object_record(&rt), AT, 0, &table);
 }
@@ -196,8 +203,11 @@ fn judges_blocks_and_ranges_field_by_field(rt: HostRuntime) {
     let write = record_of(&rt, &[(0, 4, 3), (8, 8, 1), (32, 8, 512)]);
     let table = [
         (8, 8, LIMIT, grammar(AT + 8, Flaw::Object)),
+        (24, 8, u64::MAX, None),
         (32, 8, 131_072, None),
         (32, 8, 513, grammar(AT + 32, Flaw::Size)),
+        (32, 8, 131_584, grammar(AT + 32, Flaw::Size)),
+        (36, 4, 1, grammar(AT + 32, Flaw::Size)),
         (50, 1, 1, lack(AT + 50, Lack::Compressed)),
     ];
     judge(&rt, &write, AT, 0, &table);
@@ -206,6 +216,10 @@ fn judges_blocks_and_ranges_field_by_field(rt: HostRuntime) {
     let table = [
         (8, 8, 0, grammar(AT + 8, Flaw::Object)),
         (16, 8, 0, grammar(AT + 16, Flaw::Size)),
+        (16, 8, 1536, None),
+        (16, 8, 131_072, None),
+        (16, 8, 131_584, grammar(AT + 16, Flaw::Size)),
+        (32, 1, 1, None),
         (33, 1, 1, lack(AT + 33, Lack::Compressed)),
     ];
     judge(&rt, &spill, AT, 0, &table);

@@ -2,14 +2,10 @@
 
 use super::TEN;
 use super::runs::{check, dump_of, lines_of, text_of};
-use super::streams::{
-    BEGIN, FREE, FREE_OBJECTS, Field, GUID, OBJECT, SPILL, Stream, WRITE, noise_in,
-};
+use super::streams::{FREE, FREE_OBJECTS, Field, GUID, OBJECT, SPILL, Stream, WRITE, noise_in};
 use std::alloc::Global;
 use std::process::Abort;
 use std::test::Fail;
-
-const LIMIT: u64 = 1 << 48;
 
 /// A field that is set otherwise, the length of the payload, and the line without its place: none where the record is
 /// refused.
@@ -56,233 +52,45 @@ fn check_rows(
 }
 
 #[test]
-fn objects_are_judged_at_their_bounds(rt: HostRuntime) -> Result<(), Fail> {
+fn each_record_is_judged_before_it_is_printed(rt: HostRuntime) -> Result<(), Fail> {
+    let alloc = rt.alloc();
     let rows = [
-        ((8, 8, 0), 0, ""),
-        (
-            (8, 8, 1),
-            0,
-            "OBJECT object 1 type 19 bonustype 0 size 512 bonus 0",
-        ),
-        (
-            (8, 8, LIMIT - 1),
-            0,
-            "OBJECT object 281474976710655 type 19 bonustype 0 size 512 bonus 0",
-        ),
-        ((8, 8, LIMIT), 0, ""),
-        ((8, 8, u64::MAX), 0, ""),
-        ((16, 4, 0), 0, ""),
-        (
-            (16, 4, 0xffff_ffff),
-            0,
-            "OBJECT object 1 type 4294967295 bonustype 0 size 512 bonus 0",
-        ),
-        (
-            (20, 4, 0xffff_ffff),
-            0,
-            "OBJECT object 1 type 19 bonustype 4294967295 size 512 bonus 0",
-        ),
-        ((24, 4, 0), 0, ""),
-        ((24, 4, 511), 0, ""),
-        ((24, 4, 513), 0, ""),
-        (
-            (24, 4, 1536),
-            0,
-            "OBJECT object 1 type 19 bonustype 0 size 1536 bonus 0",
-        ),
-        (
-            (24, 4, 131_072),
-            0,
-            "OBJECT object 1 type 19 bonustype 0 size 131072 bonus 0",
-        ),
-        ((24, 4, 131_584), 0, ""),
-        (
-            (28, 4, 1),
-            8,
-            "OBJECT object 1 type 19 bonustype 0 size 512 bonus 1",
-        ),
-        (
-            (28, 4, 8),
-            8,
-            "OBJECT object 1 type 19 bonustype 0 size 512 bonus 8",
-        ),
         (
             (28, 4, 9),
             16,
             "OBJECT object 1 type 19 bonustype 0 size 512 bonus 9",
         ),
-        (
-            (28, 4, 320),
-            320,
-            "OBJECT object 1 type 19 bonustype 0 size 512 bonus 320",
-        ),
         ((28, 4, 321), 328, ""),
-        (
-            (34, 1, 0),
-            0,
-            "OBJECT object 1 type 19 bonustype 0 size 512 bonus 0",
-        ),
-        ((34, 1, 2), 0, ""),
-        ((36, 4, 1), 0, ""),
-        ((36, 4, 1 << 31), 0, ""),
     ];
-    check_rows(
-        &rt,
-        rt.alloc(),
-        &OBJECT,
-        "object 1 freeobjects 1 write 0 free 0 end 1 spill 0",
-        &rows,
-    )
-}
-
-#[test]
-fn writes_are_judged_at_their_bounds(rt: HostRuntime) -> Result<(), Fail> {
+    let counts = "object 1 freeobjects 1 write 0 free 0 end 1 spill 0";
+    check_rows(&rt, alloc, &OBJECT, counts, &rows)?;
     let rows = [
-        ((8, 8, 0), 512, ""),
-        (
-            (8, 8, LIMIT - 1),
-            512,
-            "WRITE object 281474976710655 type 19 offset 0 length 512",
-        ),
-        ((8, 8, LIMIT), 512, ""),
-        ((16, 4, 0), 512, "WRITE object 1 type 0 offset 0 length 512"),
-        (
-            (24, 8, 1),
-            512,
-            "WRITE object 1 type 19 offset 1 length 512",
-        ),
-        (
-            (24, 8, u64::MAX),
-            512,
-            "WRITE object 1 type 19 offset 18446744073709551615 length 512",
-        ),
-        ((32, 8, 0), 0, ""),
-        ((32, 8, 511), 512, ""),
-        (
-            (32, 8, 1024),
-            1024,
-            "WRITE object 1 type 19 offset 0 length 1024",
-        ),
         (
             (32, 8, 131_072),
             131_072,
             "WRITE object 1 type 19 offset 0 length 131072",
         ),
         ((32, 8, 131_584), 131_584, ""),
-        ((36, 4, 1), 512, ""),
-        ((50, 1, 1), 512, ""),
-        ((50, 1, 15), 512, ""),
     ];
-    check_rows(
-        &rt,
-        rt.alloc(),
-        &WRITE,
-        "object 0 freeobjects 1 write 1 free 0 end 1 spill 0",
-        &rows,
-    )
-}
-
-#[test]
-fn ranges_are_judged_at_their_bounds(rt: HostRuntime) -> Result<(), Fail> {
+    let counts = "object 0 freeobjects 1 write 1 free 0 end 1 spill 0";
+    check_rows(&rt, alloc, &WRITE, counts, &rows)?;
     let rows = [
-        ((8, 8, 0), 0, ""),
-        (
-            (8, 8, LIMIT - 1),
-            0,
-            "FREE object 281474976710655 offset 18446744073709551103 length 512",
-        ),
-        ((8, 8, LIMIT), 0, ""),
-        (
-            (24, 8, 0),
-            0,
-            "FREE object 1 offset 18446744073709551103 length 0",
-        ),
-        (
-            (24, 8, 512),
-            0,
-            "FREE object 1 offset 18446744073709551103 length 512",
-        ),
-        ((24, 8, 513), 0, ""),
-        ((24, 8, u64::MAX - 1), 0, ""),
         (
             (24, 8, u64::MAX),
             0,
             "FREE object 1 offset 18446744073709551103 length to-end",
         ),
-        ((16, 8, u64::MAX - 511), 0, ""),
-        ((16, 8, 0), 0, "FREE object 1 offset 0 length 512"),
+        ((24, 8, 513), 0, ""),
     ];
-    check_rows(
-        &rt,
-        rt.alloc(),
-        &FREE,
-        "object 0 freeobjects 1 write 0 free 1 end 1 spill 0",
-        &rows,
-    )?;
+    let counts = "object 0 freeobjects 1 write 0 free 1 end 1 spill 0";
+    check_rows(&rt, alloc, &FREE, counts, &rows)?;
     let rows = [
-        (
-            (8, 8, u64::MAX),
-            0,
-            "FREEOBJECTS first 18446744073709551615 count 1",
-        ),
-        (
-            (16, 8, u64::MAX),
-            0,
-            "FREEOBJECTS first 0 count 18446744073709551615",
-        ),
-        ((16, 8, 0), 0, "FREEOBJECTS first 0 count 0"),
-    ];
-    check_rows(
-        &rt,
-        rt.alloc(),
-        &FREE_OBJECTS,
-        "object 0 freeobjects 2 write 0 free 0 end 1 spill 0",
-        &rows,
-    )
-}
-
-#[test]
-fn spill_blocks_are_judged_at_their_bounds(rt: HostRuntime) -> Result<(), Fail> {
-    let rows = [
-        ((8, 8, 0), 512, ""),
-        (
-            (8, 8, LIMIT - 1),
-            512,
-            "SPILL object 281474976710655 length 512",
-        ),
-        ((8, 8, LIMIT), 512, ""),
-        ((16, 8, 0), 0, ""),
-        ((16, 8, 511), 512, ""),
         ((16, 8, 1536), 1536, "SPILL object 1 length 1536"),
-        ((16, 8, 131_072), 131_072, "SPILL object 1 length 131072"),
-        ((16, 8, 131_584), 131_584, ""),
-        ((32, 1, 1), 512, "SPILL object 1 length 512"),
         ((33, 1, 1), 512, ""),
-    ];
-    check_rows(
-        &rt,
-        rt.alloc(),
-        &SPILL,
-        "object 0 freeobjects 1 write 0 free 0 end 1 spill 1",
-        &rows,
-    )
-}
-
-#[test]
-fn other_types_are_not_built(rt: HostRuntime) -> Result<(), Fail> {
-    let alloc = rt.alloc();
-    let good = [(8, 8, 1), (16, 8, 512)];
-    let rows = [
-        ((0, 4, 6), 0, ""),
-        ((0, 4, 8), 0, ""),
-        ((0, 4, 9), 0, ""),
-        ((0, 4, 10), 0, ""),
         ((0, 4, 11), 0, ""),
-        ((0, 4, 0x105), 0, ""),
-        ((0, 4, 0xffff_ffff), 0, ""),
     ];
-    check_rows(&rt, alloc, &good, "", &rows)?;
-    check_rows(&rt, alloc, &BEGIN, "", &[((0, 4, 0), 0, "")])
+    let counts = "object 0 freeobjects 1 write 0 free 0 end 1 spill 1";
+    check_rows(&rt, alloc, &SPILL, counts, &rows)
 }
 
 /// Dumps BEGIN with a field set otherwise, and END with BEGIN's guid.

@@ -9,7 +9,7 @@ pub(super) type Field = (usize, usize, u64);
 
 pub(super) const GUID: u64 = 0x1_0000_0001;
 
-pub(super) const BEGIN: [Field; 7] = [
+const BEGIN: [Field; 7] = [
     (8, 8, 0x2_F5ba_cbac),
     (16, 8, 17),
     (24, 8, 1_700_000_000),
