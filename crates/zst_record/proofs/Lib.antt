@@ -6,3 +6,8 @@ pub mod DecodeLaws
 mod Gives
 pub mod FitsLaws
 pub mod StatedLaws
+pub mod PayloadNumbers
+pub mod PayloadFields
+pub mod PayloadSets
+pub mod PayloadWrites
+pub mod PayloadLaws

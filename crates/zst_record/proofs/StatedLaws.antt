@@ -34,17 +34,17 @@ no_zero-name name none there =
     let fails : (get_or name there.0 0 == 0) ≡ false = fails_before_first (λ (b : ℕ). b == 0) name there.0 0 (omega (arith, there.1, none)) in
     eqb-false (get_or name there.0 0) 0 fails there.2
 
-no_guids : IsGuidSet []
+pub no_guids : IsGuidSet []
 no_guids = record { few = omega arith; rising = refl; fit = All-nil (λ guid. guid < 2 ^ 64) }
 
 -- a stream that needs no payload is neither resumed nor redacted
-not-resumed : (features : ℕ) → needs_payload features ≡ false → bit_and features resuming ≡ 0
+pub not-resumed : (features : ℕ) → needs_payload features ≡ false → bit_and features resuming ≡ 0
 unfolding needs_payload redacts resuming
 not-resumed features none =
     let mask : bit_and features (2 ^ 20 + 2 ^ 21) ≡ 0 = eqb-true _ 0 (not-false _ none) in
     sym (and_assoc (2 ^ 20) features (2 ^ 20 + 2 ^ 21)) ∙ ap (λ (n : ℕ). bit_and n (2 ^ 20)) mask ∙ and_zero_l (2 ^ 20)
 
-not-redacted : (features : ℕ) → needs_payload features ≡ false → bit_and features redacts ≡ 0
+pub not-redacted : (features : ℕ) → needs_payload features ≡ false → bit_and features redacts ≡ 0
 unfolding needs_payload redacts resuming
 not-redacted features none =
     let mask : bit_and features (2 ^ 20 + 2 ^ 21) ≡ 0 = eqb-true _ 0 (not-false _ none) in

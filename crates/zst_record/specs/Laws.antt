@@ -1,5 +1,5 @@
 -- What is written is read again, and what passes its checks is in its table's ranges.
-use Rattle.std.specs.Prelude.{ℕ, ◌≡◌, ◌^◌, ◌<◌, ◌≤◌, ◌%◌, List, Ok, All}
+use Rattle.std.specs.Prelude.{ℕ, ◌≡◌, ◌⊎◌, ◌==◌, ◌^◌, ◌<◌, ◌≤◌, ◌%◌, true, false, not, List, length, Ok, All}
 use Rattle.zst_model.specs.declared.sends.header.Header.{Header}
 use Rattle.zst_model.specs.pools.Pool.{IsStated}
 use Rattle.zst_record.specs.declared.head.Head.{Head}
@@ -7,8 +7,9 @@ use Rattle.zst_record.specs.declared.head.Head.TheVariants as heads
 use Rattle.zst_record.specs.Formats.{longest_payload}
 use Rattle.zst_record.specs.Heads.{payload_len}
 use Rattle.zst_record.specs.Table.{head_bytes, sealed_bytes}
-use Rattle.zst_record.specs.Decode.{decoded, features_in}
+use Rattle.zst_record.specs.Decode.{decoded, features_in, is_payload_len}
 use Rattle.zst_record.specs.Fits.{Fits, IsLater, BeginFits}
+use Rattle.zst_record.specs.Payload.{StatesPayload, bare, begin_payload, has_payload, opened, payload_bytes}
 
 -- the record of a BEGIN says that BEGIN
 abbrev pub BeginIsDecoded : Type 0
@@ -57,3 +58,25 @@ DecodedFits =
 -- A header that fits a BEGIN without a payload can be stated, where its name is bytes.
 abbrev pub BeginIsStated : Type 0
 BeginIsStated = (header : Header) → BeginFits header 0 → AreBytes header.name → IsStated header
+
+-- The payload that is written for a header is read as that header, over what the 312 bytes say.
+abbrev pub PayloadIsRead : Type 0
+PayloadIsRead = (header : Header) → StatesPayload header → opened (bare header) (begin_payload header) ≡ Ok header
+
+-- a header that was read of these bytes behind a BEGIN that says another one
+pub record HasPayload (begun : Header) (bytes : List ℕ) (header : Header) : Type 0 where
+  pub stated : StatesPayload header
+  pub over : bare header ≡ bare begun
+  pub written : (bytes ≡ begin_payload header) ⊎ ((has_payload header ≡ false) × (bytes ≡ payload_bytes header))
+
+-- A payload that is accepted is the one that its header writes, or one that its stream doesn't need and that says nothing.
+abbrev pub PayloadIsWritten : Type 0
+PayloadIsWritten = (begun header : Header) (bytes : List ℕ) → AreBytes bytes → opened (bare begun) bytes ≡ Ok header → HasPayload begun bytes header
+
+-- A payload has a length that BEGIN can state, and is empty exactly where the stream has none.
+pub record PayloadFits (header : Header) : Type 0 where
+  pub len : is_payload_len (length (begin_payload header)) ≡ true
+  pub none : (length (begin_payload header) == 0) ≡ not (has_payload header)
+
+abbrev pub PayloadHasLength : Type 0
+PayloadHasLength = (header : Header) → StatesPayload header → PayloadFits header

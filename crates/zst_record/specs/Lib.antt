@@ -3,4 +3,5 @@ pub mod Heads
 pub mod Table
 pub mod Decode
 pub mod Fits
+pub mod Payload
 pub mod Laws

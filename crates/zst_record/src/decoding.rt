@@ -257,7 +257,7 @@ fn sizes_payload(len: u32) -> bool
 }
 
 #[tactic(auto, unfolding(crate::specs::Decode::needs_payload, zst_model::specs::sends::Features::resuming, zst_model::specs::sends::Features::redacts))]
-fn wants_payload(features: u32) -> bool
+pub(crate) fn wants_payload(features: u32) -> bool
     ensures { result ≡ needs_payload features }
 {
     features & (RESUMING | REDACTED) != 0

@@ -2,7 +2,7 @@
 ghost use Rattle.std.specs.Prelude.{◌≡◌, max};
 ghost use Rattle.zst_model.specs.states.State.{largest_block, largest_spill};
 ghost use Rattle.zst_record.specs.Formats.{record_len, summed_len, longest_payload, stream_magic, reversed_magic, substream, compound_stream};
-ghost use Rattle.zst_record.specs.Laws.{BeginIsDecoded, BeginIsStated, DecodedBegins, DecodedFits, PayloadIsBounded, RecordIsDecoded};
+ghost use Rattle.zst_record.specs.Laws.{BeginIsDecoded, BeginIsStated, DecodedBegins, DecodedFits, PayloadHasLength, PayloadIsBounded, PayloadIsRead, PayloadIsWritten, RecordIsDecoded};
 
 use crate::{
     COMPOUND_STREAM, LONGEST_PAYLOAD, MAGIC, RECORD_LEN, REVERSED_MAGIC, SUBSTREAM, SUMMED_LEN,
@@ -47,4 +47,19 @@ pub fn decoded_fits()
 /// The header of a BEGIN without a payload can be stated, where its name is bytes.
 pub fn begin_is_stated()
     ensures { BeginIsStated }
+{}
+
+/// The payload that is written for a header is read as that header, over what the 312 bytes say.
+pub fn payload_is_read()
+    ensures { PayloadIsRead }
+{}
+
+/// A payload that is accepted is the one that its header writes, or one that its stream doesn't need and that says nothing.
+pub fn payload_is_written()
+    ensures { PayloadIsWritten }
+{}
+
+/// A payload has a length that BEGIN can state, and is empty exactly where the stream has none.
+pub fn payload_has_length()
+    ensures { PayloadHasLength }
 {}

@@ -6,15 +6,17 @@ mod encoding;
 pub mod features;
 mod head;
 mod laws;
+mod payload;
 pub mod types;
 
 pub use decoding::{decode, get_sums};
 pub use encoding::{encode, put_sums};
 pub use head::{Head, Record};
 pub use laws::{
-    begin_is_decoded, begin_is_stated, decoded_fits, formats_are_defined, payload_is_bounded,
-    record_is_decoded,
+    begin_is_decoded, begin_is_stated, decoded_fits, formats_are_defined, payload_has_length,
+    payload_is_bounded, payload_is_read, payload_is_written, record_is_decoded,
 };
+pub use payload::{begin_payload, put_begin_payload};
 
 /// The magic number of BEGIN (`DMU_BACKUP_MAGIC` of zfs_ioctl.h).
 pub const MAGIC: u64 = 0x2_f5ba_cbac;
@@ -36,6 +38,9 @@ pub const SUMMED_LEN: usize = 280;
 
 /// The bytes of the longest payload: a block's, or a spill block's.
 pub const LONGEST_PAYLOAD: usize = 131_072;
+
+/// The bytes of BEGIN's longest payload: two full sets of guids.
+pub const LONGEST_BEGIN_PAYLOAD: usize = 296;
 
 #[cfg(test)]
 mod tests;
