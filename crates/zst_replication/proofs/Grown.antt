@@ -1,18 +1,17 @@
 -- What a receive is planned over, and what its partial state has become of it.
 use Rattle.std.proofs.Common.{◌≡◌, ◌≢◌, ◌⊎◌, inl, inr, ℕ, ◌≤◌, Bool, true, false, List, [], ◌∷◌, ◌++◌, Option, Some, None, IfSome, option_map, AllPairs, Contains, filter, if◌then◌else◌, refl, sym, ap, ◌∙◌, subst, cond, arith}
 use Rattle.std.specs.Prelude.{bytes_eq}
-use Rattle.std.proofs.lemmas.Bool.{true≢false, cases_lt}
+use Rattle.std.proofs.lemmas.Bool.{true≢false}
 use Rattle.std.proofs.lemmas.List.Elements.{All-contains}
 use Rattle.zst_model.proofs.InsertedLaws.{AllPairs-head, AllPairs-tail, contains_cases, contains_first, contains_later, contains_nothing}
 use Rattle.zst_model.proofs.OrderLaws.{bytes_same, same_bytes}
-use Rattle.zst_model.specs.pools.Pool.{Pool, Snapshot, Partial, HasDataset, HasSnapshot, IsNamed, dataset_of_snapshot}
-use Rattle.zst_model.specs.pools.Before.{IsOrigin, OfSnapshot, StandsBefore, Earlier, AtOrigin, BeforeOrigin}
-use Rattle.zst_model.specs.pools.Rows.{snapshot_row}
-use Rattle.zst_model.specs.pools.Sound.{Agrees, DatedUpTo, Sound}
-use Rattle.zst_plan.specs.RecvPlan.{last_of}
+use Rattle.zst_model.specs.pools.Pool.{Pool, Dataset, Snapshot, Bookmark, Partial, HasDataset, HasSnapshot, IsNamed, dataset_of_snapshot, dataset_of_bookmark}
+use Rattle.zst_model.specs.pools.Sound.{DatedUpTo}
+use Rattle.zst_plan.specs.RecvPlan.{is_dated_after, last_of}
 use Rattle.zst_pool.specs.Partials.{last_from, last_where, latest_snapshot}
-use Rattle.zst_replication.proofs.Standing.{Rises, SnapshotRow, agrees_itself, same_element, same_snapshot, sound_agrees}
+use Rattle.zst_replication.proofs.Agreeing.{Stays}
 use Rattle.zst_replication.proofs.Results.{some_parts}
+use Rattle.zst_replication.proofs.Standing.{Rises, same_element}
 
 -- ---- the last that passes a test
 
@@ -95,78 +94,47 @@ latest_is pool name rise latest e =
       ];
     }
 
--- an old snapshot or none, and the latest one of a target that is there
+-- two latest snapshots have one number
+pub latest_number : (pool : Pool) (name : List ℕ) (a b : Snapshot) → IsLatest pool name a → IsLatest pool name b → a.number ≡ b.number
+latest_number pool name a b is also = let up = also.most a is.there is.own in let down = is.most b also.there also.own in omega (arith, up, down)
+
+-- a dataset may go back to its latest snapshot: its head has no later date, or no bookmark of the dataset is later
+abbrev pub MayGoBack : Pool → List ℕ → Snapshot → Type 0
+MayGoBack pool name latest =
+    ((dataset : Dataset) × Contains pool.datasets dataset × (dataset.name ≡ name) × (is_dated_after latest.number dataset.head ≡ false))
+    ⊎ ((bookmark : Bookmark) → Contains pool.bookmarks bookmark → dataset_of_bookmark bookmark ≡ name → bookmark.number ≤ latest.number)
+
+-- an old snapshot or none, and the latest one of a target that is there and may go back to it
 pub record IsOver (pool : Pool) (target : List ℕ) (base : Option Snapshot) : Type 0 where
   pub there : IfSome base (λ snapshot. Contains pool.snapshots snapshot)
-  pub onto : ((latest : Snapshot) × (base ≡ Some latest) × IsLatest pool target latest) ⊎ (HasDataset pool target → ⊥)
+  pub onto : ((latest : Snapshot) × (base ≡ Some latest) × IsLatest pool target latest × MayGoBack pool target latest) ⊎ (HasDataset pool target → ⊥)
 
--- a partial state that has grown from its base: what agrees with the base agrees with it, and its snapshot's name is free
+-- a partial state that has grown from its base: what the base was dated up to the pool's number stays, and its snapshot's name is free
 pub record Grown (start : Pool) (number : ℕ) (partial : Partial) : Type 0 where
   pub base : Option Snapshot
   pub over : IsOver start partial.target base
   pub named : partial.base ≡ option_map (λ snapshot. snapshot.name) base
   pub free : HasSnapshot start (partial.target ++ 64 ∷ partial.component) → ⊥
-  pub agrees : (snapshot earlier : Snapshot) → base ≡ Some snapshot → earlier.number ≤ start.number → Agrees earlier snapshot.objects → Agrees earlier partial.objects
+  pub stays : (snapshot : Snapshot) → base ≡ Some snapshot → Stays start.number snapshot.objects partial.objects
   pub dated : DatedUpTo number partial.objects
 
 -- snapshots whose names differ and that have one name are one
-pub same_named : (snapshots : List Snapshot) → AllPairs (λ a b. a.name ≢ b.name) snapshots → (a b : Snapshot) → Contains snapshots a → Contains snapshots b → a.name ≡ b.name → a ≡ b
+same_named : (snapshots : List Snapshot) → AllPairs (λ a b. a.name ≢ b.name) snapshots → (a b : Snapshot) → Contains snapshots a → Contains snapshots b → a.name ≡ b.name → a ≡ b
 same_named snapshots differ a b here there same = same_element (λ c d. c.name ≢ d.name) snapshots differ a b here there (λ h. h same) (λ h. h (sym same))
 
-module _ (start : Pool) (named : IsNamed start) (sound : Sound start) where
-  pub old_number : (earlier : Snapshot) → Contains start.snapshots earlier → earlier.number ≤ start.number
-  old_number earlier here = All-contains (λ s. s.number ≤ start.number) start.snapshots earlier sound.dated.numbers here
+module _ (start : Pool) (named : IsNamed start) (number : ℕ) (partial : Partial) (grown : Grown start number partial) where
+  -- the base is the snapshot of its name
+  pub own_base : (other : Snapshot) → Contains start.snapshots other → partial.base ≡ Some other.name → grown.base ≡ Some other
+  own_base other there e = go grown.base grown.over.there (sym grown.named ∙ e)
+    where
+      go : (o : Option Snapshot) → IfSome o (λ snapshot. Contains start.snapshots snapshot) → option_map (λ snapshot. snapshot.name) o ≡ Some other.name → o ≡ Some other
+      go None has e = absurd cc
+      go (Some snapshot) has e = ap (λ (s : Snapshot). Some s) (same_named start.snapshots named.snapshots_differ snapshot other has there (some_parts snapshot.name other.name e))
 
-  -- what stands before a dataset's head, or before another snapshot of it, agrees with its latest snapshot
-  pub agrees_latest : (latest earlier : Snapshot) (name : List ℕ) (bound : Option ℕ) → IsLatest start name latest → Contains start.snapshots earlier → StandsBefore start (OfSnapshot earlier) name bound
-      → Agrees earlier latest.objects
-  agrees_latest latest earlier name bound is here (Earlier _ _ same below) = elim (cases_lt earlier.number latest.number) [
-    | inl less ↦ sound_agrees start sound earlier here (snapshot_row latest) (SnapshotRow latest is.there) (Earlier (dataset_of_snapshot latest) (Some latest.number) (same ∙ sym is.own) less)
-    | inr past ↦
-        let up = is.most earlier here same in
-        let one = same_snapshot start.snapshots sound.dated.rise earlier latest here is.there (same ∙ sym is.own) (omega arith) in
-        subst (λ (s : Snapshot). Agrees earlier s.objects) one (agrees_itself earlier)
-  ]
-  agrees_latest latest earlier name bound is here (AtOrigin _ _ origin of marks) =
-      sound_agrees start sound earlier here (snapshot_row latest) (SnapshotRow latest is.there)
-      (AtOrigin (dataset_of_snapshot latest) (Some latest.number) origin (subst (IsOrigin start origin) (sym is.own) of) marks)
-  agrees_latest latest earlier name bound is here (BeforeOrigin _ _ origin of before) =
-      sound_agrees start sound earlier here (snapshot_row latest) (SnapshotRow latest is.there)
-      (BeforeOrigin (dataset_of_snapshot latest) (Some latest.number) origin (subst (IsOrigin start origin) (sym is.own) of) before)
-
-  -- what is a snapshot of the pool, or stands before it, agrees with it
-  pub agrees_marked : (snapshot earlier : Snapshot) → Contains start.snapshots snapshot → Contains start.snapshots earlier
-      → (earlier ≡ snapshot) ⊎ StandsBefore start (OfSnapshot earlier) (dataset_of_snapshot snapshot) (Some snapshot.number) → Agrees earlier snapshot.objects
-  agrees_marked snapshot earlier there here (inl same) = subst (λ (s : Snapshot). Agrees earlier s.objects) same (agrees_itself earlier)
-  agrees_marked snapshot earlier there here (inr before) = sound_agrees start sound earlier here (snapshot_row snapshot) (SnapshotRow snapshot there) before
-
-  module _ (number : ℕ) (partial : Partial) (grown : Grown start number partial) where
-    -- the base is the snapshot of its name
-    pub own_base : (other : Snapshot) → Contains start.snapshots other → partial.base ≡ Some other.name → grown.base ≡ Some other
-    own_base other there e = go grown.base grown.over.there (sym grown.named ∙ e)
-      where
-        go : (o : Option Snapshot) → IfSome o (λ snapshot. Contains start.snapshots snapshot) → option_map (λ snapshot. snapshot.name) o ≡ Some other.name → o ≡ Some other
-        go None has e = absurd cc
-        go (Some snapshot) has e = ap (λ (s : Snapshot). Some s) (same_named start.snapshots named.snapshots_differ snapshot other has there (some_parts snapshot.name other.name e))
-
-    -- it is there
-    pub base_named : (name : List ℕ) → partial.base ≡ Some name → HasSnapshot start name
-    base_named name e = go grown.base grown.over.there (sym grown.named ∙ e)
-      where
-        go : (o : Option Snapshot) → IfSome o (λ snapshot. Contains start.snapshots snapshot) → option_map (λ snapshot. snapshot.name) o ≡ Some name → HasSnapshot start name
-        go None has e = absurd cc
-        go (Some snapshot) has e = (snapshot, has, some_parts snapshot.name name e)
-
-    -- what stands before a clone of the base agrees with the partial state
-    pub clone_agrees : (snapshot earlier : Snapshot) → Contains start.snapshots snapshot → Contains start.snapshots earlier → partial.base ≡ Some snapshot.name
-        → (earlier ≡ snapshot) ⊎ StandsBefore start (OfSnapshot earlier) (dataset_of_snapshot snapshot) (Some snapshot.number) → Agrees earlier partial.objects
-    clone_agrees snapshot earlier there here e before =
-        grown.agrees snapshot earlier (own_base snapshot there e) (old_number earlier here) (agrees_marked snapshot earlier there here before)
-
-    -- and so does what stands before the head of a target that is there
-    pub target_agrees : (earlier : Snapshot) (bound : Option ℕ) → HasDataset start partial.target → Contains start.snapshots earlier → StandsBefore start (OfSnapshot earlier) partial.target bound
-        → Agrees earlier partial.objects
-    target_agrees earlier bound has here before = elim grown.over.onto [
-      | inl (latest, is, last) ↦ grown.agrees latest earlier is (old_number earlier here) (agrees_latest latest earlier partial.target bound last here before)
-      | inr absent ↦ absurd (absent has)
-    ]
+  -- it is there
+  pub base_named : (name : List ℕ) → partial.base ≡ Some name → HasSnapshot start name
+  base_named name e = go grown.base grown.over.there (sym grown.named ∙ e)
+    where
+      go : (o : Option Snapshot) → IfSome o (λ snapshot. Contains start.snapshots snapshot) → option_map (λ snapshot. snapshot.name) o ≡ Some name → HasSnapshot start name
+      go None has e = absurd cc
+      go (Some snapshot) has e = (snapshot, has, some_parts snapshot.name name e)

@@ -17,6 +17,8 @@ mod Agreeing
 mod Standing
 mod Grown
 mod Over
+mod Finding
 mod SoundUnder
 mod SoundFinished
+mod Coming
 mod SoundFeeds

@@ -1,4 +1,4 @@
--- A sound pool with the snapshot and the head that a grown partial state becomes is sound.
+-- A sound pool with the snapshot and the head that a grown partial state becomes is sound, and its sources remember what they did.
 use Rattle.std.proofs.Common.{◌≡◌, ◌⊎◌, inl, inr, ℕ, ◌<◌, ◌≤◌, Bool, true, false, List, Option, Some, None, IfSome, is_some, find, AllPairs, Contains, map, refl, sym, ap, ◌∙◌, subst, cond, arith}
 use Rattle.std.specs.Prelude.{bytes_eq}
 use Rattle.std.proofs.lemmas.Bool.{true≢false}
@@ -9,16 +9,20 @@ use Rattle.zst_names.proofs.Marked.{join_is_name}
 use Rattle.zst_model.proofs.InsertedLaws.{All-from_contains, AllPairs-inserted, contains-inserted, contains-map, inserted_has_rest, map_contains}
 use Rattle.zst_model.proofs.OrderLaws.{bytes_same, not_before_itself, row_before_from, row_before_one_way, row_before_parts, row_before_trans, same_bytes}
 use Rattle.zst_model.specs.pools.Pool.{Pool, Dataset, Snapshot, Bookmark, Partial, HasDataset, HasSnapshot, IsLinked, IsNamed, dataset_of_snapshot, dataset_of_bookmark, inserted, is_before, snapshot_is_before}
-use Rattle.zst_model.specs.pools.Before.{IsOrigin, IsBase, OfSnapshot, StandsBefore, Earlier, AtOrigin, BeforeOrigin, IsBefore, IsBeforePartial}
+use Rattle.zst_model.specs.pools.Before.{IsOrigin, IsBase, Source, OfSnapshot, number_of_source, IsIn, StandsBefore, Earlier, AtOrigin, BeforeOrigin, IsBefore, IsBeforePartial}
 use Rattle.zst_model.specs.pools.Rows.{Row, snapshot_row, head_row, partial_row, rows}
 use Rattle.zst_model.specs.pools.Sound.{Agrees, DatedUpTo, IsBookmarkOf, Sound}
+use Rattle.zst_model.specs.sends.Target.{Remembers}
 use Rattle.zst_model.specs.states.Dated.{DatedState}
+use Rattle.zst_model.specs.states.State.{State}
+use Rattle.zst_laws.specs.Remembering.{IsOwn, SourceRemembers}
 use Rattle.zst_pool.specs.Partials.{changed_at, dataset_from, head_from}
 use Rattle.zst_replication.proofs.Agreeing.{dated_higher}
-use Rattle.zst_replication.proofs.Standing.{HasOldOrigins, IsRow, SnapshotRow, HeadRow, PartialRow, Rises, agrees_itself, none_passes, old_origins, owner, row_cases, sound_agrees, sound_dated, stood_before, stood_before_partial}
-use Rattle.zst_replication.proofs.Grown.{Grown, base_named, clone_agrees, old_number, target_agrees}
+use Rattle.zst_replication.proofs.Finding.{Finds, clone_fits, finds_snapshot, finds_source, target_fits}
+use Rattle.zst_replication.proofs.Grown.{Grown, base_named}
 use Rattle.zst_replication.proofs.Running.{finished_datasets, finished_snapshot}
 use Rattle.zst_replication.proofs.SoundUnder.{AreOlds, IsHeadOf}
+use Rattle.zst_replication.proofs.Standing.{HasOldOrigins, IsRow, SnapshotRow, HeadRow, PartialRow, Rises, agrees_itself, none_passes, old_number, old_origins, owner, row_cases, sound_dated, stood_before, stood_before_partial}
 
 -- ---- the snapshots
 
@@ -58,6 +62,11 @@ rise-inserted row xs less rise order = λ i j d l b. (both i j d l b).0
         (λ i j d l b. (rise i j d l b, order i j d l b))
 
 -- ---- the pool
+
+-- the pool with a snapshot more
+abbrev pub finished : Pool → ℕ → List Dataset → Partial → Pool
+finished start number datasets partial =
+    record start { number = number; datasets = finished_datasets partial datasets; snapshots = inserted snapshot_is_before (finished_snapshot number partial) start.snapshots }
 
 module _ (start : Pool) (partial : Partial) where
   -- a dataset that was there, with its head or, at the target, with what the partial state has; or a new one
@@ -133,20 +142,20 @@ module _ (start : Pool) (linked : IsLinked start) (named : IsNamed start) (sound
     abbrev new : Snapshot
     new = finished_snapshot number partial
 
-    abbrev finished : Pool
-    finished = record start { number = number; datasets = finished_datasets partial datasets; snapshots = inserted snapshot_is_before new start.snapshots }
+    abbrev now : Pool
+    now = finished start number datasets partial
 
     new_own : dataset_of_snapshot new ≡ partial.target
     new_own = (join_is_name 64 partial.target partial.component at_is_mark is_name).dataset_back
 
-    new_or_old : (snapshot : Snapshot) → Contains finished.snapshots snapshot → (new ≡ snapshot) ⊎ Contains start.snapshots snapshot
+    new_or_old : (snapshot : Snapshot) → Contains now.snapshots snapshot → (new ≡ snapshot) ⊎ Contains start.snapshots snapshot
     new_or_old snapshot there = contains-inserted snapshot_is_before new start.snapshots snapshot there
 
-    dataset_cases : (dataset : Dataset) → Contains finished.datasets dataset → IsAfter start partial dataset
+    dataset_cases : (dataset : Dataset) → Contains now.datasets dataset → IsAfter start partial dataset
     dataset_cases dataset there = after_cases start datasets partial heads dataset there
 
     old_less : (snapshot : Snapshot) → Contains start.snapshots snapshot → snapshot.number < number
-    old_less snapshot there = let up = old_number start named sound snapshot there in omega (arith, up, later)
+    old_less snapshot there = let up = old_number start sound snapshot there in omega (arith, up, later)
 
     -- ---- names that are linked
 
@@ -157,7 +166,7 @@ module _ (start : Pool) (linked : IsLinked start) (named : IsNamed start) (sound
     not_new : (snapshot : Snapshot) → HasSnapshot start snapshot.name → new ≡ snapshot → ⊥
     not_new snapshot has e = grown.free (subst (HasSnapshot start) (sym (ap (λ (s : Snapshot). s.name) e)) has)
 
-    old_of : (snapshot : Snapshot) → HasSnapshot start snapshot.name → Contains finished.snapshots snapshot → Contains start.snapshots snapshot
+    old_of : (snapshot : Snapshot) → HasSnapshot start snapshot.name → Contains now.snapshots snapshot → Contains start.snapshots snapshot
     old_of snapshot has there = elim (new_or_old snapshot there) [
       | inl e ↦ absurd (not_new snapshot has e)
       | inr old ↦ old
@@ -166,31 +175,28 @@ module _ (start : Pool) (linked : IsLinked start) (named : IsNamed start) (sound
     origin_named : (dataset : Dataset) (name : List ℕ) → IsAfter start partial dataset → dataset.origin ≡ Some name → HasSnapshot start name
     origin_named dataset name (inl had) e =
         linked_name had.old.origin name (All-contains (λ d. IfSome d.origin (HasSnapshot start)) start.datasets had.old linked.origins had.there) (had.origin ∙ e)
-    origin_named dataset name (inr made) e = base_named start named sound number partial grown name (ap (λ (d : Dataset). d.origin) made.0 ∙ e)
+    origin_named dataset name (inr made) e = base_named start named number partial grown name (ap (λ (d : Dataset). d.origin) made.0 ∙ e)
 
-    origin_old : (origin : Snapshot) (name : List ℕ) → IsOrigin finished origin name → Contains start.snapshots origin
+    origin_old : (origin : Snapshot) (name : List ℕ) → IsOrigin now origin name → Contains start.snapshots origin
     origin_old origin name is = old_of origin (origin_named is.dataset origin.name (dataset_cases is.dataset is.there) is.is_origin) is.snapshot_there
 
-    finished_origin : (origin : Snapshot) (name : List ℕ) → HasDataset start name → IsOrigin finished origin name → IsOrigin start origin name
+    finished_origin : (origin : Snapshot) (name : List ℕ) → HasDataset start name → IsOrigin now origin name → IsOrigin start origin name
     finished_origin origin name has is = go (dataset_cases is.dataset is.there)
       where
         go : IsAfter start partial is.dataset → IsOrigin start origin name
         go (inl had) = record { dataset = had.old; there = had.there; named = had.name ∙ is.named; snapshot_there = origin_old origin name is; is_origin = had.origin ∙ is.is_origin }
         go (inr made) = absurd (made.1 (subst (HasDataset start) (sym is.named ∙ sym (ap (λ (d : Dataset). d.name) made.0)) has))
 
-    finished_origins : HasOldOrigins (HasDataset start) start finished
-    finished_origins = old_origins start finished linked finished_origin
+    finished_origins : HasOldOrigins (HasDataset start) start now
+    finished_origins = old_origins start now linked finished_origin
 
-    stood : (earlier : Snapshot) (name : List ℕ) (bound : Option ℕ) → HasDataset start name → StandsBefore finished (OfSnapshot earlier) name bound → StandsBefore start (OfSnapshot earlier) name bound
-    stood earlier name bound has before = stood_before (HasDataset start) start finished (OfSnapshot earlier) finished_origins name bound has before
-
-    base_old : (base : Snapshot) (other : Partial) → Contains start.partials other → IsBase finished base other → IsBase start base other
+    base_old : (base : Snapshot) (other : Partial) → Contains start.partials other → IsBase now base other → IsBase start base other
     base_old base other there is = record {
       there = old_of base (linked_name other.base base.name (All-contains (λ p. IfSome p.base (HasSnapshot start)) start.partials other linked.bases there) is.is_base) is.there;
       is_base = is.is_base;
     }
 
-    target_had : (other : Partial) → Contains start.partials other → HasDataset finished other.target → HasDataset start other.target
+    target_had : (other : Partial) → Contains start.partials other → HasDataset now other.target → HasDataset start other.target
     target_had other there has = go (dataset_cases has.0 has.1)
       where
         go : IsAfter start partial has.0 → HasDataset start other.target
@@ -199,63 +205,79 @@ module _ (start : Pool) (linked : IsLinked start) (named : IsNamed start) (sound
 
     -- ---- what stands before the target
 
-    clone_origin : (HasDataset start partial.target → ⊥) → (origin : Snapshot) → IsOrigin finished origin partial.target → partial.base ≡ Some origin.name
+    clone_origin : (HasDataset start partial.target → ⊥) → (origin : Snapshot) → IsOrigin now origin partial.target → partial.base ≡ Some origin.name
     clone_origin absent origin is = go (dataset_cases is.dataset is.there)
       where
         go : IsAfter start partial is.dataset → partial.base ≡ Some origin.name
         go (inl had) = absurd (absent (had.old, had.there, had.name ∙ is.named))
         go (inr made) = ap (λ (d : Dataset). d.origin) made.0 ∙ is.is_origin
 
-    before_clone : (HasDataset start partial.target → ⊥) → (earlier : Snapshot) (name : List ℕ) (bound : Option ℕ) → Contains start.snapshots earlier → name ≡ partial.target
-        → StandsBefore finished (OfSnapshot earlier) name bound → Agrees earlier partial.objects
-    before_clone absent earlier name bound here at (Earlier _ _ same below) = absurd (absent (subst (HasDataset start) (same ∙ at) (owner start linked earlier here)))
-    before_clone absent earlier name bound here at (AtOrigin _ _ origin is marks) =
-        clone_agrees start named sound number partial grown origin earlier (origin_old origin name is) here (clone_origin absent origin (subst (IsOrigin finished origin) at is)) (inl marks)
-    before_clone absent earlier name bound here at (BeforeOrigin _ _ origin is before) =
-        let there = origin_old origin name is in
-        clone_agrees start named sound number partial grown origin earlier there here (clone_origin absent origin (subst (IsOrigin finished origin) at is))
-        (inr (stood earlier (dataset_of_snapshot origin) (Some origin.number) (owner start linked origin there) before))
+    -- ---- an old source and a row
 
-    before_target : (earlier : Snapshot) (bound : Option ℕ) → Contains start.snapshots earlier → StandsBefore finished (OfSnapshot earlier) partial.target bound → Agrees earlier partial.objects
-    before_target earlier bound here before = elim grown.over.onto [
-      | inl (latest, e, is) ↦
-          let has = subst (HasDataset start) is.own (owner start linked latest is.there) in
-          target_agrees start named sound number partial grown earlier bound has here (stood earlier partial.target bound has before)
-      | inr absent ↦ before_clone absent earlier partial.target bound here refl before
-    ]
+    module _ (source : Source) (Fits : DatedState → Type 0) (finds : Finds start partial.target source Fits) where
+      stood : (name : List ℕ) (bound : Option ℕ) → HasDataset start name → StandsBefore now source name bound → StandsBefore start source name bound
+      stood name bound has before = stood_before (HasDataset start) start now source finished_origins name bound has before
 
-    -- ---- an old snapshot and a row
+      before_clone : (HasDataset start partial.target → ⊥) → (name : List ℕ) (bound : Option ℕ) → name ≡ partial.target → StandsBefore now source name bound → Fits partial.objects
+      before_clone absent name bound at (Earlier _ _ same below) = absurd (absent (subst (HasDataset start) (same ∙ at) finds.dataset))
+      before_clone absent name bound at (AtOrigin _ _ origin is marks) =
+          clone_fits start named number partial grown source Fits finds origin (origin_old origin name is) (clone_origin absent origin (subst (IsOrigin now origin) at is)) (inl marks)
+      before_clone absent name bound at (BeforeOrigin _ _ origin is before) =
+          let there = origin_old origin name is in
+          clone_fits start named number partial grown source Fits finds origin there (clone_origin absent origin (subst (IsOrigin now origin) at is))
+          (inr (stood (dataset_of_snapshot origin) (Some origin.number) (owner start linked origin there) before))
 
-    at_target : (earlier : Snapshot) (name : List ℕ) (bound : Option ℕ) → Contains start.snapshots earlier → name ≡ partial.target → StandsBefore finished (OfSnapshot earlier) name bound → Agrees earlier partial.objects
-    at_target earlier name bound here at before = before_target earlier bound here (subst (λ (n : List ℕ). StandsBefore finished (OfSnapshot earlier) n bound) at before)
+      before_target : (bound : Option ℕ) → StandsBefore now source partial.target bound → Fits partial.objects
+      before_target bound before = elim grown.over.onto [
+        | inl (latest, e, is, back) ↦
+            let has = subst (HasDataset start) is.own (owner start linked latest is.there) in
+            target_fits start named number partial grown source Fits finds bound has (stood partial.target bound has before)
+        | inr absent ↦ before_clone absent partial.target bound refl before
+      ]
 
-    head_agrees : (earlier : Snapshot) (dataset : Dataset) → Contains start.snapshots earlier → IsAfter start partial dataset → StandsBefore finished (OfSnapshot earlier) dataset.name None → Agrees earlier dataset.head
-    head_agrees earlier dataset here (inl had) before = go had.head
-      where
-        go : ((had.old ≡ dataset) × (dataset.name ≡ partial.target → ⊥)) ⊎ ((dataset.name ≡ partial.target) × (dataset.head ≡ partial.objects)) → Agrees earlier dataset.head
-        go (inl (one, differs)) =
-            subst (λ (d : Dataset). Agrees earlier d.head) one
-            (sound_agrees start sound earlier here (head_row start.number had.old) (HeadRow had.old had.there)
-            (stood earlier had.old.name None (had.old, had.there, refl) (subst (λ (n : List ℕ). StandsBefore finished (OfSnapshot earlier) n None) (sym had.name) before)))
-        go (inr (at, head)) = subst (λ (d : DatedState). Agrees earlier d) (sym head) (at_target earlier dataset.name None here at before)
-    head_agrees earlier dataset here (inr made) before =
-        subst (λ (d : Dataset). Agrees earlier d.head) made.0 (at_target earlier dataset.name None here (sym (ap (λ (d : Dataset). d.name) made.0)) before)
+      at_target : (name : List ℕ) (bound : Option ℕ) → name ≡ partial.target → StandsBefore now source name bound → Fits partial.objects
+      at_target name bound at before = before_target bound (subst (λ (n : List ℕ). StandsBefore now source n bound) at before)
 
-    old_agrees : (earlier : Snapshot) (row : Row) → Contains start.snapshots earlier → IsRow finished row → IsBefore finished (OfSnapshot earlier) row.place → Agrees earlier row.objects
-    old_agrees earlier row here (SnapshotRow snapshot there) before = go (new_or_old snapshot there)
-      where
-        go : (new ≡ snapshot) ⊎ Contains start.snapshots snapshot → Agrees earlier snapshot.objects
-        go (inl one) =
-            subst (λ (s : Snapshot). Agrees earlier s.objects) one
-            (at_target earlier (dataset_of_snapshot snapshot) (Some snapshot.number) here (sym (ap dataset_of_snapshot one) ∙ new_own) before)
-        go (inr old) =
-            sound_agrees start sound earlier here (snapshot_row snapshot) (SnapshotRow snapshot old)
-            (stood earlier (dataset_of_snapshot snapshot) (Some snapshot.number) (owner start linked snapshot old) before)
-    old_agrees earlier row here (HeadRow dataset there) before = head_agrees earlier dataset here (dataset_cases dataset there) before
-    old_agrees earlier row here (PartialRow other there) before =
-        sound_agrees start sound earlier here (partial_row start.number other) (PartialRow other there)
-        (stood_before_partial (HasDataset start) start finished earlier other finished_origins
-        (λ base is. let was = base_old base other there is in (was, owner start linked base was.there)) (λ has. let was = target_had other there has in (was, was)) before)
+      head_fits : (dataset : Dataset) → IsAfter start partial dataset → StandsBefore now source dataset.name None → Fits dataset.head
+      head_fits dataset (inl had) before = go had.head
+        where
+          go : ((had.old ≡ dataset) × (dataset.name ≡ partial.target → ⊥)) ⊎ ((dataset.name ≡ partial.target) × (dataset.head ≡ partial.objects)) → Fits dataset.head
+          go (inl (one, differs)) =
+              subst (λ (d : Dataset). Fits d.head) one
+              (finds.later (head_row start.number had.old) (HeadRow had.old had.there)
+              (stood had.old.name None (had.old, had.there, refl) (subst (λ (n : List ℕ). StandsBefore now source n None) (sym had.name) before)))
+          go (inr (at, head)) = subst (λ (d : DatedState). Fits d) (sym head) (at_target dataset.name None at before)
+      head_fits dataset (inr made) before =
+          subst (λ (d : Dataset). Fits d.head) made.0 (at_target dataset.name None (sym (ap (λ (d : Dataset). d.name) made.0)) before)
+
+      snapshot_fits : (snapshot : Snapshot) → (new ≡ snapshot) ⊎ Contains start.snapshots snapshot → StandsBefore now source (dataset_of_snapshot snapshot) (Some snapshot.number) → Fits snapshot.objects
+      snapshot_fits snapshot (inl one) before =
+          subst (λ (s : Snapshot). Fits s.objects) one (at_target (dataset_of_snapshot snapshot) (Some snapshot.number) (sym (ap dataset_of_snapshot one) ∙ new_own) before)
+      snapshot_fits snapshot (inr old) before =
+          finds.later (snapshot_row snapshot) (SnapshotRow snapshot old) (stood (dataset_of_snapshot snapshot) (Some snapshot.number) (owner start linked snapshot old) before)
+
+      pub row_fits : (row : Row) → IsRow now row → IsBefore now source row.place → Fits row.objects
+      row_fits row (SnapshotRow snapshot there) before = snapshot_fits snapshot (new_or_old snapshot there) before
+      row_fits row (HeadRow dataset there) before = head_fits dataset (dataset_cases dataset there) before
+      row_fits row (PartialRow other there) before =
+          finds.later (partial_row start.number other) (PartialRow other there)
+          (stood_before_partial (HasDataset start) start now source other finished_origins
+          (λ base is. let was = base_old base other there is in (was, owner start linked base was.there)) (λ has. let was = target_had other there has in (was, was))
+          (names_stay start datasets partial heads other.target) before)
+
+    -- what a source remembers, it remembers in the pool: no old source has the new snapshot's number
+    own_remembers : (source : Source) (state : State) → Finds start partial.target source (λ snap. Remembers snap (number_of_source source) state) → (snapshot : Snapshot) → IsOwn source snapshot
+        → (new ≡ snapshot) ⊎ Contains start.snapshots snapshot → Remembers snapshot.objects (number_of_source source) state
+    own_remembers source state finds snapshot own (inl one) =
+        let up = finds.number in let same = own.number in let is = ap (λ (s : Snapshot). s.number) one in absurd (omega (arith, up, same, is, later))
+    own_remembers source state finds snapshot own (inr old) = finds.own snapshot old own
+
+    pub finished_remembers : (source : Source) (state : State) → IsIn start source → SourceRemembers start source state → SourceRemembers now source state
+    finished_remembers source state here remembers =
+        let finds = finds_source start linked sound partial.target grown.base grown.over source state here remembers in record {
+          own = λ snapshot there own. own_remembers source state finds snapshot own (new_or_old snapshot there);
+          later = λ row there before. row_fits source (λ snap. Remembers snap (number_of_source source) state) finds row (row_cases now row there) before;
+        }
 
     -- ---- the new snapshot and a row
 
@@ -263,20 +285,20 @@ module _ (start : Pool) (linked : IsLinked start) (named : IsNamed start) (sound
     not_old snapshot there e = let less = old_less snapshot there in let same = ap (λ (s : Snapshot). s.number) e in omega (arith, less, same)
 
     -- it stands before nothing up to its number
-    before_none : (name : List ℕ) (bound : ℕ) → bound ≤ number → StandsBefore finished (OfSnapshot new) name (Some bound) → ⊥
+    before_none : (name : List ℕ) (bound : ℕ) → bound ≤ number → StandsBefore now (OfSnapshot new) name (Some bound) → ⊥
     before_none name bound up (Earlier _ _ same below) = omega (arith, up, below)
     before_none name bound up (AtOrigin _ _ origin is marks) = not_old origin (origin_old origin name is) marks
     before_none name bound up (BeforeOrigin _ _ origin is before) =
         let less = old_less origin (origin_old origin name is) in before_none (dataset_of_snapshot origin) origin.number (omega (arith, less)) before
 
     -- and before its own head alone
-    before_head : (name : List ℕ) → StandsBefore finished (OfSnapshot new) name None → partial.target ≡ name
+    before_head : (name : List ℕ) → StandsBefore now (OfSnapshot new) name None → partial.target ≡ name
     before_head name (Earlier _ _ same below) = sym new_own ∙ same
     before_head name (AtOrigin _ _ origin is marks) = absurd (not_old origin (origin_old origin name is) marks)
     before_head name (BeforeOrigin _ _ origin is before) =
         let less = old_less origin (origin_old origin name is) in absurd (before_none (dataset_of_snapshot origin) origin.number (omega (arith, less)) before)
 
-    any_up : (snapshot : Snapshot) → Contains finished.snapshots snapshot → snapshot.number ≤ number
+    any_up : (snapshot : Snapshot) → Contains now.snapshots snapshot → snapshot.number ≤ number
     any_up snapshot there = elim (new_or_old snapshot there) [
       | inl one ↦ let same = ap (λ (s : Snapshot). s.number) one in omega (arith, same)
       | inr old ↦ let less = old_less snapshot old in omega (arith, less)
@@ -289,7 +311,7 @@ module _ (start : Pool) (linked : IsLinked start) (named : IsNamed start) (sound
     ]
     own_head dataset (inr made) at = subst (λ (d : Dataset). Agrees new d.head) made.0 (agrees_itself new)
 
-    before_no_partial : (other : Partial) → Contains start.partials other → IsBeforePartial finished (OfSnapshot new) other → ⊥
+    before_no_partial : (other : Partial) → Contains start.partials other → IsBeforePartial now (OfSnapshot new) other → ⊥
     before_no_partial other there (inl at) = only other there (sym (before_head other.target at.before))
     before_no_partial other there (inr at) =
         let clone = at.1 in
@@ -300,15 +322,15 @@ module _ (start : Pool) (linked : IsLinked start) (named : IsNamed start) (sound
           | inr before ↦ before_none (dataset_of_snapshot clone.base) clone.base.number (omega (arith, less)) before
         ]
 
-    new_agrees : (row : Row) → IsRow finished row → IsBefore finished (OfSnapshot new) row.place → Agrees new row.objects
+    new_agrees : (row : Row) → IsRow now row → IsBefore now (OfSnapshot new) row.place → Agrees new row.objects
     new_agrees row (SnapshotRow snapshot there) before = absurd (before_none (dataset_of_snapshot snapshot) snapshot.number (any_up snapshot there) before)
     new_agrees row (HeadRow dataset there) before = own_head dataset (dataset_cases dataset there) (before_head dataset.name before)
     new_agrees row (PartialRow other there) before = absurd (before_no_partial other there before)
 
-    row_agrees : (earlier : Snapshot) (row : Row) → (new ≡ earlier) ⊎ Contains start.snapshots earlier → IsRow finished row → IsBefore finished (OfSnapshot earlier) row.place → Agrees earlier row.objects
+    row_agrees : (earlier : Snapshot) (row : Row) → (new ≡ earlier) ⊎ Contains start.snapshots earlier → IsRow now row → IsBefore now (OfSnapshot earlier) row.place → Agrees earlier row.objects
     row_agrees earlier row (inl one) is before =
-        subst (λ (s : Snapshot). Agrees s row.objects) one (new_agrees row is (subst (λ (s : Snapshot). IsBefore finished (OfSnapshot s) row.place) (sym one) before))
-    row_agrees earlier row (inr old) is before = old_agrees earlier row old is before
+        subst (λ (s : Snapshot). Agrees s row.objects) one (new_agrees row is (subst (λ (s : Snapshot). IsBefore now (OfSnapshot s) row.place) (sym one) before))
+    row_agrees earlier row (inr old) is before = row_fits (OfSnapshot earlier) (Agrees earlier) (finds_snapshot start linked sound partial.target earlier old) row is before
 
     -- ---- dates
 
@@ -322,7 +344,7 @@ module _ (start : Pool) (linked : IsLinked start) (named : IsNamed start) (sound
     ]
     head_dated dataset (inr made) = subst (λ (d : Dataset). DatedUpTo number d.head) made.0 grown.dated
 
-    row_dated : (row : Row) → IsRow finished row → DatedUpTo row.number row.objects
+    row_dated : (row : Row) → IsRow now row → DatedUpTo row.number row.objects
     row_dated row (SnapshotRow snapshot there) = elim (new_or_old snapshot there) [
       | inl one ↦ subst (λ (s : Snapshot). DatedUpTo s.number s.objects) one grown.dated
       | inr old ↦ sound_dated start sound (snapshot_row snapshot) (SnapshotRow snapshot old)
@@ -330,13 +352,13 @@ module _ (start : Pool) (linked : IsLinked start) (named : IsNamed start) (sound
     row_dated row (HeadRow dataset there) = head_dated dataset (dataset_cases dataset there)
     row_dated row (PartialRow other there) = up_to other.objects (sound_dated start sound (partial_row start.number other) (PartialRow other there))
 
-    number_above : (origin snapshot : Snapshot) → Contains finished.snapshots snapshot → IsOrigin finished origin (dataset_of_snapshot snapshot) → origin.number < snapshot.number
+    number_above : (origin snapshot : Snapshot) → Contains now.snapshots snapshot → IsOrigin now origin (dataset_of_snapshot snapshot) → origin.number < snapshot.number
     number_above origin snapshot there is = elim (new_or_old snapshot there) [
       | inl one ↦ let same = ap (λ (s : Snapshot). s.number) one in let less = old_less origin (origin_old origin (dataset_of_snapshot snapshot) is) in omega (arith, same, less)
       | inr old ↦ sound.dated.above origin snapshot old (finished_origin origin (dataset_of_snapshot snapshot) (owner start linked snapshot old) is)
     ]
 
-    bookmark_stays : (bookmark : Bookmark) → IsBookmarkOf start bookmark → IsBookmarkOf finished bookmark
+    bookmark_stays : (bookmark : Bookmark) → IsBookmarkOf start bookmark → IsBookmarkOf now bookmark
     bookmark_stays bookmark is = record {
       dataset = names_stay start datasets partial heads (dataset_of_bookmark bookmark) is.dataset;
       above = λ origin of. is.above origin (finished_origin origin (dataset_of_bookmark bookmark) is.dataset of);
@@ -347,14 +369,14 @@ module _ (start : Pool) (linked : IsLinked start) (named : IsNamed start) (sound
       ];
     }
 
-    pub finished_sound : Sound finished
+    pub finished_sound : Sound now
     finished_sound = record {
-      agree = λ earlier row here there before. row_agrees earlier row (new_or_old earlier here) (row_cases finished row there) before;
+      agree = λ earlier row here there before. row_agrees earlier row (new_or_old earlier here) (row_cases now row there) before;
       dated = record {
-        states = All-from_contains (λ r. DatedUpTo r.number r.objects) (rows finished) (λ row there. row_dated row (row_cases finished row there));
-        numbers = All-from_contains (λ s. s.number ≤ number) finished.snapshots any_up;
+        states = All-from_contains (λ r. DatedUpTo r.number r.objects) (rows now) (λ row there. row_dated row (row_cases now row there));
+        numbers = All-from_contains (λ s. s.number ≤ number) now.snapshots any_up;
         rise = rise-inserted new start.snapshots old_less sound.dated.rise named.snapshots;
         above = number_above;
       };
-      bookmarks = All-from_contains (IsBookmarkOf finished) start.bookmarks (λ b there. bookmark_stays b (All-contains (IsBookmarkOf start) start.bookmarks b sound.bookmarks there));
+      bookmarks = All-from_contains (IsBookmarkOf now) start.bookmarks (λ b there. bookmark_stays b (All-contains (IsBookmarkOf start) start.bookmarks b sound.bookmarks there));
     }

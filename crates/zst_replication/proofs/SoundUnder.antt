@@ -1,18 +1,23 @@
--- A sound pool with a partial state that has grown, and with its target's head rolled back or as it was, is sound.
+-- A sound pool with a partial state that has grown, and with its target's head rolled back or as it was, is sound, and its sources remember what they
+-- did.
 use Rattle.std.proofs.Common.{◌≡◌, ◌⊎◌, inl, inr, ℕ, ◌≤◌, Bool, true, false, List, Option, Some, None, AllPairs, Contains, map, refl, sym, ◌∙◌, subst, cond, arith}
 use Rattle.std.specs.Prelude.{bytes_eq}
 use Rattle.std.proofs.lemmas.List.Elements.{All-contains}
 use Rattle.zst_model.proofs.InsertedLaws.{All-from_contains, contains-inserted, contains-map, map_contains}
 use Rattle.zst_model.proofs.OrderLaws.{same_bytes}
 use Rattle.zst_model.specs.pools.Pool.{Pool, Dataset, Snapshot, Bookmark, Partial, HasDataset, IsLinked, IsNamed, dataset_of_snapshot, dataset_of_bookmark, inserted, is_before}
-use Rattle.zst_model.specs.pools.Before.{IsOrigin, OfSnapshot, StandsBefore, IsBefore, IsBeforePartial}
+use Rattle.zst_model.specs.pools.Before.{IsOrigin, Source, OfSnapshot, number_of_source, IsIn, StandsBefore, IsBefore, IsBeforePartial}
 use Rattle.zst_model.specs.pools.Rows.{Row, snapshot_row, head_row, partial_row, rows}
 use Rattle.zst_model.specs.pools.Sound.{Agrees, DatedUpTo, IsBookmarkOf, Sound}
+use Rattle.zst_model.specs.sends.Target.{Remembers}
 use Rattle.zst_model.specs.states.Dated.{DatedState}
+use Rattle.zst_model.specs.states.State.{State}
+use Rattle.zst_laws.specs.Remembering.{SourceRemembers}
 use Rattle.zst_pool.specs.Partials.{changed_at, latest_snapshot, rolled, rolled_back, rolled_to}
 use Rattle.zst_replication.proofs.Agreeing.{dated_higher}
-use Rattle.zst_replication.proofs.Standing.{HasOldOrigins, IsRow, SnapshotRow, HeadRow, PartialRow, Rises, old_origins, owner, row_cases, sound_agrees, sound_dated, stood_before, stood_before_partial}
-use Rattle.zst_replication.proofs.Grown.{Grown, IsLatest, agrees_latest, clone_agrees, latest_is, old_number, target_agrees}
+use Rattle.zst_replication.proofs.Finding.{Finds, clone_fits, finds_snapshot, finds_source, latest_fits, target_fits}
+use Rattle.zst_replication.proofs.Grown.{Grown, IsLatest, latest_is}
+use Rattle.zst_replication.proofs.Standing.{HasOldOrigins, IsRow, SnapshotRow, HeadRow, PartialRow, Rises, old_number, old_origins, owner, row_cases, sound_dated, stood_before, stood_before_partial}
 
 -- ---- the datasets
 
@@ -63,69 +68,82 @@ module _ (start : Pool) (target : List ℕ) (rise : AllPairs Rises start.snapsho
 
 -- ---- the pool
 
+-- the pool with a partial state more
+abbrev pub under : Pool → ℕ → List Dataset → Partial → Pool
+under start number datasets partial = record start { number = number; datasets = datasets; partials = inserted (λ a b. is_before a.target b.target) partial start.partials }
+
 module _ (start : Pool) (linked : IsLinked start) (named : IsNamed start) (sound : Sound start) (number : ℕ) (later : start.number ≤ number)
     (datasets : List Dataset) (partial : Partial) (heads : AreOlds start partial.target datasets) (grown : Grown start number partial)
   where
-    abbrev under : Pool
-    under = record start { number = number; datasets = datasets; partials = inserted (λ a b. is_before a.target b.target) partial start.partials }
+    abbrev now : Pool
+    now = under start number datasets partial
 
-    under_origin : (origin : Snapshot) (name : List ℕ) → IsOrigin under origin name → IsOrigin start origin name
+    under_origin : (origin : Snapshot) (name : List ℕ) → IsOrigin now origin name → IsOrigin start origin name
     under_origin origin name is =
         let old = heads.olds is.dataset is.there in
         record { dataset = old.0; there = old.1; named = old.2.name ∙ is.named; snapshot_there = is.snapshot_there; is_origin = old.2.origin ∙ is.is_origin }
 
-    under_origins : HasOldOrigins (HasDataset start) start under
-    under_origins = old_origins start under linked (λ origin name has is. under_origin origin name is)
+    under_origins : HasOldOrigins (HasDataset start) start now
+    under_origins = old_origins start now linked (λ origin name has is. under_origin origin name is)
 
-    had : (name : List ℕ) → HasDataset under name → HasDataset start name
+    had : (name : List ℕ) → HasDataset now name → HasDataset start name
     had name has = let old = heads.olds has.0 has.1 in (old.0, old.1, old.2.name ∙ has.2)
 
-    stood : (earlier : Snapshot) (name : List ℕ) (bound : Option ℕ) → HasDataset start name → StandsBefore under (OfSnapshot earlier) name bound → StandsBefore start (OfSnapshot earlier) name bound
-    stood earlier name bound has before = stood_before (HasDataset start) start under (OfSnapshot earlier) under_origins name bound has before
-
-    head_agrees : (earlier : Snapshot) (old dataset : Dataset) → Contains start.snapshots earlier → Contains start.datasets old → old.name ≡ dataset.name → IsHeadOf start partial.target old dataset
-        → StandsBefore under (OfSnapshot earlier) dataset.name None → Agrees earlier dataset.head
-    head_agrees earlier old dataset here there same (inl one) before =
-        subst (λ (d : Dataset). Agrees earlier d.head) one
-        (sound_agrees start sound earlier here (head_row start.number old) (HeadRow old there)
-        (stood earlier old.name None (old, there, refl) (subst (λ (n : List ℕ). StandsBefore under (OfSnapshot earlier) n None) (sym same) before)))
-    head_agrees earlier old dataset here there same (inr (at, latest, is, head)) before =
-        subst (λ (d : DatedState). Agrees earlier d) (sym head)
-        (agrees_latest start named sound latest earlier partial.target None is here
-        (stood earlier partial.target None (old, there, same ∙ at) (subst (λ (n : List ℕ). StandsBefore under (OfSnapshot earlier) n None) at before)))
-
-    partial_agrees : (earlier : Snapshot) → Contains start.snapshots earlier → IsBeforePartial under (OfSnapshot earlier) partial → Agrees earlier partial.objects
-    partial_agrees earlier here (inl at) =
-        let has = had partial.target at.target in
-        target_agrees start named sound number partial grown earlier None has here (stood earlier partial.target None has at.before)
-    partial_agrees earlier here (inr at) =
-        let clone = at.1 in
-        let there = clone.is_base.there in
-        clone_agrees start named sound number partial grown clone.base earlier there here clone.is_base.is_base (elim clone.before [
-          | inl marks ↦ inl marks
-          | inr before ↦ inr (stood earlier (dataset_of_snapshot clone.base) (Some clone.base.number) (owner start linked clone.base there) before)
-        ])
-
-    other_agrees : (earlier : Snapshot) (other : Partial) → Contains start.snapshots earlier → Contains start.partials other → IsBeforePartial under (OfSnapshot earlier) other → Agrees earlier other.objects
-    other_agrees earlier other here there before =
-        sound_agrees start sound earlier here (partial_row start.number other) (PartialRow other there)
-        (stood_before_partial (HasDataset start) start under earlier other under_origins
-        (λ base is. (record { there = is.there; is_base = is.is_base }, owner start linked base is.there)) (λ has. let was = had other.target has in (was, was)) before)
-
     -- a partial state is the new one or another
-    new_or_other : (other : Partial) → Contains under.partials other → (partial ≡ other) ⊎ Contains start.partials other
+    new_or_other : (other : Partial) → Contains now.partials other → (partial ≡ other) ⊎ Contains start.partials other
     new_or_other other there = contains-inserted (λ a b. is_before a.target b.target) partial start.partials other there
 
-    row_agrees : (earlier : Snapshot) (row : Row) → Contains start.snapshots earlier → IsRow under row → IsBefore under (OfSnapshot earlier) row.place → Agrees earlier row.objects
-    row_agrees earlier row here (SnapshotRow snapshot there) before =
-        sound_agrees start sound earlier here (snapshot_row snapshot) (SnapshotRow snapshot there)
-        (stood earlier (dataset_of_snapshot snapshot) (Some snapshot.number) (owner start linked snapshot there) before)
-    row_agrees earlier row here (HeadRow dataset there) before = let old = heads.olds dataset there in head_agrees earlier old.0 dataset here old.1 old.2.name old.2.head before
-    row_agrees earlier row here (PartialRow other there) before = go (new_or_other other there) before
-      where
-        go : (partial ≡ other) ⊎ Contains start.partials other → IsBeforePartial under (OfSnapshot earlier) other → Agrees earlier other.objects
-        go (inl one) before = subst (λ (p : Partial). Agrees earlier p.objects) one (partial_agrees earlier here (subst (λ (p : Partial). IsBeforePartial under (OfSnapshot earlier) p) (sym one) before))
-        go (inr old) before = other_agrees earlier other here old before
+    -- ---- a source and a row
+
+    module _ (source : Source) (Fits : DatedState → Type 0) (finds : Finds start partial.target source Fits) where
+      stood : (name : List ℕ) (bound : Option ℕ) → HasDataset start name → StandsBefore now source name bound → StandsBefore start source name bound
+      stood name bound has before = stood_before (HasDataset start) start now source under_origins name bound has before
+
+      head_fits : (old dataset : Dataset) → Contains start.datasets old → old.name ≡ dataset.name → IsHeadOf start partial.target old dataset → StandsBefore now source dataset.name None → Fits dataset.head
+      head_fits old dataset there same (inl one) before =
+          subst (λ (d : Dataset). Fits d.head) one
+          (finds.later (head_row start.number old) (HeadRow old there) (stood old.name None (old, there, refl) (subst (λ (n : List ℕ). StandsBefore now source n None) (sym same) before)))
+      head_fits old dataset there same (inr (at, latest, is, head)) before =
+          subst (λ (d : DatedState). Fits d) (sym head)
+          (latest_fits start named number partial grown source Fits finds latest partial.target None is refl
+          (stood partial.target None (old, there, same ∙ at) (subst (λ (n : List ℕ). StandsBefore now source n None) at before)))
+
+      partial_fits : IsBeforePartial now source partial → Fits partial.objects
+      partial_fits (inl at) =
+          let has = had partial.target at.target in target_fits start named number partial grown source Fits finds None has (stood partial.target None has at.before)
+      partial_fits (inr at) =
+          let clone = at.1 in
+          let there = clone.is_base.there in
+          clone_fits start named number partial grown source Fits finds clone.base there clone.is_base.is_base (elim clone.before [
+            | inl marks ↦ inl marks
+            | inr before ↦ inr (stood (dataset_of_snapshot clone.base) (Some clone.base.number) (owner start linked clone.base there) before)
+          ])
+
+      other_fits : (other : Partial) → Contains start.partials other → IsBeforePartial now source other → Fits other.objects
+      other_fits other there before =
+          finds.later (partial_row start.number other) (PartialRow other there)
+          (stood_before_partial (HasDataset start) start now source other under_origins
+          (λ base is. (record { there = is.there; is_base = is.is_base }, owner start linked base is.there)) (λ has. let was = had other.target has in (was, was)) (heads.names other.target) before)
+
+      pub row_fits : (row : Row) → IsRow now row → IsBefore now source row.place → Fits row.objects
+      row_fits row (SnapshotRow snapshot there) before =
+          finds.later (snapshot_row snapshot) (SnapshotRow snapshot there) (stood (dataset_of_snapshot snapshot) (Some snapshot.number) (owner start linked snapshot there) before)
+      row_fits row (HeadRow dataset there) before = let old = heads.olds dataset there in head_fits old.0 dataset old.1 old.2.name old.2.head before
+      row_fits row (PartialRow other there) before = go (new_or_other other there) before
+        where
+          go : (partial ≡ other) ⊎ Contains start.partials other → IsBeforePartial now source other → Fits other.objects
+          go (inl one) before = subst (λ (p : Partial). Fits p.objects) one (partial_fits (subst (λ (p : Partial). IsBeforePartial now source p) (sym one) before))
+          go (inr old) before = other_fits other old before
+
+    -- what a source remembers, it remembers in the pool
+    pub under_remembers : (source : Source) (state : State) → IsIn start source → SourceRemembers start source state → SourceRemembers now source state
+    under_remembers source state here remembers = record {
+      own = λ snapshot there own. remembers.own snapshot there own;
+      later = λ row there before.
+          row_fits source (λ snap. Remembers snap (number_of_source source) state) (finds_source start linked sound partial.target grown.base grown.over source state here remembers) row (row_cases now row there) before;
+    }
+
+    -- ---- dates
 
     up_to : (state : DatedState) → DatedUpTo start.number state → DatedUpTo number state
     up_to state h = dated_higher start.number number later state h
@@ -133,11 +151,11 @@ module _ (start : Pool) (linked : IsLinked start) (named : IsNamed start) (sound
     head_dated : (old dataset : Dataset) → Contains start.datasets old → IsHeadOf start partial.target old dataset → DatedUpTo number dataset.head
     head_dated old dataset there (inl one) = subst (λ (d : Dataset). DatedUpTo number d.head) one (up_to old.head (sound_dated start sound (head_row start.number old) (HeadRow old there)))
     head_dated old dataset there (inr (at, latest, is, head)) =
-        let up = old_number start named sound latest is.there in
+        let up = old_number start sound latest is.there in
         subst (λ (d : DatedState). DatedUpTo number d) (sym head)
         (dated_higher latest.number number (omega (arith, up, later)) latest.objects (sound_dated start sound (snapshot_row latest) (SnapshotRow latest is.there)))
 
-    row_dated : (row : Row) → IsRow under row → DatedUpTo row.number row.objects
+    row_dated : (row : Row) → IsRow now row → DatedUpTo row.number row.objects
     row_dated row (SnapshotRow snapshot there) = sound_dated start sound (snapshot_row snapshot) (SnapshotRow snapshot there)
     row_dated row (HeadRow dataset there) = let old = heads.olds dataset there in head_dated old.0 dataset old.1 old.2.head
     row_dated row (PartialRow other there) = elim (new_or_other other there) [
@@ -145,7 +163,7 @@ module _ (start : Pool) (linked : IsLinked start) (named : IsNamed start) (sound
       | inr old ↦ up_to other.objects (sound_dated start sound (partial_row start.number other) (PartialRow other old))
     ]
 
-    bookmark_stays : (bookmark : Bookmark) → IsBookmarkOf start bookmark → IsBookmarkOf under bookmark
+    bookmark_stays : (bookmark : Bookmark) → IsBookmarkOf start bookmark → IsBookmarkOf now bookmark
     bookmark_stays bookmark is = record {
       dataset = heads.names (dataset_of_bookmark bookmark) is.dataset;
       above = λ origin of. is.above origin (under_origin origin (dataset_of_bookmark bookmark) of);
@@ -153,14 +171,14 @@ module _ (start : Pool) (linked : IsLinked start) (named : IsNamed start) (sound
       guid = is.guid;
     }
 
-    pub under_sound : Sound under
+    pub under_sound : Sound now
     under_sound = record {
-      agree = λ earlier row here there before. row_agrees earlier row here (row_cases under row there) before;
+      agree = λ earlier row here there before. row_fits (OfSnapshot earlier) (Agrees earlier) (finds_snapshot start linked sound partial.target earlier here) row (row_cases now row there) before;
       dated = record {
-        states = All-from_contains (λ r. DatedUpTo r.number r.objects) (rows under) (λ row there. row_dated row (row_cases under row there));
-        numbers = All-from_contains (λ s. s.number ≤ number) start.snapshots (λ s there. let l = old_number start named sound s there in omega (arith, l, later));
+        states = All-from_contains (λ r. DatedUpTo r.number r.objects) (rows now) (λ row there. row_dated row (row_cases now row there));
+        numbers = All-from_contains (λ s. s.number ≤ number) start.snapshots (λ s there. let l = old_number start sound s there in omega (arith, l, later));
         rise = sound.dated.rise;
         above = λ origin snapshot there is. sound.dated.above origin snapshot there (under_origin origin (dataset_of_snapshot snapshot) is);
       };
-      bookmarks = All-from_contains (IsBookmarkOf under) start.bookmarks (λ b there. bookmark_stays b (All-contains (IsBookmarkOf start) start.bookmarks b sound.bookmarks there));
+      bookmarks = All-from_contains (IsBookmarkOf now) start.bookmarks (λ b there. bookmark_stays b (All-contains (IsBookmarkOf start) start.bookmarks b sound.bookmarks there));
     }

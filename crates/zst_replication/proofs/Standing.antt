@@ -1,10 +1,12 @@
 -- What stands before what, in the pool that runs while a receive is under way and in the pool that it began with.
-use Rattle.std.proofs.Common.{◌≡◌, inl, inr, ◌⊎◌, ℕ, ◌<◌, Bool, true, false, List, [], ◌∷◌, ◌++◌, map, Option, Some, None, AllPairs, Contains, find, cond, refl, sym, ap, ◌∙◌, subst, arith}
+use Rattle.std.proofs.Common.{◌≡◌, inl, inr, ◌⊎◌, ℕ, ◌<◌, ◌≤◌, Bool, true, false, List, [], ◌∷◌, ◌++◌, map, Option, Some, None, AllPairs, Contains, find, cond, refl, sym, ap, ◌∙◌, subst, arith}
 use Rattle.std.proofs.lemmas.List.Elements.{All-contains, Contains-append_left, Contains-append_right, Contains-append_cases}
 use Rattle.zst_model.specs.pools.Pool.{Pool, Dataset, Snapshot, Bookmark, Partial, HasDataset, IsLinked, dataset_of_snapshot, dataset_of_bookmark}
-use Rattle.zst_model.specs.pools.Before.{IsOrigin, IsBase, Source, OfSnapshot, StandsBefore, Earlier, AtOrigin, BeforeOrigin, IsBefore, IsBeforePartial}
+use Rattle.zst_model.specs.pools.Before.{IsOrigin, IsBase, Source, OfSnapshot, OfBookmark, StandsBefore, Earlier, AtOrigin, BeforeOrigin, BaseCounts, IsBefore, IsBeforePartial}
 use Rattle.zst_model.specs.pools.Rows.{Row, snapshot_row, head_row, partial_row, rows}
 use Rattle.zst_model.specs.pools.Sound.{Agrees, DatedUpTo, IsBookmarkOf, Sound}
+use Rattle.zst_model.specs.states.State.{State}
+use Rattle.zst_laws.specs.Remembering.{SourceRemembers}
 use Rattle.zst_model.proofs.InsertedLaws.{All-from_contains, AllPairs-head, AllPairs-tail, contains_cases, contains_nothing, contains-map, map_contains}
 
 -- ---- elements that pairs tell apart
@@ -90,6 +92,9 @@ module _ (pool : Pool) where
   pub sound_dated : Sound pool → (row : Row) → IsRow pool row → DatedUpTo row.number row.objects
   sound_dated sound row is = All-contains (λ r. DatedUpTo r.number r.objects) (rows pool) row sound.dated.states (has_row row is)
 
+  pub old_number : Sound pool → (earlier : Snapshot) → Contains pool.snapshots earlier → earlier.number ≤ pool.number
+  old_number sound earlier here = All-contains (λ s. s.number ≤ pool.number) pool.snapshots earlier sound.dated.numbers here
+
 -- ---- from one pool to another
 
 -- each origin that a dataset of some has in the new pool is its origin in the old one, and is of one of them
@@ -105,23 +110,28 @@ stood_before Has old new source h name bound has (BeforeOrigin _ _ origin is bef
     let was = h origin name has is in
     BeforeOrigin name bound origin was.0 (stood_before Has old new source h (dataset_of_snapshot origin) (Some origin.number) was.1 before)
 
--- and so it is with a partial state whose base is an old one, and whose target is there where it was
-pub stood_before_partial : (Has : List ℕ → Type 0) (old new : Pool) (earlier : Snapshot) (partial : Partial) → HasOldOrigins Has old new
+-- a base that counts in the new pool counts in the old one, where the target isn't new
+counted : (old new : Pool) (source : Source) (partial : Partial) → (HasDataset old partial.target → HasDataset new partial.target) → BaseCounts new source partial → BaseCounts old source partial
+counted old new (OfSnapshot snapshot) partial stays counts = tt
+counted old new (OfBookmark bookmark) partial stays counts = λ has. counts (stays has)
+
+-- and so it is with a partial state whose base is an old one, and whose target is there in both pools or in neither
+pub stood_before_partial : (Has : List ℕ → Type 0) (old new : Pool) (source : Source) (partial : Partial) → HasOldOrigins Has old new
     → ((base : Snapshot) → IsBase new base partial → IsBase old base partial × Has (dataset_of_snapshot base)) → (HasDataset new partial.target → HasDataset old partial.target × Has partial.target)
-    → IsBeforePartial new (OfSnapshot earlier) partial → IsBeforePartial old (OfSnapshot earlier) partial
-stood_before_partial Has old new earlier partial h bases target (inl at) =
-    let has = target at.target in inl (record { target = has.0; before = stood_before Has old new (OfSnapshot earlier) h partial.target None has.1 at.before })
-stood_before_partial Has old new earlier partial h bases target (inr at) =
+    → (HasDataset old partial.target → HasDataset new partial.target) → IsBeforePartial new source partial → IsBeforePartial old source partial
+stood_before_partial Has old new source partial h bases target stays (inl at) =
+    let has = target at.target in inl (record { target = has.0; before = stood_before Has old new source h partial.target None has.1 at.before })
+stood_before_partial Has old new source partial h bases target stays (inr at) =
     let clone = at.1 in
     let is = bases clone.base clone.is_base in
     inr (
-      tt,
+      counted old new source partial stays at.0,
       record {
         base = clone.base;
         is_base = is.0;
         before = elim clone.before [
           | inl marks ↦ inl marks
-          | inr before ↦ inr (stood_before Has old new (OfSnapshot earlier) h (dataset_of_snapshot clone.base) (Some clone.base.number) is.1 before)
+          | inr before ↦ inr (stood_before Has old new source h (dataset_of_snapshot clone.base) (Some clone.base.number) is.1 before)
         ];
       },
     )
@@ -152,11 +162,11 @@ module _ (pool : Pool) (partials : List Partial) (some : (partial : Partial) →
   fewer_row row (HeadRow dataset there) = HeadRow dataset there
   fewer_row row (PartialRow partial there) = PartialRow partial (some partial there)
 
-  fewer_before : (earlier : Snapshot) (row : Row) → IsRow fewer row → IsBefore fewer (OfSnapshot earlier) row.place → IsBefore pool (OfSnapshot earlier) row.place
-  fewer_before earlier row (SnapshotRow snapshot there) before = stood_before Any pool fewer (OfSnapshot earlier) fewer_origins (dataset_of_snapshot snapshot) (Some snapshot.number) tt before
-  fewer_before earlier row (HeadRow dataset there) before = stood_before Any pool fewer (OfSnapshot earlier) fewer_origins dataset.name None tt before
-  fewer_before earlier row (PartialRow partial there) before =
-      stood_before_partial Any pool fewer earlier partial fewer_origins (λ base is. (record { there = is.there; is_base = is.is_base }, tt)) (λ has. (has, tt)) before
+  fewer_before : (source : Source) (row : Row) → IsRow fewer row → IsBefore fewer source row.place → IsBefore pool source row.place
+  fewer_before source row (SnapshotRow snapshot there) before = stood_before Any pool fewer source fewer_origins (dataset_of_snapshot snapshot) (Some snapshot.number) tt before
+  fewer_before source row (HeadRow dataset there) before = stood_before Any pool fewer source fewer_origins dataset.name None tt before
+  fewer_before source row (PartialRow partial there) before =
+      stood_before_partial Any pool fewer source partial fewer_origins (λ base is. (record { there = is.there; is_base = is.is_base }, tt)) (λ has. (has, tt)) (λ has. has) before
 
   fewer_bookmark : (bookmark : Bookmark) → IsBookmarkOf pool bookmark → IsBookmarkOf fewer bookmark
   fewer_bookmark bookmark is = record {
@@ -169,7 +179,7 @@ module _ (pool : Pool) (partials : List Partial) (some : (partial : Partial) →
   pub fewer_sound : Sound pool → Sound fewer
   fewer_sound sound = record {
     agree = λ earlier row here there before.
-        let is = row_cases fewer row there in sound_agrees pool sound earlier here row (fewer_row row is) (fewer_before earlier row is before);
+        let is = row_cases fewer row there in sound_agrees pool sound earlier here row (fewer_row row is) (fewer_before (OfSnapshot earlier) row is before);
     dated = record {
       states = All-from_contains (λ r. DatedUpTo r.number r.objects) (rows fewer) (λ row there. sound_dated pool sound row (fewer_row row (row_cases fewer row there)));
       numbers = sound.dated.numbers;
@@ -177,4 +187,11 @@ module _ (pool : Pool) (partials : List Partial) (some : (partial : Partial) →
       above = λ origin later there is. sound.dated.above origin later there (fewer_origins origin (dataset_of_snapshot later) tt is).0;
     };
     bookmarks = All-from_contains (IsBookmarkOf fewer) pool.bookmarks (λ b there. fewer_bookmark b (All-contains (IsBookmarkOf pool) pool.bookmarks b sound.bookmarks there));
+  }
+
+  -- and its sources remember what they did
+  pub fewer_remembers : (source : Source) (state : State) → SourceRemembers pool source state → SourceRemembers fewer source state
+  fewer_remembers source state remembers = record {
+    own = λ snapshot there own. remembers.own snapshot there own;
+    later = λ row there before. let is = row_cases fewer row there in remembers.later row (has_row pool row (fewer_row row is)) (fewer_before source row is before);
   }

@@ -1,4 +1,5 @@
 ghost use Rattle.zst_replication.specs.Counting.{RecordsAreCounted};
+ghost use Rattle.zst_replication.specs.Histories.{EventsAreHistory, ReceivedRemembers, ReceivesRemember};
 ghost use Rattle.zst_replication.specs.Matching.{BasesMatch, FullMatches, OneMoreIsKept, PlainCanBeSent, SourceIsKnown};
 ghost use Rattle.zst_replication.specs.Replicas.{CutLeavesNothing, LeftIsKept, SentIsReceived, StopsAreProgress};
 ghost use Rattle.zst_replication.specs.Soundness.{ReceivesKeepSound};
@@ -96,4 +97,26 @@ pub fn receives_keep_sound()
     ensures { ReceivesKeepSound }
 {
     zst_laws::received_is_state();
+}
+
+/// Whatever is read, and however it is cut into pieces, each snapshot and bookmark of a sound pool stays through a receive, and
+/// remembers what it did; and a received snapshot remembers its own state.
+pub fn receives_remember()
+    ensures sources { ReceivesRemember }
+    ensures received { ReceivedRemembers }
+{
+    zst_laws::received_is_state();
+    zst_laws::own_is_remembered();
+}
+
+/// What a source remembers stays fit as a base through any number of commands and receives, as long as the source stands.
+pub fn events_are_history()
+    ensures { EventsAreHistory }
+{
+    zst_laws::steps_keep_sound();
+    zst_laws::steps_keep_pools();
+    zst_laws::steps_remember();
+    zst_laws::remembered_is_base();
+    receives_keep_sound();
+    receives_remember();
 }

@@ -4,7 +4,7 @@
 mod laws;
 
 pub use laws::{
-    bases_match, cut_leaves_nothing, full_matches, left_is_kept, one_more_is_kept,
-    plain_can_be_sent, receives_keep_sound, records_are_counted, sent_is_received, source_is_known,
-    stops_are_progress,
+    bases_match, cut_leaves_nothing, events_are_history, full_matches, left_is_kept,
+    one_more_is_kept, plain_can_be_sent, receives_keep_sound, receives_remember,
+    records_are_counted, sent_is_received, source_is_known, stops_are_progress,
 };
