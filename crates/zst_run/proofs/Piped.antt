@@ -1,9 +1,9 @@
 -- What one run sent and another received.
 use Rattle.std.specs.Prelude.{Bool, true, not, Result, Ok, Err, ◌-◌}
-use Rattle.std.proofs.Common.{◌≡◌, ◌≢◌, inl, inr, ⊎_elim, ℕ, zero, suc, false, List, [], ◌∷◌, ◌++◌, length, take, None, refl, sym, ap, ◌∙◌, subst, append_assoc}
+use Rattle.std.proofs.Common.{◌≡◌, ◌≢◌, inl, inr, ◌⊎◌, ⊎_elim, ℕ, zero, suc, false, List, [], ◌∷◌, ◌++◌, length, take, None, refl, sym, ap, ◌∙◌, subst, append_assoc}
 use Rattle.std.specs.List.{concat}
 use Rattle.std.proofs.lemmas.List.{append-nil, append_cancel_left}
-use Rattle.zst_outside.specs.Images.{DiskState, Leaves-weaker}
+use Rattle.zst_outside.specs.Images.{DiskState, Leaves, Leaves-weaker}
 use Rattle.zst_outside.specs.States.{SourceState, SinkState, Gave}
 use Rattle.zst_uber.specs.declared.uber.Uber.{Uber}
 use Rattle.zst_model.specs.declared.refusals.faults.Quantity.TheVariants as quantities
@@ -16,24 +16,27 @@ use Rattle.zst_model.specs.declared.refusals.stream_fault.StreamFault.TheVariant
 use Rattle.zst_model.specs.declared.sends.ask.SendAsk.{SendAsk}
 use Rattle.zst_model.specs.pools.Kept.{KeepsAll, kept_of}
 use Rattle.zst_model.specs.pools.Pool.{Pool, IsPool, partial_of}
+use Rattle.zst_model.specs.pools.Sound.{Sound}
 use Rattle.zst_model.specs.sends.Headers.{Sent, header_of, sent_view}
 use Rattle.zst_model.specs.sends.SendPlan.{send_plan}
 use Rattle.zst_model.specs.states.Apply.{unless, ◌>>=◌}
 use Rattle.zst_laws.specs.KeptExample.{KeepingIsDone}
 use Rattle.zst_dir.specs.Rows.{Rows}
-use Rattle.zst_image.specs.Reads.{ReadsAs}
+use Rattle.zst_image.specs.Reads.{Reads, ReadsAs}
 use Rattle.zst_plan.specs.declared.receive.RecvAsk.{RecvAsk}
 use Rattle.zst_send.specs.Opening.{built, is_plain}
 use Rattle.zst_send.specs.Sends.{sent_text}
 use Rattle.zst_recv.specs.Feeds.{receives}
 use Rattle.zst_recv.specs.Receiving.{left_by, pool_of}
+use Rattle.zst_recv.specs.Stages.{TellsTarget}
+use Rattle.zst_replication.specs.Histories.{ReceivesRemember, StillRemembers}
 use Rattle.zst_replication.specs.Matching.{BasesMatch, OneMoreIsKept, PlainCanBeSent}
 use Rattle.zst_replication.specs.Outcomes.{HasNothing, HasOneMore, Progress, base_name}
 use Rattle.zst_replication.specs.Replicas.{AreOfStream, CutLeavesNothing, IsSendable, LeftIsKept, MatchesBase, SentIsReceived, WaitedForEach}
 use Rattle.zst_replication.specs.Replicas as replicas
 use Rattle.zst_replication.specs.Soundness.{ReceivesKeepSound}
-use Rattle.zst_run.specs.Receives.{IsOnTheWay, Keeps, ReceiveEnds, Received, Refused, Stopped, Waited}
-use Rattle.zst_run.specs.Replicated.{IsOnItsWay, IsReadOf, IsReceiver, IsSender, IsSoundAfter, RefusedLeavesNothing, SentSnapshotStands, SoundStaysSound, StopsAreProgress}
+use Rattle.zst_run.specs.Receives.{IsOnTheWay, Keeps, ReceiveEnds, Received, Receives, Refused, Stopped, Waited}
+use Rattle.zst_run.specs.Replicated.{IsOnItsWay, IsReadOf, IsReceiver, IsSender, RefusedLeavesNothing, SentSnapshotStands, SoundStaysSound, SourcesStillRemember, StopsAreProgress}
 use Rattle.zst_run.specs.Replies.{Replied}
 use Rattle.zst_run.specs.Sends.{SendEnds, Sends}
 use Rattle.zst_run.proofs.FedPieces.{open_live}
@@ -208,12 +211,27 @@ stops_so keeps fits law here there there' tight ask receive from into sent compo
 
 -- ---- a sound pool
 
-pub sound_so : ReceivesKeepSound → (there there' : DiskState) → SoundStaysSound there there'
-sound_so law there there' tight ask uber rows into result out out' input input' honest reads tells named sound none received =
+-- what holds of each pool that a receive leaves its image holds of each image on the way and in the end
+each_image : (Holds : Pool → Type 0) (there there' : DiskState) (tight : Bool) (ask : RecvAsk) (uber : Uber) (rows : Rows) (into : Pool) (result : Result (Unit {0}) Refusal)
+    (out out' : SinkState) (input input' : SourceState)
+    → there'.honest → ReadsAs tight uber rows into there.seen → TellsTarget ask rows into → Receives ask there there' input input' out out' result
+    → ((pieces : List (List ℕ)) → Holds (kept_of (pool_of (receives ask into pieces))))
+    → let Is : List ℕ → Type 0 = λ c. there.images c ⊎ ((after : Pool) × Reads tight (kept_of after) c × Holds (kept_of after)) in
+    Leaves there there' Is × ((c : List ℕ) → there'.images c → Is c)
+each_image Holds there there' tight ask uber rows into result out out' input input' honest reads tells received holds =
     let run = received.receiving in
-    let on_way : (c : List ℕ) → IsOnTheWay tight there ask into run.pieces c → IsSoundAfter tight there c =
-    λ c. ⊎_elim (λ stood. inl stood)
-    (λ came. inr (pool_of (receives ask into (take came.0 run.pieces)), came.1, (law ask into (take came.0 run.pieces) named reads.described.lawful sound none).1)) in (
-      Leaves-weaker there there' (IsOnTheWay tight there ask into run.pieces) (IsSoundAfter tight there) (run.moments tight uber rows into honest reads tells) on_way,
+    let Is : List ℕ → Type 0 = λ c. there.images c ⊎ ((after : Pool) × Reads tight (kept_of after) c × Holds (kept_of after)) in
+    let on_way : (c : List ℕ) → IsOnTheWay tight there ask into run.pieces c → Is c =
+    λ c. ⊎_elim (λ stood. inl stood) (λ came. inr (pool_of (receives ask into (take came.0 run.pieces)), came.1, holds (take came.0 run.pieces))) in (
+      Leaves-weaker there there' (IsOnTheWay tight there ask into run.pieces) Is (run.moments tight uber rows into honest reads tells) on_way,
       λ c image. on_way c (run.images tight uber rows into honest reads tells c image),
     )
+
+pub sound_so : ReceivesKeepSound → (there there' : DiskState) → SoundStaysSound there there'
+sound_so law there there' tight ask uber rows into result out out' input input' honest reads tells named sound none received =
+    each_image Sound there there' tight ask uber rows into result out out' input input' honest reads tells received (λ pieces. (law ask into pieces named reads.described.lawful sound none).1)
+
+pub remembered_so : ReceivesRemember → (there there' : DiskState) → SourcesStillRemember there there'
+remembered_so law there there' tight ask uber rows into source state result out out' input input' honest reads tells named sound none still received =
+    each_image (λ (p : Pool). StillRemembers p source state) there there' tight ask uber rows into result out out' input input' honest reads tells received
+    (λ pieces. (law ask into pieces source state named reads.described.lawful sound none still).1)

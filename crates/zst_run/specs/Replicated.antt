@@ -7,10 +7,12 @@ use Rattle.zst_names.specs.Names.{IsDataset}
 use Rattle.zst_model.specs.declared.refusals.refusal.Refusal.{Refusal}
 use Rattle.zst_model.specs.declared.refusals.refusal.Refusal.TheVariants as refusals
 use Rattle.zst_model.specs.declared.sends.ask.SendAsk.{SendAsk}
+use Rattle.zst_model.specs.pools.Before.{Source}
 use Rattle.zst_model.specs.pools.Kept.{kept_of}
 use Rattle.zst_model.specs.pools.Pool.{Pool, partial_of}
 use Rattle.zst_model.specs.pools.Sound.{Sound}
 use Rattle.zst_model.specs.sends.Headers.{Sent, header_of, sent_view}
+use Rattle.zst_model.specs.states.State.{State}
 use Rattle.zst_dir.specs.Rows.{Rows}
 use Rattle.zst_image.specs.Reads.{Reads, ReadsAs}
 use Rattle.zst_plan.specs.RecvPlan.{Base, Begins, recv_plan}
@@ -19,6 +21,7 @@ use Rattle.zst_stream.specs.Items.{IsUnredacted}
 use Rattle.zst_send.specs.Opening.{opening}
 use Rattle.zst_send.specs.Sends.{sent_text}
 use Rattle.zst_recv.specs.Stages.{TellsTarget}
+use Rattle.zst_replication.specs.Histories.{StillRemembers}
 use Rattle.zst_replication.specs.Matching.{KnowsSource}
 use Rattle.zst_replication.specs.Outcomes.{HasNothing, HasOneMore, Progress, base_name}
 use Rattle.zst_run.specs.Receives.{Keeps, Receives}
@@ -104,3 +107,16 @@ SoundStaysSound there there' =
     → there'.honest → ReadsAs tight uber rows into there.seen → TellsTarget ask rows into → IsDataset ask.target → Sound into → partial_of ask.target into ≡ None
     → Receives ask there there' input input' out out' result
     → Leaves there there' (IsSoundAfter tight there) × ((c : List ℕ) → there'.images c → IsSoundAfter tight there c)
+
+-- Whatever is read: of a receive into a sound pool each image on the way, and in the end, stood before or reads as a pool in which each snapshot and
+-- bookmark still stands, and remembers what it did.
+abbrev pub StillRemembersAfter : (tight : Bool) → Source → State → DiskState → List ℕ → Type 0
+StillRemembersAfter tight source state there image = there.images image ⊎ ((after : Pool) × Reads tight (kept_of after) image × StillRemembers (kept_of after) source state)
+
+abbrev pub SourcesStillRemember : (there there' : DiskState) → Type 0
+SourcesStillRemember there there' =
+    (tight : Bool) (ask : RecvAsk) (uber : Uber) (rows : Rows) (into : Pool) (source : Source) (state : State)
+    (result : Result (Unit {0}) Refusal) (out out' : SinkState) (input input' : SourceState)
+    → there'.honest → ReadsAs tight uber rows into there.seen → TellsTarget ask rows into → IsDataset ask.target → Sound into → partial_of ask.target into ≡ None
+    → StillRemembers into source state → Receives ask there there' input input' out out' result
+    → Leaves there there' (StillRemembersAfter tight source state there) × ((c : List ℕ) → there'.images c → StillRemembersAfter tight source state there c)

@@ -1,12 +1,12 @@
 // What the runs of a send and of a receive come to together.
-ghost use Rattle.zst_run.specs.Replicated.{RefusedLeavesNothing, SentSnapshotStands, SoundStaysSound, StopsAreProgress};
+ghost use Rattle.zst_run.specs.Replicated.{RefusedLeavesNothing, SentSnapshotStands, SoundStaysSound, SourcesStillRemember, StopsAreProgress};
 
 use zst_image::images_keep_partials;
 use zst_laws::keeping_is_done;
 use zst_outside::Disk;
 use zst_replication::{
     bases_match, cut_leaves_nothing, left_is_kept, one_more_is_kept, plain_can_be_sent,
-    receives_keep_sound, sent_is_received,
+    receives_keep_sound, receives_remember, sent_is_received,
 };
 
 /// What one run sent and another received stands as one snapshot more, and all else is as it was.
@@ -47,4 +47,11 @@ pub fn sound_stays_sound<E: Disk>()
     ensures { (there later : E) → SoundStaysSound (E.state there) (E.state later) }
 {
     receives_keep_sound();
+}
+
+/// Whatever is read, and wherever a receive is stopped, each snapshot and bookmark of a sound pool stays and remembers what it did.
+pub fn sources_still_remember<E: Disk>()
+    ensures { (there later : E) → SourcesStillRemember (E.state there) (E.state later) }
+{
+    receives_remember();
 }
