@@ -5,8 +5,9 @@ use Rattle.std.proofs.lemmas.Bool.{true≢false}
 use Rattle.std.proofs.lemmas.List.Elements.{All-contains}
 use Rattle.zst_model.proofs.InsertedLaws.{AllPairs-head, AllPairs-tail, contains_cases, contains_first, contains_later, contains_nothing}
 use Rattle.zst_model.proofs.OrderLaws.{bytes_same, same_bytes}
-use Rattle.zst_model.specs.pools.Pool.{Pool, Dataset, Snapshot, Bookmark, Partial, HasDataset, HasSnapshot, IsNamed, dataset_of_snapshot, dataset_of_bookmark}
+use Rattle.zst_model.specs.pools.Pool.{Pool, Dataset, Snapshot, Bookmark, Partial, HasDataset, HasSnapshot, dataset_of_snapshot, dataset_of_bookmark, snapshot_is_before}
 use Rattle.zst_model.specs.pools.Sound.{DatedUpTo}
+use Rattle.zst_model.specs.states.Dated.{DatedState}
 use Rattle.zst_plan.specs.RecvPlan.{is_dated_after, last_of}
 use Rattle.zst_pool.specs.Partials.{last_from, last_where, latest_snapshot}
 use Rattle.zst_replication.proofs.Agreeing.{Stays}
@@ -98,43 +99,73 @@ latest_is pool name rise latest e =
 pub latest_number : (pool : Pool) (name : List ℕ) (a b : Snapshot) → IsLatest pool name a → IsLatest pool name b → a.number ≡ b.number
 latest_number pool name a b is also = let up = also.most a is.there is.own in let down = is.most b also.there also.own in omega (arith, up, down)
 
--- a dataset may go back to its latest snapshot: its head has no later date, or no bookmark of the dataset is later
-abbrev pub MayGoBack : Pool → List ℕ → Snapshot → Type 0
-MayGoBack pool name latest =
-    ((dataset : Dataset) × Contains pool.datasets dataset × (dataset.name ≡ name) × (is_dated_after latest.number dataset.head ≡ false))
-    ⊎ ((bookmark : Bookmark) → Contains pool.bookmarks bookmark → dataset_of_bookmark bookmark ≡ name → bookmark.number ≤ latest.number)
+-- a dataset may go back to its latest snapshot, which has this number: its head has no later date, or no bookmark of the dataset is later
+abbrev pub MayGoBack : Pool → List ℕ → ℕ → Type 0
+MayGoBack pool name number =
+    ((dataset : Dataset) × Contains pool.datasets dataset × (dataset.name ≡ name) × (is_dated_after number dataset.head ≡ false))
+    ⊎ ((bookmark : Bookmark) → Contains pool.bookmarks bookmark → dataset_of_bookmark bookmark ≡ name → bookmark.number ≤ number)
 
 -- an old snapshot or none, and the latest one of a target that is there and may go back to it
 pub record IsOver (pool : Pool) (target : List ℕ) (base : Option Snapshot) : Type 0 where
   pub there : IfSome base (λ snapshot. Contains pool.snapshots snapshot)
-  pub onto : ((latest : Snapshot) × (base ≡ Some latest) × IsLatest pool target latest × MayGoBack pool target latest) ⊎ (HasDataset pool target → ⊥)
+  pub onto : ((latest : Snapshot) × (base ≡ Some latest) × IsLatest pool target latest × MayGoBack pool target latest.number) ⊎ (HasDataset pool target → ⊥)
 
--- a partial state that has grown from its base: what the base was dated up to the pool's number stays, and its snapshot's name is free
-pub record Grown (start : Pool) (number : ℕ) (partial : Partial) : Type 0 where
+-- a partial state begins afresh with these objects, over a base
+pub record IsAfresh (start : Pool) (partial : Partial) (from : DatedState) : Type 0 where
   pub base : Option Snapshot
   pub over : IsOver start partial.target base
   pub named : partial.base ≡ option_map (λ snapshot. snapshot.name) base
+  pub objects : (snapshot : Snapshot) → base ≡ Some snapshot → from ≡ snapshot.objects
+
+-- or with those of an old one of its target and base
+pub record IsResumed (olds : List Partial) (partial : Partial) (from : DatedState) : Type 0 where
+  pub old : Partial
+  pub there : Contains olds old
+  pub target : old.target ≡ partial.target
+  pub base : old.base ≡ partial.base
+  pub objects : from ≡ old.objects
+
+-- a partial state has grown from these: what they are dated up to the pool's number stays, and its snapshot's name is free
+pub record Grown (start : Pool) (olds : List Partial) (number : ℕ) (partial : Partial) : Type 0 where
+  pub from : DatedState
+  pub origin : IsAfresh start partial from ⊎ IsResumed olds partial from
+  pub based : (name : List ℕ) → partial.base ≡ Some name → HasSnapshot start name
   pub free : HasSnapshot start (partial.target ++ 64 ∷ partial.component) → ⊥
-  pub stays : (snapshot : Snapshot) → base ≡ Some snapshot → Stays start.number snapshot.objects partial.objects
+  pub stays : Stays start.number from partial.objects
   pub dated : DatedUpTo number partial.objects
+
+-- so has the same one further on
+pub grown_on : (start : Pool) (olds : List Partial) (number more : ℕ) (partial next : Partial) → partial.target ≡ next.target → partial.component ≡ next.component → partial.base ≡ next.base
+    → (grown : Grown start olds number partial) → Stays start.number grown.from next.objects → DatedUpTo more next.objects → Grown start olds more next
+grown_on start olds number more partial next target component base grown stays dated = record {
+  from = grown.from;
+  origin = elim grown.origin [
+    | inl is ↦ inl (record { base = is.base; over = subst (λ (t : List ℕ). IsOver start t is.base) target is.over; named = sym base ∙ is.named; objects = is.objects })
+    | inr is ↦ inr (record { old = is.old; there = is.there; target = is.target ∙ target; base = is.base ∙ base; objects = is.objects })
+  ];
+  based = λ name e. grown.based name (base ∙ e);
+  free = λ has. grown.free (subst (HasSnapshot start) (ap (λ (c : List ℕ). next.target ++ 64 ∷ c) (sym component) ∙ ap (λ (t : List ℕ). t ++ 64 ∷ partial.component) (sym target)) has);
+  stays = stays;
+  dated = dated;
+}
+
+-- snapshots stand in their order, and their names differ
+pub record AreOrdered (snapshots : List Snapshot) : Type 0 where
+  pub order : AllPairs (λ a b. snapshot_is_before b a ≡ false) snapshots
+  pub differ : AllPairs (λ a b. a.name ≢ b.name) snapshots
 
 -- snapshots whose names differ and that have one name are one
 same_named : (snapshots : List Snapshot) → AllPairs (λ a b. a.name ≢ b.name) snapshots → (a b : Snapshot) → Contains snapshots a → Contains snapshots b → a.name ≡ b.name → a ≡ b
 same_named snapshots differ a b here there same = same_element (λ c d. c.name ≢ d.name) snapshots differ a b here there (λ h. h same) (λ h. h (sym same))
 
-module _ (start : Pool) (named : IsNamed start) (number : ℕ) (partial : Partial) (grown : Grown start number partial) where
-  -- the base is the snapshot of its name
-  pub own_base : (other : Snapshot) → Contains start.snapshots other → partial.base ≡ Some other.name → grown.base ≡ Some other
-  own_base other there e = go grown.base grown.over.there (sym grown.named ∙ e)
-    where
-      go : (o : Option Snapshot) → IfSome o (λ snapshot. Contains start.snapshots snapshot) → option_map (λ snapshot. snapshot.name) o ≡ Some other.name → o ≡ Some other
-      go None has e = absurd cc
-      go (Some snapshot) has e = ap (λ (s : Snapshot). Some s) (same_named start.snapshots named.snapshots_differ snapshot other has there (some_parts snapshot.name other.name e))
+-- a base is the snapshot of its name
+pub named_base : (start : Pool) → AreOrdered start.snapshots → (base : Option Snapshot) → IfSome base (λ snapshot. Contains start.snapshots snapshot) → (other : Snapshot) → Contains start.snapshots other
+    → option_map (λ snapshot. snapshot.name) base ≡ Some other.name → base ≡ Some other
+named_base start named None has other there e = absurd cc
+named_base start named (Some snapshot) has other there e =
+    ap (λ (s : Snapshot). Some s) (same_named start.snapshots named.differ snapshot other has there (some_parts snapshot.name other.name e))
 
-  -- it is there
-  pub base_named : (name : List ℕ) → partial.base ≡ Some name → HasSnapshot start name
-  base_named name e = go grown.base grown.over.there (sym grown.named ∙ e)
-    where
-      go : (o : Option Snapshot) → IfSome o (λ snapshot. Contains start.snapshots snapshot) → option_map (λ snapshot. snapshot.name) o ≡ Some name → HasSnapshot start name
-      go None has e = absurd cc
-      go (Some snapshot) has e = (snapshot, has, some_parts snapshot.name name e)
+-- it is there
+pub base_named : (start : Pool) (base : Option Snapshot) → IfSome base (λ snapshot. Contains start.snapshots snapshot) → (name : List ℕ) → option_map (λ snapshot. snapshot.name) base ≡ Some name → HasSnapshot start name
+base_named start None has name e = absurd cc
+base_named start (Some snapshot) has name e = (snapshot, has, some_parts snapshot.name name e)

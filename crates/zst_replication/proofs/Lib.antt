@@ -21,4 +21,5 @@ mod Finding
 mod SoundUnder
 mod SoundFinished
 mod Coming
+mod Resumed
 mod SoundFeeds

@@ -35,25 +35,25 @@ none_later name number pool none bookmark there same = elim (cases_lt number boo
 
 -- with or without the head's rollback the base is the latest snapshot, and the dataset may go back to it
 latest_base : (force : Bool) (dataset : Dataset) (latest : Snapshot) (pool : Pool) (base : Base) → Contains pool.datasets dataset → base_by_head force dataset latest pool ≡ Ok base
-    → (base.snapshot ≡ Some latest) × MayGoBack pool dataset.name latest
+    → (base.snapshot ≡ Some latest) × MayGoBack pool dataset.name latest.number
 latest_base force dataset latest pool base there e = go (is_dated_after latest.number dataset.head) refl e
   where
     held : (o : Option Bookmark) → find (is_later dataset.name latest.number) pool.bookmarks ≡ o
         → option_map_or (λ bookmark. Err (plans.Busy (holders.Bookmark bookmark.name))) o (Ok (record { snapshot = Some latest; rolls = true })) ≡ Ok base
-        → (base.snapshot ≡ Some latest) × MayGoBack pool dataset.name latest
+        → (base.snapshot ≡ Some latest) × MayGoBack pool dataset.name latest.number
     held None none e = (sym (ap (λ (b : Base). b.snapshot) (ok_parts _ base e)), inr (none_later dataset.name latest.number pool none))
     held (Some bookmark) is e = absurd cc
 
     go : (t : Bool) → is_dated_after latest.number dataset.head ≡ t
         → cond t (unless (not force) (plans.Modified dataset.name) (rolled_back dataset latest pool)) (Ok (record { snapshot = Some latest; rolls = false })) ≡ Ok base
-        → (base.snapshot ≡ Some latest) × MayGoBack pool dataset.name latest
+        → (base.snapshot ≡ Some latest) × MayGoBack pool dataset.name latest.number
     go true is e = held (find (is_later dataset.name latest.number) pool.bookmarks) refl (unless_ok (not force) (plans.Modified dataset.name) (rolled_back dataset latest pool) base e).1
     go false is e = (sym (ap (λ (b : Base). b.snapshot) (ok_parts _ base e)), inl (dataset, there, refl, is))
 
 module _ (ask : RecvAsk) (header : Header) (pool : Pool) (rise : AllPairs Rises pool.snapshots) where
   -- a target that is there takes its stream over its latest snapshot
   onto_latest : (dataset : Dataset) (base : Base) → Contains pool.datasets dataset → base_onto ask header pool dataset ≡ Ok base
-      → (latest : Snapshot) × (base.snapshot ≡ Some latest) × IsLatest pool dataset.name latest × MayGoBack pool dataset.name latest
+      → (latest : Snapshot) × (base.snapshot ≡ Some latest) × IsLatest pool dataset.name latest × MayGoBack pool dataset.name latest.number
   onto_latest dataset base there e =
       let own : Snapshot → Result Base PlanFault = λ latest. base_by_head ask.force dataset latest pool in
       let kinded : Snapshot → Result Base PlanFault = λ latest. if_kind dataset.kind header (own latest) in
@@ -74,11 +74,11 @@ module _ (ask : RecvAsk) (header : Header) (pool : Pool) (rise : AllPairs Rises 
   planned_over base e = record { there = (base_there ask header pool base e).there; onto = go (dataset_named ask.target pool) refl e }
     where
       go : (o : Option Dataset) → dataset_named ask.target pool ≡ o → option_map_or (base_onto ask header pool) o (base_anew ask header pool) ≡ Ok base
-          → ((latest : Snapshot) × (base.snapshot ≡ Some latest) × IsLatest pool ask.target latest × MayGoBack pool ask.target latest) ⊎ (HasDataset pool ask.target → ⊥)
+          → ((latest : Snapshot) × (base.snapshot ≡ Some latest) × IsLatest pool ask.target latest × MayGoBack pool ask.target latest.number) ⊎ (HasDataset pool ask.target → ⊥)
       go None is e = inr (λ has. true≢false
           (sym (bytes_same has.0.name ask.target has.2) ∙ none_passes (λ dataset. bytes_eq dataset.name ask.target) pool.datasets is has.0 has.1))
       go (Some dataset) is e =
           let found = found_there (λ dataset. bytes_eq dataset.name ask.target) pool.datasets dataset is in
           let latest = onto_latest dataset base found.0 e in
           let same = same_bytes dataset.name ask.target found.1 in
-          inl (latest.0, latest.1, subst (λ (n : List ℕ). IsLatest pool n latest.0) same latest.2, subst (λ (n : List ℕ). MayGoBack pool n latest.0) same latest.3)
+          inl (latest.0, latest.1, subst (λ (n : List ℕ). IsLatest pool n latest.0) same latest.2, subst (λ (n : List ℕ). MayGoBack pool n latest.0.number) same latest.3)

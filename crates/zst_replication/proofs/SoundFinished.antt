@@ -8,7 +8,7 @@ use Rattle.zst_names.specs.Names.{IsDataset}
 use Rattle.zst_names.proofs.Marked.{join_is_name}
 use Rattle.zst_model.proofs.InsertedLaws.{All-from_contains, AllPairs-inserted, contains-inserted, contains-map, inserted_has_rest, map_contains}
 use Rattle.zst_model.proofs.OrderLaws.{bytes_same, not_before_itself, row_before_from, row_before_one_way, row_before_parts, row_before_trans, same_bytes}
-use Rattle.zst_model.specs.pools.Pool.{Pool, Dataset, Snapshot, Bookmark, Partial, HasDataset, HasSnapshot, IsLinked, IsNamed, dataset_of_snapshot, dataset_of_bookmark, inserted, is_before, snapshot_is_before}
+use Rattle.zst_model.specs.pools.Pool.{Pool, Dataset, Snapshot, Bookmark, Partial, HasDataset, HasSnapshot, IsLinked, dataset_of_snapshot, dataset_of_bookmark, inserted, is_before, snapshot_is_before}
 use Rattle.zst_model.specs.pools.Before.{IsOrigin, IsBase, Source, OfSnapshot, number_of_source, IsIn, StandsBefore, Earlier, AtOrigin, BeforeOrigin, IsBefore, IsBeforePartial}
 use Rattle.zst_model.specs.pools.Rows.{Row, snapshot_row, head_row, partial_row, rows}
 use Rattle.zst_model.specs.pools.Sound.{Agrees, DatedUpTo, IsBookmarkOf, Sound}
@@ -18,8 +18,9 @@ use Rattle.zst_model.specs.states.State.{State}
 use Rattle.zst_laws.specs.Remembering.{IsOwn, SourceRemembers}
 use Rattle.zst_pool.specs.Partials.{changed_at, dataset_from, head_from}
 use Rattle.zst_replication.proofs.Agreeing.{dated_higher}
-use Rattle.zst_replication.proofs.Finding.{Finds, clone_fits, finds_snapshot, finds_source, target_fits}
-use Rattle.zst_replication.proofs.Grown.{Grown, base_named}
+use Rattle.zst_replication.proofs.Finding.{Finds, clone_fits, counts_absent, finds_snapshot, finds_source, target_fits}
+use Rattle.zst_replication.proofs.Grown.{AreOrdered, Grown}
+use Rattle.zst_replication.proofs.Planned.{found_there}
 use Rattle.zst_replication.proofs.Running.{finished_datasets, finished_snapshot}
 use Rattle.zst_replication.proofs.SoundUnder.{AreOlds, IsHeadOf}
 use Rattle.zst_replication.proofs.Standing.{HasOldOrigins, IsRow, SnapshotRow, HeadRow, PartialRow, Rises, agrees_itself, none_passes, old_number, old_origins, owner, row_cases, sound_dated, stood_before, stood_before_partial}
@@ -94,7 +95,7 @@ module _ (start : Pool) (datasets : List Dataset) (partial : Partial) (heads : A
     where
       same : (old : Dataset) → IsHeadOf start partial.target old dataset → old ≡ dataset
       same old (inl one) = one
-      same old (inr (at, latest, is, head)) = absurd (differs at)
+      same old (inr (at, latest, is, back, head)) = absurd (differs at)
 
   finished_had : (dataset : Dataset) → Contains datasets dataset → IsHad start partial (finish dataset)
   finished_had dataset there = go (is_target dataset) refl
@@ -135,8 +136,8 @@ module _ (start : Pool) (datasets : List Dataset) (partial : Partial) (heads : A
       go (Some found) = let old = heads.names name has in (finish old.0, contains-map finish datasets old.0 old.1, finish_name old.0 ∙ old.2)
       go None = let old = heads.names name has in (old.0, inserted_has_rest (λ a b. is_before a.name b.name) (dataset_from partial) datasets old.0 old.1, old.2)
 
-module _ (start : Pool) (linked : IsLinked start) (named : IsNamed start) (sound : Sound start) (number : ℕ) (later : start.number < number)
-    (datasets : List Dataset) (partial : Partial) (heads : AreOlds start partial.target datasets) (grown : Grown start number partial)
+module _ (start : Pool) (linked : IsLinked start) (named : AreOrdered start.snapshots) (sound : Sound start) (olds : List Partial) (number : ℕ) (later : start.number < number)
+    (datasets : List Dataset) (partial : Partial) (heads : AreOlds start partial.target datasets) (grown : Grown start olds number partial)
     (is_name : IsDataset partial.target) (only : (other : Partial) → Contains start.partials other → other.target ≡ partial.target → ⊥)
   where
     abbrev new : Snapshot
@@ -175,7 +176,7 @@ module _ (start : Pool) (linked : IsLinked start) (named : IsNamed start) (sound
     origin_named : (dataset : Dataset) (name : List ℕ) → IsAfter start partial dataset → dataset.origin ≡ Some name → HasSnapshot start name
     origin_named dataset name (inl had) e =
         linked_name had.old.origin name (All-contains (λ d. IfSome d.origin (HasSnapshot start)) start.datasets had.old linked.origins had.there) (had.origin ∙ e)
-    origin_named dataset name (inr made) e = base_named start named number partial grown name (ap (λ (d : Dataset). d.origin) made.0 ∙ e)
+    origin_named dataset name (inr made) e = grown.based name (ap (λ (d : Dataset). d.origin) made.0 ∙ e)
 
     origin_old : (origin : Snapshot) (name : List ℕ) → IsOrigin now origin name → Contains start.snapshots origin
     origin_old origin name is = old_of origin (origin_named is.dataset origin.name (dataset_cases is.dataset is.there) is.is_origin) is.snapshot_there
@@ -214,26 +215,32 @@ module _ (start : Pool) (linked : IsLinked start) (named : IsNamed start) (sound
 
     -- ---- an old source and a row
 
-    module _ (source : Source) (Fits : DatedState → Type 0) (finds : Finds start partial.target source Fits) where
+    module _ (source : Source) (Fits : DatedState → Type 0) (finds : Finds start olds partial.target source Fits) where
       stood : (name : List ℕ) (bound : Option ℕ) → HasDataset start name → StandsBefore now source name bound → StandsBefore start source name bound
       stood name bound has before = stood_before (HasDataset start) start now source finished_origins name bound has before
 
       before_clone : (HasDataset start partial.target → ⊥) → (name : List ℕ) (bound : Option ℕ) → name ≡ partial.target → StandsBefore now source name bound → Fits partial.objects
       before_clone absent name bound at (Earlier _ _ same below) = absurd (absent (subst (HasDataset start) (same ∙ at) finds.dataset))
       before_clone absent name bound at (AtOrigin _ _ origin is marks) =
-          clone_fits start named number partial grown source Fits finds origin (origin_old origin name is) (clone_origin absent origin (subst (IsOrigin now origin) at is)) (inl marks)
+          clone_fits start named olds number partial grown source Fits finds origin (origin_old origin name is) (clone_origin absent origin (subst (IsOrigin now origin) at is))
+          (counts_absent start source partial absent) (inl marks)
       before_clone absent name bound at (BeforeOrigin _ _ origin is before) =
           let there = origin_old origin name is in
-          clone_fits start named number partial grown source Fits finds origin there (clone_origin absent origin (subst (IsOrigin now origin) at is))
-          (inr (stood (dataset_of_snapshot origin) (Some origin.number) (owner start linked origin there) before))
+          clone_fits start named olds number partial grown source Fits finds origin there (clone_origin absent origin (subst (IsOrigin now origin) at is))
+          (counts_absent start source partial absent) (inr (stood (dataset_of_snapshot origin) (Some origin.number) (owner start linked origin there) before))
 
       before_target : (bound : Option ℕ) → StandsBefore now source partial.target bound → Fits partial.objects
-      before_target bound before = elim grown.over.onto [
-        | inl (latest, e, is, back) ↦
-            let has = subst (HasDataset start) is.own (owner start linked latest is.there) in
-            target_fits start named number partial grown source Fits finds bound has (stood partial.target bound has before)
-        | inr absent ↦ before_clone absent partial.target bound refl before
-      ]
+      before_target bound before = go (find (λ d. bytes_eq d.name partial.target) start.datasets) refl
+        where
+          go : (o : Option Dataset) → find (λ d. bytes_eq d.name partial.target) start.datasets ≡ o → Fits partial.objects
+          go (Some dataset) e =
+              let found = found_there (λ d. bytes_eq d.name partial.target) start.datasets dataset e in
+              let has : HasDataset start partial.target = (dataset, found.0, same_bytes dataset.name partial.target found.1) in
+              target_fits start named olds number partial grown source Fits finds bound has (stood partial.target bound has before)
+          go None e =
+              before_clone
+              (λ has. true≢false (sym (bytes_same has.0.name partial.target has.2) ∙ none_passes (λ d. bytes_eq d.name partial.target) start.datasets e has.0 has.1))
+              partial.target bound refl before
 
       at_target : (name : List ℕ) (bound : Option ℕ) → name ≡ partial.target → StandsBefore now source name bound → Fits partial.objects
       at_target name bound at before = before_target bound (subst (λ (n : List ℕ). StandsBefore now source n bound) at before)
@@ -266,15 +273,16 @@ module _ (start : Pool) (linked : IsLinked start) (named : IsNamed start) (sound
           (names_stay start datasets partial heads other.target) before)
 
     -- what a source remembers, it remembers in the pool: no old source has the new snapshot's number
-    own_remembers : (source : Source) (state : State) → Finds start partial.target source (λ snap. Remembers snap (number_of_source source) state) → (snapshot : Snapshot) → IsOwn source snapshot
+    own_remembers : (source : Source) (state : State) → Finds start olds partial.target source (λ snap. Remembers snap (number_of_source source) state) → (snapshot : Snapshot) → IsOwn source snapshot
         → (new ≡ snapshot) ⊎ Contains start.snapshots snapshot → Remembers snapshot.objects (number_of_source source) state
     own_remembers source state finds snapshot own (inl one) =
         let up = finds.number in let same = own.number in let is = ap (λ (s : Snapshot). s.number) one in absurd (omega (arith, up, same, is, later))
     own_remembers source state finds snapshot own (inr old) = finds.own snapshot old own
 
-    pub finished_remembers : (source : Source) (state : State) → IsIn start source → SourceRemembers start source state → SourceRemembers now source state
-    finished_remembers source state here remembers =
-        let finds = finds_source start linked sound partial.target grown.base grown.over source state here remembers in record {
+    pub finished_remembers : (source : Source) (state : State) → IsIn start source → SourceRemembers start source state
+        → ((old : Partial) → Contains olds old → IsBeforePartial start source old → Remembers old.objects (number_of_source source) state) → SourceRemembers now source state
+    finished_remembers source state here remembers held =
+        let finds = finds_source start linked sound olds partial.target source state here remembers held in record {
           own = λ snapshot there own. own_remembers source state finds snapshot own (new_or_old snapshot there);
           later = λ row there before. row_fits source (λ snap. Remembers snap (number_of_source source) state) finds row (row_cases now row there) before;
         }
@@ -327,10 +335,13 @@ module _ (start : Pool) (linked : IsLinked start) (named : IsNamed start) (sound
     new_agrees row (HeadRow dataset there) before = own_head dataset (dataset_cases dataset there) (before_head dataset.name before)
     new_agrees row (PartialRow other there) before = absurd (before_no_partial other there before)
 
-    row_agrees : (earlier : Snapshot) (row : Row) → (new ≡ earlier) ⊎ Contains start.snapshots earlier → IsRow now row → IsBefore now (OfSnapshot earlier) row.place → Agrees earlier row.objects
-    row_agrees earlier row (inl one) is before =
+    abbrev Held : Type 0
+    Held = (earlier : Snapshot) → Contains start.snapshots earlier → (old : Partial) → Contains olds old → IsBeforePartial start (OfSnapshot earlier) old → Agrees earlier old.objects
+
+    row_agrees : Held → (earlier : Snapshot) (row : Row) → (new ≡ earlier) ⊎ Contains start.snapshots earlier → IsRow now row → IsBefore now (OfSnapshot earlier) row.place → Agrees earlier row.objects
+    row_agrees held earlier row (inl one) is before =
         subst (λ (s : Snapshot). Agrees s row.objects) one (new_agrees row is (subst (λ (s : Snapshot). IsBefore now (OfSnapshot s) row.place) (sym one) before))
-    row_agrees earlier row (inr old) is before = row_fits (OfSnapshot earlier) (Agrees earlier) (finds_snapshot start linked sound partial.target earlier old) row is before
+    row_agrees held earlier row (inr old) is before = row_fits (OfSnapshot earlier) (Agrees earlier) (finds_snapshot start linked sound olds partial.target earlier old (held earlier old)) row is before
 
     -- ---- dates
 
@@ -369,13 +380,13 @@ module _ (start : Pool) (linked : IsLinked start) (named : IsNamed start) (sound
       ];
     }
 
-    pub finished_sound : Sound now
-    finished_sound = record {
-      agree = λ earlier row here there before. row_agrees earlier row (new_or_old earlier here) (row_cases now row there) before;
+    pub finished_sound : ((earlier : Snapshot) → Contains start.snapshots earlier → (old : Partial) → Contains olds old → IsBeforePartial start (OfSnapshot earlier) old → Agrees earlier old.objects) → Sound now
+    finished_sound held = record {
+      agree = λ earlier row here there before. row_agrees held earlier row (new_or_old earlier here) (row_cases now row there) before;
       dated = record {
         states = All-from_contains (λ r. DatedUpTo r.number r.objects) (rows now) (λ row there. row_dated row (row_cases now row there));
         numbers = All-from_contains (λ s. s.number ≤ number) now.snapshots any_up;
-        rise = rise-inserted new start.snapshots old_less sound.dated.rise named.snapshots;
+        rise = rise-inserted new start.snapshots old_less sound.dated.rise named.order;
         above = number_above;
       };
       bookmarks = All-from_contains (IsBookmarkOf now) start.bookmarks (λ b there. bookmark_stays b (All-contains (IsBookmarkOf start) start.bookmarks b sound.bookmarks there));

@@ -5,7 +5,7 @@ use Rattle.std.specs.Prelude.{bytes_eq}
 use Rattle.std.proofs.lemmas.List.Elements.{All-contains}
 use Rattle.zst_model.proofs.InsertedLaws.{All-from_contains, contains-inserted, contains-map, map_contains}
 use Rattle.zst_model.proofs.OrderLaws.{same_bytes}
-use Rattle.zst_model.specs.pools.Pool.{Pool, Dataset, Snapshot, Bookmark, Partial, HasDataset, IsLinked, IsNamed, dataset_of_snapshot, dataset_of_bookmark, inserted, is_before}
+use Rattle.zst_model.specs.pools.Pool.{Pool, Dataset, Snapshot, Bookmark, Partial, HasDataset, IsLinked, dataset_of_snapshot, dataset_of_bookmark, inserted, is_before}
 use Rattle.zst_model.specs.pools.Before.{IsOrigin, Source, OfSnapshot, number_of_source, IsIn, StandsBefore, IsBefore, IsBeforePartial}
 use Rattle.zst_model.specs.pools.Rows.{Row, snapshot_row, head_row, partial_row, rows}
 use Rattle.zst_model.specs.pools.Sound.{Agrees, DatedUpTo, IsBookmarkOf, Sound}
@@ -16,14 +16,14 @@ use Rattle.zst_laws.specs.Remembering.{SourceRemembers}
 use Rattle.zst_pool.specs.Partials.{changed_at, latest_snapshot, rolled, rolled_back, rolled_to}
 use Rattle.zst_replication.proofs.Agreeing.{dated_higher}
 use Rattle.zst_replication.proofs.Finding.{Finds, clone_fits, finds_snapshot, finds_source, latest_fits, target_fits}
-use Rattle.zst_replication.proofs.Grown.{Grown, IsLatest, latest_is}
-use Rattle.zst_replication.proofs.Standing.{HasOldOrigins, IsRow, SnapshotRow, HeadRow, PartialRow, Rises, old_number, old_origins, owner, row_cases, sound_dated, stood_before, stood_before_partial}
+use Rattle.zst_replication.proofs.Grown.{AreOrdered, Grown, IsLatest, MayGoBack, latest_is}
+use Rattle.zst_replication.proofs.Standing.{HasOldOrigins, IsRow, SnapshotRow, HeadRow, PartialRow, Rises, counted, old_number, old_origins, owner, row_cases, sound_dated, stood_before, stood_before_partial}
 
 -- ---- the datasets
 
 -- a dataset has the head that an old one had, or that of the target's latest snapshot
 abbrev pub IsHeadOf : Pool → List ℕ → Dataset → Dataset → Type 0
-IsHeadOf start target old dataset = (old ≡ dataset) ⊎ ((dataset.name ≡ target) × (latest : Snapshot) × IsLatest start target latest × (dataset.head ≡ latest.objects))
+IsHeadOf start target old dataset = (old ≡ dataset) ⊎ ((dataset.name ≡ target) × (latest : Snapshot) × IsLatest start target latest × MayGoBack start target latest.number × (dataset.head ≡ latest.objects))
 
 -- and its name and origin
 pub record IsOldOf (start : Pool) (target : List ℕ) (old dataset : Dataset) : Type 0 where
@@ -40,7 +40,7 @@ pub same_olds : (start : Pool) (target : List ℕ) → AreOlds start target star
 same_olds start target = record { olds = λ dataset there. (dataset, there, record { name = refl; origin = refl; head = inl refl }); names = λ name has. has }
 
 module _ (start : Pool) (target : List ℕ) (rise : AllPairs Rises start.snapshots) where
-  module _ (latest : Snapshot) (is : IsLatest start target latest) where
+  module _ (latest : Snapshot) (is : IsLatest start target latest) (back : MayGoBack start target latest.number) where
     abbrev roll : Dataset → Dataset
     roll = changed_at target (rolled_to latest)
 
@@ -48,7 +48,7 @@ module _ (start : Pool) (target : List ℕ) (rise : AllPairs Rises start.snapsho
     rolled_one old = go (bytes_eq old.name target) refl
       where
         go : (t : Bool) → bytes_eq old.name target ≡ t → IsOldOf start target old (cond t (rolled_to latest old) old)
-        go true e = record { name = refl; origin = refl; head = inr (same_bytes old.name target e, latest, is, refl) }
+        go true e = record { name = refl; origin = refl; head = inr (same_bytes old.name target e, latest, is, back, refl) }
         go false e = record { name = refl; origin = refl; head = inl refl }
 
     rolled_olds : AreOlds start target (map roll start.datasets)
@@ -59,12 +59,12 @@ module _ (start : Pool) (target : List ℕ) (rise : AllPairs Rises start.snapsho
       names = λ name has. (roll has.0, contains-map roll start.datasets has.0 has.1, sym (rolled_one has.0).name ∙ has.2);
     }
 
-  pub back_olds : AreOlds start target (rolled_back target start)
-  back_olds = go (latest_snapshot target start) refl
+  pub back_olds : ((latest : Snapshot) → IsLatest start target latest → MayGoBack start target latest.number) → AreOlds start target (rolled_back target start)
+  back_olds back = go (latest_snapshot target start) refl
     where
       go : (o : Option Snapshot) → latest_snapshot target start ≡ o → AreOlds start target (rolled target o start.datasets)
       go None e = same_olds start target
-      go (Some latest) e = rolled_olds latest (latest_is start target rise latest e)
+      go (Some latest) e = let is = latest_is start target rise latest e in rolled_olds latest is (back latest is)
 
 -- ---- the pool
 
@@ -72,8 +72,8 @@ module _ (start : Pool) (target : List ℕ) (rise : AllPairs Rises start.snapsho
 abbrev pub under : Pool → ℕ → List Dataset → Partial → Pool
 under start number datasets partial = record start { number = number; datasets = datasets; partials = inserted (λ a b. is_before a.target b.target) partial start.partials }
 
-module _ (start : Pool) (linked : IsLinked start) (named : IsNamed start) (sound : Sound start) (number : ℕ) (later : start.number ≤ number)
-    (datasets : List Dataset) (partial : Partial) (heads : AreOlds start partial.target datasets) (grown : Grown start number partial)
+module _ (start : Pool) (linked : IsLinked start) (named : AreOrdered start.snapshots) (sound : Sound start) (olds : List Partial) (number : ℕ) (later : start.number ≤ number)
+    (datasets : List Dataset) (partial : Partial) (heads : AreOlds start partial.target datasets) (grown : Grown start olds number partial)
   where
     abbrev now : Pool
     now = under start number datasets partial
@@ -95,7 +95,7 @@ module _ (start : Pool) (linked : IsLinked start) (named : IsNamed start) (sound
 
     -- ---- a source and a row
 
-    module _ (source : Source) (Fits : DatedState → Type 0) (finds : Finds start partial.target source Fits) where
+    module _ (source : Source) (Fits : DatedState → Type 0) (finds : Finds start olds partial.target source Fits) where
       stood : (name : List ℕ) (bound : Option ℕ) → HasDataset start name → StandsBefore now source name bound → StandsBefore start source name bound
       stood name bound has before = stood_before (HasDataset start) start now source under_origins name bound has before
 
@@ -103,18 +103,18 @@ module _ (start : Pool) (linked : IsLinked start) (named : IsNamed start) (sound
       head_fits old dataset there same (inl one) before =
           subst (λ (d : Dataset). Fits d.head) one
           (finds.later (head_row start.number old) (HeadRow old there) (stood old.name None (old, there, refl) (subst (λ (n : List ℕ). StandsBefore now source n None) (sym same) before)))
-      head_fits old dataset there same (inr (at, latest, is, head)) before =
+      head_fits old dataset there same (inr (at, latest, is, back, head)) before =
           subst (λ (d : DatedState). Fits d) (sym head)
-          (latest_fits start named number partial grown source Fits finds latest partial.target None is refl
+          (latest_fits start named olds number partial grown source Fits finds latest partial.target None is back refl
           (stood partial.target None (old, there, same ∙ at) (subst (λ (n : List ℕ). StandsBefore now source n None) at before)))
 
       partial_fits : IsBeforePartial now source partial → Fits partial.objects
       partial_fits (inl at) =
-          let has = had partial.target at.target in target_fits start named number partial grown source Fits finds None has (stood partial.target None has at.before)
+          let has = had partial.target at.target in target_fits start named olds number partial grown source Fits finds None has (stood partial.target None has at.before)
       partial_fits (inr at) =
           let clone = at.1 in
           let there = clone.is_base.there in
-          clone_fits start named number partial grown source Fits finds clone.base there clone.is_base.is_base (elim clone.before [
+          clone_fits start named olds number partial grown source Fits finds clone.base there clone.is_base.is_base (counted start now source partial (heads.names partial.target) at.0) (elim clone.before [
             | inl marks ↦ inl marks
             | inr before ↦ inr (stood (dataset_of_snapshot clone.base) (Some clone.base.number) (owner start linked clone.base there) before)
           ])
@@ -136,11 +136,12 @@ module _ (start : Pool) (linked : IsLinked start) (named : IsNamed start) (sound
           go (inr old) before = other_fits other old before
 
     -- what a source remembers, it remembers in the pool
-    pub under_remembers : (source : Source) (state : State) → IsIn start source → SourceRemembers start source state → SourceRemembers now source state
-    under_remembers source state here remembers = record {
+    pub under_remembers : (source : Source) (state : State) → IsIn start source → SourceRemembers start source state
+        → ((old : Partial) → Contains olds old → IsBeforePartial start source old → Remembers old.objects (number_of_source source) state) → SourceRemembers now source state
+    under_remembers source state here remembers held = record {
       own = λ snapshot there own. remembers.own snapshot there own;
       later = λ row there before.
-          row_fits source (λ snap. Remembers snap (number_of_source source) state) (finds_source start linked sound partial.target grown.base grown.over source state here remembers) row (row_cases now row there) before;
+          row_fits source (λ snap. Remembers snap (number_of_source source) state) (finds_source start linked sound olds partial.target source state here remembers held) row (row_cases now row there) before;
     }
 
     -- ---- dates
@@ -150,7 +151,7 @@ module _ (start : Pool) (linked : IsLinked start) (named : IsNamed start) (sound
 
     head_dated : (old dataset : Dataset) → Contains start.datasets old → IsHeadOf start partial.target old dataset → DatedUpTo number dataset.head
     head_dated old dataset there (inl one) = subst (λ (d : Dataset). DatedUpTo number d.head) one (up_to old.head (sound_dated start sound (head_row start.number old) (HeadRow old there)))
-    head_dated old dataset there (inr (at, latest, is, head)) =
+    head_dated old dataset there (inr (at, latest, is, back, head)) =
         let up = old_number start sound latest is.there in
         subst (λ (d : DatedState). DatedUpTo number d) (sym head)
         (dated_higher latest.number number (omega (arith, up, later)) latest.objects (sound_dated start sound (snapshot_row latest) (SnapshotRow latest is.there)))
@@ -171,9 +172,9 @@ module _ (start : Pool) (linked : IsLinked start) (named : IsNamed start) (sound
       guid = is.guid;
     }
 
-    pub under_sound : Sound now
-    under_sound = record {
-      agree = λ earlier row here there before. row_fits (OfSnapshot earlier) (Agrees earlier) (finds_snapshot start linked sound partial.target earlier here) row (row_cases now row there) before;
+    pub under_sound : ((earlier : Snapshot) → Contains start.snapshots earlier → (old : Partial) → Contains olds old → IsBeforePartial start (OfSnapshot earlier) old → Agrees earlier old.objects) → Sound now
+    under_sound held = record {
+      agree = λ earlier row here there before. row_fits (OfSnapshot earlier) (Agrees earlier) (finds_snapshot start linked sound olds partial.target earlier here (held earlier here)) row (row_cases now row there) before;
       dated = record {
         states = All-from_contains (λ r. DatedUpTo r.number r.objects) (rows now) (λ row there. row_dated row (row_cases now row there));
         numbers = All-from_contains (λ s. s.number ≤ number) start.snapshots (λ s there. let l = old_number start sound s there in omega (arith, l, later));

@@ -1,7 +1,7 @@
 -- What stands before what, in the pool that runs while a receive is under way and in the pool that it began with.
-use Rattle.std.proofs.Common.{◌≡◌, inl, inr, ◌⊎◌, ℕ, ◌<◌, ◌≤◌, Bool, true, false, List, [], ◌∷◌, ◌++◌, map, Option, Some, None, AllPairs, Contains, find, cond, refl, sym, ap, ◌∙◌, subst, arith}
+use Rattle.std.proofs.Common.{◌≡◌, inl, inr, ◌⊎◌, ℕ, ◌<◌, ◌≤◌, Bool, true, false, List, [], ◌∷◌, ◌++◌, map, Option, Some, None, IfSome, AllPairs, Contains, find, cond, refl, sym, ap, ◌∙◌, subst, arith}
 use Rattle.std.proofs.lemmas.List.Elements.{All-contains, Contains-append_left, Contains-append_right, Contains-append_cases}
-use Rattle.zst_model.specs.pools.Pool.{Pool, Dataset, Snapshot, Bookmark, Partial, HasDataset, IsLinked, dataset_of_snapshot, dataset_of_bookmark}
+use Rattle.zst_model.specs.pools.Pool.{Pool, Dataset, Snapshot, Bookmark, Partial, HasDataset, HasSnapshot, IsLinked, dataset_of_snapshot, dataset_of_bookmark}
 use Rattle.zst_model.specs.pools.Before.{IsOrigin, IsBase, Source, OfSnapshot, OfBookmark, StandsBefore, Earlier, AtOrigin, BeforeOrigin, BaseCounts, IsBefore, IsBeforePartial}
 use Rattle.zst_model.specs.pools.Rows.{Row, snapshot_row, head_row, partial_row, rows}
 use Rattle.zst_model.specs.pools.Sound.{Agrees, DatedUpTo, IsBookmarkOf, Sound}
@@ -111,7 +111,7 @@ stood_before Has old new source h name bound has (BeforeOrigin _ _ origin is bef
     BeforeOrigin name bound origin was.0 (stood_before Has old new source h (dataset_of_snapshot origin) (Some origin.number) was.1 before)
 
 -- a base that counts in the new pool counts in the old one, where the target isn't new
-counted : (old new : Pool) (source : Source) (partial : Partial) → (HasDataset old partial.target → HasDataset new partial.target) → BaseCounts new source partial → BaseCounts old source partial
+pub counted : (old new : Pool) (source : Source) (partial : Partial) → (HasDataset old partial.target → HasDataset new partial.target) → BaseCounts new source partial → BaseCounts old source partial
 counted old new (OfSnapshot snapshot) partial stays counts = tt
 counted old new (OfBookmark bookmark) partial stays counts = λ has. counts (stays has)
 
@@ -162,11 +162,14 @@ module _ (pool : Pool) (partials : List Partial) (some : (partial : Partial) →
   fewer_row row (HeadRow dataset there) = HeadRow dataset there
   fewer_row row (PartialRow partial there) = PartialRow partial (some partial there)
 
+  pub fewer_before_partial : (source : Source) (partial : Partial) → IsBeforePartial fewer source partial → IsBeforePartial pool source partial
+  fewer_before_partial source partial before =
+      stood_before_partial Any pool fewer source partial fewer_origins (λ base is. (record { there = is.there; is_base = is.is_base }, tt)) (λ has. (has, tt)) (λ has. has) before
+
   fewer_before : (source : Source) (row : Row) → IsRow fewer row → IsBefore fewer source row.place → IsBefore pool source row.place
   fewer_before source row (SnapshotRow snapshot there) before = stood_before Any pool fewer source fewer_origins (dataset_of_snapshot snapshot) (Some snapshot.number) tt before
   fewer_before source row (HeadRow dataset there) before = stood_before Any pool fewer source fewer_origins dataset.name None tt before
-  fewer_before source row (PartialRow partial there) before =
-      stood_before_partial Any pool fewer source partial fewer_origins (λ base is. (record { there = is.there; is_base = is.is_base }, tt)) (λ has. (has, tt)) (λ has. has) before
+  fewer_before source row (PartialRow partial there) before = fewer_before_partial source partial before
 
   fewer_bookmark : (bookmark : Bookmark) → IsBookmarkOf pool bookmark → IsBookmarkOf fewer bookmark
   fewer_bookmark bookmark is = record {
@@ -194,4 +197,14 @@ module _ (pool : Pool) (partials : List Partial) (some : (partial : Partial) →
   fewer_remembers source state remembers = record {
     own = λ snapshot there own. remembers.own snapshot there own;
     later = λ row there before. let is = row_cases fewer row there in remembers.later row (has_row pool row (fewer_row row is)) (fewer_before source row is before);
+  }
+
+  -- and their names are linked
+  pub fewer_linked : IsLinked pool → IsLinked fewer
+  fewer_linked linked = record {
+    snapshots = linked.snapshots;
+    origins = linked.origins;
+    bases = All-from_contains (λ partial. IfSome partial.base (HasSnapshot fewer)) partials (λ p there. All-contains (λ partial. IfSome partial.base (HasSnapshot pool)) pool.partials p linked.bases (some p there));
+    components = All-from_contains (λ partial. HasSnapshot fewer (partial.target ++ 64 ∷ partial.component) → ⊥) partials
+        (λ p there. All-contains (λ partial. HasSnapshot pool (partial.target ++ 64 ∷ partial.component) → ⊥) pool.partials p linked.components (some p there));
   }

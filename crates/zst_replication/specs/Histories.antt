@@ -1,11 +1,11 @@
 -- What a source remembers while its pool receives.
-use Rattle.std.specs.Prelude.{ℕ, ◌≡◌, ◌^◌, ◌<◌, List, None, Ok, Contains}
+use Rattle.std.specs.Prelude.{ℕ, ◌≡◌, ◌^◌, ◌<◌, List, Ok, Contains}
 use Rattle.zst_names.specs.Names.{IsDataset}
 use Rattle.zst_model.specs.declared.pools.command.Command.{Command}
 use Rattle.zst_model.specs.pools.Before.{Source, OfSnapshot, number_of_source, IsIn, IsBefore}
 use Rattle.zst_model.specs.pools.Held.{Held}
 use Rattle.zst_model.specs.pools.Kept.{kept_of}
-use Rattle.zst_model.specs.pools.Pool.{Pool, Partial, Snapshot, IsPool, partial_of}
+use Rattle.zst_model.specs.pools.Pool.{Pool, Partial, Snapshot, IsPool}
 use Rattle.zst_model.specs.pools.Rows.{Row, rows}
 use Rattle.zst_model.specs.pools.Sound.{Sound}
 use Rattle.zst_model.specs.pools.Step.{Stepped, stepped, IsCommand}
@@ -28,24 +28,23 @@ pub record StillRemembers (pool : Pool) (source : Source) (state : State) : Type
 abbrev pub ReceivesRemember : Type 0
 ReceivesRemember =
     (ask : RecvAsk) (pool : Pool) (pieces : List (List ℕ)) (source : Source) (state : State)
-    → IsDataset ask.target → IsPool pool → Sound pool → partial_of ask.target pool ≡ None → StillRemembers pool source state
+    → IsDataset ask.target → IsPool pool → Sound pool → StillRemembers pool source state
     → StillRemembers (pool_of (receives ask pool pieces)) source state × StillRemembers (kept_of (pool_of (receives ask pool pieces))) source state
 
 -- The snapshot that a receive makes where it comes to END remembers its own state.
 abbrev pub ReceivedRemembers : Type 0
 ReceivedRemembers =
     (ask : RecvAsk) (pool after : Pool) (partial : Partial) (pieces : List (List ℕ))
-    → IsDataset ask.target → IsPool pool → Sound pool → partial_of ask.target pool ≡ None → receives ask pool pieces ≡ Goes after (Ends partial)
+    → IsDataset ask.target → IsPool pool → Sound pool → receives ask pool pieces ≡ Goes after (Ends partial)
     → (snapshot : Snapshot) × (snapshot.name ≡ snapshot_name ask.target partial.component) × StillRemembers (kept_of after) (OfSnapshot snapshot) snapshot.objects.state
 
--- accepted commands, and receives into targets without a partial state, lead from a pool to another while a source stands; of a receive its image
--- keeps a lawful pool
+-- accepted commands and receives lead from a pool to another while a source stands; of a receive its image keeps a lawful pool
 pub data LeadsOn (source : Source) : Pool → Pool → Type 0 where
   Here : (pool : Pool) → LeadsOn source pool pool
   ByCommand : (held : List Held) (now : ℕ) (command : Command) (pool : Pool) (after : Stepped) (last : Pool)
       → IsCommand command → now < 2 ^ 64 → stepped held now command pool ≡ Ok after → IsIn after.pool source → LeadsOn source after.pool last → LeadsOn source pool last
   ByReceive : (ask : RecvAsk) (pieces : List (List ℕ)) (pool last : Pool)
-      → IsDataset ask.target → partial_of ask.target pool ≡ None → IsPool (kept_of (pool_of (receives ask pool pieces)))
+      → IsDataset ask.target → IsPool (kept_of (pool_of (receives ask pool pieces)))
       → LeadsOn source (kept_of (pool_of (receives ask pool pieces))) last → LeadsOn source pool last
 
 -- So what a source remembers is fit as a base after any number of them, of each row that the source then stands before.

@@ -1,8 +1,8 @@
 -- What a receive makes of a sound pool.
-use Rattle.std.specs.Prelude.{ℕ, ◌≡◌, List, None}
+use Rattle.std.specs.Prelude.{ℕ, List}
 use Rattle.zst_names.specs.Names.{IsDataset}
 use Rattle.zst_model.specs.pools.Kept.{kept_of}
-use Rattle.zst_model.specs.pools.Pool.{Pool, IsPool, partial_of}
+use Rattle.zst_model.specs.pools.Pool.{Pool, IsPool}
 use Rattle.zst_model.specs.pools.Sound.{Sound}
 use Rattle.zst_plan.specs.declared.receive.RecvAsk.{RecvAsk}
 use Rattle.zst_recv.specs.Feeds.{receives}
@@ -13,5 +13,5 @@ use Rattle.zst_recv.specs.Receiving.{pool_of}
 abbrev pub ReceivesKeepSound : Type 0
 ReceivesKeepSound =
     (ask : RecvAsk) (pool : Pool) (pieces : List (List ℕ))
-    → IsDataset ask.target → IsPool pool → Sound pool → partial_of ask.target pool ≡ None
+    → IsDataset ask.target → IsPool pool → Sound pool
     → Sound (pool_of (receives ask pool pieces)) × Sound (kept_of (pool_of (receives ask pool pieces)))

@@ -228,10 +228,10 @@ each_image Holds there there' tight ask uber rows into result out out' input inp
     )
 
 pub sound_so : ReceivesKeepSound → (there there' : DiskState) → SoundStaysSound there there'
-sound_so law there there' tight ask uber rows into result out out' input input' honest reads tells named sound none received =
-    each_image Sound there there' tight ask uber rows into result out out' input input' honest reads tells received (λ pieces. (law ask into pieces named reads.described.lawful sound none).1)
+sound_so law there there' tight ask uber rows into result out out' input input' honest reads tells named sound received =
+    each_image Sound there there' tight ask uber rows into result out out' input input' honest reads tells received (λ pieces. (law ask into pieces named reads.described.lawful sound).1)
 
 pub remembered_so : ReceivesRemember → (there there' : DiskState) → SourcesStillRemember there there'
-remembered_so law there there' tight ask uber rows into source state result out out' input input' honest reads tells named sound none still received =
+remembered_so law there there' tight ask uber rows into source state result out out' input input' honest reads tells named sound still received =
     each_image (λ (p : Pool). StillRemembers p source state) there there' tight ask uber rows into result out out' input input' honest reads tells received
-    (λ pieces. (law ask into pieces source state named reads.described.lawful sound none still).1)
+    (λ pieces. (law ask into pieces source state named reads.described.lawful sound still).1)

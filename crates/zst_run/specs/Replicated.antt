@@ -104,7 +104,7 @@ IsSoundAfter tight there image = there.images image ⊎ ((after : Pool) × Reads
 abbrev pub SoundStaysSound : (there there' : DiskState) → Type 0
 SoundStaysSound there there' =
     (tight : Bool) (ask : RecvAsk) (uber : Uber) (rows : Rows) (into : Pool) (result : Result (Unit {0}) Refusal) (out out' : SinkState) (input input' : SourceState)
-    → there'.honest → ReadsAs tight uber rows into there.seen → TellsTarget ask rows into → IsDataset ask.target → Sound into → partial_of ask.target into ≡ None
+    → there'.honest → ReadsAs tight uber rows into there.seen → TellsTarget ask rows into → IsDataset ask.target → Sound into
     → Receives ask there there' input input' out out' result
     → Leaves there there' (IsSoundAfter tight there) × ((c : List ℕ) → there'.images c → IsSoundAfter tight there c)
 
@@ -117,6 +117,6 @@ abbrev pub SourcesStillRemember : (there there' : DiskState) → Type 0
 SourcesStillRemember there there' =
     (tight : Bool) (ask : RecvAsk) (uber : Uber) (rows : Rows) (into : Pool) (source : Source) (state : State)
     (result : Result (Unit {0}) Refusal) (out out' : SinkState) (input input' : SourceState)
-    → there'.honest → ReadsAs tight uber rows into there.seen → TellsTarget ask rows into → IsDataset ask.target → Sound into → partial_of ask.target into ≡ None
+    → there'.honest → ReadsAs tight uber rows into there.seen → TellsTarget ask rows into → IsDataset ask.target → Sound into
     → StillRemembers into source state → Receives ask there there' input input' out out' result
     → Leaves there there' (StillRemembersAfter tight source state there) × ((c : List ℕ) → there'.images c → StillRemembersAfter tight source state there c)
