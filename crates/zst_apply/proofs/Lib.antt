@@ -4,4 +4,5 @@ pub mod Freeing
 pub mod HeadLaws
 pub mod Ranging
 pub mod Receiving
+pub mod Spending
 pub mod Telling

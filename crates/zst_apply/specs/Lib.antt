@@ -1,3 +1,4 @@
 pub mod Applying
 pub mod Checks
+pub mod Costs
 pub mod Damage

@@ -1,5 +1,5 @@
 //! The table of what each record does.
-ghost use Rattle.std.specs.Prelude.{◌≡◌, ◌+◌, ◌/◌, ◌==◌, ℕ, IfErr, OnErr, length, bit_and};
+ghost use Rattle.std.specs.Prelude.{◌≡◌, ◌==◌, ℕ, IfErr, OnErr, length, bit_and};
 ghost use Rattle.zst_block.specs.Blocks.{FitsDisk, Has, SparesTaken};
 ghost use Rattle.zst_block.specs.Working.{Works};
 ghost use Rattle.zst_model.specs.pools.Sound.{DatedUpTo};
@@ -13,6 +13,7 @@ ghost use Rattle.zst_objset.specs.Damage.{IfSetDamaged};
 ghost use Rattle.zst_objset.specs.Sets.{SetHolds};
 ghost use Rattle.zst_objset.specs.Tight.{SetIsTight};
 ghost use Rattle.zst_apply.specs.Applying.{Applies, IsOfStream, LimitOfIndex, received_all};
+ghost use Rattle.zst_apply.specs.Costs.{record_block, record_cost};
 ghost use Rattle.zst_apply.specs.Damage.{apply_damage};
 
 use crate::blocks::{free_blocks, redact_blocks, write_block};
@@ -59,7 +60,8 @@ pub fn apply<D: Disk>(
     ensures damaged { (D.state io.new.disk.now).honest → IfSetDamaged result (apply_damage (SparesTaken io.old.space (D.state io.old.disk.now).seen) (D.state io.old.disk.now).size set.old) }
     ensures kept { OnErr result (set.new ≡ set.old) }
     ensures levels { SetFits set.old → SetFits set.new }
-    ensures works { Works (1280 + length covered.now.payload.now / 512) (length covered.now.payload.now / 512) (D.state io.old.disk.now) io.old.space io.old.failed (D.state io.new.disk.now) io.new.space io.new.failed (stop_of result) }
+    // Whatever it answers it takes no more sectors than the record costs, and E24 is of a block of a tree or of its own.
+    ensures works { Works (record_cost covered.now.head.now) (record_block covered.now.head.now) (D.state io.old.disk.now) io.old.space io.old.failed (D.state io.new.disk.now) io.new.space io.new.failed (stop_of result) }
     ensures same { io.new.disk.ghost_name ≡ io.old.disk.ghost_name }
 {
     match covered.head {

@@ -1,5 +1,6 @@
 use Rattle.std.proofs.Common.{◌≡◌, ℕ, true}
 use Rattle.std.specs.Prelude.{take}
+use Rattle.zst_block.proofs.Working.{Works-block}
 use Rattle.zst_model.specs.declared.states.item.Change.TheVariants.{Put, Redact, Spill, Write}
 use Rattle.zst_model.specs.declared.states.item.Item.TheVariants.{At, FreeObjects}
 use Rattle.zst_model.specs.states.State.{is_number}
@@ -7,6 +8,7 @@ use Rattle.zst_record.specs.Decode.{is_object}
 use Rattle.zst_stream.specs.Items.{free_change, keeps_spill}
 use Rattle.zst_apply.proofs.Answering.{all_applied}
 use Rattle.zst_apply.proofs.Receiving.{over_none}
+use Rattle.zst_apply.proofs.Spending.{works_sized}
 use Rattle.zst_apply.proofs.applying.apply.Goals as goal
 
 -- a number that a record may state
@@ -76,3 +78,21 @@ returns-in-Redact-clause-changed g c = λ state honest holds.
 pub returns-in-Redact-clause-tight : goal.returns-in-Redact-clause-tight
 returns-in-Redact-clause-tight g c = λ state honest tight dated.
     rw c.in-Redact.is (all_applied c.args.number c.args.covered.now.index (At c.in-Redact.object (Redact c.in-Redact.offset c.in-Redact.length)) state _ c.redact_blocks.result (c.redact_blocks.ensures.tight c.args.covered.now.index state honest tight dated))
+
+pub returns-in-Object-clause-works : goal.returns-in-Object-clause-works
+returns-in-Object-clause-works g c = rw c.in-Object.is (Works-block c.put_object.ensures.works)
+
+pub returns-in-FreeObjects-clause-works : goal.returns-in-FreeObjects-clause-works
+returns-in-FreeObjects-clause-works g c = rw c.in-FreeObjects.is (Works-block c.free_objects.ensures.works)
+
+pub returns-in-Write-clause-works : goal.returns-in-Write-clause-works
+returns-in-Write-clause-works g c = rw c.in-Write.is (works_sized (rw c.in-Write.is at c.requires.payload) c.write_block.ensures.works)
+
+pub returns-in-Free-clause-works : goal.returns-in-Free-clause-works
+returns-in-Free-clause-works g c = rw c.in-Free.is (Works-block c.free_blocks.ensures.works)
+
+pub returns-in-Spill-clause-works : goal.returns-in-Spill-clause-works
+returns-in-Spill-clause-works g c = rw c.in-Spill.is (works_sized (rw c.in-Spill.is at c.requires.payload) c.put_spill.ensures.works)
+
+pub returns-in-Redact-clause-works : goal.returns-in-Redact-clause-works
+returns-in-Redact-clause-works g c = rw c.in-Redact.is (Works-block c.redact_blocks.ensures.works)
