@@ -15,3 +15,4 @@ mod Putting
 mod Going
 mod Serving
 mod Damaging
+mod Spending

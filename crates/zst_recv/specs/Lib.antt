@@ -6,3 +6,4 @@ pub mod Taking
 pub mod Settling
 pub mod Answers
 pub mod Damage
+pub mod Costs

@@ -1,5 +1,5 @@
 // What one feed takes of a stream.
-ghost use Rattle.std.specs.Prelude.{◌≡◌, ◌+◌, ℕ, Bool, false, true, List, Option, None, Ok, Err, IfErr, OnErr, OnOk};
+ghost use Rattle.std.specs.Prelude.{◌≡◌, ◌+◌, ℕ, Bool, false, true, List, [], ◌∷◌, Option, None, Ok, Err, IfErr, OnErr, OnOk};
 ghost use Rattle.zst_apply.specs.Damage.{apply_damage};
 ghost use Rattle.zst_block.specs.Blocks.{FitsDisk, Has, SparesTaken};
 ghost use Rattle.zst_space.specs.FreeSectors.{FreeSectors};
@@ -12,6 +12,7 @@ ghost use Rattle.zst_record.specs.Fits.{IsLater};
 ghost use Rattle.zst_record.specs.Heads.{Covered, covered_of};
 ghost use Rattle.zst_record.specs.declared.head.Head.TheVariants as heads;
 ghost use Rattle.zst_stream.specs.Reading.{closing};
+ghost use Rattle.zst_recv.specs.Costs.{Spends};
 ghost use Rattle.zst_recv.specs.Damage.{IsDamagedState};
 ghost use Rattle.zst_recv.specs.Faults.{Fills, IsRecordFault, stop_of};
 ghost use Rattle.zst_recv.specs.Receiving.{Stage as PlainStage, Work, at_stage, moved_by, taken};
@@ -61,6 +62,7 @@ fn move_by<D: Disk>(
         → apply_damage (SparesTaken io.old.space (D.state io.old.disk.now).seen) (D.state io.old.disk.now).size partial.old.objects sector stated found }
     ensures puts { (rows : Rows) (target : List ℕ) → CanPut rows target partial.old → CanPut rows target partial.new }
     ensures fills { Fills (D.state io.old.disk.now) io.old.space io.old.failed (D.state io.new.disk.now) io.new.space io.new.failed (stop_of result) }
+    ensures spends { Spends (covered_of covered.now ∷ []) io.old.space io.new.space (stop_of result) }
     ensures same { io.new.disk.ghost_name ≡ io.old.disk.ghost_name }
 {
     match apply(io, &mut partial.objects, covered, flags, number) {
@@ -116,6 +118,7 @@ impl Batch {
             → IsDamagedState (SparesTaken io.old.space (D.state io.old.disk.now).seen) (D.state io.old.disk.now).size kept.now.dir ask.now.target sector stated found }
         ensures stage { StageFits kept.now.dir ask.now.target self.new.stage }
         ensures fills { Fills (D.state io.old.disk.now) io.old.space io.old.failed (D.state io.new.disk.now) io.new.space io.new.failed (stop_of result) }
+        ensures spends { Spends (covered_of covered.now ∷ []) io.old.space io.new.space (stop_of result) }
         ensures same { io.new.disk.ghost_name ≡ io.old.disk.ghost_name }
     {
         match covered.head {
@@ -198,6 +201,7 @@ impl Batch {
             → IsDamagedState (SparesTaken io.old.space (D.state io.old.disk.now).seen) (D.state io.old.disk.now).size rows target sector stated found }
         ensures stage { (rows : Rows) (target : List ℕ) → StageFits rows target self.old.stage → StageFits rows target self.new.stage }
         ensures fills { Fills (D.state io.old.disk.now) io.old.space io.old.failed (D.state io.new.disk.now) io.new.space io.new.failed (stop_of result) }
+        ensures spends { Spends (covered_of covered.now ∷ []) io.old.space io.new.space (stop_of result) }
         ensures same { io.new.disk.ghost_name ≡ io.old.disk.ghost_name }
     {
         match &mut self.stage {

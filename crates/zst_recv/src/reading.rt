@@ -8,6 +8,7 @@ ghost use Rattle.zst_reader.specs.StandsFor.{HandsOut, StandsFor, pushed_of, roo
 ghost use Rattle.zst_record.specs.Heads.{Covered};
 ghost use Rattle.zst_model.specs.declared.refusals.stream_fault.StreamFault.{StreamFault};
 ghost use Rattle.zst_stream.specs.Reading.{complete, faulty, reading, waiting};
+ghost use Rattle.zst_recv.specs.Costs.{Spends, records_behind};
 ghost use Rattle.zst_recv.specs.Damage.{IsDamagedFeed};
 ghost use Rattle.zst_recv.specs.Faults.{Fills, IsFeedFault, stop_of};
 ghost use Rattle.zst_recv.specs.Receiving.{Work};
@@ -51,9 +52,13 @@ fn drain<D: Disk>(
     // A receive that is over then has covered END.
     ensures over { (text : List ℕ) (handed : List Covered) → StandsFor reader.old text handed → is_live batch.old.stage ≡ true → is_live batch.new.stage ≡ false → (reading text).outcome ≡ complete }
     ensures behind { (text : List ℕ) (handed : List Covered) → StandsFor reader.old text handed → StandsBehind handed batch.old.stage → IfOk result (HandedOn reader.new text batch.new.stage) }
+    ensures hands_out { (text : List ℕ) (handed : List Covered) → StandsFor reader.old text handed → result ≡ Ok false → (later : List Covered) × HandsOut reader.new text later waiting }
     ensures pushed { pushed_of reader.new ≡ pushed_of reader.old }
     ensures room { result ≡ Ok false → 0 < room_of reader.new }
     ensures fills { Fills (D.state io.old.disk.now) io.old.space io.old.failed (D.state io.new.disk.now) io.new.space io.new.failed (stop_of result) }
+    // What was handed out took no more sectors than it costs, the refused record among it.
+    ensures spends { (text : List ℕ) (handed : List Covered) → StandsFor reader.old text handed
+        → (records : List Covered) × StandsFor reader.new text (handed ++ records) × Spends records io.old.space io.new.space (stop_of result) }
     ensures same { io.new.disk.ghost_name ≡ io.old.disk.ghost_name }
 {
     faults_are_found();
@@ -97,8 +102,11 @@ pub(crate) fn read<D: Disk>(
     ensures all { OnOk result (is_live batch.new.stage ≡ true → pushed_of reader.new ≡ pushed_of reader.old + length piece.now) }
     // Whatever the text: a receive that goes on stands for all of it, and one that is over has covered END.
     ensures stands { OnOk result (is_live batch.new.stage ≡ true → (text : List ℕ) (handed : List Covered) → StandsFor reader.old text handed → (later : List Covered) × StandsFor reader.new (text ++ piece.now) later) }
+    ensures hands_out { OnOk result (is_live batch.new.stage ≡ true → (text : List ℕ) (handed : List Covered) → HandsOut reader.old text handed waiting → (later : List Covered) × HandsOut reader.new (text ++ piece.now) later waiting) }
     ensures over { (text : List ℕ) (handed : List Covered) → StandsFor reader.old text handed → is_live batch.old.stage ≡ true → is_live batch.new.stage ≡ false → (reading (text ++ piece.now)).outcome ≡ complete }
     ensures fills { Fills (D.state io.old.disk.now) io.old.space io.old.failed (D.state io.new.disk.now) io.new.space io.new.failed (stop_of result) }
+    // Whatever the text: the records that it covers behind those that were handed out took no more sectors than they cost.
+    ensures spends { (text : List ℕ) (handed : List Covered) → StandsFor reader.old text handed → Spends (records_behind handed (text ++ piece.now)) io.old.space io.new.space (stop_of result) }
     ensures same { io.new.disk.ghost_name ≡ io.old.disk.ghost_name }
 {
     let mut rest = piece;

@@ -49,11 +49,12 @@ impl Recv {
     ghost use Rattle.zst_outside.specs.Images.{OnlyReads};
     ghost use Rattle.zst_pool.specs.Calls.{IsAtRest};
     ghost use Rattle.zst_pool.specs.Partials.{without_unkept};
-    ghost use Rattle.zst_reader.specs.StandsFor.{StandsFor, pushed_of};
+    ghost use Rattle.zst_reader.specs.StandsFor.{HandsOut, StandsFor, pushed_of};
     ghost use Rattle.zst_record.specs.Heads.{Covered, size_of};
-    ghost use Rattle.zst_stream.specs.Reading.{complete, faulty, reading};
+    ghost use Rattle.zst_stream.specs.Reading.{complete, faulty, reading, waiting};
     ghost use Rattle.zst_space.specs.FreeSectors.{FreeSectors, largest_of};
     ghost use Rattle.zst_recv.specs.Answers.{Feeds, goes_on};
+    ghost use Rattle.zst_recv.specs.Costs.{PieceIsShort, records_behind};
     ghost use Rattle.zst_recv.specs.Damage.{IsDamagedFeed};
     ghost use Rattle.zst_recv.specs.Faults.{IsFeedFault, cut_of, stop_of, stream_limit};
     ghost use Rattle.zst_recv.specs.Receiving.{Stage as PlainStage, Waits, left_by};
@@ -128,6 +129,11 @@ impl Recv {
             → Feeds tight (D.state pool.old.io.disk.now) (D.state pool.new.io.disk.now) pool.new.kept self.new text piece.now stage running result }
         // Whatever the image, E24 comes only where the longest run that is then free is shorter than what is needed.
         ensures full { (need largest : ℕ) → result ≡ Err (RecvFault.Pool (PoolFault.Full need largest)) → (largest < need) × (largest ≡ largest_of pool.new.io.space) }
+        // Whatever the image and the text: fewer sectors were free before it than the piece costs, by what it covers behind what was handed out.
+        ensures short { (text : List ℕ) (handed : List Covered) (need largest : ℕ) → StandsFor self.old.reader text handed → result ≡ Err (RecvFault.Pool (PoolFault.Full need largest))
+            → PieceIsShort (records_behind handed (text ++ piece.now)) pool.old.kept pool.new.io.space need largest }
+        // After E24 the body is as it was.
+        ensures stays { (need largest : ℕ) → result ≡ Err (RecvFault.Pool (PoolFault.Full need largest)) → pool.new.kept.body ≡ pool.old.kept.body }
         ensures ask { self.new.ask ≡ self.old.ask }
         ensures live { is_live self.new.stage ≡ goes_on result }
         ensures recv { RecvFits pool.new.kept.dir self.new }
@@ -147,6 +153,8 @@ impl Recv {
         ensures stream { (text : List ℕ) (handed : List Covered) (fault : PlainFault) → StandsFor self.old.reader text handed → result ≡ Err (RecvFault.Stream fault) → (reading (text ++ piece.now)).outcome ≡ faulty fault }
         // Whatever the image, a receive that goes on stands for all that it was fed.
         ensures stands { (text : List ℕ) (handed : List Covered) → StandsFor self.old.reader text handed → IfOk result (λ told. told.done ≡ false → (later : List Covered) × StandsFor self.new.reader (text ++ piece.now) later) }
+        // And if it had handed out all that it covered, it has again.
+        ensures hands_out { (text : List ℕ) (handed : List Covered) → HandsOut self.old.reader text handed waiting → IfOk result (λ told. told.done ≡ false → (later : List Covered) × HandsOut self.new.reader (text ++ piece.now) later waiting) }
         // With END the reading of all that it was fed is complete.
         ensures whole { (text : List ℕ) (handed : List Covered) → StandsFor self.old.reader text handed → IfOk result (λ told. told.done ≡ true → (reading (text ++ piece.now)).outcome ≡ complete) }
         // Whatever the image, E25 tells a damage of a set of this target's partial state, as the refused record found it.

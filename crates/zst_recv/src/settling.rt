@@ -4,7 +4,7 @@ ghost use Rattle.zst_block.specs.Blocks.{Has};
 ghost use Rattle.zst_image.specs.Committing.{Ready};
 ghost use Rattle.zst_image.specs.Reads.{bound_of, free_by};
 ghost use Rattle.zst_model.specs.pools.Pool.{Pool as Plain};
-ghost use Rattle.zst_pool.specs.Calls.{CanCommit, IsCallFault, IsUnderWay};
+ghost use Rattle.zst_pool.specs.Calls.{CanCommit, IsCallFault, IsCallFull, IsUnderWay};
 ghost use Rattle.zst_space.specs.FreeSectors.{largest_of};
 ghost use Rattle.zst_pool.specs.Faults.{HasDiskCause, is_disk_fault};
 ghost use Rattle.zst_recv.specs.Faults.{keeps_before};
@@ -57,6 +57,8 @@ pub(crate) fn put<D: Disk>(
     ensures known { IfErr result IsCallFault }
     // E24 tells the longest run of those that are left then.
     ensures full { (need largest : ℕ) → result ≡ Err (PoolFault.Full need largest) → (largest < need) × (largest ≡ largest_of pool.new.io.space) }
+    // Before the commit no run was free of as many sectors as a directory may take that has 2,048 bytes more.
+    ensures short { (need largest : ℕ) → result ≡ Err (PoolFault.Full need largest) → IsCallFull pool.old.io.space pool.new.io.space pool.old.kept.dir need largest }
     ensures ready { pool.new.io.failed ≡ false → Ready (D.state pool.new.io.disk.now) pool.new.kept.body }
     ensures failed { pool.new.io.failed ≡ is_disk_fault result }
     ensures cause { HasDiskCause (D.state pool.old.io.disk.now).faults (D.state pool.new.io.disk.now).faults result }

@@ -12,6 +12,12 @@ use Rattle.zst_stream.specs.Items.{items_by}
 use Rattle.zst_recv.specs.declared.fault.RecvFault.TheVariants as faults
 use Rattle.zst_recv.proofs.Damaging.{err_told, told_record}
 use Rattle.zst_recv.proofs.Moving.{applies_so, ends_fit, known_record, moved_is, refused_is}
+use Rattle.std.proofs.Common.{[], ◌∷◌}
+use Rattle.std.specs.Prelude.{Option}
+use Rattle.zst_block.specs.declared.fault.BlockFault.{BlockFault}
+use Rattle.zst_recv.specs.Costs.{Spends}
+use Rattle.zst_recv.specs.Faults.{stop_at}
+use Rattle.zst_recv.proofs.Spending.{spends_one, stop_same}
 use Rattle.zst_recv.proofs.batch.move_by.Goals as goal
 
 pub returns-in-Ok-clause-moved : goal.returns-in-Ok-clause-moved
@@ -50,3 +56,14 @@ returns-in-Err-clause-damaged g c = λ sector stated found honest is.
     let fault : of_record (covered_of c.args.covered.now).index c.in-Err.fault ≡ faults.Pool (pools.Damaged sector stated found) = sym c.of_record.ensures ∙ err_told (Unit {0}) c.of_record.result _ is in
     told_record (apply_damage (SparesTaken old.space (g.D.Disk.state old.disk.now).seen) (g.D.Disk.state old.disk.now).size c.args.partial.now.objects) (Unit {0}) (covered_of c.args.covered.now).index c.in-Err.fault sector stated found
     (c.in-Err.ensures.damaged honest) fault
+
+pub returns-in-Ok-clause-spends : goal.returns-in-Ok-clause-spends
+returns-in-Ok-clause-spends g c = spends_one (covered_of c.args.covered.now) _ _ _ _ _ _ _ c.in-Ok.ensures.works
+
+pub returns-in-Err-clause-spends : goal.returns-in-Err-clause-spends
+returns-in-Err-clause-spends g c =
+    let old = c.args.io.now.space in
+    let new = c.apply.new.io.space in
+    let covered = covered_of c.args.covered.now in
+    subst (λ (fault : RecvFault). Spends (covered ∷ []) old new (stop_at fault)) (sym c.of_record.ensures)
+    (subst (λ (stop : Option BlockFault). Spends (covered ∷ []) old new stop) (sym (stop_same covered.index c.in-Err.fault)) (spends_one covered _ _ _ _ _ _ _ c.in-Err.ensures.works))

@@ -12,6 +12,11 @@ use Rattle.zst_recv.specs.declared.fault.RecvFault.{RecvFault}
 use Rattle.zst_recv.proofs.Damaging.{damaged_behind, damaged_first, err_told, found_stream, no_stream, record_known, told_stream}
 use Rattle.zst_recv.proofs.Behind.{behind_more, over_behind, tells_on}
 use Rattle.zst_recv.proofs.Covering.{over_more}
+use Rattle.std.proofs.Common.{subst}
+use Rattle.std.specs.Prelude.{None}
+use Rattle.std.proofs.lemmas.List.{append-nil}
+use Rattle.zst_reader.specs.StandsFor.{StandsFor}
+use Rattle.zst_recv.proofs.Spending.{spends_idle, spent_more}
 use Rattle.zst_recv.proofs.reading.drain.Goals as goal
 
 pub records-init : goal.records-init
@@ -27,6 +32,7 @@ records-init g c =
       behind = λ text handed stands is. (handed, stands, is);
       pushed = refl;
       fills = Fills-none _ _ _ c.requires.fits;
+      spent = λ text handed stands. ([], subst (StandsFor c.args.reader.now text) (sym (append-nil handed)) stands, spends_idle [] c.args.io.now.space None refl);
       same = refl;
     }
 
@@ -71,6 +77,7 @@ records-preserved g c =
           (later.0 ++ next ∷ [], more, behind_more _ text later.0 next c.records.batch.stage c.take.new.self.stage more later.2 (λ waits. ap (λ (b : Batch). b.stage) (e.waits waits)) e.begins e.ends e.lives);
       pushed = h.0.pushed ∙ i.pushed;
       fills = Fills-then _ _ _ _ _ _ _ _ _ _ i.fills e.fills;
+      spent = λ text handed stands. spent_more c.records.reader _ text handed next c.args.io.now.space c.records.io.space c.take.new.io.space None (i.spent text handed stands) (h.1 text) e.spends;
       same = e.same ∙ i.same;
     }
 
@@ -197,3 +204,44 @@ returns-in-Ok-End-clause-over g c = c.records.invariant.over
 
 pub returns-in-Err-clause-over : goal.returns-in-Err-clause-over
 returns-in-Err-clause-over g c = c.records.invariant.over
+
+pub returns-in_err-take-in-Ok-Record-clause-spends : goal.returns-in_err-take-in-Ok-Record-clause-spends
+returns-in_err-take-in-Ok-Record-clause-spends g c = λ text handed stands.
+    let h = rw (c.in-Ok-Record.is, c.in-Ok-Record.field-0-is) at c.next.follows.holds-at-none in
+    let p = err_from_is_err_and c.from_residual.result c.from_residual.ensures.1 in
+    rw (p.1, p.2) (spent_more c.records.reader _ text handed (covered_of c.in-Ok-Record.record) c.args.io.now.space c.records.io.space c.take.new.io.space _ (c.records.invariant.spent text handed stands) (h.1 text) c.in_err-take-in-Ok-Record.ensures.spends)
+
+pub returns-in-Ok-NeedMore-clause-spends : goal.returns-in-Ok-NeedMore-clause-spends
+returns-in-Ok-NeedMore-clause-spends g c = λ text handed stands.
+    let h = rw (c.in-Ok-NeedMore.is, c.in-Ok-NeedMore.field-0-is) at c.next.follows.holds-at-none in
+    let spent = c.records.invariant.spent text handed stands in
+    (spent.0, (h.1 text (handed ++ spent.0) spent.1).stands, spent.2)
+
+pub returns-in-Ok-End-clause-spends : goal.returns-in-Ok-End-clause-spends
+returns-in-Ok-End-clause-spends g c = λ text handed stands.
+    let h = rw (c.in-Ok-End.is, c.in-Ok-End.field-0-is) at c.next.follows.holds-at-none in
+    let spent = c.records.invariant.spent text handed stands in
+    (spent.0, (h.1 text (handed ++ spent.0) spent.1).stands, spent.2)
+
+pub returns-in-Err-clause-spends : goal.returns-in-Err-clause-spends
+returns-in-Err-clause-spends g c = λ text handed stands.
+    let h = rw c.in-Err.is at c.next.follows.holds-at-none in
+    let spent = c.records.invariant.spent text handed stands in
+    (spent.0, (h.1 text (handed ++ spent.0) spent.1).stands, spent.2)
+
+pub returns-in_err-take-in-Ok-Record-clause-hands_out : goal.returns-in_err-take-in-Ok-Record-clause-hands_out
+returns-in_err-take-in-Ok-Record-clause-hands_out g c = λ text handed stands is.
+    let p = err_from_is_err_and c.from_residual.result c.from_residual.ensures.1 in
+    absurd (cc (p.1, is))
+
+pub returns-in-Ok-NeedMore-clause-hands_out : goal.returns-in-Ok-NeedMore-clause-hands_out
+returns-in-Ok-NeedMore-clause-hands_out g c = λ text handed stands is.
+    let h = rw (c.in-Ok-NeedMore.is, c.in-Ok-NeedMore.field-0-is) at c.next.follows.holds-at-none in
+    let later = c.records.invariant.reads text handed stands in
+    (later.0, h.1 text later.0 later.1)
+
+pub returns-in-Ok-End-clause-hands_out : goal.returns-in-Ok-End-clause-hands_out
+returns-in-Ok-End-clause-hands_out g c = λ text handed stands is. absurd (cc is)
+
+pub returns-in-Err-clause-hands_out : goal.returns-in-Err-clause-hands_out
+returns-in-Err-clause-hands_out g c = λ text handed stands is. absurd (cc is)

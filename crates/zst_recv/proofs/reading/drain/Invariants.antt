@@ -1,4 +1,4 @@
-use Rattle.std.proofs.Common.{◌≡◌, ◌+◌, ◌-◌, Bool, ◌^◌, List, ℕ, false, true}
+use Rattle.std.proofs.Common.{◌≡◌, ◌+◌, ◌-◌, Bool, ◌^◌, List, ℕ, false, true, ◌++◌}
 use Rattle.std.specs.Prelude.{None}
 use Rattle.zst_block.specs.Blocks.{Has}
 use Rattle.zst_image.specs.Reads.{bound_of}
@@ -7,6 +7,7 @@ use Rattle.zst_pool.specs.Calls.{IsUnderWay}
 use Rattle.zst_reader.specs.StandsFor.{StandsFor, handed_of, pushed_of}
 use Rattle.zst_record.specs.Heads.{Covered}
 use Rattle.zst_stream.specs.Reading.{complete, reading}
+use Rattle.zst_recv.specs.Costs.{Spends}
 use Rattle.zst_recv.specs.Faults.{Fills}
 use Rattle.zst_recv.specs.Receiving.{Work}
 use Rattle.zst_recv.specs.Stages.{IsWork, StageFits, StandsBehind, TellsBefore, is_live, waits_at}
@@ -30,6 +31,7 @@ invariant-records g l =
       behind : (text : List ℕ) (handed : List Covered) → StandsFor l.fn.reader text handed → StandsBehind handed l.fn.batch.stage → (later : List Covered) × StandsFor l.reader text later × StandsBehind later l.batch.stage;
       pushed : pushed_of l.reader ≡ pushed_of l.fn.reader;
       fills : Fills (disk.state l.fn.io.disk.now) l.fn.io.space l.fn.io.failed (disk.state l.io.disk.now) l.io.space l.io.failed None;
+      spent : (text : List ℕ) (handed : List Covered) → StandsFor l.fn.reader text handed → (records : List Covered) × StandsFor l.reader text (handed ++ records) × Spends records l.fn.io.space l.io.space None;
       same : l.io.disk.ghost_name ≡ l.fn.io.disk.ghost_name;
     }
 

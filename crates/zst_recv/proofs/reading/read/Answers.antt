@@ -15,6 +15,10 @@ use Rattle.zst_recv.specs.declared.fault.RecvFault.{RecvFault}
 use Rattle.zst_recv.proofs.Damaging.{damaged_behind, err_told, faulty_still}
 use Rattle.zst_recv.proofs.Behind.{over_reads, tells_on}
 use Rattle.zst_recv.proofs.Covering.{complete_still, over_piece}
+use Rattle.std.specs.Prelude.{None}
+use Rattle.zst_reader.specs.StandsFor.{HandsOut}
+use Rattle.zst_stream.specs.Reading.{waiting}
+use Rattle.zst_recv.proofs.Spending.{spends_idle, spends_whole, spent_then}
 use Rattle.zst_recv.proofs.reading.read.Goals as goal
 
 pub pushes-init : goal.pushes-init
@@ -31,6 +35,8 @@ pushes-init g c =
       bytes = All-from_get_or (λ byte. byte < 2 ^ 8) c.args.piece.now 0 (λ k within. (c.type_inv.piece k).fits);
       limit = c.requires.limit;
       fills = Fills-none _ _ _ c.requires.fits;
+      hands = ([], refl, λ text handed hands. (handed, rw (append-nil text) hands));
+      spent = ([], refl, λ text handed stands. ([], rw (append-nil text, append-nil handed) stands, spends_idle [] c.args.io.now.space None refl));
       same = refl;
     }
 
@@ -91,6 +97,23 @@ pushes-preserved g c =
       bytes = left_bytes rest n i.bytes;
       limit = limit_left rest n (room_of c.pushes.reader) (pushed_of c.pushes.reader) (pushed_of c.push-count.new.self) (pushed_of c.drain.new.reader) push.count push.pushed e.pushed i.limit;
       fills = Fills-then _ _ _ _ _ _ _ _ _ _ i.fills e.fills;
+      hands = (
+        i.hands.0 ++ take n rest,
+        piece_left c.args.piece.now i.hands.0 rest n i.hands.1,
+        λ text handed hands.
+            let m = i.hands.2 text handed hands in
+            let d = e.hands_out ((text ++ i.hands.0) ++ take n rest) m.0 (push.stands (text ++ i.hands.0) m.0 m.1.stands) (ap Ok c.if-branch.false) in
+            (d.0, subst (λ (t : List ℕ). HandsOut c.drain.new.reader t d.0 waiting) (append_assoc text i.hands.0 (take n rest)) d.1),
+      );
+      spent = (
+        i.spent.0 ++ take n rest,
+        piece_left c.args.piece.now i.spent.0 rest n i.spent.1,
+        λ text handed stands.
+            let m = i.spent.2 text handed stands in
+            let d = e.spends ((text ++ i.spent.0) ++ take n rest) (handed ++ m.0) (push.stands (text ++ i.spent.0) (handed ++ m.0) m.1) in
+            let both = spent_then c.drain.new.reader ((text ++ i.spent.0) ++ take n rest) handed m.0 c.args.io.now.space c.pushes.io.space c.drain.new.io.space None m.2 d in
+            (both.0, subst (λ (t : List ℕ). StandsFor c.drain.new.reader t (handed ++ both.0)) (append_assoc text i.spent.0 (take n rest)) both.1, both.2),
+      );
       same = e.same ∙ i.same;
     }
 
@@ -249,3 +272,49 @@ pub returns-clause-over : goal.returns-clause-over
 returns-clause-over g c = λ text handed stands live over.
     let i = c.pushes.invariant in
     subst (λ (t : List ℕ). (reading (text ++ t)).outcome ≡ complete) (sym (piece_done c.args.piece.now i.front.0 c.pushes.rest.now i.front.1 c.pushes-test.ensures)) (i.front.3 text handed stands live over)
+
+pub returns-in_err-drain-clause-spends : goal.returns-in_err-drain-clause-spends
+returns-in_err-drain-clause-spends g c = λ text handed stands.
+    let p = err_from_is_err_and c.from_residual.result c.from_residual.ensures.1 in
+    let i = c.pushes.invariant in
+    let n = c.push-count.result in
+    let rest = c.pushes.rest.now in
+    let m = i.spent.2 text handed stands in
+    let got = (text ++ i.spent.0) ++ take n rest in
+    let d = c.in_err-drain.ensures.spends got (handed ++ m.0) (c.push-count.ensures.stands (text ++ i.spent.0) (handed ++ m.0) m.1) in
+    let both = spent_then c.drain.new.reader got handed m.0 c.args.io.now.space c.pushes.io.space c.drain.new.io.space _ m.2 d in
+    rw (p.1, p.2) (spends_whole c.drain.new.reader (text ++ c.args.piece.now) got (drop n rest) handed both.0 c.args.io.now.space c.drain.new.io.space _
+    (whole_read text c.args.piece.now i.spent.0 (take n rest) (drop n rest) (piece_split c.args.piece.now i.spent.0 rest n i.spent.1)) both.1 both.2)
+
+pub returns-then-branch-clause-spends : goal.returns-then-branch-clause-spends
+returns-then-branch-clause-spends g c = λ text handed stands.
+    let i = c.pushes.invariant in
+    let n = c.push-count.result in
+    let rest = c.pushes.rest.now in
+    let m = i.spent.2 text handed stands in
+    let got = (text ++ i.spent.0) ++ take n rest in
+    let d = c.in_ok-drain.ensures.spends got (handed ++ m.0) (c.push-count.ensures.stands (text ++ i.spent.0) (handed ++ m.0) m.1) in
+    let both = spent_then c.drain.new.reader got handed m.0 c.args.io.now.space c.pushes.io.space c.drain.new.io.space None m.2 d in
+    spends_whole c.drain.new.reader (text ++ c.args.piece.now) got (drop n rest) handed both.0 c.args.io.now.space c.drain.new.io.space None
+    (whole_read text c.args.piece.now i.spent.0 (take n rest) (drop n rest) (piece_split c.args.piece.now i.spent.0 rest n i.spent.1)) both.1 both.2
+
+pub returns-clause-spends : goal.returns-clause-spends
+returns-clause-spends g c = λ text handed stands.
+    let i = c.pushes.invariant in
+    let m = i.spent.2 text handed stands in
+    spends_whole c.pushes.reader (text ++ c.args.piece.now) (text ++ i.spent.0) c.pushes.rest.now handed m.0 c.args.io.now.space c.pushes.io.space None
+    (ap (λ (t : List ℕ). text ++ t) i.spent.1 ∙ sym (append_assoc text i.spent.0 c.pushes.rest.now)) m.1 m.2
+
+pub returns-then-branch-clause-hands_out : goal.returns-then-branch-clause-hands_out
+returns-then-branch-clause-hands_out g c = λ live text handed hands.
+    let r = c.pushes.invariant.reads in
+    let n = c.push-count.result in
+    let later = c.in_ok-drain.ensures.behind (r.text ++ take n c.pushes.rest.now) r.handed (c.push-count.ensures.stands r.text r.handed r.stands) r.behind in
+    let over = later.over c.if-branch.true in
+    absurd (let both = sym live ∙ over in cc)
+
+pub returns-clause-hands_out : goal.returns-clause-hands_out
+returns-clause-hands_out g c = λ live text handed hands.
+    let i = c.pushes.invariant in
+    let m = i.hands.2 text handed hands in
+    (m.0, subst (λ (t : List ℕ). HandsOut c.pushes.reader (text ++ t) m.0 waiting) (sym (piece_done c.args.piece.now i.hands.0 c.pushes.rest.now i.hands.1 c.pushes-test.ensures)) m.1)

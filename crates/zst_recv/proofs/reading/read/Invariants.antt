@@ -8,6 +8,7 @@ use Rattle.zst_reader.specs.StandsFor.{HandsOut, StandsFor, pushed_of, room_of}
 use Rattle.zst_record.specs.Heads.{Covered}
 use Rattle.zst_record.specs.Laws.{AreBytes}
 use Rattle.zst_stream.specs.Reading.{complete, reading, waiting}
+use Rattle.zst_recv.specs.Costs.{Spends}
 use Rattle.zst_recv.specs.Faults.{Fills}
 use Rattle.zst_recv.specs.Receiving.{Work}
 use Rattle.zst_recv.specs.Stages.{HasRead, IsWork, StageFits, TellsBefore, is_live, waits_at}
@@ -34,6 +35,10 @@ invariant-pushes g l =
       bytes : AreBytes l.rest;
       limit : pushed_of l.reader + length l.rest ≤ 2 ^ 62;
       fills : Fills (disk.state l.fn.io.disk.now) l.fn.io.space l.fn.io.failed (disk.state l.io.disk.now) l.io.space l.io.failed None;
+      spent : (front : List ℕ) × (l.piece ≡ front ++ l.rest)
+          × ((text : List ℕ) (handed : List Covered) → StandsFor l.fn.reader text handed → (records : List Covered) × StandsFor l.reader (text ++ front) (handed ++ records) × Spends records l.fn.io.space l.io.space None);
+      hands : (front : List ℕ) × (l.piece ≡ front ++ l.rest)
+          × ((text : List ℕ) (handed : List Covered) → HandsOut l.fn.reader text handed waiting → (later : List Covered) × HandsOut l.reader (text ++ front) later waiting);
       same : l.io.disk.ghost_name ≡ l.fn.io.disk.ghost_name;
     }
 

@@ -12,6 +12,10 @@ use Rattle.zst_recv.specs.Taking.{Takes}
 use Rattle.zst_recv.specs.declared.batch.Batch.{Batch}
 use Rattle.zst_recv.specs.declared.stage.Stage.TheVariants as stages
 use Rattle.zst_recv.proofs.Moving.{one_more, refuses_on, taken_is, under_way, work_stays}
+use Rattle.std.proofs.Common.{[], ◌∷◌}
+use Rattle.zst_recv.specs.Costs.{Spends}
+use Rattle.zst_recv.specs.Faults.{stop_of}
+use Rattle.zst_recv.specs.declared.fault.RecvFault.{RecvFault}
 use Rattle.zst_recv.proofs.batch.Batch.go_on.Goals as goal
 
 pub returns-in_err-move_by-in-Lives-clause-took : goal.returns-in_err-move_by-in-Lives-clause-took
@@ -62,3 +66,8 @@ returns-in_err-move_by-in-Lives-clause-damaged g c = λ rows target sector state
       can = subst (StageFits rows target) c.in-Lives.is fits;
       damaged = c.in_err-move_by-in-Lives.ensures.damaged sector stated found honest (sym (err_is c.from_residual.result fault c.from_residual.ensures.1) ∙ is);
     }
+
+pub returns-in_err-move_by-in-Lives-clause-spends : goal.returns-in_err-move_by-in-Lives-clause-spends
+returns-in_err-move_by-in-Lives-clause-spends g c =
+    let covered = covered_of c.args.covered.now in
+    subst (λ (r : Result (Unit {0}) RecvFault). Spends (covered ∷ []) c.args.io.now.space c.move_by.new.io.space (stop_of r)) (sym (err_is c.from_residual.result c.in_err-move_by-in-Lives.field-0.0 c.from_residual.ensures.1)) c.in_err-move_by-in-Lives.ensures.spends

@@ -3,6 +3,8 @@ use Rattle.zst_image.specs.Reads.{bound_of}
 use Rattle.zst_record.specs.Heads.{covered_of}
 use Rattle.zst_recv.proofs.Damaging.{told_none}
 use Rattle.zst_recv.proofs.Moving.{next_number, runs_now}
+use Rattle.std.proofs.Common.{[], ◌∷◌, refl}
+use Rattle.zst_recv.proofs.Spending.{spends_idle}
 use Rattle.zst_recv.proofs.batch.Batch.take.Goals as goal
 
 pub returns-in-Begin-clause-took : goal.returns-in-Begin-clause-took
@@ -34,3 +36,9 @@ returns-in-Begin-clause-damaged g c = λ sector stated found honest is. absurd (
 
 pub returns-in_default-clause-damaged : goal.returns-in_default-clause-damaged
 returns-in_default-clause-damaged g c = λ sector stated found honest is. c.go_on.ensures.damaged c.args.kept.now.dir c.args.ask.now.target sector stated found honest c.requires.stage is
+
+pub returns-in-Begin-clause-spends : goal.returns-in-Begin-clause-spends
+returns-in-Begin-clause-spends g c = spends_idle (covered_of c.args.covered.now ∷ []) c.args.io.now.space _ c.begin.ensures.no_block
+
+pub returns-in-End-clause-spends : goal.returns-in-End-clause-spends
+returns-in-End-clause-spends g c = spends_idle (covered_of c.args.covered.now ∷ []) c.args.io.now.space _ refl

@@ -11,6 +11,8 @@ use Rattle.zst_image.specs.Reads.{bound_of, free_by}
 use Rattle.zst_image.specs.declared.kept.Kept.{Kept}
 use Rattle.zst_model.specs.pools.Pool.{Pool}
 use Rattle.zst_plan.specs.declared.receive.RecvAsk.{RecvAsk}
+use Rattle.zst_pool.specs.Calls.{IsCallFull}
+use Rattle.zst_pool.specs.declared.fault.PoolFault.{PoolFault}
 use Rattle.zst_pool.proofs.Resting.{commit_still, rests_on, rests_still}
 use Rattle.zst_recv.specs.Faults.{IsFeedFault, keeps_before, recv_refusal, stop_at}
 use Rattle.zst_recv.specs.Receiving.{Work, at_stage, is_kept, put}
@@ -30,6 +32,10 @@ use Rattle.zst_recv.specs.declared.fault.RecvFault.{RecvFault}
 use Rattle.zst_recv.proofs.Damaging.{damaged_renewed, err_told, told_call}
 use Rattle.zst_recv.proofs.Behind.{over_reads}
 use Rattle.zst_recv.proofs.Serving.{behind_fits, both_false, by_test, fed_so, first_stage, first_way, fits_within, kept_is, left_rests, live_fits, loose, lost, not_false, not_not, over_fits, received_then, stopped, too_long, unmade, untaken_stands, waits_behind, known_call, still_open}
+use Rattle.zst_reader.specs.StandsFor.{HandsOut}
+use Rattle.zst_stream.specs.Reading.{waiting}
+use Rattle.zst_recv.specs.Costs.{PieceIsShort, Spends, records_behind}
+use Rattle.zst_recv.proofs.Spending.{full_keeps_none, same_pool, short_put, short_read}
 use Rattle.zst_recv.proofs.recv.Recv.feed.Goals as goal
 use Rattle.zst_recv.proofs.recv.Recv.feed.Goals.{then-keeps_before+else-is_kept, else-keeps_before}
 
@@ -419,3 +425,72 @@ returns-in-Ok-put-clause-whole g c = λ text handed stands done.
     let batch = c.read.new.batch in
     let over : is_live batch.stage ≡ false = not_false (is_live batch.stage) (sym c.go_on.ensures.done ∙ done) in
     c.in-Ok.ensures.over text handed stands (ap is_live (c.new-batch.ensures.stage ∙ c.replace.ensures.value) ∙ c.requires.live) over
+
+pub returns-then-pool-clause-short : goal.returns-then-pool-clause-short
+returns-then-pool-clause-short g c = λ text handed need largest stands is. absurd (cc is)
+
+pub returns-then-piece-started-clause-short : goal.returns-then-piece-started-clause-short
+returns-then-piece-started-clause-short g c = λ text handed need largest stands is.
+    absurd (cc (c.give_up.ensures.fault, c.too_long.ensures, is))
+
+pub returns-in-Err-2-clause-short : goal.returns-in-Err-2-clause-short
+returns-in-Err-2-clause-short g c = λ text handed need largest stands is.
+    let gave = c.give_up-in-Err-2 in
+    let records = records_behind handed (text ++ c.args.piece.now) in
+    let kept = c.args.pool.now.kept in
+    let full = ap stop_at (sym gave.ensures.fault ∙ err_told coded_recv.Fed _ _ is) in
+    let told = c.in-Err.ensures.fills.full need largest full in
+    let spends = subst (λ (s : FreeSectors). Spends records s c.read.new.io.space (stop_at c.in-Err.fault)) c.renew.ensures.space (c.in-Err.ensures.spends text handed stands) in
+    subst (λ (s : FreeSectors). PieceIsShort records kept s need largest) (sym (ap (λ (io : _). io.space) gave.ensures.io))
+    (short_read records kept c.read.new.io.space (stop_at c.in-Err.fault) need largest full told.0 told.1 spends)
+
+pub returns-in-Err-put-clause-short : goal.returns-in-Err-put-clause-short
+returns-in-Err-put-clause-short g c = λ text handed need largest stands is.
+    let gave = c.give_up-in-Err-put in
+    let records = records_behind handed (text ++ c.args.piece.now) in
+    let kept = c.args.pool.now.kept in
+    let full = ap (λ (f : PoolFault). Err f) (same_pool _ _ (sym gave.ensures.fault ∙ err_told coded_recv.Fed _ _ is)) in
+    let told = subst (λ (k : Kept). IsCallFull c.read.new.io.space c.put.new.pool.io.space k.dir need largest) c.renew.ensures.kept (c.in-Err-put.ensures.short need largest full) in
+    let spends = subst (λ (s : FreeSectors). Spends records s c.read.new.io.space None) c.renew.ensures.space (c.in-Ok.ensures.spends text handed stands) in
+    subst (λ (s : FreeSectors). PieceIsShort records kept s need largest) (sym (ap (λ (io : _). io.space) gave.ensures.io))
+    (short_put records kept c.read.new.io.space c.put.new.pool.io.space None need largest spends told)
+
+pub returns-in-Err-put-2-clause-short : goal.returns-in-Err-put-2-clause-short
+returns-in-Err-put-2-clause-short g c = λ text handed need largest stands is.
+    let gave = c.give_up-in-Err-put-2 in
+    let records = records_behind handed (text ++ c.args.piece.now) in
+    let kept = c.args.pool.now.kept in
+    let full = ap (λ (f : PoolFault). Err f) (same_pool _ _ (sym gave.ensures.fault ∙ err_told coded_recv.Fed _ _ is)) in
+    let told = subst (λ (k : Kept). IsCallFull c.read.new.io.space c.put-in-Err.new.pool.io.space k.dir need largest) c.renew.ensures.kept (c.in-Err-put-2.ensures.short need largest full) in
+    let spends = subst (λ (s : FreeSectors). Spends records s c.read.new.io.space (stop_at c.in-Err.fault)) c.renew.ensures.space (c.in-Err.ensures.spends text handed stands) in
+    subst (λ (s : FreeSectors). PieceIsShort records kept s need largest) (sym (ap (λ (io : _). io.space) gave.ensures.io))
+    (short_put records kept c.read.new.io.space c.put-in-Err.new.pool.io.space (stop_at c.in-Err.fault) need largest spends told)
+
+pub returns-in-Ok-put-2-clause-short : goal.returns-in-Ok-put-2-clause-short
+returns-in-Ok-put-2-clause-short g c = λ text handed need largest stands is.
+    absurd (full_keeps_none c.in-Err.fault need largest (sym c.keeps_before.ensures ∙ c.if-keeps_before.true) (err_told coded_recv.Fed c.in-Err.fault _ is))
+
+pub returns-in-Ok-put-clause-hands_out : goal.returns-in-Ok-put-clause-hands_out
+returns-in-Ok-put-clause-hands_out g c = λ text handed hands goes.
+    let live : is_live c.read.new.batch.stage ≡ true = not_not (is_live c.read.new.batch.stage) (sym c.go_on.ensures.done ∙ goes) in
+    let later = c.in-Ok.ensures.hands_out live text handed hands in
+    (later.0, subst (λ (r : Reader). HandsOut r (text ++ c.args.piece.now) later.0 waiting) (sym c.go_on.ensures.reader) later.1)
+
+pub returns-then-pool-clause-stays : goal.returns-then-pool-clause-stays
+returns-then-pool-clause-stays g c = λ need largest is. refl
+
+pub returns-then-piece-started-clause-stays : goal.returns-then-piece-started-clause-stays
+returns-then-piece-started-clause-stays g c = λ need largest is. c.give_up.ensures.body
+
+pub returns-in-Err-2-clause-stays : goal.returns-in-Err-2-clause-stays
+returns-in-Err-2-clause-stays g c = λ need largest is. c.give_up-in-Err-2.ensures.body ∙ ap (λ (k : Kept). k.body) c.renew.ensures.kept
+
+pub returns-in-Err-put-clause-stays : goal.returns-in-Err-put-clause-stays
+returns-in-Err-put-clause-stays g c = λ need largest is. c.give_up-in-Err-put.ensures.body ∙ ap (λ (k : Kept). k.body) (c.in-Err-put.ensures.stays ∙ c.renew.ensures.kept)
+
+pub returns-in-Err-put-2-clause-stays : goal.returns-in-Err-put-2-clause-stays
+returns-in-Err-put-2-clause-stays g c = λ need largest is. c.give_up-in-Err-put-2.ensures.body ∙ ap (λ (k : Kept). k.body) (c.in-Err-put-2.ensures.stays ∙ c.renew.ensures.kept)
+
+pub returns-in-Ok-put-2-clause-stays : goal.returns-in-Ok-put-2-clause-stays
+returns-in-Ok-put-2-clause-stays g c = λ need largest is.
+    absurd (full_keeps_none c.in-Err.fault need largest (sym c.keeps_before.ensures ∙ c.if-keeps_before.true) (err_told coded_recv.Fed c.in-Err.fault _ is))

@@ -1,0 +1,46 @@
+-- What a piece of a stream costs of the free sectors, and where it finds no room.
+use Rattle.std.specs.Prelude.{◌≡◌, ◌⊎◌, ◌+◌, ◌-◌, ◌<◌, ℕ, List, [], ◌∷◌, drop, length, sum_by, Option, Some}
+use Rattle.zst_space.specs.FreeSectors.{FreeSectors, largest_of}
+use Rattle.zst_block.specs.Working.{TakesAtMost}
+use Rattle.zst_block.specs.declared.fault.BlockFault.{BlockFault}
+use Rattle.zst_block.specs.declared.fault.BlockFault.TheVariants.{Full}
+use Rattle.zst_dir.specs.Rows.{Rows}
+use Rattle.zst_dir.specs.Spelling.{dir_bytes}
+use Rattle.zst_image.specs.Reads.{dir_sectors, free_by}
+use Rattle.zst_image.specs.declared.kept.Kept.{Kept}
+use Rattle.zst_record.specs.Heads.{Covered}
+use Rattle.zst_stream.specs.Reading.{reading}
+use Rattle.zst_apply.specs.Costs.{record_block, record_cost}
+
+-- the records that a text covers behind those that were handed out
+abbrev pub records_behind : List Covered → List ℕ → List Covered
+records_behind handed text = drop (length handed) (reading text).covered
+
+-- so many sectors these records take at most
+abbrev pub records_cost : List Covered → ℕ
+records_cost records = sum_by (λ c. record_cost c.head) records
+
+-- So many sectors a piece takes at most that covers these records, in a pool of these rows: what the records take, and the directory that is
+-- committed, which with a partial state, or with a new head and a snapshot, has at most 2,048 bytes more than the one before.
+abbrev pub piece_cost : List Covered → Rows → ℕ
+piece_cost records rows = records_cost records + dir_sectors (length (dir_bytes rows) + 2048)
+
+-- what is to be written is a block of a tree, of 16 sectors, or the block of one of these records
+abbrev pub IsNeeded : (need : ℕ) → List Covered → Type 0
+IsNeeded need [] = need ≡ 16
+IsNeeded need (c ∷ rest) = (need ≡ record_block c.head) ⊎ IsNeeded need rest
+
+-- These records took no more sectors than they cost. One found no room only where before them no run was free of as many sectors.
+pub record Spends (records : List Covered) (old new : FreeSectors) (stop : Option BlockFault) : Type 0 where
+  pub takes : TakesAtMost (records_cost records) old new
+  pub before : (need largest : ℕ) → stop ≡ Some (Full need largest) → largest_of old < records_cost records
+  pub needed : (need largest : ℕ) → stop ≡ Some (Full need largest) → IsNeeded need records
+
+-- E24 of a piece that covers these records, in a pool of this body and directory: what is to be written is longer than the longest run of the sectors
+-- that are left then; and before the piece, fewer sectors were free than it costs
+pub record PieceIsShort (records : List Covered) (kept : Kept) (left : FreeSectors) (need largest : ℕ) : Type 0 where
+  pub taken : TakesAtMost (piece_cost records kept.dir) (free_by kept.body) left
+  pub shorter : largest < need
+  pub needed : IsNeeded need records
+  pub is_longest : largest ≡ largest_of left
+  pub room : kept.body.sectors - kept.body.end < piece_cost records kept.dir
