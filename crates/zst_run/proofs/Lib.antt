@@ -11,7 +11,8 @@ pub mod SentAlike
 pub mod AskedLines
 pub mod Pieces
 pub mod FedPieces
-pub mod Turning
+pub mod Shorts
+mod Turning
 pub mod Receiving
 pub mod ReceivedFrom
 pub mod ReceiptLine

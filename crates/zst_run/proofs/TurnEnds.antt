@@ -14,10 +14,10 @@ use Rattle.zst_pool.specs.Calls.{IsAtRest}
 use Rattle.zst_pool.specs.Faults.{pool_refusal}
 use Rattle.zst_pool.specs.declared.fault.PoolFault.{PoolFault}
 use Rattle.zst_pool.specs.declared.fault.PoolFault.TheVariants as pools
-use Rattle.zst_reader.specs.StandsFor.{StandsFor}
+use Rattle.zst_reader.specs.StandsFor.{HandsOut, StandsFor}
 use Rattle.zst_record.specs.Heads.{Covered}
 use Rattle.zst_record.specs.Laws.{AreBytes}
-use Rattle.zst_stream.specs.Reading.{complete, faulty, reading}
+use Rattle.zst_stream.specs.Reading.{complete, faulty, reading, waiting}
 use Rattle.zst_recv.specs.Answers.{Feeds}
 use Rattle.zst_recv.specs.Faults.{IsFeedFault, recv_refusal}
 use Rattle.zst_recv.specs.Receiving.{Stage}
@@ -34,6 +34,7 @@ use Rattle.zst_run.specs.declared.receive.End.{End}
 use Rattle.zst_run.specs.declared.receive.End.TheVariants.{Ended, Failed}
 use Rattle.zst_run.specs.declared.receive.Turn.TheVariants as turns
 use Rattle.zst_run.proofs.Commanded.{of_plan}
+use Rattle.zst_run.proofs.Shorts.{IsShortBehind}
 use Rattle.zst_run.proofs.Turning.{turn_without, turned_more, turned_over, turned_received, turned_refused}
 
 -- ---- faults of the stream
@@ -153,15 +154,17 @@ module _ (input input' : SourceState) (room : List ℕ) (count : ℕ) (end : Opt
 
     pub turns_refused : (items' : ℕ) (fault : RecvFault) → IsFeedFault fault → FedSo (Err fault)
         → ((text : List ℕ) (handed : List Covered) (told : StreamFault) → StandsFor recv.reader text handed → fault ≡ faults.Stream told → (reading (text ++ take count room)).outcome ≡ faulty told)
+        → ((text : List ℕ) (handed : List Covered) (need largest : ℕ) → HandsOut recv.reader text handed waiting → fault ≡ faults.Pool (pools.Full need largest) → IsShortBehind kept kept' text (take count room) need largest)
         → Turns old now kept kept' recv recv' items items' input input' (turns.Refused (recv_refusal fault))
-    turns_refused items' fault known feeds stream = record {
+    turns_refused items' fault known feeds stream short = record {
       piece = take count room;
       gave = gave;
       sized = (has_some, most);
       input_is = tt;
       reads = λ text has told is. let same = recv_stream fault told is in (subst IsFeedFault same known, stream text has.0 told has.1 same);
       says = λ tight pool pieces honest u.
-          turned_refused law tight old now kept kept' recv recv' recv.ask pool pieces (take count room) items u has_some same items' fault known (feeds tight u.after _ u.stage honest u.rests u.tells u.fed);
+          turned_refused law tight old now kept kept' recv recv' recv.ask pool pieces (take count room) items u has_some same items' fault known (feeds tight u.after _ u.stage honest u.rests u.tells u.fed)
+          (λ need largest is. short _ u.fed.handed need largest u.fed.reads is);
     }
 
     on_by : (e : Option End) → Fills input input' (length room) count e → (failed : Bool) → is_live recv'.stage ≡ true → failed ≡ false → fed_of recv' ≡ fed_of recv + length (take count room)

@@ -5,7 +5,7 @@ use Rattle.std.specs.List.{concat}
 use Rattle.zst_outside.specs.Images.{DiskState, Leaves, Leaves-none, Leaves-weaker}
 use Rattle.zst_outside.specs.States.{SourceState}
 use Rattle.zst_block.specs.Blocks.{Has}
-use Rattle.zst_image.specs.Reads.{Reads, bound_of, free_by}
+use Rattle.zst_image.specs.Reads.{Reads, Rests, bound_of, free_by}
 use Rattle.zst_image.specs.declared.kept.Kept.{Kept}
 use Rattle.zst_model.specs.declared.refusals.faults.Quantity.{Quantity}
 use Rattle.zst_model.specs.declared.refusals.faults.Quantity.TheVariants as quantities
@@ -42,12 +42,14 @@ use Rattle.zst_recv.specs.declared.recv.Recv.{Recv}
 use Rattle.zst_recv.specs.declared.stage.Stage as stages
 use Rattle.zst_recv.specs.declared.stage.Stage.TheVariants as variants
 use Rattle.zst_replication.specs.Counting.{Counts, RecordsAreCounted}
-use Rattle.zst_run.specs.Receives.{IsOpen, ReceiveEnds, Refused, Stopped, piece_size}
+use Rattle.zst_uber.specs.declared.uber.Uber.{Uber}
+use Rattle.zst_run.specs.Receives.{IsOpen, LastFindsNoRoom, ReceiveEnds, Refused, Stopped, piece_size}
 use Rattle.zst_run.specs.Underway.{Along, IsReceived, Turned, Underway, Wanted, with_piece}
 use Rattle.zst_run.specs.declared.receive.End.{End}
 use Rattle.zst_run.specs.declared.receive.Turn.TheVariants as turns
 use Rattle.zst_run.proofs.FedPieces.{along_all, along_then, before_last, next_is, open_live, wanted_then}
-use Rattle.zst_run.proofs.Pieces.{bytes_then, concat_with}
+use Rattle.zst_run.proofs.Pieces.{bytes_then, concat_with, with_some}
+use Rattle.zst_run.proofs.Shorts.{IsShortBehind}
 
 -- ---- waiting for BEGIN
 
@@ -270,6 +272,27 @@ module _ (law : RecordsAreCounted) (tight : Bool) (old now : DiskState) (kept ke
   stopped_before rests =
       record { after = u.after; stage = u.stage; is = ap (receives ask pool) (before_last pieces piece some) ∙ u.is; live = u.live; keeps = (kept'.body, rests.rows, rests.rests) }
 
+  -- where it found no room, fewer sectors were free than it costs, and the body is as it was
+  abbrev pub ShortSo : RecvFault → Type 0
+  ShortSo fault = (need largest : ℕ) → fault ≡ faults.Pool (pools.Full need largest) → IsShortBehind kept kept' text piece need largest
+
+  last_short : {need largest : ℕ} → IsAtRest tight now kept' (left_by u.stage u.after) → IsShortBehind kept kept' text piece need largest → LastFindsNoRoom tight ask pool with_it now need largest
+  last_short rests short = record {
+    before = pieces;
+    last = piece;
+    are = with_some pieces piece some;
+    after = u.after;
+    stage = u.stage;
+    is = u.is;
+    kept = kept;
+    image = old.seen;
+    runs_by = u.rests.runs_by;
+    rows = rests.rows;
+    stands = subst (λ (body : Uber). Rests tight now body rests.rows (kept_of (left_by u.stage u.after))) short.stays rests.rests;
+    left = short.left;
+    short = short.short;
+  }
+
   refused_so : (refusal : Refusal) → IsStopped tight now kept' (fed_piece recv'.ask text piece u.stage u.after) refusal → Refused tight ask pool with_it now refusal
   refused_so refusal s = record { after = s.next; is = made_is ∙ asked_is (Stops s.next refusal) s.definition_is; keeps = (kept'.body, s.rests.rows, s.rests.rests) }
 
@@ -315,15 +338,15 @@ module _ (law : RecordsAreCounted) (tight : Bool) (old now : DiskState) (kept ke
     by_plan (plans.Unsupported lack) is = refused_so _ is
     by_plan (plans.Limit which number) is = by_limit which number is
 
-    by_pool : (fault : PoolFault) → Feeding fault → EndsSo (pool_refusal fault)
-    by_pool (pools.Plan fault) is = by_plan fault is
-    by_pool (pools.CannotApply fault) is = absurd is
-    by_pool (pools.Redacted object block) is = absurd is
-    by_pool (pools.Full need largest) is = (is.0, stopped_before is.1)
-    by_pool (pools.Damaged sector stated found) is = absurd is
-    by_pool pools.DiskFault is = tt
-    by_pool pools.Failed is = absurd is
-    by_pool pools.OutOfMemory is = stopped_before is
+    by_pool : (fault : PoolFault) → Feeding fault → ShortSo (faults.Pool fault) → EndsSo (pool_refusal fault)
+    by_pool (pools.Plan fault) is short = by_plan fault is
+    by_pool (pools.CannotApply fault) is short = absurd is
+    by_pool (pools.Redacted object block) is short = absurd is
+    by_pool (pools.Full need largest) is short = (is.0, stopped_before is.1, last_short is.1 (short need largest refl))
+    by_pool (pools.Damaged sector stated found) is short = absurd is
+    by_pool pools.DiskFault is short = tt
+    by_pool pools.Failed is short = absurd is
+    by_pool pools.OutOfMemory is short = stopped_before is
 
     by_stream : (fault : StreamFault) → IsFound fault → IsStopped tight now kept' (fed_piece recv'.ask text piece u.stage u.after) (refusals.Stream fault) → EndsSo (refusals.Stream fault)
     by_stream (stream.Grammar at flaw) found is = refused_so _ is
@@ -331,11 +354,11 @@ module _ (law : RecordsAreCounted) (tight : Bool) (old now : DiskState) (kept ke
     by_stream (stream.Unsupported at lack) found is = refused_so _ is
     by_stream (stream.Truncated at) found is = absurd found
 
-    refused_by : (fault : RecvFault) → IsFeedFault fault → Feeds tight old now kept' recv' text piece u.stage u.after (Err fault) → EndsSo (recv_refusal fault)
-    refused_by (faults.Pool fault) known f = by_pool fault f.answer
-    refused_by (faults.Stream fault) known f = by_stream fault known f.answer
-    refused_by (faults.CannotApply index fault) known f = refused_so _ f.answer
+    refused_by : (fault : RecvFault) → IsFeedFault fault → Feeds tight old now kept' recv' text piece u.stage u.after (Err fault) → ShortSo fault → EndsSo (recv_refusal fault)
+    refused_by (faults.Pool fault) known f short = by_pool fault f.answer short
+    refused_by (faults.Stream fault) known f short = by_stream fault known f.answer
+    refused_by (faults.CannotApply index fault) known f short = refused_so _ f.answer
 
-  pub turned_refused : (items' : ℕ) (fault : RecvFault) → IsFeedFault fault → Feeds tight old now kept' recv' text piece u.stage u.after (Err fault)
+  pub turned_refused : (items' : ℕ) (fault : RecvFault) → IsFeedFault fault → Feeds tight old now kept' recv' text piece u.stage u.after (Err fault) → ShortSo fault
       → Turned tight old now kept' recv' ask pool with_it items' (turns.Refused (recv_refusal fault))
-  turned_refused items' fault known f = record { wanted = wanted; moments = moments f.moments; stands = λ input input'. refused_by input input' fault known f }
+  turned_refused items' fault known f short = record { wanted = wanted; moments = moments f.moments; stands = λ input input'. refused_by input input' fault known f short }

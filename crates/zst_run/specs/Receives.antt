@@ -1,9 +1,11 @@
 -- What a receive reads, what it leaves of an image, and why it ends.
-use Rattle.std.specs.Prelude.{ℕ, ◌-◌, ◌≡◌, ◌⊎◌, ◌<◌, ◌≤◌, Bool, IsTrue, IfErr, List, [], ◌∷◌, length, take, codes, decimal, Option, Some, None, Result, Ok, Err}
+use Rattle.std.specs.Prelude.{ℕ, ◌-◌, ◌≡◌, ◌⊎◌, ◌<◌, ◌≤◌, Bool, IsTrue, IfErr, List, [], ◌∷◌, ◌++◌, length, take, codes, decimal, Option, Some, None, Result, Ok, Err}
 use Rattle.std.specs.List.{concat}
 use Rattle.zst_outside.specs.Causes.{Rose}
 use Rattle.zst_outside.specs.Images.{DiskState, Leaves, OnlyReads}
 use Rattle.zst_outside.specs.States.{SourceState, SinkState, Gave}
+use Rattle.zst_space.specs.FreeSectors.{FreeSectors}
+use Rattle.zst_block.specs.Blocks.{Has}
 use Rattle.zst_uber.specs.Slots.{latest}
 use Rattle.zst_uber.specs.declared.uber.Uber.{Uber}
 use Rattle.zst_names.specs.Names.{dataset_of}
@@ -20,14 +22,16 @@ use Rattle.zst_model.specs.refusals.Texts.{guid_text}
 use Rattle.zst_dir.specs.Rows.{Rows}
 use Rattle.zst_image.specs.Faults.{open_refusal}
 use Rattle.zst_image.specs.Opening.{TellsBody, TellsDir}
-use Rattle.zst_image.specs.Reads.{Reads, ReadsAs, Rests}
+use Rattle.zst_image.specs.Reads.{Reads, ReadsAs, Rests, RunsBy, bound_of, free_by}
+use Rattle.zst_image.specs.declared.kept.Kept.{Kept}
 use Rattle.zst_image.specs.declared.open_fault.OpenFault.{OpenFault}
 use Rattle.zst_plan.specs.RecvPlan.{snapshot_name}
 use Rattle.zst_plan.specs.declared.receive.RecvAsk.{RecvAsk}
 use Rattle.zst_stream.specs.Findings.{IsFound}
 use Rattle.zst_stream.specs.Reading.{complete, faulty, reading}
+use Rattle.zst_recv.specs.Costs.{PieceIsShort}
 use Rattle.zst_recv.specs.Faults.{IsFeedFault, recv_refusal, stream_limit}
-use Rattle.zst_recv.specs.Feeds.{receives}
+use Rattle.zst_recv.specs.Feeds.{new_records, receives}
 use Rattle.zst_recv.specs.Receiving.{Stage, Waits, Lives, Ends, Goes, Stops, left_by, pool_of}
 use Rattle.zst_recv.specs.Stages.{TellsTarget}
 use Rattle.zst_recv.specs.declared.fault.RecvFault.{RecvFault}
@@ -121,9 +125,26 @@ pub record Refused (tight : Bool) (ask : RecvAsk) (pool : Pool) (pieces : List (
   pub is : receives ask pool pieces ≡ Stops after refusal
   pub keeps : Keeps tight here' after
 
+-- The last of the pieces found no room: those before it left the receive waiting, and a pool whose rows in memory stood for it then, by a body by
+-- which the image rests still; and by them fewer sectors were free than the last piece costs, by the records that it covers.
+pub record LastFindsNoRoom (tight : Bool) (ask : RecvAsk) (pool : Pool) (pieces : List (List ℕ)) (here' : DiskState) (need largest : ℕ) : Type 0 where
+  pub before : List (List ℕ)
+  pub last : List ℕ
+  pub are : pieces ≡ before ++ last ∷ []
+  pub after : Pool
+  pub stage : Stage
+  pub is : receives ask pool before ≡ Goes after stage
+  pub kept : Kept
+  pub image : List ℕ
+  pub runs_by : RunsBy (bound_of tight after.number) (Has image (free_by kept.body)) kept.dir after
+  pub rows : Rows
+  pub stands : Rests tight here' kept.body rows (kept_of (left_by stage after))
+  pub left : FreeSectors
+  pub short : PieceIsShort (new_records (concat before) last) kept left need largest
+
 -- How a receive into a pool ends, and what then stands: the snapshot, with its line; E20 where the input ended, and E29 where it failed, with all that was
--- read taken; E23 of a stream of more bytes than one has, E24 and E32 with nothing of the last piece taken; else as the definition refuses what was
--- read. Nothing is damaged.
+-- read taken; E23 of a stream of more bytes than one has, E24 and E32 with nothing of the last piece taken, and E24 where fewer sectors were free before
+-- that one than it costs; else as the definition refuses what was read. Nothing is damaged.
 abbrev pub ReceiveEnds : (tight : Bool) → RecvAsk → Pool → List (List ℕ) → DiskState → SourceState → SourceState → Result (List (List ℕ)) Refusal → Type 0
 ReceiveEnds tight ask pool pieces here' input input' (Ok lines) = Received tight ask pool pieces here' lines
 ReceiveEnds tight ask pool pieces here' input input' (Err (refusals.Stream (Truncated at))) =
@@ -131,7 +152,8 @@ ReceiveEnds tight ask pool pieces here' input input' (Err (refusals.Stream (Trun
 ReceiveEnds tight ask pool pieces here' input input' (Err refusals.SourceFault) = Waited tight ask pool pieces here'
 ReceiveEnds tight ask pool pieces here' input input' (Err refusals.DiskFault) = Unit {0}
 ReceiveEnds tight ask pool pieces here' input input' (Err refusals.OutOfMemory) = Stopped tight ask pool pieces here'
-ReceiveEnds tight ask pool pieces here' input input' (Err (refusals.Full need largest)) = (largest < need) × Stopped tight ask pool pieces here'
+ReceiveEnds tight ask pool pieces here' input input' (Err (refusals.Full need largest)) =
+    (largest < need) × Stopped tight ask pool pieces here' × LastFindsNoRoom tight ask pool pieces here' need largest
 ReceiveEnds tight ask pool pieces here' input input' (Err (refusals.Limit Stream number)) =
     (number ≡ stream_limit) × (stream_limit < length (concat pieces)) × Stopped tight ask pool pieces here'
 ReceiveEnds tight ask pool pieces here' input input' (Err (refusals.Damaged sector stated found)) = ⊥

@@ -1,6 +1,7 @@
-use Rattle.std.proofs.Common.{ℕ, ◌<◌, Err, ap, ◌∙◌, arith}
+use Rattle.std.proofs.Common.{ℕ, ◌<◌, Err, ap, take, ◌∙◌, arith}
 use Rattle.std.proofs.lemmas.List.Elements.{All-take}
 use Rattle.zst_recv.specs.declared.fault.RecvFault.{RecvFault}
+use Rattle.zst_run.proofs.Shorts.{short_behind}
 use Rattle.zst_run.proofs.TurnEnds.{turns_on, turns_received, turns_refused, turns_without}
 use Rattle.zst_run.proofs.receive.feed_piece.Goals as goal
 
@@ -37,4 +38,7 @@ returns-in-Err-clause-turns g c =
     rw c.from.ensures
     (turns_refused _ _ p.new.room p.result.count p.result.end p.ensures.within (p.ensures.room ∙ c.requires.room) p.ensures.gave p.ensures.fills c.records_are_counted.ensures (λ is. c.if-piece-eq0.false is) bytes
     _ _ _ _ _ _ _ e.ask _ c.in-Err.fault (e.known c.requires.works) (λ tight running text stage honest rests tells fed. e.feeds tight running text stage honest c.requires.works rests tells fed)
-    (λ text handed told stands is. e.stream text handed told stands (ap (λ (f : RecvFault). Err f) is)))
+    (λ text handed told stands is. e.stream text handed told stands (ap (λ (f : RecvFault). Err f) is))
+    (λ text handed need largest hands is.
+    let full = ap (λ (f : RecvFault). Err f) is in
+    short_behind c.args.recv.now.reader text (take p.result.count p.new.room) handed _ _ _ need largest hands (e.stays need largest full) (e.short text handed need largest hands.stands full)))
