@@ -6,10 +6,11 @@ use Rattle.std.proofs.lemmas.Bool.{cases_lt}
 use Rattle.std.proofs.lemmas.List.Elements.{All-from_recursion}
 use Rattle.std.specs.List.{All, AllZip, AllByRecursion}
 use Rattle.zst_line.specs.declared.kind.Kind.TheVariants as kinds
+use Rattle.zst_line.specs.declared.line.LineFault.{LineFault}
 use Rattle.zst_line.specs.declared.slot.Slot.{Slot}
 use Rattle.zst_line.specs.declared.slot.Slot.TheVariants.{Image, Name}
 use Rattle.zst_line.specs.Grammar.{last_snapshots, named, snapshot, word_at}
-use Rattle.zst_line.specs.Judged.{Fits, Stops, IsNameFor, NameStops, NameStopsAt, Takes}
+use Rattle.zst_line.specs.Judged.{Fits, Stops, IsReadAt, FirstMisread, Misread, Takes}
 
 -- what stands from a place on
 pub drop_at : {X : Type 0} → (xs : List X) (i : ℕ) (d : X) → i < length xs → drop i xs ≡ get_or xs i d ∷ drop (i + 1) xs
@@ -56,30 +57,30 @@ stops_behind slots words h d =
 pub word_here : (words : List (String Global)) (i : ℕ) (d : String Global) → i < length words → word_at (map string_bytes words) i ≡ string_bytes (get_or words i d)
 word_here words i d h = get_or-map string_bytes words i d [] h
 
--- the words before an index are names where one has to stand: what stands from there on decides
+-- the words before an index are names and tokens where one has to stand: what stands from there on decides
 pub record Named (slots : List Slot) (words : List (List ℕ)) (i : ℕ) : Type 0 where
-  pub names : AllZip IsNameFor (drop i slots) (drop i words) → AllZip IsNameFor slots words
-  pub stop : (at : ℕ) → NameStops (drop i slots) (drop i words) at → NameStops slots words at
+  pub names : AllZip IsReadAt (drop i slots) (drop i words) → AllZip IsReadAt slots words
+  pub stop : (fault : LineFault) → FirstMisread (drop i slots) (drop i words) fault → FirstMisread slots words fault
 
 pub named_first : (slots : List Slot) (words : List (List ℕ)) → Named slots words 0
-named_first slots words = record { names = λ h. h; stop = λ at h. h }
+named_first slots words = record { names = λ h. h; stop = λ fault h. h }
 
-pub named_next : (slots : List Slot) (words : List (List ℕ)) (i : ℕ) → i < length slots → i < length words → IsNameFor (get_or slots i Image) (word_at words i) → Named slots words i → Named slots words (i + 1)
+pub named_next : (slots : List Slot) (words : List (List ℕ)) (i : ℕ) → i < length slots → i < length words → IsReadAt (get_or slots i Image) (word_at words i) → Named slots words i → Named slots words (i + 1)
 named_next slots words i hs hw name d =
     let slots_here = drop_at slots i Image hs in
     let words_here = drop_at words i [] hw in record {
       names = λ h. d.names (rw (slots_here, words_here) (name, h));
-      stop = λ at h. d.stop at (rw (slots_here, words_here) (inr (name, h)));
+      stop = λ fault h. d.stop fault (rw (slots_here, words_here) (inr (name, h)));
     }
 
-pub name_stops_here : (slots : List Slot) (words : List (List ℕ)) (i at : ℕ) → i < length slots → i < length words → NameStopsAt (get_or slots i Image) (word_at words i) at → Named slots words i → NameStops slots words at
-name_stops_here slots words i at hs hw stops d = d.stop at (rw (drop_at slots i Image hs, drop_at words i [] hw) (inl stops))
+pub misread_here : (slots : List Slot) (words : List (List ℕ)) (i : ℕ) (fault : LineFault) → i < length slots → i < length words → Misread (get_or slots i Image) (word_at words i) fault → Named slots words i → FirstMisread slots words fault
+misread_here slots words i fault hs hw stops d = d.stop fault (rw (drop_at slots i Image hs, drop_at words i [] hw) (inl stops))
 
-pub names_all : (slots : List Slot) (words : List (List ℕ)) → length words ≡ length slots → Named slots words (length slots) → AllZip IsNameFor slots words
+pub names_all : (slots : List Slot) (words : List (List ℕ)) → length words ≡ length slots → Named slots words (length slots) → AllZip IsReadAt slots words
 names_all slots words h d = d.names (rw (drop_all (length slots) slots (omega arith), drop_all (length slots) words (omega arith)) tt)
 
--- words that fit and are names are taken
-pub both : (slots : List Slot) (words : List (List ℕ)) → AllZip Fits slots words → AllZip IsNameFor slots words → AllZip Takes slots words
+-- words that fit and are names and tokens are taken
+pub both : (slots : List Slot) (words : List (List ℕ)) → AllZip Fits slots words → AllZip IsReadAt slots words → AllZip Takes slots words
 both [] [] fits names = tt
 both [] (word ∷ words) fits names = absurd fits
 both (slot ∷ slots) [] fits names = absurd fits

@@ -2,6 +2,7 @@ pub mod FirstWords
 pub mod Halves
 pub mod InTurn
 pub mod LastWords
+pub mod Misreading
 pub mod NamesAtPlaces
 pub mod Numbers
 pub mod OneAnswer

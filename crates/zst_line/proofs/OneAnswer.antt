@@ -1,15 +1,18 @@
 -- No words have two answers.
-use Rattle.std.proofs.Common.{◌≡◌, ◌≢◌, ℕ, ◌+◌, List, [], ◌∷◌, drop, Ok, Err, refl, sym, ap, ◌∙◌, inl, inr}
+use Rattle.std.proofs.Common.{◌≡◌, ◌≢◌, ℕ, ◌+◌, List, [], ◌∷◌, drop, Result, Ok, Err, is_ok, refl, sym, ap, ◌∙◌, inl, inr}
+use Rattle.std.proofs.lemmas.Bool.{false≢true}
 use Rattle.std.proofs.lemmas.List.{take-append-drop}
 use Rattle.std.specs.List.{AllZip}
 use Rattle.zst_names.specs.Names.{StopsAt}
 use Rattle.zst_names.proofs.Places.{same_place}
+use Rattle.zst_token.specs.declared.fault.TokenFault.{TokenFault}
+use Rattle.zst_token.specs.declared.token.Token as tokens
 use Rattle.zst_line.specs.declared.line.LineFault.{LineFault}
 use Rattle.zst_line.specs.declared.line.LineFault.TheVariants as faults
 use Rattle.zst_line.specs.declared.slot.Slot.{Slot}
-use Rattle.zst_line.specs.declared.slot.Slot.TheVariants.{Image, Token, Name, Number, BlockSize, Bonus, Spill, HexBytes, Given}
+use Rattle.zst_line.specs.declared.slot.Slot.TheVariants.{Token, Name}
 use Rattle.zst_line.specs.Grammar.{word_of, places_of}
-use Rattle.zst_line.specs.Judged.{Fits, Stops, IsNameFor, NameStopsAt, NameStops, OfLine, UsageAt, BadNameAt, Takes, IsLine}
+use Rattle.zst_line.specs.Judged.{Fits, Stops, IsReadAt, Misread, FirstMisread, OfLine, UsageAt, MisreadAs, Takes, IsLine}
 use Rattle.zst_line.specs.Named.{IsNameOf, kind_of_name}
 use Rattle.zst_line.specs.Lines.{LineAnswers, OneAnswer}
 use Rattle.zst_line.proofs.FirstWords.{same_kind}
@@ -46,48 +49,43 @@ is_and_stops IsOne word at is stops =
       | inr end ↦ end.1 is
     ]
 
-name_and_stops : (slot : Slot) (word : List ℕ) (at : ℕ) → IsNameFor slot word → NameStopsAt slot word at → ⊥
-name_and_stops (Name names) word at is stops = is_and_stops (IsNameOf (kind_of_name word)) word at is stops
-name_and_stops Image word at is stops = stops
-name_and_stops Token word at is stops = stops
-name_and_stops (Number low high) word at is stops = stops
-name_and_stops BlockSize word at is stops = stops
-name_and_stops Bonus word at is stops = stops
-name_and_stops Spill word at is stops = stops
-name_and_stops (HexBytes most) word at is stops = stops
-name_and_stops Given word at is stops = stops
+read_and_misread : (slot : Slot) (word : List ℕ) (fault : LineFault) → IsReadAt slot word → Misread slot word fault → ⊥
+read_and_misread (Name names) word (faults.BadName at) is stops = is_and_stops (IsNameOf (kind_of_name word)) word at is stops
+read_and_misread Token word (faults.BadToken at) is stops = absurd (false≢true (ap is_ok (sym stops) ∙ is))
+read_and_misread slot word fault is stops = stops
 
-name_stops_once : (slot : Slot) (word : List ℕ) (a b : ℕ) → NameStopsAt slot word a → NameStopsAt slot word b → a ≡ b
-name_stops_once (Name names) word a b p q = same_place (IsNameOf (kind_of_name word)) word a b p q
-name_stops_once Image word a b p q = absurd p
-name_stops_once Token word a b p q = absurd p
-name_stops_once (Number low high) word a b p q = absurd p
-name_stops_once BlockSize word a b p q = absurd p
-name_stops_once Bonus word a b p q = absurd p
-name_stops_once Spill word a b p q = absurd p
-name_stops_once (HexBytes most) word a b p q = absurd p
-name_stops_once Given word a b p q = absurd p
+-- what is misread has one fault
+abbrev place_of : Result tokens.Token TokenFault → ℕ
+place_of (Ok token) = 0
+place_of (Err fault) = fault.place
 
-names_and_stop : (slots : List Slot) (words : List (List ℕ)) (at : ℕ) → AllZip IsNameFor slots words → NameStops slots words at → ⊥
-names_and_stop [] words at names stops = stops
-names_and_stop (slot ∷ slots) [] at names stops = stops
-names_and_stop (slot ∷ slots) (word ∷ words) at names (inl here) = name_and_stops slot word at names.0 here
-names_and_stop (slot ∷ slots) (word ∷ words) at names (inr later) = names_and_stop slots words at names.1 later.1
+same_misread : (slot : Slot) (word : List ℕ) (a b : LineFault) → Misread slot word a → Misread slot word b → a ≡ b
+same_misread (Name names) word (faults.BadName a) (faults.BadName b) p q = ap faults.BadName (same_place (IsNameOf (kind_of_name word)) word a b p q)
+same_misread (Name names) word (faults.BadName a) other p q = absurd q
+same_misread Token word (faults.BadToken a) (faults.BadToken b) p q = ap faults.BadToken (ap place_of (sym p ∙ q))
+same_misread Token word (faults.BadToken a) other p q = absurd q
+same_misread slot word fault other p q = absurd p
 
-names_stop_once : (slots : List Slot) (words : List (List ℕ)) (a b : ℕ) → NameStops slots words a → NameStops slots words b → a ≡ b
-names_stop_once [] words a b p q = absurd p
-names_stop_once (slot ∷ slots) [] a b p q = absurd p
-names_stop_once (slot ∷ slots) (word ∷ words) a b (inl p) (inl q) = name_stops_once slot word a b p q
-names_stop_once (slot ∷ slots) (word ∷ words) a b (inl p) (inr q) = absurd (name_and_stops slot word a q.0 p)
-names_stop_once (slot ∷ slots) (word ∷ words) a b (inr p) (inl q) = absurd (name_and_stops slot word b p.0 q)
-names_stop_once (slot ∷ slots) (word ∷ words) a b (inr p) (inr q) = names_stop_once slots words a b p.1 q.1
+all_read_and_misread : (slots : List Slot) (words : List (List ℕ)) (fault : LineFault) → AllZip IsReadAt slots words → FirstMisread slots words fault → ⊥
+all_read_and_misread [] words fault names stops = stops
+all_read_and_misread (slot ∷ slots) [] fault names stops = stops
+all_read_and_misread (slot ∷ slots) (word ∷ words) fault names (inl here) = read_and_misread slot word fault names.0 here
+all_read_and_misread (slot ∷ slots) (word ∷ words) fault names (inr later) = all_read_and_misread slots words fault names.1 later.1
+
+misread_once : (slots : List Slot) (words : List (List ℕ)) (a b : LineFault) → FirstMisread slots words a → FirstMisread slots words b → a ≡ b
+misread_once [] words a b p q = absurd p
+misread_once (slot ∷ slots) [] a b p q = absurd p
+misread_once (slot ∷ slots) (word ∷ words) a b (inl p) (inl q) = same_misread slot word a b p q
+misread_once (slot ∷ slots) (word ∷ words) a b (inl p) (inr q) = absurd (read_and_misread slot word a q.0 p)
+misread_once (slot ∷ slots) (word ∷ words) a b (inr p) (inl q) = absurd (read_and_misread slot word b p.0 q)
+misread_once (slot ∷ slots) (word ∷ words) a b (inr p) (inr q) = misread_once slots words a b p.1 q.1
 
 -- what each answer says of the places
 abbrev StopsFact : ℕ → List Slot → List (List ℕ) → Type 0
 StopsFact at slots rest = Stops 1 slots rest at
 
-abbrev NameFact : ℕ → List Slot → List (List ℕ) → Type 0
-NameFact at slots rest = AllZip Fits slots rest × NameStops slots rest at
+abbrev MisreadFact : LineFault → List Slot → List (List ℕ) → Type 0
+MisreadFact fault slots rest = AllZip Fits slots rest × FirstMisread slots rest fault
 
 abbrev LineFact : List Slot → List (List ℕ) → Type 0
 LineFact slots rest = AllZip Takes slots rest
@@ -98,11 +96,11 @@ all_fit [] (word ∷ words) takes = absurd takes
 all_fit (slot ∷ slots) [] takes = absurd takes
 all_fit (slot ∷ slots) (word ∷ words) takes = (takes.0.0, all_fit slots words takes.1)
 
-all_names : (slots : List Slot) (words : List (List ℕ)) → AllZip Takes slots words → AllZip IsNameFor slots words
-all_names [] [] takes = tt
-all_names [] (word ∷ words) takes = absurd takes
-all_names (slot ∷ slots) [] takes = absurd takes
-all_names (slot ∷ slots) (word ∷ words) takes = (takes.0.1, all_names slots words takes.1)
+all_read : (slots : List Slot) (words : List (List ℕ)) → AllZip Takes slots words → AllZip IsReadAt slots words
+all_read [] [] takes = tt
+all_read [] (word ∷ words) takes = absurd takes
+all_read (slot ∷ slots) [] takes = absurd takes
+all_read (slot ∷ slots) (word ∷ words) takes = (takes.0.1, all_read slots words takes.1)
 
 -- words that all fit their places have no fault of usage
 fit_is_no_usage : (P : List Slot → List (List ℕ) → Type 0) (words : List (List ℕ)) (at : ℕ) → ((slots : List Slot) (rest : List (List ℕ)) → P slots rest → AllZip Fits slots rest)
@@ -116,26 +114,33 @@ usage_once words a b (inl p) (inr q) = absurd (p.0 q.kind q.rest q.spelled)
 usage_once words a b (inr p) (inl q) = absurd (q.0 p.kind p.rest p.spelled)
 usage_once words a b (inr p) (inr q) = stop_once (places_of p.kind p.rest) p.rest 1 a b p.fact (moved (StopsFact a) (StopsFact b) words p q)
 
-bad_name_once : (words : List (List ℕ)) (a b : ℕ) → BadNameAt words a → BadNameAt words b → a ≡ b
-bad_name_once words a b p q = names_stop_once (places_of p.kind p.rest) p.rest a b p.fact.1 (moved (NameFact a) (NameFact b) words p q).1
+misread_so_once : (words : List (List ℕ)) (a b : LineFault) → MisreadAs a words → MisreadAs b words → a ≡ b
+misread_so_once words a b p q = misread_once (places_of p.kind p.rest) p.rest a b p.fact.1 (moved (MisreadFact a) (MisreadFact b) words p q).1
 
-names_are_none : (P : List Slot → List (List ℕ) → Type 0) (words : List (List ℕ)) (at : ℕ) → ((slots : List Slot) (rest : List (List ℕ)) → P slots rest → AllZip IsNameFor slots rest)
-    → OfLine P words → BadNameAt words at → ⊥
-names_are_none P words at names p q = names_and_stop (places_of p.kind p.rest) p.rest at (names (places_of p.kind p.rest) p.rest p.fact) (moved P (NameFact at) words p q).1
+read_is_not_misread : (words : List (List ℕ)) (fault : LineFault) → IsLine words → MisreadAs fault words → ⊥
+read_is_not_misread words fault p q = all_read_and_misread (places_of p.kind p.rest) p.rest fault (all_read (places_of p.kind p.rest) p.rest p.fact) (moved LineFact (MisreadFact fault) words p q).1
 
 line_has_no_fault : (words : List (List ℕ)) (fault : LineFault) → IsLine words → LineAnswers words (Err fault) → fault ≢ faults.Memory → ⊥
 line_has_no_fault words (faults.Usage at) line answer other = fit_is_no_usage LineFact words at all_fit line answer
-line_has_no_fault words (faults.BadName at) line answer other = names_are_none LineFact words at all_names line answer
+line_has_no_fault words (faults.BadName at) line answer other = read_is_not_misread words (faults.BadName at) line answer
+line_has_no_fault words (faults.BadToken at) line answer other = read_is_not_misread words (faults.BadToken at) line answer
 line_has_no_fault words faults.Memory line answer other = other refl
 
+misread_fits : (fault : LineFault) (slots : List Slot) (rest : List (List ℕ)) → MisreadFact fault slots rest → AllZip Fits slots rest
+misread_fits fault slots rest h = h.0
+
 one_fault : (words : List (List ℕ)) (one two : LineFault) → LineAnswers words (Err one) → LineAnswers words (Err two) → one ≢ faults.Memory → two ≢ faults.Memory → one ≡ two
-one_fault words (faults.Usage a) (faults.Usage b) p q m n = ap faults.Usage (usage_once words a b p q)
-one_fault words (faults.Usage a) (faults.BadName b) p q m n = absurd (fit_is_no_usage (NameFact b) words a (λ slots rest h. h.0) q p)
-one_fault words (faults.BadName a) (faults.Usage b) p q m n = absurd (fit_is_no_usage (NameFact a) words b (λ slots rest h. h.0) p q)
-one_fault words (faults.BadName a) (faults.BadName b) p q m n = ap faults.BadName (bad_name_once words a b p q)
 one_fault words faults.Memory two p q m n = absurd (m refl)
-one_fault words (faults.Usage a) faults.Memory p q m n = absurd (n refl)
-one_fault words (faults.BadName a) faults.Memory p q m n = absurd (n refl)
+one_fault words one faults.Memory p q m n = absurd (n refl)
+one_fault words (faults.Usage a) (faults.Usage b) p q m n = ap faults.Usage (usage_once words a b p q)
+one_fault words (faults.Usage a) (faults.BadName b) p q m n = absurd (fit_is_no_usage (MisreadFact (faults.BadName b)) words a (misread_fits (faults.BadName b)) q p)
+one_fault words (faults.Usage a) (faults.BadToken b) p q m n = absurd (fit_is_no_usage (MisreadFact (faults.BadToken b)) words a (misread_fits (faults.BadToken b)) q p)
+one_fault words (faults.BadName a) (faults.Usage b) p q m n = absurd (fit_is_no_usage (MisreadFact (faults.BadName a)) words b (misread_fits (faults.BadName a)) p q)
+one_fault words (faults.BadToken a) (faults.Usage b) p q m n = absurd (fit_is_no_usage (MisreadFact (faults.BadToken a)) words b (misread_fits (faults.BadToken a)) p q)
+one_fault words (faults.BadName a) (faults.BadName b) p q m n = misread_so_once words (faults.BadName a) (faults.BadName b) p q
+one_fault words (faults.BadName a) (faults.BadToken b) p q m n = misread_so_once words (faults.BadName a) (faults.BadToken b) p q
+one_fault words (faults.BadToken a) (faults.BadName b) p q m n = misread_so_once words (faults.BadToken a) (faults.BadName b) p q
+one_fault words (faults.BadToken a) (faults.BadToken b) p q m n = misread_so_once words (faults.BadToken a) (faults.BadToken b) p q
 
 pub one_answer : OneAnswer
 one_answer words (Ok one) (Ok other) p q m n = ap Ok (same_line one other words p.1 q.1)

@@ -222,7 +222,7 @@ line_kind (lines.Create image sectors id) words p = ap first_kind p.0
 line_kind (lines.Step image command) words p = said_kind command image words p.0
 line_kind (lines.Redact image snapshot bookmark kept) words p = ap first_kind p
 line_kind (lines.Send image from redacts snapshot) words p = ap first_kind p.0.1
-line_kind (lines.Resume image token) words p = ap first_kind p
+line_kind (lines.Resume image token) words p = ap first_kind p.3
 line_kind (lines.Receive image keeps forces origin target) words p = ap first_kind p.2.1
 line_kind (lines.Abort image dataset) words p = ap first_kind p
 line_kind (lines.Token image dataset) words p = ap first_kind p
@@ -258,9 +258,15 @@ same_line (lines.Send image from redacts snapshot) (lines.Send here origin place
     let c = p.3 in
     let d = q.3 in
     cc
-same_line (lines.Send image from redacts snapshot) (lines.Resume here token) words p q = absurd (p.1 (ap (λ (w : List (List ℕ)). word_at w 1) q))
-same_line (lines.Resume image token) (lines.Send here from redacts snapshot) words p q = absurd (q.1 (ap (λ (w : List (List ℕ)). word_at w 1) p))
-same_line (lines.Resume image token) (lines.Resume here other) words p q = cc
+same_line (lines.Send image from redacts snapshot) (lines.Resume here token) words p q = absurd (p.1 (ap (λ (w : List (List ℕ)). word_at w 1) q.3))
+same_line (lines.Resume image token) (lines.Send here from redacts snapshot) words p q = absurd (q.1 (ap (λ (w : List (List ℕ)). word_at w 1) p.3))
+same_line (lines.Resume image token) (lines.Resume here other) words p q =
+    let s = p.3 in
+    let t = q.3 in
+    let a = p.1 in
+    let b = q.1 in
+    let word : p.0 ≡ q.0 = cc in
+    cc
 same_line (lines.Receive image keeps forces origin target) (lines.Receive here holds drives base name) words p q =
     let s = p.2.1 in
     let t = q.2.1 in

@@ -9,8 +9,10 @@ use Rattle.zst_model.specs.declared.refusals.plan_fault.PlanFault.TheVariants as
 use Rattle.zst_model.specs.declared.refusals.refusal.Refusal.{Refusal}
 use Rattle.zst_model.specs.declared.refusals.refusal.Refusal.TheVariants as refusals
 use Rattle.zst_model.specs.pools.Step.{IsCommand}
+use Rattle.zst_token.specs.Reading.{token_of}
+use Rattle.zst_token.specs.Spelling.{IsToken}
 use Rattle.zst_line.specs.Grammar.{stands_in, word_at}
-use Rattle.zst_line.specs.Judged.{UsageAt, BadNameAt, IsLine}
+use Rattle.zst_line.specs.Judged.{UsageAt, MisreadAs, IsLine}
 use Rattle.zst_line.specs.Named.{kind_of_name}
 use Rattle.zst_line.specs.declared.line.Line.{Line}
 use Rattle.zst_line.specs.declared.line.Line.TheVariants.{Dump, Create, Step, Redact, Send, Resume, Receive, Abort, Token, Check, Gen, Reclaim, Replay}
@@ -104,7 +106,8 @@ LineIs (Redact image snapshot bookmark kept) words = words ≡ codes "redact" �
 LineIs (Send image from redacts snapshot) words =
     EndsIn (codes "send") (image ∷ snapshot ∷ []) words × (word_at words 1 ≢ codes "-t")
     × (from ≡ option_map name_of (value_behind (codes "-i") words)) × (redacts ≡ value_behind (codes "--redact") words)
-LineIs (Resume image token) words = words ≡ codes "send" ∷ codes "-t" ∷ token ∷ image ∷ []
+LineIs (Resume image token) words =
+    (word : List ℕ) × (token_of word ≡ Ok token) × IsToken token × (words ≡ codes "send" ∷ codes "-t" ∷ word ∷ image ∷ [])
 LineIs (Receive image keeps forces origin target) words =
     (word : List ℕ) × (target ≡ name_of word) × EndsIn (codes "receive") (image ∷ word ∷ []) words
     × (keeps ≡ stands_in words (codes "-s")) × (forces ≡ stands_in words (codes "-F")) × (origin ≡ value_behind (codes "--origin") words)
@@ -119,7 +122,8 @@ LineIs (Replay here there) words = words ≡ codes "replay" ∷ here ∷ there �
 abbrev pub LineAnswers : List (List ℕ) → Result Line LineFault → Type 0
 LineAnswers words (Ok line) = IsLine words × LineIs line words
 LineAnswers words (Err (faults.Usage at)) = UsageAt words at
-LineAnswers words (Err (faults.BadName at)) = BadNameAt words at
+LineAnswers words (Err (faults.BadName at)) = MisreadAs (faults.BadName at) words
+LineAnswers words (Err (faults.BadToken at)) = MisreadAs (faults.BadToken at) words
 LineAnswers words (Err faults.Memory) = Unit {0}
 
 -- answers to the same words, memory aside, are one: the same line, or the same fault at the same place
@@ -132,4 +136,5 @@ OneAnswer =
 abbrev pub refusal_of : LineFault → Refusal
 refusal_of (faults.Usage at) = refusals.Usage at
 refusal_of (faults.BadName at) = refusals.Plan (plans.BadName at)
+refusal_of (faults.BadToken at) = refusals.BadToken at
 refusal_of faults.Memory = refusals.OutOfMemory

@@ -3,6 +3,7 @@ use crate::text::Text;
 use std::alloc::AllocError;
 use zst_model::{Command, Name, PlanFault, Refusal};
 use zst_names::{BookName, DatasetName, SnapName};
+use zst_token::Token;
 
 /// What a command line asks for, with the images that it names.
 #[derive(Drop)]
@@ -37,7 +38,7 @@ pub enum Line {
     /// Sends what a token says is still to be sent.
     Resume {
         image: Text,
-        token: Text,
+        token: Token,
     },
     /// Receives a stream (zfs-receive(8)).
     Receive {
@@ -86,6 +87,9 @@ pub enum LineFault {
     Usage { place: u64 },
     /// E2: the byte at which a name stops being one.
     BadName { place: u64 },
+    /// E16: the byte at which a token stops being one, or its length where it ends early. Of fields that no token has it is
+    /// the first digit's place, of a check that differs the check's.
+    BadToken { place: u64 },
     /// E32: no memory was left.
     Memory,
 }
@@ -100,6 +104,7 @@ impl From<LineFault> for Refusal {
         match fault {
             LineFault::Usage { place } => Refusal::Usage { place },
             LineFault::BadName { place } => Refusal::Plan(PlanFault::BadName { place }),
+            LineFault::BadToken { place } => Refusal::BadToken { place },
             LineFault::Memory => Refusal::OutOfMemory,
         }
     }

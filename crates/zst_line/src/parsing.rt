@@ -3,12 +3,12 @@ ghost use Rattle.zst_line.specs.Lines.{LineAnswers};
 
 use crate::kind::kind_of;
 use crate::line::{Line, LineFault};
-use crate::places::{first_bad_name, first_misplaced, places};
+use crate::places::{first_misplaced, first_misread, places};
 use crate::spelled::spelled;
 use std::alloc::Global;
 
 /// The line that the words behind the program's name say. Words are judged for their places from left to right, then
-/// for names.
+/// for names and tokens.
 pub fn parse(alloc: Global, words: &[String]) -> Result<Line, LineFault>
     ensures { LineAnswers (map string_bytes words.now) result }
 {
@@ -24,8 +24,8 @@ pub fn parse(alloc: Global, words: &[String]) -> Result<Line, LineFault>
             place: index as u64 + 1,
         });
     }
-    if let Some(place) = first_bad_name(slots.as_slice(), rest) {
-        return Err(LineFault::BadName { place });
+    if let Some(fault) = first_misread(slots.as_slice(), rest) {
+        return Err(fault);
     }
     Ok(spelled(alloc, kind, rest)?)
 }

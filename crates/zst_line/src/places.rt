@@ -2,11 +2,12 @@
 ghost use Rattle.std.specs.Prelude.{◌≡◌, ◌↔◌, ◌+◌, ◌≤◌, ◌<◌, ◌++◌, length, map, string_bytes, IsTrue, IfOk, IfSome, MatchOption};
 ghost use Rattle.std.specs.List.{AllZip};
 ghost use Rattle.zst_line.specs.Grammar.{last_snapshots, option_places, places_of, word_at};
-ghost use Rattle.zst_line.specs.Judged.{Fits, IsNameFor, Stops, NameStops};
+ghost use Rattle.zst_line.specs.Judged.{Fits, IsReadAt, Stops, FirstMisread};
 
 use crate::kind::Kind;
+use crate::line::LineFault;
 use crate::options::{Taking, goes_on, option_at};
-use crate::slot::{Slot, fits, name_stop};
+use crate::slot::{Slot, fits, misread};
 use crate::table::{LAST_SNAPSHOT, RESUME, front};
 use std::alloc::{AllocError, Global};
 
@@ -79,16 +80,16 @@ pub fn first_misplaced(slots: &[Slot], words: &[String]) -> Option<usize>
     None
 }
 
-/// The byte at which the first name that is none stops being one.
-pub fn first_bad_name(slots: &[Slot], words: &[String]) -> Option<u64>
+/// The fault of the first word that has to be a name or a token and is none.
+pub fn first_misread(slots: &[Slot], words: &[String]) -> Option<LineFault>
     requires { length words.now ≡ length slots.now }
     ensures { MatchOption result
-        (AllZip IsNameFor slots.now (map string_bytes words.now))
-        (λ at. NameStops slots.now (map string_bytes words.now) at) }
+        (AllZip IsReadAt slots.now (map string_bytes words.now))
+        (λ fault. FirstMisread slots.now (map string_bytes words.now) fault) }
 {
     for (index, slot) in slots.iter().enumerate() {
-        if let Some(place) = name_stop(*slot, words[index].as_str()) {
-            return Some(place);
+        if let Some(fault) = misread(*slot, words[index].as_str()) {
+            return Some(fault);
         }
     }
     None

@@ -3,6 +3,8 @@ ghost use Rattle.std.specs.Prelude.{◌≡◌, ◌≢◌, ◌⊎◌, ◌-◌, �
 ghost use Rattle.hex.specs.Hex.{decode_of};
 ghost use Rattle.zst_names.specs.Names.{IsDataset, IsSnapshot, IsBookmark};
 ghost use Rattle.zst_model.specs.states.State.{IsBonus, IsSpill, largest_bonus};
+ghost use Rattle.zst_token.specs.Reading.{token_of};
+ghost use Rattle.zst_token.specs.Spelling.{IsToken};
 ghost use Rattle.zst_line.specs.Grammar.{dataset, snapshot, bookmark};
 ghost use Rattle.zst_line.specs.Judged.{Fits, Takes};
 ghost use Rattle.zst_line.specs.Lines.{name_of, IsBonusOf, IsBlockOf, IsSpillOf};
@@ -17,6 +19,7 @@ use std::alloc::{AllocError, Global};
 use zst_bytes::decimal;
 use zst_model::{Bytes, Name};
 use zst_names::{BookName, DatasetName, SnapName};
+use zst_token::Token;
 
 /// A word as it is.
 pub fn text(alloc: Global, word: &str) -> Result<Text, AllocError>
@@ -58,6 +61,15 @@ pub fn bookmark(word: &str) -> BookName
     ensures name { IsBookmark result }
 {
     BookName::parse(word).unwrap()
+}
+
+/// The token that a word is known to be.
+pub fn token(word: &str) -> Token
+    requires { Takes slots.Token word.now }
+    ensures read { token_of word.now ≡ Ok result }
+    ensures token { IsToken result }
+{
+    Token::parse(word).unwrap()
 }
 
 /// The name that a word is known to be.

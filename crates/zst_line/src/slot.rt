@@ -3,11 +3,13 @@ ghost use Rattle.std.specs.List.{AllPass};
 ghost use Rattle.hex.specs.Hex.{is_hex_digit};
 ghost use Rattle.zst_line.specs.Words.{IsOption, IsText, IsHex, IsNumber, IsSize, IsSpill};
 ghost use Rattle.zst_line.specs.Named.{FitsName};
-ghost use Rattle.zst_line.specs.Judged.{Fits, IsNameFor, NameStopsAt};
+ghost use Rattle.zst_line.specs.Judged.{Fits, IsReadAt, Misread};
 
+use crate::line::LineFault;
 use crate::named::{Names, kind_of_name, stop_of};
 use zst_bytes::decimal;
 use zst_model::limits::{LARGEST_BONUS, is_block_size, is_spill_size};
+use zst_token::Token;
 
 /// The word for no bonus, and for no spill block.
 const NONE: &str = "none";
@@ -17,7 +19,7 @@ const NONE: &str = "none";
 pub enum Slot {
     /// The path of an image.
     Image,
-    /// What a stream goes on from.
+    /// The token that a stream goes on from.
     Token,
     /// A name of one of these kinds.
     Name(Names),
@@ -116,7 +118,7 @@ fn fits_name(names: Names, word: &str) -> bool
     !is_option(word) && names.takes(kind_of_name(word))
 }
 
-/// Whether a word may stand at a place. Whether a name is one isn't asked.
+/// Whether a word may stand at a place. Whether a name or a token is one isn't asked.
 pub fn fits(slot: Slot, word: &str) -> bool
     ensures { IsTrue result ↔ Fits slot word.now }
 {
@@ -132,12 +134,19 @@ pub fn fits(slot: Slot, word: &str) -> bool
     }
 }
 
-/// The byte at which a word stops being the name that has to stand at a place, or None where it is one or none has to.
-pub fn name_stop(slot: Slot, word: &str) -> Option<u64>
-    ensures { MatchOption result (IsNameFor slot word.now) (λ at. NameStopsAt slot word.now at) }
+/// The fault of a word that isn't the name or the token that has to stand at a place, or None where it is or neither has to.
+pub fn misread(slot: Slot, word: &str) -> Option<LineFault>
+    ensures { MatchOption result (IsReadAt slot word.now) (λ fault. Misread slot word.now fault) }
 {
     match slot {
-        Slot::Name(_) => stop_of(word),
+        Slot::Name(_) => match stop_of(word) {
+            Some(place) => Some(LineFault::BadName { place }),
+            None => None,
+        },
+        Slot::Token => match Token::parse(word) {
+            Ok(_) => None,
+            Err(fault) => Some(LineFault::BadToken { place: fault.place }),
+        },
         _ => None,
     }
 }

@@ -9,7 +9,7 @@ ghost use Rattle.zst_line.specs.declared.slot.Slot.TheVariants as slots;
 use crate::kind::Kind;
 use crate::line::Line;
 use crate::options::stands_in;
-use crate::said::{bookmark, name, snapshot, text};
+use crate::said::{bookmark, name, snapshot, text, token};
 use crate::snapshots::Snapshots;
 use std::alloc::{AllocError, Global};
 use zst_model::{Command, Name};
@@ -127,12 +127,12 @@ pub fn resume(alloc: Global, words: &[String]) -> Result<Line, AllocError>
     requires goes_on { goes_on Kind.Send (map string_bytes words.now) ≡ true }
     ensures { IfOk result (λ line. LineIs line (codes "send" ∷ map string_bytes words.now)) }
 {
-    let [_, token, image] = words else {
+    let [_, word, image] = words else {
         unreachable!()
     };
     Ok(Line::Resume {
         image: text(alloc, image.as_str())?,
-        token: text(alloc, token.as_str())?,
+        token: token(word.as_str()),
     })
 }
 

@@ -4,6 +4,10 @@ use std::process::Abort;
 use std::test::Fail;
 use zst_model::{Command, Name, Refusal};
 
+/// A token of the first snapshot of a pool with the id 1.
+const TOKEN: &str =
+    "zst1-0000000000000000010000000100000000000000000000000100000000000000000200000000000000000000000000000000000000000000-0000000000000c1f";
+
 /// The words that stand between the blanks of a text.
 fn words(alloc: Global, text: &str) -> Result<Vec<String>, Fail> {
     let mut words = Vec::new(alloc);
@@ -105,7 +109,6 @@ fn lines_that_send_are_read(rt: HostRuntime) -> Result<(), Fail> {
         "send --redact tank#b a.img tank@s",
         "send -i tank@r --redact tank#b a.img tank@s",
         "send --redact tank#b -i tank@r a.img tank@s",
-        "send -t token a.img",
     ] {
         assert!(rt; parsed(alloc, text)?.is_ok(), "{text}");
     }
@@ -275,15 +278,35 @@ fn a_send_says_its_options_in_each_order(rt: HostRuntime) -> Result<(), Fail> {
     Ok(())
 }
 
+/// A send that goes on from this token.
+fn resumed(alloc: Global, token: &str) -> Result<String, Fail> {
+    Ok(format!(in alloc; "send -t {token} a.img")?)
+}
+
 #[test]
 fn a_send_says_its_token(rt: HostRuntime) -> Result<(), Fail> {
     let alloc = rt.alloc();
     assert!(rt;
         matches!(
-        &parsed(alloc, "send -t 1-2 a.img")?,
-        Ok(Line::Resume { image, token }) if image.as_str() == "a.img" && token.as_str() == "1-2"
+        &parsed(alloc, resumed(alloc, TOKEN)?.as_str())?,
+        Ok(Line::Resume { image, token })
+            if image.as_str() == "a.img" && token.to == 0x0000_0001_0000_0001 && token.print().as_str() == TOKEN
     )
     );
+    Ok(())
+}
+
+#[test]
+fn texts_that_are_no_token(rt: HostRuntime) -> Result<(), Fail> {
+    let alloc = rt.alloc();
+    for (token, place) in [
+        ("token", 0),
+        ("zst1-", 5),
+        (TOKEN.get(..133).ok_or("the digits before the last")?, 133),
+    ] {
+        let found = parsed(alloc, resumed(alloc, token)?.as_str())?.err();
+        assert!(rt; found == Some(LineFault::BadToken { place }), "{token}");
+    }
     Ok(())
 }
 
@@ -572,6 +595,7 @@ fn faults_as_refusals(rt: HostRuntime) {
     for (fault, number, text) in [
         (LineFault::Usage { place: 3 }, 1, "usage: 3"),
         (LineFault::BadName { place: 5 }, 2, "bad name at 5"),
+        (LineFault::BadToken { place: 118 }, 16, "bad token at 118"),
         (LineFault::Memory, 32, "no memory"),
     ] {
         let refusal = Refusal::from(fault);

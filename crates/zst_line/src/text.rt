@@ -2,7 +2,7 @@ ghost use Rattle.std.specs.Prelude.{◌≡◌, string_bytes};
 
 use std::marker::Model;
 
-/// A word of a line that is kept as it is: the path of an image, or a token.
+/// A word of a line that is kept as it is: the path of an image.
 #[derive(Debug, Drop)]
 pub struct Text {
     inner: String,

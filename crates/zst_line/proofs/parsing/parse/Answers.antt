@@ -4,15 +4,16 @@ use Rattle.std.proofs.lemmas.Slice.Zip.{AllZip-long}
 use Rattle.std.specs.List.{AllZip}
 use Rattle.zst_line.specs.declared.slot.Slot.{Slot}
 use Rattle.zst_line.specs.Grammar.{places_of, word_of}
-use Rattle.zst_line.specs.Judged.{Fits, IsNameFor, Takes}
+use Rattle.zst_line.specs.Judged.{Fits, IsReadAt, FirstMisread, Takes}
 use Rattle.zst_line.proofs.InTurn.{both}
+use Rattle.zst_line.proofs.Misreading.{misread_answers}
 use Rattle.zst_line.proofs.parsing.parse.Goals as goal
 
-taken : (fitting naming places : List Slot) (words : List (List ℕ)) → fitting ≡ places → naming ≡ places → AllZip Fits fitting words → AllZip IsNameFor naming words → AllZip Takes places words
+taken : (fitting naming places : List Slot) (words : List (List ℕ)) → fitting ≡ places → naming ≡ places → AllZip Fits fitting words → AllZip IsReadAt naming words → AllZip Takes places words
 taken fitting naming places words one other fits names = both places words (rw one at fits) (rw other at names)
 
-pub first_bad_name-requires : goal.first_bad_name-requires
-first_bad_name-requires c =
+pub first_misread-requires : goal.first_misread-requires
+first_misread-requires c =
     let rest = c.in-Some.rest.now in
     let one = c.as_slice.ensures.value in
     let other = c.as_slice-2.ensures.value in
@@ -30,7 +31,7 @@ spelled-requires c =
     let made = c.in_ok-slots.ensures in
     let fitting : c.as_slice.result.now ≡ places_of c.in-Some-kind_of.kind words = cc in
     let naming : c.as_slice-2.result.now ≡ places_of c.in-Some-kind_of.kind words = cc in
-    let takes = taken c.as_slice.result.now c.as_slice-2.result.now (places_of c.in-Some-kind_of.kind words) words fitting naming c.in_default-first_misplaced.ensures.place c.in_default-first_bad_name.ensures in
+    let takes = taken c.as_slice.result.now c.as_slice-2.result.now (places_of c.in-Some-kind_of.kind words) words fitting naming c.in_default-first_misplaced.ensures.place c.in_default-first_misread.ensures in
     takes
 
 pub returns : goal.returns
@@ -41,7 +42,23 @@ returns c =
     let made = c.in_ok-slots.ensures in
     let fitting : c.as_slice.result.now ≡ places_of c.in-Some-kind_of.kind words = cc in
     let naming : c.as_slice-2.result.now ≡ places_of c.in-Some-kind_of.kind words = cc in
-    let takes = taken c.as_slice.result.now c.as_slice-2.result.now (places_of c.in-Some-kind_of.kind words) words fitting naming c.in_default-first_misplaced.ensures.place c.in_default-first_bad_name.ensures in
+    let takes = taken c.as_slice.result.now c.as_slice-2.result.now (places_of c.in-Some-kind_of.kind words) words fitting naming c.in_default-first_misplaced.ensures.place c.in_default-first_misread.ensures in
     let text : string_bytes c.in-Some.first.now ≡ word_of c.in-Some-kind_of.kind = sym c.as_str.ensures.value ∙ c.in-Some-kind_of.ensures in
     let said : map string_bytes c.args.words.now ≡ word_of c.in-Some-kind_of.kind ∷ words = ap (map string_bytes) c.in-Some.ensures.cases.0 ∙ ap (λ (word : List ℕ). word ∷ words) text in
     (record { kind = c.in-Some-kind_of.kind; rest = words; spelled = said; fact = takes }, rw said c.in_ok-spelled.ensures)
+
+pub returns-in-Some-first_misread : goal.returns-in-Some-first_misread
+returns-in-Some-first_misread c =
+    let words = map string_bytes c.in-Some.rest.now in
+    let kind = c.in-Some-kind_of.kind in
+    let fault = c.in-Some-first_misread.fault in
+    let one = c.as_slice.ensures.value in
+    let other = c.as_slice-2.ensures.value in
+    let made = c.in_ok-slots.ensures in
+    let fitting : c.as_slice.result.now ≡ places_of kind words = cc in
+    let naming : c.as_slice-2.result.now ≡ places_of kind words = cc in
+    let text : string_bytes c.in-Some.first.now ≡ word_of kind = sym c.as_str.ensures.value ∙ c.in-Some-kind_of.ensures in
+    let said : map string_bytes c.args.words.now ≡ word_of kind ∷ words = ap (map string_bytes) c.in-Some.ensures.cases.0 ∙ ap (λ (word : List ℕ). word ∷ words) text in
+    let fits : AllZip Fits (places_of kind words) words = rw fitting at c.in_default-first_misplaced.ensures.place in
+    let stops : FirstMisread (places_of kind words) words fault = rw naming at c.in-Some-first_misread.ensures in
+    misread_answers (map string_bytes c.args.words.now) fault (record { kind = kind; rest = words; spelled = said; fact = (fits, stops) })

@@ -1,6 +1,6 @@
 use Rattle.std.proofs.Common.{map, string_bytes}
 use Rattle.zst_line.proofs.InTurn.{Named}
-use Rattle.zst_line.proofs.places.first_bad_name.Given as goal
+use Rattle.zst_line.proofs.places.first_misread.Given as goal
 
 abbrev pub invariant-loop-index : goal.invariant-loop-index
 invariant-loop-index l = Named l.slots (map string_bytes l.words) l.index

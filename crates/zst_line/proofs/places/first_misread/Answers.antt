@@ -1,8 +1,8 @@
 use Rattle.std.proofs.Common.{◌≡◌, ◌<◌, map, length, string_bytes, arith}
 use Rattle.std.proofs.lemmas.List.{length-map}
 use Rattle.zst_line.specs.Grammar.{word_at}
-use Rattle.zst_line.proofs.InTurn.{word_here, named_next, name_stops_here}
-use Rattle.zst_line.proofs.places.first_bad_name.Goals as goal
+use Rattle.zst_line.proofs.InTurn.{word_here, named_next, misread_here}
+use Rattle.zst_line.proofs.places.first_misread.Goals as goal
 
 pub returns-in-Some : goal.returns-in-Some
 returns-in-Some c =
@@ -15,7 +15,7 @@ returns-in-Some c =
     let is = c.index-words-index.is in
     let value = c.as_str.ensures.value in
     let text : word_at words at ≡ c.as_str.result.now = cc in
-    name_stops_here c.args.slots.now words at c.in-Some.place test (simp length-map there) (rw text c.in-Some.ensures) c.loop-index.invariant
+    misread_here c.args.slots.now words at c.in-Some.fault test (simp length-map there) (rw text c.in-Some.ensures) c.loop-index.invariant
 
 pub loop-index-preserved : goal.loop-index-preserved
 loop-index-preserved c =
