@@ -16,3 +16,4 @@ mod Going
 mod Serving
 mod Damaging
 mod Spending
+mod TokenRows

@@ -7,3 +7,4 @@ pub mod Settling
 pub mod Answers
 pub mod Damage
 pub mod Costs
+pub mod Tokens

@@ -10,10 +10,12 @@ mod received;
 mod recv;
 mod settling;
 mod stage;
+mod telling;
 #[cfg(test)]
 mod tests;
 
 pub use fault::RecvFault;
 pub use received::Received;
 pub use recv::{Fed, Recv};
+pub use telling::token;
 pub use zst_plan::RecvAsk;

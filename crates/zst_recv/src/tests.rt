@@ -7,6 +7,7 @@ ghost use Rattle.zst_recv.specs.Stages.{RecvFits, is_live};
 mod refusals;
 mod stops;
 mod streams;
+mod tokens;
 
 use crate::{Recv, RecvAsk, RecvFault};
 use std::alloc::{AllocError, Global};

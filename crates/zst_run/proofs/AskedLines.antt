@@ -1,5 +1,5 @@
--- What a line does that sends, and one that receives.
-use Rattle.std.proofs.Common.{◌≡◌, ℕ, Some, Result, sym, subst}
+-- What a line does that sends, one that receives, and one that tells a token.
+use Rattle.std.proofs.Common.{◌≡◌, ℕ, List, Some, Result, sym, subst}
 use Rattle.zst_outside.specs.Images.{DiskState}
 use Rattle.zst_model.specs.declared.refusals.refusal.Refusal.{Refusal}
 use Rattle.zst_model.specs.declared.sends.ask.SendAsk.{SendAsk}
@@ -7,9 +7,10 @@ use Rattle.zst_line.specs.declared.line.Line.{Line}
 use Rattle.zst_line.specs.declared.line.Line.TheVariants.{Dump, Create, Step, Redact, Send, Resume, Receive, Abort, Token, Check, Gen, Reclaim, Replay}
 use Rattle.zst_run.specs.Devices.{Devices}
 use Rattle.zst_plan.specs.declared.receive.RecvAsk.{RecvAsk}
-use Rattle.zst_run.specs.Lines.{DoesLine, asked, wanted}
+use Rattle.zst_run.specs.Lines.{DoesLine, asked, told_of, wanted}
 use Rattle.zst_run.specs.Receives.{Receives, receipt_of}
 use Rattle.zst_run.specs.Sends.{Sends, ask_of}
+use Rattle.zst_run.specs.Tokens.{Tokens}
 
 pub does_send : {D : Type 0} → (state : D → DiskState) (now : ℕ) (line : Line) (ask : SendAsk) (old new : Devices D) (result : Result (Unit {0}) Refusal) → asked line ≡ Some ask
     → Sends ask (state old.here) (state new.here) old.out new.out result → new.input ≡ old.input → DoesLine state now line old new result
@@ -46,3 +47,21 @@ does_receive state now (Check image) ask old new result is receives = absurd (cc
 does_receive state now (Gen image steps) ask old new result is receives = absurd (cc is)
 does_receive state now (Reclaim image) ask old new result is receives = absurd (cc is)
 does_receive state now (Replay here there) ask old new result is receives = absurd (cc is)
+
+pub does_tell : {D : Type 0} → (state : D → DiskState) (now : ℕ) (line : Line) (dataset : List ℕ) (old new : Devices D) (result : Result (Unit {0}) Refusal) → told_of line ≡ Some dataset
+    → Tokens dataset (state old.here) (state new.here) old.out new.out result → new.input ≡ old.input → DoesLine state now line old new result
+does_tell state now (Token image name) dataset old new result is tells input =
+    let same : name ≡ dataset = cc is in
+    (subst (λ (d : List ℕ). Tokens d (state old.here) (state new.here) old.out new.out result) (sym same) tells, input)
+does_tell state now Dump dataset old new result is tells input = absurd (cc is)
+does_tell state now (Create image sectors id) dataset old new result is tells input = absurd (cc is)
+does_tell state now (Step image command) dataset old new result is tells input = absurd (cc is)
+does_tell state now (Redact image snapshot bookmark kept) dataset old new result is tells input = absurd (cc is)
+does_tell state now (Send image from redacts snapshot) dataset old new result is tells input = absurd (cc is)
+does_tell state now (Resume image token) dataset old new result is tells input = absurd (cc is)
+does_tell state now (Receive image keeps forces origin target) dataset old new result is tells input = absurd (cc is)
+does_tell state now (Abort image name) dataset old new result is tells input = absurd (cc is)
+does_tell state now (Check image) dataset old new result is tells input = absurd (cc is)
+does_tell state now (Gen image steps) dataset old new result is tells input = absurd (cc is)
+does_tell state now (Reclaim image) dataset old new result is tells input = absurd (cc is)
+does_tell state now (Replay here there) dataset old new result is tells input = absurd (cc is)

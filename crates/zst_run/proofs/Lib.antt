@@ -18,3 +18,4 @@ pub mod ReceivedFrom
 pub mod ReceiptLine
 pub mod Piped
 pub mod TurnEnds
+pub mod TokenTold

@@ -9,5 +9,6 @@ pub mod Openings
 pub mod Runs
 pub mod Dumping
 pub mod Sends
+pub mod Tokens
 pub mod Sending
 pub mod Underway

@@ -1,5 +1,5 @@
 -- What a line does.
-use Rattle.std.specs.Prelude.{ℕ, ◌≡◌, IfSome, Option, None, Some, Result, Ok, Err}
+use Rattle.std.specs.Prelude.{ℕ, ◌≡◌, IfSome, List, Option, None, Some, Result, Ok, Err}
 use Rattle.zst_outside.specs.Images.{DiskState}
 use Rattle.zst_model.specs.pools.Step.{IsCommand}
 use Rattle.zst_model.specs.declared.refusals.faults.Lack.TheVariants as lacks
@@ -9,7 +9,7 @@ use Rattle.zst_model.specs.declared.refusals.refusal.Refusal.TheVariants as refu
 use Rattle.zst_model.specs.declared.sends.ask.SendAsk.{SendAsk}
 use Rattle.zst_line.specs.Lines.{IsCreate, refusal_of}
 use Rattle.zst_line.specs.declared.line.Line.{Line}
-use Rattle.zst_line.specs.declared.line.Line.TheVariants.{Dump, Create, Step, Send, Receive}
+use Rattle.zst_line.specs.declared.line.Line.TheVariants.{Dump, Create, Step, Send, Receive, Token}
 use Rattle.zst_line.specs.declared.line.LineFault.{LineFault}
 use Rattle.zst_plan.specs.declared.receive.RecvAsk.{RecvAsk}
 use Rattle.zst_run.specs.Commands.{Creates, Steps}
@@ -17,6 +17,7 @@ use Rattle.zst_run.specs.Devices.{Devices}
 use Rattle.zst_run.specs.Dumps.{Dumps}
 use Rattle.zst_run.specs.Receives.{IsTarget, Receives, receipt_of}
 use Rattle.zst_run.specs.Sends.{IsSource, Sends, ask_of}
+use Rattle.zst_run.specs.Tokens.{Tokens}
 
 -- a line whose values are in their ranges
 abbrev pub IsInRange : Line → Type 0
@@ -36,12 +37,17 @@ abbrev pub wanted : Line → Option RecvAsk
 wanted (Receive image keeps forces origin target) = Some (receipt_of keeps forces origin target)
 wanted line = None
 
+-- the dataset whose token a line asks for
+abbrev pub told_of : Line → Option (List ℕ)
+told_of (Token image dataset) = Some dataset
+told_of line = None
+
 -- E19: what the line asks for isn't built yet
 abbrev pub not_built : Refusal
 not_built = refusals.Plan (plans.Unsupported lacks.NotBuilt)
 
 -- What a line does: `dump` reads the input and leaves the image alone, `receive` reads the input, and all others leave it alone. Those
--- that resume, redact, check, make room or run scripts aren't built yet: they are refused, and nothing is done.
+-- that resume, redact, abort, check, make room or run scripts aren't built yet: they are refused, and nothing is done.
 abbrev pub DoesLine : {D : Type 0} → (D → DiskState) → ℕ → Line → Devices D → Devices D → Result (Unit {0}) Refusal → Type 0
 DoesLine state now Dump old new result = Dumps old.input new.input old.out new.out result × (new.here ≡ old.here)
 DoesLine state now (Create image sectors id) old new result =
@@ -52,6 +58,8 @@ DoesLine state now (Send image from redacts snapshot) old new result =
     Sends (ask_of from redacts snapshot) (state old.here) (state new.here) old.out new.out result × (new.input ≡ old.input)
 DoesLine state now (Receive image keeps forces origin target) old new result =
     Receives (receipt_of keeps forces origin target) (state old.here) (state new.here) old.input new.input old.out new.out result
+DoesLine state now (Token image dataset) old new result =
+    Tokens dataset (state old.here) (state new.here) old.out new.out result × (new.input ≡ old.input)
 DoesLine state now line old new result = (result ≡ Err not_built) × (new ≡ old)
 
 -- What words do: those that are no line are refused, and nothing is done.

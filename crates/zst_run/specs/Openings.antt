@@ -1,7 +1,7 @@
 -- How the program opens an image.
 use Rattle.std.specs.Prelude.{Bool, true, false, not, Option, Some, None}
 use Rattle.zst_line.specs.declared.line.Line.{Line}
-use Rattle.zst_line.specs.declared.line.Line.TheVariants.{Create, Step, Send, Receive}
+use Rattle.zst_line.specs.declared.line.Line.TheVariants.{Create, Step, Send, Receive, Token}
 use Rattle.zst_model.specs.pools.Step.{commits}
 use Rattle.zst_run.specs.declared.image.Opening.{Opening}
 use Rattle.zst_run.specs.declared.image.Opening.TheVariants.{Shared, Alone, Made}
@@ -18,4 +18,5 @@ shares (Create image sectors id) = Some false
 shares (Step image command) = Some (not (commits command))
 shares (Send image from redacts snapshot) = Some true
 shares (Receive image keeps forces origin target) = Some false
+shares (Token image dataset) = Some true
 shares line = None

@@ -11,6 +11,7 @@ mod replicated;
 mod reply;
 mod running;
 mod send;
+mod telling;
 
 pub use dump::dumps_have_one_answer;
 pub use image::{Opening, open, opening_of};

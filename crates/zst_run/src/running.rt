@@ -1,6 +1,6 @@
 ghost use Rattle.std.specs.Prelude.{◌≡◌, None, map, string_bytes};
 ghost use Rattle.zst_run.specs.Devices.{devices};
-ghost use Rattle.zst_run.specs.Lines.{DoesLine, IsInRange, asked, wanted};
+ghost use Rattle.zst_run.specs.Lines.{DoesLine, IsInRange, asked, told_of, wanted};
 ghost use Rattle.zst_run.specs.Runs.{DoesWords, Runs};
 
 use crate::dump::dump;
@@ -8,9 +8,11 @@ use crate::note::{note_refusal, status_of};
 use crate::pools::{create_pool, step_pool};
 use crate::receive::{receipt_of, receive};
 use crate::send::{ask_of, send};
+use crate::telling::tell_token;
 use std::alloc::Global;
 use zst_line::{Line, parse};
 use zst_model::{Lack, PlanFault, Refusal};
+use zst_names::DatasetName;
 use zst_outside::{Disk, Sink, Source};
 use zst_recv::RecvAsk;
 use zst_send::SendAsk;
@@ -77,6 +79,27 @@ fn run_unsent<D: Disk, S: Source, K: Sink>(
 {
     match wanted(&line) {
         Some(ask) => receive(alloc, here, ask, input, out),
+        None => run_here(alloc, line, now, here, input, out),
+    }
+}
+
+/// Does what a line asks for that sends and receives nothing.
+fn run_here<D: Disk, S: Source, K: Sink>(
+    alloc: Global,
+    line: Line,
+    now: u64,
+    here: &mut D,
+    input: &mut S,
+    out: &mut K,
+) -> Result<(), Refusal>
+    requires range { IsInRange line }
+    requires other { asked line ≡ None }
+    requires unwanted { wanted line ≡ None }
+    ensures { DoesLine D.state now line
+        (devices here.old (S.state input.old) (K.state out.old)) (devices here.new (S.state input.new) (K.state out.new)) result }
+{
+    match told_of(&line) {
+        Some(dataset) => tell_token(alloc, here, &dataset, out),
         None => run_line(alloc, line, now, here, input, out),
     }
 }
@@ -114,7 +137,17 @@ fn wanted(line: &Line) -> Option<RecvAsk>
     }
 }
 
-/// Does what a line asks for that sends and receives nothing, where it is built.
+/// The dataset whose token a line asks for.
+fn told_of(line: &Line) -> Option<DatasetName>
+    ensures { result ≡ told_of line.now }
+{
+    match line {
+        Line::Token { dataset, .. } => Some(dataset.duplicate()),
+        _ => None,
+    }
+}
+
+/// Does what a line asks for that sends, receives and tells nothing, where it is built.
 fn run_line<D: Disk, S: Source, K: Sink>(
     alloc: Global,
     line: Line,
@@ -126,6 +159,7 @@ fn run_line<D: Disk, S: Source, K: Sink>(
     requires range { IsInRange line }
     requires other { asked line ≡ None }
     requires unwanted { wanted line ≡ None }
+    requires untold { told_of line ≡ None }
     ensures { DoesLine D.state now line
         (devices here.old (S.state input.old) (K.state out.old)) (devices here.new (S.state input.new) (K.state out.new)) result }
 {

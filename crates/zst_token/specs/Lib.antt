@@ -1,2 +1,3 @@
+pub mod ForPartial
 pub mod Reading
 pub mod Spelling

@@ -1,12 +1,18 @@
-ghost use Rattle.std.specs.Prelude.{◌≡◌};
-ghost use Rattle.zst_token.specs.Spelling.{numbers_of, check_text, token_text};
+ghost use Rattle.std.specs.Prelude.{◌≡◌, ◌≤◌};
+ghost use Rattle.zst_model.specs.pools.Pool.{IsStated};
+ghost use Rattle.zst_model.specs.states.State.{number_bound};
+ghost use Rattle.zst_token.specs.ForPartial.{token_for};
+ghost use Rattle.zst_token.specs.Spelling.{IsToken, numbers_of, check_text, token_text};
 
 use crate::digits::{checksum_of, push_digits};
 use arrayvec::{ArrayString, ArrayVec};
-use zst_model::{GuidSet, Point};
+use zst_model::{GuidSet, Header, Point};
 
 /// A token has at most so many numbers: seven, and the guids of two sets.
 pub(crate) const MOST_NUMBERS: usize = 7 + 16 + 16;
+
+/// A stream that may have blocks over 131,072 bytes (`DMU_BACKUP_FEATURE_LARGE_BLOCKS` of zfs_ioctl.h).
+const LARGE_BLOCKS: u32 = 1 << 19;
 
 /// Where a cut receive goes on, and of which stream.
 #[derive(Drop)]
@@ -26,6 +32,22 @@ pub struct Token {
 }
 
 impl Token {
+    /// The token of a partial state with this header, whose stream goes on at this point. Takes no memory.
+    #[tactic(auto, unfolding(crate::specs::ForPartial::token_for))]
+    pub fn of(header: &Header, point: Point) -> Token
+        ensures same { result ≡ token_for header.now point }
+        ensures token { IsStated header.now → point.object ≤ number_bound → IsToken result }
+    {
+        Token {
+            large: header.features & LARGE_BLOCKS != 0,
+            to: header.to,
+            from: header.from,
+            point,
+            redact: header.redact.duplicate(),
+            from_redact: header.from_redact.duplicate(),
+        }
+    }
+
     /// Its text: `zst1-`, its numbers in hexadecimal, `-` and a check. Takes no memory.
     #[tactic(auto, unfolding(crate::specs::Spelling::token_text))]
     pub fn print(&self) -> ArrayString<646>

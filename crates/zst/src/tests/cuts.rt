@@ -125,6 +125,37 @@ fn what_is_kept_of_a_cut_stream_is_listed(rt: HostRuntime) -> Result<(), Fail> {
     Ok(())
 }
 
+/// How many bytes came to a receive that keeps what it has, and the token then.
+const TOKENS: [(usize, &str); 3] = [
+    (
+        700,
+        "zst1-0000000000000000010000000100000000000000000000000000000000000000000000000000000000000000000000000000000000000000-0000000000000017\n",
+    ),
+    (
+        1_000,
+        "zst1-0000000000000000010000000100000000000000000000000100000000000000000000000000000000000000000000000000000000000000-000000000000001f\n",
+    ),
+    (
+        2_100,
+        "zst1-0000000000000000010000000100000000000000000000000100000000000000000200000000000000000000000000000000000000000000-0000000000000c1f\n",
+    ),
+];
+
+#[test]
+fn a_cut_stream_has_its_token(rt: HostRuntime) -> Result<(), Fail> {
+    let alloc = rt.alloc();
+    let stream = small_stream(&rt, alloc)?;
+    let image = new_image(&rt, alloc)?;
+    for (count, token) in TOKENS {
+        let mut disk = disk_of(alloc, &image)?;
+        let front = stream.get(..count).ok_or("a front")?;
+        run_with(alloc, &mut disk, "receive -s I tank/b", front)?;
+        let ran = run_on(alloc, &mut disk, "token I tank/b")?;
+        check(&rt, token, &ran, 0, token, "");
+    }
+    Ok(())
+}
+
 /// What the pool lists after so many reads of 300 bytes of a stream, and one that fails.
 const READ: [&str; 8] = [
     "", "", "", AT_BEGIN, AT_OBJECT, AT_OBJECT, AT_OBJECT, AT_WRITE,
