@@ -17,3 +17,5 @@ mod Serving
 mod Damaging
 mod Spending
 mod TokenRows
+mod Planning
+mod Keeping

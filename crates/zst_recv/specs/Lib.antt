@@ -1,6 +1,7 @@
 pub mod Receiving
 pub mod Feeds
 pub mod Stages
+pub mod Planning
 pub mod Faults
 pub mod Taking
 pub mod Settling

@@ -3,9 +3,14 @@ ghost use Rattle.std.specs.Prelude.{◌≡◌, ◌+◌, ℕ, Bool, false, true, 
 ghost use Rattle.zst_apply.specs.Damage.{apply_damage};
 ghost use Rattle.zst_block.specs.Blocks.{FitsDisk, Has, SparesTaken};
 ghost use Rattle.zst_space.specs.FreeSectors.{FreeSectors};
+ghost use Rattle.zst_dir.specs.Named.{AreNamed};
 ghost use Rattle.zst_dir.specs.Rows.{Rows};
 ghost use Rattle.zst_image.specs.Reads.{PartialIs, RunsBy, bound_of};
+ghost use Rattle.zst_model.specs.declared.refusals.plan_fault.PlanFault.{PlanFault};
+ghost use Rattle.zst_model.specs.declared.sends.header.Header.{Header as PlainHeader};
 ghost use Rattle.zst_model.specs.pools.Pool.{IsStated, Partial as PlainPartial, Pool as Plain};
+ghost use Rattle.zst_plan.specs.Receipts.{TellsNeeded};
+ghost use Rattle.zst_plan.specs.RecvPlan.{recv_plan};
 ghost use Rattle.zst_plan.specs.declared.receive.RecvAsk.{RecvAsk as Ask};
 ghost use Rattle.zst_pool.specs.Calls.{IsUnderWay};
 ghost use Rattle.zst_record.specs.Fits.{IsLater};
@@ -15,6 +20,7 @@ ghost use Rattle.zst_stream.specs.Reading.{closing};
 ghost use Rattle.zst_recv.specs.Costs.{Spends};
 ghost use Rattle.zst_recv.specs.Damage.{IsDamagedState};
 ghost use Rattle.zst_recv.specs.Faults.{Fills, IsRecordFault, stop_of};
+ghost use Rattle.zst_recv.specs.Planning.{IsPlannedBy, is_planned};
 ghost use Rattle.zst_recv.specs.Receiving.{Stage as PlainStage, Work, at_stage, moved_by, taken};
 ghost use Rattle.zst_recv.specs.Stages.{CanPut, IsStage, IsWork, StageFits, TellsBefore, has_partial, is_begin, is_end, is_live, waits_at};
 ghost use Rattle.zst_recv.specs.Taking.{IsRead, Makes, Takes};
@@ -60,6 +66,7 @@ fn move_by<D: Disk>(
     ensures known { IfErr result IsRecordFault }
     ensures damaged { (sector : ℕ) (stated found : List ℕ) → (D.state io.new.disk.now).honest → result ≡ Err (RecvFault.Pool (PoolFault.Damaged sector stated found))
         → apply_damage (SparesTaken io.old.space (D.state io.old.disk.now).seen) (D.state io.old.disk.now).size partial.old.objects sector stated found }
+    ensures unplanned { (fault : PlanFault) → result ≡ Err (RecvFault.Pool (PoolFault.Plan fault)) → is_planned fault ≡ false }
     ensures puts { (rows : Rows) (target : List ℕ) → CanPut rows target partial.old → CanPut rows target partial.new }
     ensures fills { Fills (D.state io.old.disk.now) io.old.space io.old.failed (D.state io.new.disk.now) io.new.space io.new.failed (stop_of result) }
     ensures spends { Spends (covered_of covered.now ∷ []) io.old.space io.new.space (stop_of result) }
@@ -116,6 +123,10 @@ impl Batch {
         // E25 tells a damage of the set as the refused record found it.
         ensures damaged { (sector : ℕ) (stated found : List ℕ) → (D.state io.new.disk.now).honest → result ≡ Err (RecvFault.Pool (PoolFault.Damaged sector stated found))
             → IsDamagedState (SparesTaken io.old.space (D.state io.old.disk.now).seen) (D.state io.old.disk.now).size kept.now.dir ask.now.target sector stated found }
+        // Whatever the image, whether BEGIN is taken is for its plan over the rows alone to say, and nothing else asks a plan.
+        ensures planned { (running : Plain) (header : PlainHeader) (len : ℕ) → covered.now.head.now ≡ heads.Begin header len → waits_at self.old.stage ≡ true → AreNamed kept.now.dir running → TellsNeeded kept.now.dir running ask.now header
+            → IsPlannedBy (recv_plan ask.now header running) result }
+        ensures because { (fault : PlanFault) → is_planned fault ≡ true → result ≡ Err (RecvFault.Pool (PoolFault.Plan fault)) → (waits_at self.old.stage ≡ true) × (header : PlainHeader) × (len : ℕ) × (covered.now.head.now ≡ heads.Begin header len) }
         ensures stage { StageFits kept.now.dir ask.now.target self.new.stage }
         ensures fills { Fills (D.state io.old.disk.now) io.old.space io.old.failed (D.state io.new.disk.now) io.new.space io.new.failed (stop_of result) }
         ensures spends { Spends (covered_of covered.now ∷ []) io.old.space io.new.space (stop_of result) }
@@ -144,6 +155,8 @@ impl Batch {
         ensures lives { has_partial self.new.stage ≡ true → is_live self.old.stage ≡ true }
         ensures still { is_live self.old.stage ≡ true → is_live self.new.stage ≡ true }
         ensures known { IfErr result IsRecordFault }
+        ensures planned { (running : Plain) → waits_at self.old.stage ≡ true → AreNamed dir.now running → TellsNeeded dir.now running ask.now header.now → IsPlannedBy (recv_plan ask.now header.now running) result }
+        ensures because { OnErr result (waits_at self.old.stage ≡ true) }
         ensures stage { StageFits dir.now ask.now.target self.new.stage }
         ensures no_block { stop_of result ≡ None }
     {
@@ -199,6 +212,7 @@ impl Batch {
         ensures known { IfErr result IsRecordFault }
         ensures damaged { (rows : Rows) (target : List ℕ) (sector : ℕ) (stated found : List ℕ) → (D.state io.new.disk.now).honest → StageFits rows target self.old.stage → result ≡ Err (RecvFault.Pool (PoolFault.Damaged sector stated found))
             → IsDamagedState (SparesTaken io.old.space (D.state io.old.disk.now).seen) (D.state io.old.disk.now).size rows target sector stated found }
+        ensures unplanned { (fault : PlanFault) → result ≡ Err (RecvFault.Pool (PoolFault.Plan fault)) → is_planned fault ≡ false }
         ensures stage { (rows : Rows) (target : List ℕ) → StageFits rows target self.old.stage → StageFits rows target self.new.stage }
         ensures fills { Fills (D.state io.old.disk.now) io.old.space io.old.failed (D.state io.new.disk.now) io.new.space io.new.failed (stop_of result) }
         ensures spends { Spends (covered_of covered.now ∷ []) io.old.space io.new.space (stop_of result) }

@@ -3,6 +3,7 @@ ghost use Rattle.std.specs.Prelude.{◌≡◌, ◌<◌, ℕ, List, Option, true,
 ghost use Rattle.std.specs.Option.{option_map_or};
 ghost use Rattle.zst_block.specs.Blocks.{Has};
 ghost use Rattle.zst_space.specs.FreeSectors.{FreeSectors};
+ghost use Rattle.zst_dir.specs.Named.{AreNamed};
 ghost use Rattle.zst_dir.specs.Rows.{HasSnapshot};
 ghost use Rattle.zst_image.specs.Reads.{PartialIs, RunsBy, SetIs};
 ghost use Rattle.zst_model.specs.pools.Pool.{IsStated, Pool as Plain, Snapshot as PlainSnapshot, untouched};
@@ -106,6 +107,8 @@ pub(crate) fn open(dir: &Dir, ask: &RecvAsk, header: &Header) -> Result<Batch, P
     ensures taken { IfOk result (λ batch. batch.taken ≡ true) }
     ensures exact { (bound : Option ℕ) (image : List ℕ) (space : FreeSectors) (running : Plain) → RunsBy bound (Has image space) dir.now running → TellsNeeded dir.now running ask.now header.now
         → AnswerAlike (λ batch plan. IsWork bound (Has image space) batch (opened ask.now header.now plan)) result (recv_plan ask.now header.now running) }
+    // Whether it begins is for the rows alone to say, whatever the object sets hold.
+    ensures planned { (running : Plain) → AreNamed dir.now running → TellsNeeded dir.now running ask.now header.now → AnswerAlike (λ batch plan. Unit {0}) result (recv_plan ask.now header.now running) }
 {
     match recv_plan(dir, ask, header)? {
         RecvPlan::Resumes { place } => {

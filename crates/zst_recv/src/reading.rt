@@ -1,16 +1,18 @@
 // How a piece is read: each record that it covers is taken.
-ghost use Rattle.std.specs.Prelude.{◌≡◌, ◌+◌, ◌++◌, ◌<◌, ◌≤◌, ◌^◌, ℕ, Bool, List, length, Ok, Err, IfErr, IfOk, OnOk, false, true};
+ghost use Rattle.std.specs.Prelude.{◌≡◌, ◌+◌, ◌++◌, ◌<◌, ◌≤◌, ◌^◌, ℕ, Bool, List, [], length, Ok, Err, IfErr, IfOk, OnOk, false, true};
 ghost use Rattle.zst_block.specs.Blocks.{FitsDisk, Has};
 ghost use Rattle.zst_image.specs.Reads.{bound_of};
 ghost use Rattle.zst_model.specs.pools.Pool.{Pool as Plain};
 ghost use Rattle.zst_pool.specs.Calls.{IsUnderWay};
 ghost use Rattle.zst_reader.specs.StandsFor.{HandsOut, StandsFor, pushed_of, room_of};
 ghost use Rattle.zst_record.specs.Heads.{Covered};
+ghost use Rattle.zst_model.specs.declared.refusals.plan_fault.PlanFault.{PlanFault};
 ghost use Rattle.zst_model.specs.declared.refusals.stream_fault.StreamFault.{StreamFault};
 ghost use Rattle.zst_stream.specs.Reading.{complete, faulty, reading, waiting};
 ghost use Rattle.zst_recv.specs.Costs.{Spends, records_behind};
 ghost use Rattle.zst_recv.specs.Damage.{IsDamagedFeed};
 ghost use Rattle.zst_recv.specs.Faults.{Fills, IsFeedFault, stop_of};
+ghost use Rattle.zst_recv.specs.Planning.{IsOfStream, RefusesEach, RefusesOne, is_planned};
 ghost use Rattle.zst_recv.specs.Receiving.{Work};
 ghost use Rattle.zst_recv.specs.Stages.{HasRead, IsWork, StageFits, StandsBehind, TellsBefore, is_live, waits_at};
 ghost use Rattle.zst_recv.specs.Taking.{Drains, HandedOn, Reads};
@@ -53,6 +55,14 @@ fn drain<D: Disk>(
     ensures over { (text : List ℕ) (handed : List Covered) → StandsFor reader.old text handed → is_live batch.old.stage ≡ true → is_live batch.new.stage ≡ false → (reading text).outcome ≡ complete }
     ensures behind { (text : List ℕ) (handed : List Covered) → StandsFor reader.old text handed → StandsBehind handed batch.old.stage → IfOk result (HandedOn reader.new text batch.new.stage) }
     ensures hands_out { (text : List ℕ) (handed : List Covered) → StandsFor reader.old text handed → result ≡ Ok false → (later : List Covered) × HandsOut reader.new text later waiting }
+    // Whatever the image, a text that a plan refuses is refused so, and no other is refused by a plan.
+    ensures planned { (text : List ℕ) (handed : List Covered) (fault : PlanFault) → StandsFor reader.old text handed → waits_at batch.old.stage ≡ true → RefusesOne kept.now.dir ask.now text fault
+        → (result ≡ Err (RecvFault.Pool (PoolFault.Plan fault))) × (waits_at batch.new.stage ≡ true) }
+    ensures because { (text : List ℕ) (handed : List Covered) (fault : PlanFault) → StandsFor reader.old text handed → is_planned fault ≡ true → result ≡ Err (RecvFault.Pool (PoolFault.Plan fault))
+        → (waits_at batch.old.stage ≡ true) × RefusesEach kept.now.dir ask.now text fault }
+    // One that covers nothing leaves a receive waiting, and is refused as a stream alone.
+    ensures still { (text : List ℕ) (handed : List Covered) → StandsFor reader.old text handed → waits_at batch.old.stage ≡ true → (reading text).covered ≡ [] → (waits_at batch.new.stage ≡ true) × IfErr result IsOfStream }
+    ensures uncovered { OnOk result (waits_at batch.new.stage ≡ true → (text : List ℕ) (handed : List Covered) → StandsFor reader.old text handed → (reading text).covered ≡ []) }
     ensures pushed { pushed_of reader.new ≡ pushed_of reader.old }
     ensures room { result ≡ Ok false → 0 < room_of reader.new }
     ensures fills { Fills (D.state io.old.disk.now) io.old.space io.old.failed (D.state io.new.disk.now) io.new.space io.new.failed (stop_of result) }
@@ -104,6 +114,13 @@ pub(crate) fn read<D: Disk>(
     ensures stands { OnOk result (is_live batch.new.stage ≡ true → (text : List ℕ) (handed : List Covered) → StandsFor reader.old text handed → (later : List Covered) × StandsFor reader.new (text ++ piece.now) later) }
     ensures hands_out { OnOk result (is_live batch.new.stage ≡ true → (text : List ℕ) (handed : List Covered) → HandsOut reader.old text handed waiting → (later : List Covered) × HandsOut reader.new (text ++ piece.now) later waiting) }
     ensures over { (text : List ℕ) (handed : List Covered) → StandsFor reader.old text handed → is_live batch.old.stage ≡ true → is_live batch.new.stage ≡ false → (reading (text ++ piece.now)).outcome ≡ complete }
+    // Whatever the image, a text that a plan refuses is refused so, and no other is refused by a plan.
+    ensures planned { (text : List ℕ) (handed : List Covered) (fault : PlanFault) → StandsFor reader.old text handed → waits_at batch.old.stage ≡ true → (reading text).covered ≡ [] → RefusesOne kept.now.dir ask.now (text ++ piece.now) fault
+        → (result ≡ Err (RecvFault.Pool (PoolFault.Plan fault))) × (waits_at batch.new.stage ≡ true) }
+    ensures because { (text : List ℕ) (handed : List Covered) (fault : PlanFault) → StandsFor reader.old text handed → is_planned fault ≡ true → result ≡ Err (RecvFault.Pool (PoolFault.Plan fault))
+        → (waits_at batch.old.stage ≡ true) × RefusesEach kept.now.dir ask.now (text ++ piece.now) fault }
+    ensures uncovered { OnOk result (waits_at batch.new.stage ≡ true → (text : List ℕ) (handed : List Covered) → StandsFor reader.old text handed → (reading text).covered ≡ [] → (reading (text ++ piece.now)).covered ≡ []) }
+    ensures still { OnOk result ((text : List ℕ) (handed : List Covered) → StandsFor reader.old text handed → waits_at batch.old.stage ≡ true → (reading (text ++ piece.now)).covered ≡ [] → waits_at batch.new.stage ≡ true) }
     ensures fills { Fills (D.state io.old.disk.now) io.old.space io.old.failed (D.state io.new.disk.now) io.new.space io.new.failed (stop_of result) }
     // Whatever the text: the records that it covers behind those that were handed out took no more sectors than they cost.
     ensures spends { (text : List ℕ) (handed : List Covered) → StandsFor reader.old text handed → Spends (records_behind handed (text ++ piece.now)) io.old.space io.new.space (stop_of result) }

@@ -37,11 +37,12 @@ pub struct Recv {
 }
 
 impl Recv {
-    ghost use Rattle.std.specs.Prelude.{◌≡◌, ◌+◌, ◌<◌, ◌≤◌, ◌||◌, ◌-◌, ℕ, Bool, List, [], length, Option, IfErr, IfOk, IsSome, Err, false, true, not, sum_by, if◌then◌else◌, ◌++◌};
-    ghost use Rattle.zst_block.specs.Blocks.{Has};
+    ghost use Rattle.std.specs.Prelude.{◌≡◌, ◌+◌, ◌<◌, ◌≤◌, ◌||◌, ◌-◌, ℕ, Bool, List, [], length, Option, IfErr, IfOk, IsSome, OnOk, Err, false, true, not, sum_by, if◌then◌else◌, ◌++◌};
+    ghost use Rattle.zst_block.specs.Blocks.{Has, KeepsBlocks};
     ghost use Rattle.zst_block.specs.Working.{HasCause, fails};
     ghost use Rattle.zst_image.specs.Committing.{Ready};
     ghost use Rattle.zst_image.specs.Reads.{bound_of, free_by};
+    ghost use Rattle.zst_model.specs.declared.refusals.plan_fault.PlanFault.{PlanFault as PlainPlanFault};
     ghost use Rattle.zst_model.specs.declared.refusals.stream_fault.StreamFault.{StreamFault as PlainFault};
     ghost use Rattle.zst_model.specs.declared.sends.header.Point.{Point as PlainPoint};
     ghost use Rattle.zst_model.specs.pools.Kept.{kept_of};
@@ -57,6 +58,7 @@ impl Recv {
     ghost use Rattle.zst_recv.specs.Costs.{PieceIsShort, records_behind};
     ghost use Rattle.zst_recv.specs.Damage.{IsDamagedFeed};
     ghost use Rattle.zst_recv.specs.Faults.{IsFeedFault, cut_of, stop_of, stream_limit};
+    ghost use Rattle.zst_recv.specs.Planning.{RefusesEach, RefusesOne, is_planned};
     ghost use Rattle.zst_recv.specs.Receiving.{Stage as PlainStage, Waits, left_by};
     ghost use Rattle.zst_recv.specs.Stages.{Receives, RecvFits, TellsBefore, fed_of, is_live, is_waiting, point_in, received_by, stage_behind};
 
@@ -71,6 +73,7 @@ impl Recv {
         ensures ask { IfOk result (λ recv. recv.ask ≡ ask) }
         ensures fits { IfOk result (RecvFits pool.new.kept.dir) }
         ensures live { IfOk result (λ recv. is_live recv.stage ≡ true) }
+        ensures waiting { IfOk result (λ recv. is_waiting recv ≡ true) }
         ensures fed { IfOk result (λ recv. fed_of recv ≡ 0) }
         ensures failed_pool { pool.old.io.failed ≡ true → result ≡ Err PoolFault.Failed }
         ensures known { pool.old.io.failed ≡ false → IfErr result (λ fault. fault ≡ PoolFault.OutOfMemory) }
@@ -160,7 +163,19 @@ impl Recv {
         // Whatever the image, E25 tells a damage of a set of this target's partial state, as the refused record found it.
         ensures damaged { (sector : ℕ) (stated found : List ℕ) → (D.state pool.new.io.disk.now).honest → pool.old.io.failed ≡ false → result ≡ Err (RecvFault.Pool (PoolFault.Damaged sector stated found))
             → IsDamagedFeed (D.state pool.old.io.disk.now) (free_by pool.old.kept.body) pool.old.kept.dir self.old.ask.target sector stated found }
+        // Whatever the image, where BEGIN is covered and its plan refuses a pool that the rows name, that is the answer: nothing else, as
+        // E24, E25 or E28, comes before. And of all but limits no other answer is a plan's: it refuses each pool that they name.
+        ensures planned { (text : List ℕ) (handed : List Covered) (fault : PlainPlanFault) → pool.old.io.failed ≡ false → is_waiting self.old ≡ true → StandsFor self.old.reader text handed → (reading text).covered ≡ []
+            → length text + length piece.now ≤ stream_limit → RefusesOne pool.old.kept.dir self.old.ask (text ++ piece.now) fault → result ≡ Err (RecvFault.Pool (PoolFault.Plan fault)) }
+        ensures because { (text : List ℕ) (handed : List Covered) (fault : PlainPlanFault) → pool.old.io.failed ≡ false → StandsFor self.old.reader text handed → is_planned fault ≡ true → result ≡ Err (RecvFault.Pool (PoolFault.Plan fault))
+            → (is_waiting self.old ≡ true) × RefusesEach pool.old.kept.dir self.old.ask (text ++ piece.now) fault }
+        // It waits for BEGIN as long as nothing is covered, and never again.
+        ensures waited { is_waiting self.new ≡ true → is_waiting self.old ≡ true }
+        ensures still { (text : List ℕ) (handed : List Covered) → is_waiting self.old ≡ true → StandsFor self.old.reader text handed → (reading (text ++ piece.now)).covered ≡ [] → OnOk result (is_waiting self.new ≡ true) }
+        ensures uncovered { (text : List ℕ) (handed : List Covered) → StandsFor self.old.reader text handed → (reading text).covered ≡ [] → is_waiting self.new ≡ true → (reading (text ++ piece.now)).covered ≡ [] }
         ensures open_still { pool.old.io.failed ≡ false → ¬ (result ≡ Err (RecvFault.Pool PoolFault.Failed)) }
+        // Where it goes on, the blocks that were there still are, over the sectors that the latest body leaves free.
+        ensures blocks { IfOk result (λ told. told.done ≡ false → KeepsBlocks (D.state pool.old.io.disk.now).seen (free_by pool.old.kept.body) (D.state pool.new.io.disk.now).seen (free_by pool.new.kept.body)) }
         ensures ready { pool.new.io.failed ≡ false → Ready (D.state pool.new.io.disk.now) pool.new.kept.body }
         ensures failed { pool.new.io.failed ≡ (pool.old.io.failed || fails (stop_of result)) }
         ensures cause { HasCause (D.state pool.old.io.disk.now).faults (D.state pool.new.io.disk.now).faults (stop_of result) }

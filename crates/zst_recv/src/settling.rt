@@ -1,6 +1,6 @@
 // What a feed commits.
 ghost use Rattle.std.specs.Prelude.{◌≡◌, ◌+◌, ◌<◌, Bool, Err, ℕ, List, Option, IfErr, OnErr, OnOk, false, true};
-ghost use Rattle.zst_block.specs.Blocks.{Has};
+ghost use Rattle.zst_block.specs.Blocks.{Has, KeepsBlocks};
 ghost use Rattle.zst_image.specs.Committing.{Ready};
 ghost use Rattle.zst_image.specs.Reads.{bound_of, free_by};
 ghost use Rattle.zst_model.specs.pools.Pool.{Pool as Plain};
@@ -50,6 +50,8 @@ pub(crate) fn put<D: Disk>(
         → OnOk result (IsWork bound (Has (D.state pool.new.io.disk.now).seen pool.new.io.space) batch.now work) }
     // What the latest body leaves free is free again once a partial state was committed; and nothing was done where no record was taken.
     ensures space { batch.now.taken ≡ true → has_partial batch.now.stage ≡ true → OnOk result (pool.new.io.space ≡ free_by pool.new.kept.body) }
+    // The blocks that were there still are, over the sectors that the new body leaves free.
+    ensures blocks { batch.now.taken ≡ true → has_partial batch.now.stage ≡ true → OnOk result (KeepsBlocks (D.state pool.old.io.disk.now).seen pool.old.io.space (D.state pool.new.io.disk.now).seen (free_by pool.new.kept.body)) }
     ensures idle_disk { batch.now.taken ≡ false → pool.new.io.disk.now ≡ pool.old.io.disk.now }
     ensures idle_kept { batch.now.taken ≡ false → pool.new.kept ≡ pool.old.kept }
     ensures fits { (target : List ℕ) → StageFits pool.old.kept.dir target batch.now.stage → OnOk result (LivesOn pool.new.kept.dir target batch.now.stage) }

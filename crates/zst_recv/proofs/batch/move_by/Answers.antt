@@ -1,9 +1,9 @@
-use Rattle.std.proofs.Common.{◌≡◌, Ok, Err, sym, ◌∙◌, subst}
+use Rattle.std.proofs.Common.{◌≡◌, Ok, Err, sym, ◌∙◌, subst, [], ◌∷◌}
 use Rattle.zst_apply.specs.Damage.{apply_damage}
 use Rattle.zst_block.specs.Blocks.{Has, SparesTaken}
 use Rattle.zst_record.specs.Heads.{covered_of}
 use Rattle.zst_pool.specs.declared.fault.PoolFault.TheVariants as pools
-use Rattle.zst_recv.specs.Faults.{IsRecordFault, of_record}
+use Rattle.zst_recv.specs.Faults.{IsRecordFault, of_record, stop_at}
 use Rattle.zst_recv.specs.Receiving.{moved_by}
 use Rattle.zst_recv.specs.Taking.{TakeFault}
 use Rattle.zst_recv.specs.declared.fault.RecvFault.{RecvFault}
@@ -12,12 +12,11 @@ use Rattle.zst_stream.specs.Items.{items_by}
 use Rattle.zst_recv.specs.declared.fault.RecvFault.TheVariants as faults
 use Rattle.zst_recv.proofs.Damaging.{err_told, told_record}
 use Rattle.zst_recv.proofs.Moving.{applies_so, ends_fit, known_record, moved_is, refused_is}
-use Rattle.std.proofs.Common.{[], ◌∷◌}
 use Rattle.std.specs.Prelude.{Option}
 use Rattle.zst_block.specs.declared.fault.BlockFault.{BlockFault}
 use Rattle.zst_recv.specs.Costs.{Spends}
-use Rattle.zst_recv.specs.Faults.{stop_at}
 use Rattle.zst_recv.proofs.Spending.{spends_one, stop_same}
+use Rattle.zst_recv.proofs.Planning.{record_unplanned}
 use Rattle.zst_recv.proofs.batch.move_by.Goals as goal
 
 pub returns-in-Ok-clause-moved : goal.returns-in-Ok-clause-moved
@@ -67,3 +66,6 @@ returns-in-Err-clause-spends g c =
     let covered = covered_of c.args.covered.now in
     subst (λ (fault : RecvFault). Spends (covered ∷ []) old new (stop_at fault)) (sym c.of_record.ensures)
     (subst (λ (stop : Option BlockFault). Spends (covered ∷ []) old new stop) (sym (stop_same covered.index c.in-Err.fault)) (spends_one covered _ _ _ _ _ _ _ c.in-Err.ensures.works))
+pub returns-in-Err-clause-unplanned : goal.returns-in-Err-clause-unplanned
+returns-in-Err-clause-unplanned g c = λ fault is.
+    record_unplanned (covered_of c.args.covered.now).index c.in-Err.fault fault (sym c.of_record.ensures ∙ err_told (Unit {0}) c.of_record.result _ is)

@@ -62,3 +62,22 @@ returns-in-Begins-clause-exact c = λ bound image space running runs tells.
     (subst (λ (p : RecvPlan). IsWork bound has batch (opened ask header p)) (sym b.0.plan_is)
     (work_is bound has batch header.flags c.begun.result (begun ask header b.0.component b.0.base) b.0.base.rolls c.opened-in-Begins.ensures.stage (c.opened-in-Begins.ensures.rolls ∙ b.1) c.opened-in-Begins.ensures.taken c.opened-in-Begins.ensures.applied
     (c.begun.ensures.begun bound image space running b.0.component b.0.base runs b.0.alike b.0.named)))
+
+pub returns-in_err-place-clause-planned : goal.returns-in_err-place-clause-planned
+returns-in_err-place-clause-planned c = λ running named tells.
+    let rows = c.args.dir.now in
+    let ask = c.args.ask.now in
+    let header = c.args.header.now in
+    let fault = c.in_err-place.field-0.0 in
+    refuses (λ (batch : Batch) (plan : RecvPlan). Unit {0}) c.from_residual.result (recv_plan ask header running) fault c.from_residual.ensures.1
+    (err_alike (IsRecvPlanOf rows running ask) fault (recv_plan ask header running) (c.in_err-place.ensures.exact running named tells))
+
+pub returns-in-Resumes-clause-planned : goal.returns-in-Resumes-clause-planned
+returns-in-Resumes-clause-planned c = λ running named tells.
+    let plan = ok_alike (IsRecvPlanOf c.args.dir.now running c.args.ask.now) c.in_ok-place.field-0 (recv_plan c.args.ask.now c.args.header.now running) (c.in_ok-place.ensures.exact running named tells) in
+    answers (λ (batch : Batch) (p : RecvPlan). Unit {0}) c.opened.result plan.0 (recv_plan c.args.ask.now c.args.header.now running) plan.1 tt
+
+pub returns-in-Begins-clause-planned : goal.returns-in-Begins-clause-planned
+returns-in-Begins-clause-planned c = λ running named tells.
+    let plan = ok_alike (IsRecvPlanOf c.args.dir.now running c.args.ask.now) c.in_ok-place.field-0 (recv_plan c.args.ask.now c.args.header.now running) (c.in_ok-place.ensures.exact running named tells) in
+    answers (λ (batch : Batch) (p : RecvPlan). Unit {0}) c.opened-in-Begins.result plan.0 (recv_plan c.args.ask.now c.args.header.now running) plan.1 tt

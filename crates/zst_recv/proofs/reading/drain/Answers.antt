@@ -1,4 +1,4 @@
-use Rattle.std.proofs.Common.{◌+◌, Bool, [], ◌∷◌, ◌++◌, refl, sym, ap, ◌∙◌, arith, Err}
+use Rattle.std.proofs.Common.{◌+◌, Bool, [], ◌∷◌, ◌++◌, refl, sym, ap, ◌∙◌, arith, Err, subst}
 use Rattle.std.proofs.lemmas.Result.{err_from_is_err_and}
 use Rattle.zst_block.specs.Blocks.{Has}
 use Rattle.zst_record.specs.Heads.{covered_of}
@@ -12,11 +12,12 @@ use Rattle.zst_recv.specs.declared.fault.RecvFault.{RecvFault}
 use Rattle.zst_recv.proofs.Damaging.{damaged_behind, damaged_first, err_told, found_stream, no_stream, record_known, told_stream}
 use Rattle.zst_recv.proofs.Behind.{behind_more, over_behind, tells_on}
 use Rattle.zst_recv.proofs.Covering.{over_more}
-use Rattle.std.proofs.Common.{subst}
 use Rattle.std.specs.Prelude.{None}
 use Rattle.std.proofs.lemmas.List.{append-nil}
 use Rattle.zst_reader.specs.StandsFor.{StandsFor}
 use Rattle.zst_recv.proofs.Spending.{spends_idle, spent_more}
+use Rattle.zst_recv.proofs.Planning.{begins_first, covers_some, first_begins, handed_none, has_still, none_begins, none_handed, planned_back, planned_err, planned_ok}
+use Rattle.zst_plan.specs.RecvPlan.{recv_plan}
 use Rattle.zst_recv.proofs.reading.drain.Goals as goal
 
 pub records-init : goal.records-init
@@ -30,6 +31,8 @@ records-init g c =
       reads = λ text handed stands. (handed, stands);
       over = λ text handed stands live over. absurd (let both = sym live ∙ over in cc);
       behind = λ text handed stands is. (handed, stands, is);
+      planned = λ text handed fault stands waits refuses. waits;
+      still = λ text handed stands waits none. waits;
       pushed = refl;
       fills = Fills-none _ _ _ c.requires.fits;
       spent = λ text handed stands. ([], subst (StandsFor c.args.reader.now text) (sym (append-nil handed)) stands, spends_idle [] c.args.io.now.space None refl);
@@ -75,6 +78,17 @@ records-preserved g c =
           let later = i.behind text handed stands is in
           let more = h.1 text later.0 later.1 in
           (later.0 ++ next ∷ [], more, behind_more _ text later.0 next c.records.batch.stage c.take.new.self.stage more later.2 (λ waits. ap (λ (b : Batch). b.stage) (e.waits waits)) e.begins e.ends e.lives);
+      planned = λ text handed fault stands waits refuses.
+          let was = i.planned text handed fault stands waits refuses in
+          let later = i.reads text handed stands in
+          let r = c.requires.reads in
+          let more = h.1 text later.0 later.1 in
+          let none = none_handed c.records.reader c.records.batch.stage (has_still r.text r.bytes (i.behind r.text r.handed r.stands r.behind)) was text later.0 later.1 in
+          let begin = begins_first _ text later.0 next refuses.header more none refuses.begins in
+          absurd (planned_ok (recv_plan c.args.ask.now refuses.header refuses.pool) fault refuses.refused (e.planned refuses.pool refuses.header begin.0 begin.1 was refuses.named refuses.tells));
+      still = λ text handed stands waits none.
+          let later = i.reads text handed stands in
+          absurd (covers_some _ text later.0 next (h.1 text later.0 later.1) none);
       pushed = h.0.pushed ∙ i.pushed;
       fills = Fills-then _ _ _ _ _ _ _ _ _ _ i.fills e.fills;
       spent = λ text handed stands. spent_more c.records.reader _ text handed next c.args.io.now.space c.records.io.space c.take.new.io.space None (i.spent text handed stands) (h.1 text) e.spends;
@@ -245,3 +259,107 @@ returns-in-Ok-End-clause-hands_out g c = λ text handed stands is. absurd (cc is
 
 pub returns-in-Err-clause-hands_out : goal.returns-in-Err-clause-hands_out
 returns-in-Err-clause-hands_out g c = λ text handed stands is. absurd (cc is)
+pub returns-in-Ok-NeedMore-clause-planned : goal.returns-in-Ok-NeedMore-clause-planned
+returns-in-Ok-NeedMore-clause-planned g c = λ text handed fault stands waits refuses.
+    let h = rw (c.in-Ok-NeedMore.is, c.in-Ok-NeedMore.field-0-is) at c.next.follows.holds-at-none in
+    let i = c.records.invariant in
+    let r = c.requires.reads in
+    let later = i.reads text handed stands in
+    let was = i.planned text handed fault stands waits refuses in
+    let none = none_handed c.records.reader c.records.batch.stage (has_still r.text r.bytes (i.behind r.text r.handed r.stands r.behind)) was text later.0 later.1 in
+    absurd (none_begins text refuses.header (handed_none _ text later.0 waiting (h.1 text later.0 later.1) none) refuses.begins)
+
+pub returns-in-Ok-NeedMore-clause-still : goal.returns-in-Ok-NeedMore-clause-still
+returns-in-Ok-NeedMore-clause-still g c = λ text handed stands waits none. (c.records.invariant.still text handed stands waits none, tt)
+
+pub returns-in-Ok-NeedMore-clause-uncovered : goal.returns-in-Ok-NeedMore-clause-uncovered
+returns-in-Ok-NeedMore-clause-uncovered g c = λ was text handed stands.
+    let h = rw (c.in-Ok-NeedMore.is, c.in-Ok-NeedMore.field-0-is) at c.next.follows.holds-at-none in
+    let i = c.records.invariant in
+    let r = c.requires.reads in
+    let later = i.reads text handed stands in
+    let none = none_handed c.records.reader c.records.batch.stage (has_still r.text r.bytes (i.behind r.text r.handed r.stands r.behind)) was text later.0 later.1 in
+    handed_none _ text later.0 waiting (h.1 text later.0 later.1) none
+
+pub returns-in-Ok-NeedMore-clause-because : goal.returns-in-Ok-NeedMore-clause-because
+returns-in-Ok-NeedMore-clause-because g c = λ text handed fault stands told is. absurd (cc is)
+
+pub returns-in-Ok-End-clause-planned : goal.returns-in-Ok-End-clause-planned
+returns-in-Ok-End-clause-planned g c = λ text handed fault stands waits refuses.
+    let h = rw (c.in-Ok-End.is, c.in-Ok-End.field-0-is) at c.next.follows.holds-at-none in
+    let i = c.records.invariant in
+    let r = c.requires.reads in
+    let later = i.reads text handed stands in
+    let was = i.planned text handed fault stands waits refuses in
+    let none = none_handed c.records.reader c.records.batch.stage (has_still r.text r.bytes (i.behind r.text r.handed r.stands r.behind)) was text later.0 later.1 in
+    absurd (none_begins text refuses.header (handed_none _ text later.0 complete (h.1 text later.0 later.1) none) refuses.begins)
+
+pub returns-in-Ok-End-clause-still : goal.returns-in-Ok-End-clause-still
+returns-in-Ok-End-clause-still g c = λ text handed stands waits none. (c.records.invariant.still text handed stands waits none, tt)
+
+pub returns-in-Ok-End-clause-uncovered : goal.returns-in-Ok-End-clause-uncovered
+returns-in-Ok-End-clause-uncovered g c = λ was text handed stands.
+    let h = rw (c.in-Ok-End.is, c.in-Ok-End.field-0-is) at c.next.follows.holds-at-none in
+    let i = c.records.invariant in
+    let r = c.requires.reads in
+    let later = i.reads text handed stands in
+    let none = none_handed c.records.reader c.records.batch.stage (has_still r.text r.bytes (i.behind r.text r.handed r.stands r.behind)) was text later.0 later.1 in
+    handed_none _ text later.0 complete (h.1 text later.0 later.1) none
+
+pub returns-in-Ok-End-clause-because : goal.returns-in-Ok-End-clause-because
+returns-in-Ok-End-clause-because g c = λ text handed fault stands told is. absurd (cc is)
+
+pub returns-in-Err-clause-planned : goal.returns-in-Err-clause-planned
+returns-in-Err-clause-planned g c = λ text handed fault stands waits refuses.
+    let h = rw c.in-Err.is at c.next.follows.holds-at-none in
+    let i = c.records.invariant in
+    let r = c.requires.reads in
+    let later = i.reads text handed stands in
+    let was = i.planned text handed fault stands waits refuses in
+    let none = none_handed c.records.reader c.records.batch.stage (has_still r.text r.bytes (i.behind r.text r.handed r.stands r.behind)) was text later.0 later.1 in
+    absurd (none_begins text refuses.header (handed_none _ text later.0 (faulty c.in-Err.fault) (h.1 text later.0 later.1) none) refuses.begins)
+
+pub returns-in-Err-clause-still : goal.returns-in-Err-clause-still
+returns-in-Err-clause-still g c = λ text handed stands waits none. (c.records.invariant.still text handed stands waits none, (c.in-Err.fault, refl))
+
+pub returns-in-Err-clause-because : goal.returns-in-Err-clause-because
+returns-in-Err-clause-because g c = λ text handed fault stands told is. absurd (cc is)
+
+pub returns-in_err-take-in-Ok-Record-clause-planned : goal.returns-in_err-take-in-Ok-Record-clause-planned
+returns-in_err-take-in-Ok-Record-clause-planned g c = λ text handed fault stands waits refuses.
+    let h = rw (c.in-Ok-Record.is, c.in-Ok-Record.field-0-is) at c.next.follows.holds-at-none in
+    let p = err_from_is_err_and c.from_residual.result c.from_residual.ensures.1 in
+    let i = c.records.invariant in
+    let e = c.in_err-take-in-Ok-Record.ensures in
+    let r = c.requires.reads in
+    let later = i.reads text handed stands in
+    let was = i.planned text handed fault stands waits refuses in
+    let none = none_handed c.records.reader c.records.batch.stage (has_still r.text r.bytes (i.behind r.text r.handed r.stands r.behind)) was text later.0 later.1 in
+    let begin = begins_first _ text later.0 (covered_of c.in-Ok-Record.record) refuses.header (h.1 text later.0 later.1) none refuses.begins in
+    let told = planned_err (recv_plan c.args.ask.now refuses.header refuses.pool) fault _ refuses.refused (e.planned refuses.pool refuses.header begin.0 begin.1 was refuses.named refuses.tells) in
+    (p.1 ∙ ap (λ (f : RecvFault). Err f) (p.2 ∙ told), ap (λ (b : Batch). waits_at b.stage) e.stays ∙ was)
+
+pub returns-in_err-take-in-Ok-Record-clause-because : goal.returns-in_err-take-in-Ok-Record-clause-because
+returns-in_err-take-in-Ok-Record-clause-because g c = λ text handed fault stands kind is.
+    let h = rw (c.in-Ok-Record.is, c.in-Ok-Record.field-0-is) at c.next.follows.holds-at-none in
+    let p = err_from_is_err_and c.from_residual.result c.from_residual.ensures.1 in
+    let i = c.records.invariant in
+    let e = c.in_err-take-in-Ok-Record.ensures in
+    let r = c.requires.reads in
+    let later = i.reads text handed stands in
+    let told = ap (λ (f : RecvFault). Err f) (sym p.2 ∙ err_told Bool _ _ (sym p.1 ∙ is)) in
+    let asks = e.because fault kind told in
+    let none = none_handed c.records.reader c.records.batch.stage (has_still r.text r.bytes (i.behind r.text r.handed r.stands r.behind)) asks.0 text later.0 later.1 in (
+      ap (λ (b : Batch). waits_at b.stage) (sym (i.waits asks.0)) ∙ asks.0,
+      record {
+        header = asks.1;
+        begins = first_begins _ text later.0 (covered_of c.in-Ok-Record.record) asks.1 asks.2 (h.1 text later.0 later.1) none asks.3;
+        refused = λ pool named tells. planned_back (recv_plan c.args.ask.now asks.1 pool) fault _ told (e.planned pool asks.1 asks.2 asks.3 asks.0 named tells);
+      },
+    )
+
+pub returns-in_err-take-in-Ok-Record-clause-still : goal.returns-in_err-take-in-Ok-Record-clause-still
+returns-in_err-take-in-Ok-Record-clause-still g c = λ text handed stands waits none.
+    let h = rw (c.in-Ok-Record.is, c.in-Ok-Record.field-0-is) at c.next.follows.holds-at-none in
+    let later = c.records.invariant.reads text handed stands in
+    absurd (covers_some _ text later.0 (covered_of c.in-Ok-Record.record) (h.1 text later.0 later.1) none)

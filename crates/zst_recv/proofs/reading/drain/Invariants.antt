@@ -1,7 +1,8 @@
-use Rattle.std.proofs.Common.{◌≡◌, ◌+◌, ◌-◌, Bool, ◌^◌, List, ℕ, false, true, ◌++◌}
+use Rattle.std.proofs.Common.{◌≡◌, ◌+◌, ◌-◌, Bool, ◌^◌, List, ℕ, false, true, ◌++◌, []}
 use Rattle.std.specs.Prelude.{None}
 use Rattle.zst_block.specs.Blocks.{Has}
 use Rattle.zst_image.specs.Reads.{bound_of}
+use Rattle.zst_model.specs.declared.refusals.plan_fault.PlanFault.{PlanFault}
 use Rattle.zst_model.specs.pools.Pool.{Pool}
 use Rattle.zst_pool.specs.Calls.{IsUnderWay}
 use Rattle.zst_reader.specs.StandsFor.{StandsFor, handed_of, pushed_of}
@@ -9,6 +10,7 @@ use Rattle.zst_record.specs.Heads.{Covered}
 use Rattle.zst_stream.specs.Reading.{complete, reading}
 use Rattle.zst_recv.specs.Costs.{Spends}
 use Rattle.zst_recv.specs.Faults.{Fills}
+use Rattle.zst_recv.specs.Planning.{RefusesOne}
 use Rattle.zst_recv.specs.Receiving.{Work}
 use Rattle.zst_recv.specs.Stages.{IsWork, StageFits, StandsBehind, TellsBefore, is_live, waits_at}
 use Rattle.zst_recv.proofs.Draining.{Draining}
@@ -29,6 +31,8 @@ invariant-records g l =
       reads : (text : List ℕ) (handed : List Covered) → StandsFor l.fn.reader text handed → (later : List Covered) × StandsFor l.reader text later;
       over : (text : List ℕ) (handed : List Covered) → StandsFor l.fn.reader text handed → is_live l.fn.batch.stage ≡ true → is_live l.batch.stage ≡ false → (reading text).outcome ≡ complete;
       behind : (text : List ℕ) (handed : List Covered) → StandsFor l.fn.reader text handed → StandsBehind handed l.fn.batch.stage → (later : List Covered) × StandsFor l.reader text later × StandsBehind later l.batch.stage;
+      planned : (text : List ℕ) (handed : List Covered) (fault : PlanFault) → StandsFor l.fn.reader text handed → waits_at l.fn.batch.stage ≡ true → RefusesOne l.kept.dir l.ask text fault → waits_at l.batch.stage ≡ true;
+      still : (text : List ℕ) (handed : List Covered) → StandsFor l.fn.reader text handed → waits_at l.fn.batch.stage ≡ true → (reading text).covered ≡ [] → waits_at l.batch.stage ≡ true;
       pushed : pushed_of l.reader ≡ pushed_of l.fn.reader;
       fills : Fills (disk.state l.fn.io.disk.now) l.fn.io.space l.fn.io.failed (disk.state l.io.disk.now) l.io.space l.io.failed None;
       spent : (text : List ℕ) (handed : List Covered) → StandsFor l.fn.reader text handed → (records : List Covered) × StandsFor l.reader text (handed ++ records) × Spends records l.fn.io.space l.io.space None;

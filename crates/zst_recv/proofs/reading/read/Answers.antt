@@ -1,24 +1,26 @@
-use Rattle.std.proofs.Common.{◌≡◌, ◌+◌, Bool, ◌<◌, ◌==◌, ◌^◌, false, [], ◌++◌, length, take, drop, refl, sym, ap, ◌∙◌, Ok, Err, List, ℕ, subst, append_assoc}
+use Rattle.std.proofs.Common.{◌≡◌, ◌+◌, Bool, ◌<◌, ◌==◌, ◌^◌, false, true, [], ◌++◌, length, take, drop, refl, sym, ap, ◌∙◌, Ok, Err, List, ℕ, subst, append_assoc}
 use Rattle.std.proofs.lemmas.List.Elements.{All-from_get_or}
 use Rattle.std.proofs.lemmas.Result.{err_from_is_err_and}
 use Rattle.zst_block.specs.Blocks.{Has}
 use Rattle.std.proofs.lemmas.List.{append-nil}
-use Rattle.zst_reader.specs.StandsFor.{StandsFor, pushed_of, room_of}
+use Rattle.zst_reader.specs.StandsFor.{StandsFor, pushed_of, room_of, HandsOut}
 use Rattle.zst_image.specs.Reads.{bound_of}
 use Rattle.zst_model.specs.pools.Pool.{Pool}
-use Rattle.zst_stream.specs.Reading.{complete, reading}
+use Rattle.zst_stream.specs.Reading.{complete, reading, waiting}
 use Rattle.zst_recv.specs.Stages.{IsWork, waits_at}
 use Rattle.zst_recv.specs.declared.batch.Batch.{Batch}
 use Rattle.zst_recv.proofs.Draining.{Fills-none, Fills-then, goes_under}
 use Rattle.zst_recv.proofs.Piecing.{all_told, left_bytes, less_left, limit_left, more_bytes, piece_begins, piece_done, piece_ends, piece_goes_on, piece_left, piece_refused, piece_split, piece_waits, told_left, whole_read}
 use Rattle.zst_recv.specs.declared.fault.RecvFault.{RecvFault}
+use Rattle.zst_recv.specs.declared.fault.RecvFault.TheVariants as faults
+use Rattle.zst_pool.specs.declared.fault.PoolFault.TheVariants as pools
 use Rattle.zst_recv.proofs.Damaging.{damaged_behind, err_told, faulty_still}
 use Rattle.zst_recv.proofs.Behind.{over_reads, tells_on}
 use Rattle.zst_recv.proofs.Covering.{complete_still, over_piece}
 use Rattle.std.specs.Prelude.{None}
-use Rattle.zst_reader.specs.StandsFor.{HandsOut}
-use Rattle.zst_stream.specs.Reading.{waiting}
 use Rattle.zst_recv.proofs.Spending.{spends_idle, spends_whole, spent_then}
+use Rattle.zst_recv.specs.Planning.{Begins, RefusesEach, RefusesOne}
+use Rattle.zst_recv.proofs.Planning.{by_covered, faulty_begins, front_none, front_refused, later_refused, none_begins, waits_live}
 use Rattle.zst_recv.proofs.reading.read.Goals as goal
 
 pub pushes-init : goal.pushes-init
@@ -31,6 +33,7 @@ pushes-init g c =
       waits = λ waits. refl;
       reads = c.requires.reads;
       front = ([], refl, λ text handed stands. (handed, rw (append-nil text) stands), λ text handed stands live over. absurd (let both = sym live ∙ over in cc));
+      planned = ([], refl, λ text handed stands. (handed, rw (append-nil text) stands), λ text handed stands none waits. rw (append-nil text) none, λ text handed fault stands waits refuses. waits, λ text handed stands waits none. waits);
       told = refl;
       bytes = All-from_get_or (λ byte. byte < 2 ^ 8) c.args.piece.now 0 (λ k within. (c.type_inv.piece k).fits);
       limit = c.requires.limit;
@@ -92,6 +95,33 @@ pushes-preserved g c =
             let m = i.front.2 text handed stands in
             subst (λ (t : List ℕ). (reading t).outcome ≡ complete) (append_assoc text i.front.0 (take n rest))
             (over_piece text i.front.0 (take n rest) c.pushes.batch.stage (i.front.3 text handed stands live) (λ lives. e.over ((text ++ i.front.0) ++ take n rest) m.0 (push.stands (text ++ i.front.0) m.0 m.1) lives over)),
+      );
+      planned = (
+        i.planned.0 ++ take n rest,
+        piece_left c.args.piece.now i.planned.0 rest n i.planned.1,
+        λ text handed stands.
+            let m = i.planned.2 text handed stands in
+            let d = e.reads ((text ++ i.planned.0) ++ take n rest) m.0 (push.stands (text ++ i.planned.0) m.0 m.1) in
+            (d.0, subst (λ (t : List ℕ). StandsFor c.drain.new.reader t d.0) (append_assoc text i.planned.0 (take n rest)) d.1),
+        λ text handed stands none waits.
+            let m = i.planned.2 text handed stands in
+            subst (λ (t : List ℕ). (reading t).covered ≡ []) (append_assoc text i.planned.0 (take n rest)) (e.uncovered waits ((text ++ i.planned.0) ++ take n rest) m.0 (push.stands (text ++ i.planned.0) m.0 m.1)),
+        λ text handed fault stands waits refuses.
+            let m = i.planned.2 text handed stands in
+            let read = (text ++ i.planned.0) ++ take n rest in
+            let at = push.stands (text ++ i.planned.0) m.0 m.1 in
+            let was = i.planned.4 text handed fault stands waits refuses in
+            let whole = whole_read text c.args.piece.now i.planned.0 (take n rest) (drop n rest) (piece_split c.args.piece.now i.planned.0 rest n i.planned.1) in
+            by_covered (waits_at c.drain.new.batch.stage ≡ true) read (λ none. let s = e.still read m.0 at was none in s.0)
+            (λ first others covers.
+            let d = e.planned read m.0 fault at was (front_refused c.args.kept.now.dir c.args.ask.now read (drop n rest) fault first others covers (subst (λ (t : List ℕ). RefusesOne c.args.kept.now.dir c.args.ask.now t fault) whole refuses)) in
+            absurd (cc d.0)),
+        λ text handed stands waits none.
+            let m = i.planned.2 text handed stands in
+            let read = (text ++ i.planned.0) ++ take n rest in
+            let whole = whole_read text c.args.piece.now i.planned.0 (take n rest) (drop n rest) (piece_split c.args.piece.now i.planned.0 rest n i.planned.1) in
+            let s = e.still read m.0 (push.stands (text ++ i.planned.0) m.0 m.1) (i.planned.5 text handed stands waits none) (front_none read (drop n rest) (subst (λ (t : List ℕ). (reading t).covered ≡ []) whole none)) in
+            s.0,
       );
       told = told_left rest n (room_of c.pushes.reader) _ _ _ _ push.count push.pushed e.pushed i.told;
       bytes = left_bytes rest n i.bytes;
@@ -275,6 +305,31 @@ returns-clause-over g c = λ text handed stands live over.
 
 pub returns-in_err-drain-clause-spends : goal.returns-in_err-drain-clause-spends
 returns-in_err-drain-clause-spends g c = λ text handed stands.
+pub returns-in_err-drain-clause-planned : goal.returns-in_err-drain-clause-planned
+returns-in_err-drain-clause-planned g c = λ text handed fault stands waits none refuses.
+    let p = err_from_is_err_and c.from_residual.result c.from_residual.ensures.1 in
+    let i = c.pushes.invariant in
+    let e = c.in_err-drain.ensures in
+    let n = c.push-count.result in
+    let rest = c.pushes.rest.now in
+    let rows = c.args.kept.now.dir in
+    let ask = c.args.ask.now in
+    let m = i.planned.2 text handed stands in
+    let read = (text ++ i.planned.0) ++ take n rest in
+    let at = c.push-count.ensures.stands (text ++ i.planned.0) m.0 m.1 in
+    let was = i.planned.4 text handed fault stands waits refuses in
+    let whole = whole_read text c.args.piece.now i.planned.0 (take n rest) (drop n rest) (piece_split c.args.piece.now i.planned.0 rest n i.planned.1) in
+    by_covered ((c.from_residual.result ≡ Err (faults.Pool (pools.Plan fault))) × (waits_at c.drain.new.batch.stage ≡ true)) read
+    (λ empty.
+    let s = e.still read m.0 at was empty in
+    let told = e.stream read m.0 s.1.0 at (ap (λ (f : RecvFault). Err f) s.1.1) in
+    absurd (faulty_begins read (drop n rest) s.1.0 refuses.header empty told (subst (λ (t : List ℕ). Begins t refuses.header) whole refuses.begins)))
+    (λ first others covers.
+    let d = e.planned read m.0 fault at was (front_refused rows ask read (drop n rest) fault first others covers (subst (λ (t : List ℕ). RefusesOne rows ask t fault) whole refuses)) in
+    (p.1 ∙ ap (λ (f : RecvFault). Err f) (p.2 ∙ err_told Bool _ _ d.0), d.1))
+
+pub returns-in_err-drain-clause-because : goal.returns-in_err-drain-clause-because
+returns-in_err-drain-clause-because g c = λ text handed fault stands kind is.
     let p = err_from_is_err_and c.from_residual.result c.from_residual.ensures.1 in
     let i = c.pushes.invariant in
     let n = c.push-count.result in
@@ -318,3 +373,63 @@ returns-clause-hands_out g c = λ live text handed hands.
     let i = c.pushes.invariant in
     let m = i.hands.2 text handed hands in
     (m.0, subst (λ (t : List ℕ). HandsOut c.pushes.reader (text ++ t) m.0 waiting) (sym (piece_done c.args.piece.now i.hands.0 c.pushes.rest.now i.hands.1 c.pushes-test.ensures)) m.1)
+    let m = i.planned.2 text handed stands in
+    let read = (text ++ i.planned.0) ++ take n rest in
+    let told = c.in_err-drain.ensures.because read m.0 fault (c.push-count.ensures.stands (text ++ i.planned.0) m.0 m.1) kind (ap (λ (f : RecvFault). Err f) (sym p.2 ∙ err_told (Unit {0}) _ _ (sym p.1 ∙ is))) in
+    let whole = whole_read text c.args.piece.now i.planned.0 (take n rest) (drop n rest) (piece_split c.args.piece.now i.planned.0 rest n i.planned.1) in (
+      ap (λ (b : Batch). waits_at b.stage) (sym (i.waits told.0)) ∙ told.0,
+      subst (λ (t : List ℕ). RefusesEach c.args.kept.now.dir c.args.ask.now t fault) (sym whole) (later_refused c.args.kept.now.dir c.args.ask.now read (drop n rest) fault told.1),
+    )
+
+pub returns-then-branch-clause-planned : goal.returns-then-branch-clause-planned
+returns-then-branch-clause-planned g c = λ text handed fault stands waits none refuses.
+    let i = c.pushes.invariant in
+    let e = c.in_ok-drain.ensures in
+    let n = c.push-count.result in
+    let rest = c.pushes.rest.now in
+    let rows = c.args.kept.now.dir in
+    let ask = c.args.ask.now in
+    let m = i.planned.2 text handed stands in
+    let read = (text ++ i.planned.0) ++ take n rest in
+    let at = c.push-count.ensures.stands (text ++ i.planned.0) m.0 m.1 in
+    let was = i.planned.4 text handed fault stands waits refuses in
+    let whole = whole_read text c.args.piece.now i.planned.0 (take n rest) (drop n rest) (piece_split c.args.piece.now i.planned.0 rest n i.planned.1) in
+    let r = i.reads in
+    let later = e.behind (r.text ++ take n rest) r.handed (c.push-count.ensures.stands r.text r.handed r.stands) r.behind in
+    absurd (by_covered ⊥ read (λ empty. let s = e.still read m.0 at was empty in waits_live c.drain.new.batch.stage s.0 (later.over c.if-branch.true))
+    (λ first others covers.
+    let d = e.planned read m.0 fault at was (front_refused rows ask read (drop n rest) fault first others covers (subst (λ (t : List ℕ). RefusesOne rows ask t fault) whole refuses)) in
+    cc d.0))
+
+pub returns-then-branch-clause-uncovered : goal.returns-then-branch-clause-uncovered
+returns-then-branch-clause-uncovered g c = λ waits text handed stands none.
+    let r = c.pushes.invariant.reads in
+    let n = c.push-count.result in
+    let later = c.in_ok-drain.ensures.behind (r.text ++ take n c.pushes.rest.now) r.handed (c.push-count.ensures.stands r.text r.handed r.stands) r.behind in
+    absurd (waits_live c.drain.new.batch.stage waits (later.over c.if-branch.true))
+
+pub returns-clause-planned : goal.returns-clause-planned
+returns-clause-planned g c = λ text handed fault stands waits none refuses.
+    let i = c.pushes.invariant in
+    let was = i.planned.4 text handed fault stands waits refuses in
+    let is = piece_done c.args.piece.now i.planned.0 c.pushes.rest.now i.planned.1 c.pushes-test.ensures in
+    absurd (none_begins (text ++ c.args.piece.now) refuses.header (subst (λ (t : List ℕ). (reading (text ++ t)).covered ≡ []) (sym is) (i.planned.3 text handed stands none was)) refuses.begins)
+
+pub returns-clause-uncovered : goal.returns-clause-uncovered
+returns-clause-uncovered g c = λ waits text handed stands none.
+    let i = c.pushes.invariant in
+    subst (λ (t : List ℕ). (reading (text ++ t)).covered ≡ []) (sym (piece_done c.args.piece.now i.planned.0 c.pushes.rest.now i.planned.1 c.pushes-test.ensures)) (i.planned.3 text handed stands none waits)
+
+pub returns-then-branch-clause-still : goal.returns-then-branch-clause-still
+returns-then-branch-clause-still g c = λ text handed stands waits none.
+    let i = c.pushes.invariant in
+    let n = c.push-count.result in
+    let rest = c.pushes.rest.now in
+    let m = i.planned.2 text handed stands in
+    let read = (text ++ i.planned.0) ++ take n rest in
+    let whole = whole_read text c.args.piece.now i.planned.0 (take n rest) (drop n rest) (piece_split c.args.piece.now i.planned.0 rest n i.planned.1) in
+    let s = c.in_ok-drain.ensures.still read m.0 (c.push-count.ensures.stands (text ++ i.planned.0) m.0 m.1) (i.planned.5 text handed stands waits none) (front_none read (drop n rest) (subst (λ (t : List ℕ). (reading t).covered ≡ []) whole none)) in
+    s.0
+
+pub returns-clause-still : goal.returns-clause-still
+returns-clause-still g c = c.pushes.invariant.planned.5

@@ -1,7 +1,8 @@
-use Rattle.std.proofs.Common.{◌≡◌, ◌+◌, ◌-◌, ◌≤◌, Bool, ◌^◌, List, ℕ, false, true, ◌++◌, length}
+use Rattle.std.proofs.Common.{◌≡◌, ◌+◌, ◌-◌, ◌≤◌, Bool, ◌^◌, List, [], ℕ, false, true, ◌++◌, length}
 use Rattle.std.specs.Prelude.{None}
 use Rattle.zst_block.specs.Blocks.{Has}
 use Rattle.zst_image.specs.Reads.{bound_of}
+use Rattle.zst_model.specs.declared.refusals.plan_fault.PlanFault.{PlanFault}
 use Rattle.zst_model.specs.pools.Pool.{Pool}
 use Rattle.zst_pool.specs.Calls.{IsUnderWay}
 use Rattle.zst_reader.specs.StandsFor.{HandsOut, StandsFor, pushed_of, room_of}
@@ -10,6 +11,7 @@ use Rattle.zst_record.specs.Laws.{AreBytes}
 use Rattle.zst_stream.specs.Reading.{complete, reading, waiting}
 use Rattle.zst_recv.specs.Costs.{Spends}
 use Rattle.zst_recv.specs.Faults.{Fills}
+use Rattle.zst_recv.specs.Planning.{RefusesOne}
 use Rattle.zst_recv.specs.Receiving.{Work}
 use Rattle.zst_recv.specs.Stages.{HasRead, IsWork, StageFits, TellsBefore, is_live, waits_at}
 use Rattle.zst_recv.proofs.Piecing.{Midway}
@@ -31,6 +33,10 @@ invariant-pushes g l =
       reads : HasRead l.reader l.batch.stage;
       front : (front : List ℕ) × (l.piece ≡ front ++ l.rest) × ((text : List ℕ) (handed : List Covered) → StandsFor l.fn.reader text handed → (later : List Covered) × StandsFor l.reader (text ++ front) later)
           × ((text : List ℕ) (handed : List Covered) → StandsFor l.fn.reader text handed → is_live l.fn.batch.stage ≡ true → is_live l.batch.stage ≡ false → (reading (text ++ front)).outcome ≡ complete);
+      planned : (front : List ℕ) × (l.piece ≡ front ++ l.rest) × ((text : List ℕ) (handed : List Covered) → StandsFor l.fn.reader text handed → (later : List Covered) × StandsFor l.reader (text ++ front) later)
+          × ((text : List ℕ) (handed : List Covered) → StandsFor l.fn.reader text handed → (reading text).covered ≡ [] → waits_at l.batch.stage ≡ true → (reading (text ++ front)).covered ≡ [])
+          × ((text : List ℕ) (handed : List Covered) (fault : PlanFault) → StandsFor l.fn.reader text handed → waits_at l.fn.batch.stage ≡ true → RefusesOne l.kept.dir l.ask (text ++ l.piece) fault → waits_at l.batch.stage ≡ true)
+          × ((text : List ℕ) (handed : List Covered) → StandsFor l.fn.reader text handed → waits_at l.fn.batch.stage ≡ true → (reading (text ++ l.piece)).covered ≡ [] → waits_at l.batch.stage ≡ true);
       told : pushed_of l.reader + length l.rest ≡ pushed_of l.fn.reader + length l.piece;
       bytes : AreBytes l.rest;
       limit : pushed_of l.reader + length l.rest ≤ 2 ^ 62;

@@ -1,6 +1,7 @@
-use Rattle.std.proofs.Common.{◌+◌, sym, ap, ◌∙◌, subst}
+use Rattle.std.proofs.Common.{◌+◌, ◌||◌, Bool, false, sym, ap, ◌∙◌, subst}
 use Rattle.std.specs.Prelude.{Result}
-use Rattle.zst_block.specs.Blocks.{Has}
+use Rattle.zst_space.specs.FreeSectors.{FreeSectors}
+use Rattle.zst_block.specs.Blocks.{Has, KeepsBlocks}
 use Rattle.zst_dir.specs.declared.rows.Partial.{Partial as Row}
 use Rattle.zst_image.specs.Reads.{PartialIs, bound_of}
 use Rattle.zst_pool.specs.PartialRows.{rows_with_partial}
@@ -113,3 +114,10 @@ returns-in-Waits-clause-puts g c = λ tight start running work told way is.
 
 pub returns-in-Waits-clause-fits : goal.returns-in-Waits-clause-fits
 returns-in-Waits-clause-fits g c = λ target fits. goes_idle c.args.pool.now.kept.dir target c.args.batch.now.stage fits
+
+pub returns-in_ok-put_partial-in-Lives-clause-blocks : goal.returns-in_ok-put_partial-in-Lives-clause-blocks
+returns-in_ok-put_partial-in-Lives-clause-blocks g c = λ taken lives.
+    let e = c.in_ok-put_partial-in-Lives.ensures in
+    let pool = c.args.pool.now in
+    let after = c.put_partial.new.self in
+    subst (λ (s : FreeSectors). KeepsBlocks (g.D.Disk.state pool.io.disk.now).seen pool.io.space (g.D.Disk.state after.io.disk.now).seen s) (e.space (ap (λ (b : Bool). b || false) c.requires.open)) e.blocks

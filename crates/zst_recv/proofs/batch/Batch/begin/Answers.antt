@@ -3,10 +3,12 @@ use Rattle.zst_block.specs.Blocks.{Has}
 use Rattle.zst_plan.specs.RecvPlan.{recv_plan}
 use Rattle.zst_recv.specs.Receiving.{opened}
 use Rattle.zst_recv.specs.Stages.{IsStage, IsWork}
+use Rattle.zst_recv.specs.declared.batch.Batch.{Batch}
 use Rattle.zst_recv.specs.declared.stage.Stage as coded
 use Rattle.zst_recv.specs.declared.stage.Stage.TheVariants as stages
 use Rattle.zst_recv.proofs.Answering.{err_alike}
 use Rattle.zst_recv.proofs.Behind.{refused_begin, waits_tell}
+use Rattle.zst_recv.proofs.Planning.{begun_planned, refused_planned}
 use Rattle.zst_recv.proofs.batch.Batch.begin.Goals.{in-Waits, in_default}
 use Rattle.zst_recv.proofs.batch.Batch.begin.Goals as goal
 
@@ -19,3 +21,11 @@ returns-in-Err-clause-began c = λ bound image space running work covered len he
     let told = waits_tell ask header c.args.dir.now running bound has work.stage (subst (λ (s : coded.Stage). IsStage bound has s work.stage) waits is.stage) tells in
     let refused = err_alike (λ batch plan. IsWork bound has batch (opened ask header plan)) c.in-Err.fault (recv_plan ask header running) (c.in-Err.ensures.exact bound image space running runs told.1) in
     (refused_begin ask header running covered len work c.in-Err.fault head told.0 refused, is)
+
+pub returns-in-Ok-clause-planned : goal.returns-in-Ok-clause-planned
+returns-in-Ok-clause-planned c = λ running waits named tells.
+    begun_planned c.in-Ok.batch (recv_plan c.args.ask.now c.args.header.now running) (c.in-Ok.ensures.planned running named tells)
+
+pub returns-in-Err-clause-planned : goal.returns-in-Err-clause-planned
+returns-in-Err-clause-planned c = λ running waits named tells.
+    refused_planned Batch c.in-Err.fault (recv_plan c.args.ask.now c.args.header.now running) (c.in-Err.ensures.planned running named tells)

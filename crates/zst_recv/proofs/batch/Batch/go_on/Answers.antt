@@ -1,4 +1,4 @@
-use Rattle.std.proofs.Common.{◌≡◌, ◌+◌, ℕ, Option, Ok, Result, ap, sym, ◌∙◌, subst}
+use Rattle.std.proofs.Common.{◌≡◌, ◌+◌, ℕ, Option, Ok, Result, ap, sym, ◌∙◌, subst, [], ◌∷◌}
 use Rattle.zst_image.specs.Reads.{PartialIs, bound_of}
 use Rattle.zst_block.specs.Blocks.{Has}
 use Rattle.zst_record.specs.Heads.{covered_of}
@@ -12,7 +12,6 @@ use Rattle.zst_recv.specs.Taking.{Takes}
 use Rattle.zst_recv.specs.declared.batch.Batch.{Batch}
 use Rattle.zst_recv.specs.declared.stage.Stage.TheVariants as stages
 use Rattle.zst_recv.proofs.Moving.{one_more, refuses_on, taken_is, under_way, work_stays}
-use Rattle.std.proofs.Common.{[], ◌∷◌}
 use Rattle.zst_recv.specs.Costs.{Spends}
 use Rattle.zst_recv.specs.Faults.{stop_of}
 use Rattle.zst_recv.specs.declared.fault.RecvFault.{RecvFault}
@@ -71,3 +70,6 @@ pub returns-in_err-move_by-in-Lives-clause-spends : goal.returns-in_err-move_by-
 returns-in_err-move_by-in-Lives-clause-spends g c =
     let covered = covered_of c.args.covered.now in
     subst (λ (r : Result (Unit {0}) RecvFault). Spends (covered ∷ []) c.args.io.now.space c.move_by.new.io.space (stop_of r)) (sym (err_is c.from_residual.result c.in_err-move_by-in-Lives.field-0.0 c.from_residual.ensures.1)) c.in_err-move_by-in-Lives.ensures.spends
+pub returns-in_err-move_by-in-Lives-clause-unplanned : goal.returns-in_err-move_by-in-Lives-clause-unplanned
+returns-in_err-move_by-in-Lives-clause-unplanned g c = λ fault is.
+    c.in_err-move_by-in-Lives.ensures.unplanned fault (sym (err_is c.from_residual.result c.in_err-move_by-in-Lives.field-0.0 c.from_residual.ensures.1) ∙ is)

@@ -1,11 +1,11 @@
 use Rattle.std.proofs.Common.{◌≡◌, ◌&&◌, ◌++◌, Bool, true, false, Some, None, Ok, Err, refl, sym, ap, ◌∙◌, subst, arith}
 use Rattle.std.specs.Prelude.{◌+◌, ◌-◌, ℕ, IsSome, not, sum_by}
 use Rattle.zst_space.specs.FreeSectors.{FreeSectors}
-use Rattle.zst_reader.specs.StandsFor.{StandsFor, pushed_of}
+use Rattle.zst_reader.specs.StandsFor.{StandsFor, pushed_of, HandsOut}
 use Rattle.zst_reader.specs.declared.reader.Reader.{Reader}
 use Rattle.zst_record.specs.Heads.{size_of}
 use Rattle.zst_outside.specs.Images.{DiskState}
-use Rattle.zst_block.specs.Blocks.{Has}
+use Rattle.zst_block.specs.Blocks.{FillsFree, Has}
 use Rattle.zst_image.specs.Committing.{Ready}
 use Rattle.zst_image.specs.Reads.{bound_of, free_by}
 use Rattle.zst_image.specs.declared.kept.Kept.{Kept}
@@ -14,7 +14,9 @@ use Rattle.zst_plan.specs.declared.receive.RecvAsk.{RecvAsk}
 use Rattle.zst_pool.specs.Calls.{IsCallFull}
 use Rattle.zst_pool.specs.declared.fault.PoolFault.{PoolFault}
 use Rattle.zst_pool.proofs.Resting.{commit_still, rests_on, rests_still}
-use Rattle.zst_recv.specs.Faults.{IsFeedFault, keeps_before, recv_refusal, stop_at}
+use Rattle.zst_model.specs.declared.refusals.faults.Quantity.TheVariants as quantities
+use Rattle.zst_model.specs.declared.refusals.plan_fault.PlanFault.TheVariants as plans
+use Rattle.zst_recv.specs.Faults.{IsFeedFault, keeps_before, recv_refusal, stop_at, stream_limit}
 use Rattle.zst_recv.specs.Receiving.{Work, at_stage, is_kept, put}
 use Rattle.zst_recv.specs.Answers.{is_done}
 use Rattle.zst_recv.specs.Feeds.{new_records}
@@ -32,10 +34,12 @@ use Rattle.zst_recv.specs.declared.fault.RecvFault.{RecvFault}
 use Rattle.zst_recv.proofs.Damaging.{damaged_renewed, err_told, told_call}
 use Rattle.zst_recv.proofs.Behind.{over_reads}
 use Rattle.zst_recv.proofs.Serving.{behind_fits, both_false, by_test, fed_so, first_stage, first_way, fits_within, kept_is, left_rests, live_fits, loose, lost, not_false, not_not, over_fits, received_then, stopped, too_long, unmade, untaken_stands, waits_behind, known_call, still_open}
-use Rattle.zst_reader.specs.StandsFor.{HandsOut}
 use Rattle.zst_stream.specs.Reading.{waiting}
 use Rattle.zst_recv.specs.Costs.{PieceIsShort, Spends, records_behind}
 use Rattle.zst_recv.proofs.Spending.{full_keeps_none, same_pool, short_put, short_read}
+use Rattle.zst_recv.specs.Planning.{RefusesEach, RefusesOne, is_planned}
+use Rattle.zst_recv.proofs.Keeping.{keeps_behind, live_partial}
+use Rattle.zst_recv.proofs.Planning.{both_planned, call_unplanned, over_waits, waits_ahead, waits_kept}
 use Rattle.zst_recv.proofs.recv.Recv.feed.Goals as goal
 use Rattle.zst_recv.proofs.recv.Recv.feed.Goals.{then-keeps_before+else-is_kept, else-keeps_before}
 
@@ -494,3 +498,109 @@ returns-in-Err-put-2-clause-stays g c = λ need largest is. c.give_up-in-Err-put
 pub returns-in-Ok-put-2-clause-stays : goal.returns-in-Ok-put-2-clause-stays
 returns-in-Ok-put-2-clause-stays g c = λ need largest is.
     absurd (full_keeps_none c.in-Err.fault need largest (sym c.keeps_before.ensures ∙ c.if-keeps_before.true) (err_told coded_recv.Fed c.in-Err.fault _ is))
+pub returns-then-pool-clause-planned : goal.returns-then-pool-clause-planned
+returns-then-pool-clause-planned g c = λ text handed fault alive waits stands none within refuses. absurd (let failed = c.if-pool.true in cc)
+
+pub returns-then-pool-clause-because : goal.returns-then-pool-clause-because
+returns-then-pool-clause-because g c = λ text handed fault alive stands kind is. absurd (let failed = c.if-pool.true in cc)
+
+pub returns-then-piece-started-clause-planned : goal.returns-then-piece-started-clause-planned
+returns-then-piece-started-clause-planned g c = λ text handed fault alive waits stands none within refuses.
+    absurd (omega (arith, c.if-piece-started.true, c.pushed-started.ensures, stands.pushed, within))
+
+pub returns-then-piece-started-clause-because : goal.returns-then-piece-started-clause-because
+returns-then-piece-started-clause-because g c = λ text handed fault alive stands kind is.
+    absurd (both_planned fault kind (let same : plans.Limit quantities.Stream stream_limit ≡ fault = cc (c.give_up.ensures.fault, c.too_long.ensures, is) in ap is_planned (sym same)))
+
+pub returns-then-piece-started-clause-uncovered : goal.returns-then-piece-started-clause-uncovered
+returns-then-piece-started-clause-uncovered g c = λ text handed stands none waits. absurd (over_waits c.give_up.new.self.stage c.give_up.ensures.over waits)
+
+pub returns-in-Err-2-clause-planned : goal.returns-in-Err-2-clause-planned
+returns-in-Err-2-clause-planned g c = λ text handed fault alive waits stands none within refuses.
+    let at = ap waits_at (c.new-batch.ensures.stage ∙ c.replace.ensures.value) ∙ waits in
+    let told = c.in-Err.ensures.planned text handed fault stands at none (subst (λ (k : Kept). RefusesOne k.dir c.args.self.now.ask (text ++ c.args.piece.now) fault) (sym c.renew.ensures.kept) refuses) in
+    ap (λ (f : RecvFault). Err f) (c.give_up-in-Err-2.ensures.fault ∙ err_told (Unit {0}) _ _ told.0)
+
+pub returns-in-Err-2-clause-because : goal.returns-in-Err-2-clause-because
+returns-in-Err-2-clause-because g c = λ text handed fault alive stands kind is.
+    let told = c.in-Err.ensures.because text handed fault stands kind (ap (λ (f : RecvFault). Err f) (sym c.give_up-in-Err-2.ensures.fault ∙ err_told coded_recv.Fed _ _ is)) in
+    (ap waits_at (sym (c.new-batch.ensures.stage ∙ c.replace.ensures.value)) ∙ told.0, subst (λ (k : Kept). RefusesEach k.dir c.args.self.now.ask (text ++ c.args.piece.now) fault) c.renew.ensures.kept told.1)
+
+pub returns-in-Err-2-clause-uncovered : goal.returns-in-Err-2-clause-uncovered
+returns-in-Err-2-clause-uncovered g c = λ text handed stands none waits. absurd (over_waits c.give_up-in-Err-2.new.self.stage c.give_up-in-Err-2.ensures.over waits)
+
+pub returns-in-Err-put-clause-planned : goal.returns-in-Err-put-clause-planned
+returns-in-Err-put-clause-planned g c = λ text handed fault alive waits stands none within refuses.
+    let at = ap waits_at (c.new-batch.ensures.stage ∙ c.replace.ensures.value) ∙ waits in
+    let told = c.in-Ok.ensures.planned text handed fault stands at none (subst (λ (k : Kept). RefusesOne k.dir c.args.self.now.ask (text ++ c.args.piece.now) fault) (sym c.renew.ensures.kept) refuses) in
+    absurd (cc told.0)
+
+pub returns-in-Err-put-clause-because : goal.returns-in-Err-put-clause-because
+returns-in-Err-put-clause-because g c = λ text handed fault alive stands kind is.
+    absurd (both_planned fault kind (call_unplanned c.in-Err-put.fault fault c.in-Err-put.ensures.known (sym c.give_up-in-Err-put.ensures.fault ∙ err_told coded_recv.Fed _ _ is)))
+
+pub returns-in-Err-put-clause-uncovered : goal.returns-in-Err-put-clause-uncovered
+returns-in-Err-put-clause-uncovered g c = λ text handed stands none waits. absurd (over_waits c.give_up-in-Err-put.new.self.stage c.give_up-in-Err-put.ensures.over waits)
+
+pub returns-in-Err-put-2-clause-planned : goal.returns-in-Err-put-2-clause-planned
+returns-in-Err-put-2-clause-planned g c = λ text handed fault alive waits stands none within refuses.
+    let at = ap waits_at (c.new-batch.ensures.stage ∙ c.replace.ensures.value) ∙ waits in
+    let told = c.in-Err.ensures.planned text handed fault stands at none (subst (λ (k : Kept). RefusesOne k.dir c.args.self.now.ask (text ++ c.args.piece.now) fault) (sym c.renew.ensures.kept) refuses) in
+    absurd (waits_kept c.read.new.batch.stage told.1 (sym c.is_kept.ensures ∙ c.if-is_kept.true))
+
+pub returns-in-Err-put-2-clause-because : goal.returns-in-Err-put-2-clause-because
+returns-in-Err-put-2-clause-because g c = λ text handed fault alive stands kind is.
+    absurd (both_planned fault kind (call_unplanned c.in-Err-put-2.other fault c.in-Err-put-2.ensures.known (sym c.give_up-in-Err-put-2.ensures.fault ∙ err_told coded_recv.Fed _ _ is)))
+
+pub returns-in-Err-put-2-clause-uncovered : goal.returns-in-Err-put-2-clause-uncovered
+returns-in-Err-put-2-clause-uncovered g c = λ text handed stands none waits. absurd (over_waits c.give_up-in-Err-put-2.new.self.stage c.give_up-in-Err-put-2.ensures.over waits)
+
+pub returns-in-Ok-put-2-clause-planned : goal.returns-in-Ok-put-2-clause-planned
+returns-in-Ok-put-2-clause-planned g c = λ text handed fault alive waits stands none within refuses.
+    let at = ap waits_at (c.new-batch.ensures.stage ∙ c.replace.ensures.value) ∙ waits in
+    let told = c.in-Err.ensures.planned text handed fault stands at none (subst (λ (k : Kept). RefusesOne k.dir c.args.self.now.ask (text ++ c.args.piece.now) fault) (sym c.renew.ensures.kept) refuses) in
+    absurd (waits_kept c.read.new.batch.stage told.1 (sym c.is_kept.ensures ∙ c.if-is_kept.true))
+
+pub returns-in-Ok-put-2-clause-because : goal.returns-in-Ok-put-2-clause-because
+returns-in-Ok-put-2-clause-because g c = λ text handed fault alive stands kind is.
+    let told = c.in-Err.ensures.because text handed fault stands kind (ap (λ (f : RecvFault). Err f) (err_told coded_recv.Fed _ _ is)) in
+    (ap waits_at (sym (c.new-batch.ensures.stage ∙ c.replace.ensures.value)) ∙ told.0, subst (λ (k : Kept). RefusesEach k.dir c.args.self.now.ask (text ++ c.args.piece.now) fault) c.renew.ensures.kept told.1)
+
+pub returns-in-Ok-put-2-clause-uncovered : goal.returns-in-Ok-put-2-clause-uncovered
+returns-in-Ok-put-2-clause-uncovered g c = λ text handed stands none waits. absurd (over_waits _ c.replace.ensures.after waits)
+
+pub returns-in-Ok-put-clause-planned : goal.returns-in-Ok-put-clause-planned
+returns-in-Ok-put-clause-planned g c = λ text handed fault alive waits stands none within refuses.
+    let at = ap waits_at (c.new-batch.ensures.stage ∙ c.replace.ensures.value) ∙ waits in
+    let told = c.in-Ok.ensures.planned text handed fault stands at none (subst (λ (k : Kept). RefusesOne k.dir c.args.self.now.ask (text ++ c.args.piece.now) fault) (sym c.renew.ensures.kept) refuses) in
+    absurd (cc told.0)
+
+pub returns-in-Ok-put-clause-uncovered : goal.returns-in-Ok-put-clause-uncovered
+returns-in-Ok-put-clause-uncovered g c = λ text handed stands none waits.
+    let still = waits_behind c.read.new.batch.stage (ap waits_at (sym c.go_on.ensures.stage) ∙ waits) in
+    c.in-Ok.ensures.uncovered still text handed stands none
+
+pub returns-in-Ok-put-clause-still : goal.returns-in-Ok-put-clause-still
+returns-in-Ok-put-clause-still g c = λ text handed waits stands none.
+    let at = ap waits_at (c.new-batch.ensures.stage ∙ c.replace.ensures.value) ∙ waits in
+    ap waits_at c.go_on.ensures.stage ∙ waits_ahead c.read.new.batch.stage (c.in-Ok.ensures.still text handed stands at none)
+
+pub returns-in-Ok-put-clause-waited : goal.returns-in-Ok-put-clause-waited
+returns-in-Ok-put-clause-waited g c = λ waits.
+    let still = waits_behind c.read.new.batch.stage (ap waits_at (sym c.go_on.ensures.stage) ∙ waits) in
+    ap waits_at (sym (ap (λ (b : batches.Batch). b.stage) (c.in-Ok.ensures.waits still) ∙ c.new-batch.ensures.stage ∙ c.replace.ensures.value)) ∙ still
+
+pub returns-in-Ok-put-clause-blocks : goal.returns-in-Ok-put-clause-blocks
+returns-in-Ok-put-clause-blocks g c = λ goes.
+    let old = g.D.Disk.state c.args.pool.now.io.disk.now in
+    let two = g.D.Disk.state c.read.new.io.disk.now in
+    let three = g.D.Disk.state c.put.new.pool.io.disk.now in
+    let free = free_by c.args.pool.now.kept.body in
+    let batch = c.read.new.batch in
+    let live : is_live batch.stage ≡ true = not_not (is_live batch.stage) (sym c.go_on.ensures.done ∙ goes) in
+    let none = λ (waits : waits_at batch.stage ≡ true). ap (λ (b : batches.Batch). b.taken) (c.in-Ok.ensures.waits waits) ∙ c.new-batch.ensures.taken in
+    let fills = subst (λ (d : DiskState). FillsFree d free two c.read.new.io.space) (ap (λ (d : g.row.D.Denot). g.D.Disk.state d) c.renew.ensures.disk)
+    (subst (λ (s : FreeSectors). FillsFree (g.D.Disk.state c.renew.new.self.io.disk.now) s two c.read.new.io.space) c.renew.ensures.space c.read.ensures.fills.fills) in
+    keeps_behind old two three free c.read.new.io.space (free_by c.put.new.pool.kept.body) batch.taken fills
+    (λ idle. (ap (λ (d : g.row.D.Denot). g.D.Disk.state d) (c.put.ensures.idle_disk idle), ap (λ (k : Kept). free_by k.body) (c.put.ensures.idle_kept idle ∙ c.renew.ensures.kept)))
+    (λ taken. c.in-Ok-put.ensures.blocks taken (live_partial batch.stage live (λ waits. let both = sym taken ∙ none waits in cc (both))))
