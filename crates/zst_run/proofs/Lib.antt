@@ -12,7 +12,10 @@ pub mod AskedLines
 pub mod Pieces
 pub mod FedPieces
 pub mod Shorts
-mod Turning
+pub mod Turning
+pub mod Planning
+pub mod Damaged
+pub mod Leaving
 pub mod Receiving
 pub mod ReceivedFrom
 pub mod ReceiptLine

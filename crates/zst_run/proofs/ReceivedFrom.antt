@@ -1,11 +1,12 @@
 -- What a receive into an image leaves, from what opening the pool and feeding say.
 use Rattle.std.specs.Prelude.{Result, Ok, Err, IfErr}
+use Rattle.std.specs.List.{concat}
 use Rattle.std.proofs.Common.{◌≡◌, ◌≢◌, inl, inr, ℕ, ◌<◌, ◌≤◌, Bool, false, List, [], refl, sym, ap, ◌∙◌, subst, arith}
 use Rattle.std.proofs.lemmas.Bool.{false≢true}
 use Rattle.std.proofs.lemmas.List.{append-nil}
 use Rattle.zst_outside.specs.Causes.{Rose-earlier}
 use Rattle.zst_outside.specs.Images.{DiskState, IsSynced, Leaves, Leaves-then, Leaves-weaker, OnlyReads}
-use Rattle.zst_outside.specs.States.{SourceState, SinkState}
+use Rattle.zst_outside.specs.States.{SourceState, SinkState, Gave}
 use Rattle.zst_uber.specs.declared.uber.Uber.{Uber}
 use Rattle.zst_model.specs.declared.refusals.refusal.Refusal.{Refusal}
 use Rattle.zst_model.specs.declared.refusals.refusal.Refusal.TheVariants as refusals
@@ -30,11 +31,12 @@ use Rattle.zst_recv.specs.Receiving.{Waits}
 use Rattle.zst_recv.specs.Stages.{TellsTarget}
 use Rattle.zst_recv.specs.declared.fault.RecvFault.{RecvFault}
 use Rattle.zst_recv.specs.declared.fault.RecvFault.TheVariants as faults
-use Rattle.zst_run.specs.Receives.{IsOnTheWay, IsReceiveRefusal, ReceiveEnds, ReceiveOpened, ReceiveRan, Receives, Receiving, Stopped}
+use Rattle.zst_run.specs.Receives.{IsDamagedReceive, IsOnTheWay, IsReceiveRefusal, ReceiveEnds, ReceiveOpened, ReceiveRan, Receives, Receiving, SaysOfPlan, Stopped}
 use Rattle.zst_run.specs.Replies.{Replied}
 use Rattle.zst_run.specs.Underway.{Along, Fed, IsEnd, IsReady, told}
 use Rattle.zst_run.specs.declared.receive.Receipt.{Receipt}
 use Rattle.zst_run.proofs.Commanded.{images_after, of_plan, open_alive, open_disk, rests_read}
+use Rattle.zst_run.proofs.Damaged.{damaged_here, told_damaged}
 use Rattle.zst_run.proofs.FedPieces.{none_fed}
 use Rattle.zst_run.proofs.Receiving.{says_other}
 use Rattle.zst_run.proofs.SentFrom.{is_of_opening, pool_is_open}
@@ -77,12 +79,12 @@ unopened_ends tight ask here' input uber rows pool (opens.BadVersion version) wh
 unopened_ends tight ask here' input uber rows pool opens.DiskFault whole gives rests = tt
 unopened_ends tight ask here' input uber rows pool opens.OutOfMemory whole gives rests = nothing_fed tight ask here' uber rows pool whole (rests (λ is. absurd (cc is)))
 
-unopened_says : (here here' : DiskState) (input : SourceState) (fault : OpenFault) → OnlyReads here here' → OpenAnswers here (Err fault) → ReceiveOpened here here' input input (Err (open_refusal fault))
-unopened_says here here' input (opens.Damaged sector stated found) reads is = inl (is, reads, refl)
-unopened_says here here' input opens.NoPool reads is = (is, reads, refl)
-unopened_says here here' input (opens.BadVersion version) reads is = (record { body = is.0; there = is.1; version = is.2; other = is.3 }, reads, refl)
-unopened_says here here' input opens.DiskFault reads is = tt
-unopened_says here here' input opens.OutOfMemory reads is = inl (reads, refl)
+unopened_says : (ask : RecvAsk) (here here' : DiskState) (input : SourceState) (fault : OpenFault) → OnlyReads here here' → OpenAnswers here (Err fault) → ReceiveOpened ask [] here here' input input (Err (open_refusal fault))
+unopened_says ask here here' input (opens.Damaged sector stated found) reads is = inl (is, reads, refl)
+unopened_says ask here here' input opens.NoPool reads is = (is, reads, refl)
+unopened_says ask here here' input (opens.BadVersion version) reads is = (record { body = is.0; there = is.1; version = is.2; other = is.3 }, reads, refl)
+unopened_says ask here here' input opens.DiskFault reads is = inl (reads, refl)
+unopened_says ask here here' input opens.OutOfMemory reads is = inl (reads, refl)
 
 pub unopened : KeepsWhole → (ask : RecvAsk) (here here' : DiskState) (input : SourceState) (fault : OpenFault)
     → ((tight : Bool) (uber : Uber) (rows : Rows) (pool : Pool) → here'.honest → ReadsAs tight uber rows pool here.seen → GivesPool uber rows (Err fault))
@@ -98,7 +100,7 @@ unopened whole ask here here' input fault there answer reads synced cause = reco
   ends = λ tight uber rows pool told is dates.
       unopened_ends tight ask here' input uber rows pool fault (whole.0 pool (whole.1 tight uber rows pool here.seen is)) (there tight uber rows pool told is)
       (λ alive. rests_read here here' uber rows pool is reads (synced alive));
-  opened = λ told. unopened_says here here' input fault reads (answer told);
+  opened = λ told. unopened_says ask here here' input fault reads (answer told);
   text = says_other [] input input (open_refusal fault) (open_no_stream fault);
   refused = record {
     pool = record { one = inl (fault, refl); alive = open_alive fault; cause = λ is. cause.fault (ap (λ (f : OpenFault). Err f) (open_disk fault is)) };
@@ -156,14 +158,15 @@ module _ (here mid here' : DiskState) (input input' : SourceState) where
     cause = λ e. source.1;
   }
 
-  opened_says : (uber : Uber) (rows : Rows) (answer : Result (List (List ℕ)) Refusal) → ReceiveRan here answer uber rows → IfErr answer (IsEnd mid here' input input') → ReceiveOpened here here' input input' answer
-  opened_says uber rows (Ok lines) ran is = (uber, rows, ran)
-  opened_says uber rows (Err refusals.NoPool) ran is = absurd (false≢true (sym (is_open refusals.NoPool is)))
-  opened_says uber rows (Err (refusals.BadVersion number)) ran is = absurd (false≢true (sym (is_open (refusals.BadVersion number) is)))
-  opened_says uber rows (Err (refusals.Damaged sector stated found)) ran is = inr (uber, rows, ran)
-  opened_says uber rows (Err refusals.DiskFault) ran is = tt
-  opened_says uber rows (Err refusals.OutOfMemory) ran is = inr (uber, rows, ran)
-  opened_says uber rows (Err other) ran is = (uber, rows, ran)
+  opened_says : (ask : RecvAsk) (pieces : List (List ℕ)) (uber : Uber) (rows : Rows) (answer : Result (List (List ℕ)) Refusal) → ReceiveRan ask pieces here answer uber rows → IfErr answer (IsEnd mid here' input input')
+      → ReceiveOpened ask pieces here here' input input' answer
+  opened_says ask pieces uber rows (Ok lines) ran is = (uber, rows, ran)
+  opened_says ask pieces uber rows (Err refusals.NoPool) ran is = absurd (false≢true (sym (is_open refusals.NoPool is)))
+  opened_says ask pieces uber rows (Err (refusals.BadVersion number)) ran is = absurd (false≢true (sym (is_open (refusals.BadVersion number) is)))
+  opened_says ask pieces uber rows (Err (refusals.Damaged sector stated found)) ran is = inr (uber, rows, ran)
+  opened_says ask pieces uber rows (Err refusals.DiskFault) ran is = inr (uber, rows, ran)
+  opened_says ask pieces uber rows (Err refusals.OutOfMemory) ran is = inr (uber, rows, ran)
+  opened_says ask pieces uber rows (Err other) ran is = (uber, rows, ran)
 
   full_in : (answer : Result (List (List ℕ)) Refusal) (need largest : ℕ) → IfErr answer (IsEnd mid here' input input') → answer ≡ Err (refusals.Full need largest) → largest < need
   full_in (Ok lines) need largest is full = absurd (cc full)
@@ -182,7 +185,8 @@ module _ (ask : RecvAsk) (here mid here' : DiskState) (input input' : SourceStat
     (answers : mid.honest → OpenAnswers here (Ok kept)) (reads : OnlyReads here mid)
     (stands : (tight : Bool) (uber : Uber) (rows : Rows) (pool : Pool) → mid.honest → ReadsAs tight uber rows pool here.seen → Rests tight mid kept.body rows pool)
     (at_rest : (tight : Bool) (rows : Rows) (pool : Pool) → Rests tight mid kept.body rows pool → kept.dir ≡ kept_rows rows → IsAtRest tight mid kept pool)
-    (later : here.faults ≤ mid.faults) (falls : here'.honest → mid.honest) (f : Fed (λ tight. IsReady ask tight mid kept) mid here' ask input input' (told result))
+    (later : here.faults ≤ mid.faults) (falls : here'.honest → mid.honest) (f : Fed (λ tight. IsReady ask tight mid kept) mid here' ask input input' (told result)) (plans : (text : List ℕ) → Gave input input' text → SaysOfPlan kept.dir ask text (told result))
+    (damaged : (sector : ℕ) (stated found : List ℕ) → here'.honest → result ≡ Err (refusals.Damaged sector stated found) → IsDamagedReceive mid kept.body ask.target sector stated found)
     (only : (c : List ℕ) → here.left_since here.moment c → here.images c) (now_left : (t : ℕ) (c : List ℕ) → t ≤ here'.moment → here'.images c → here'.left_since t c) where
   ready : (tight : Bool) (uber : Uber) (rows : Rows) (pool : Pool) → here'.honest → ReadsAs tight uber rows pool here.seen → TellsTarget ask rows pool → IsReady ask tight mid kept pool
   ready tight uber rows pool honest is dates =
@@ -207,8 +211,14 @@ module _ (ask : RecvAsk) (here mid here' : DiskState) (input input' : SourceStat
             images_after here here' (IsOnTheWay tight here ask pool f.pieces) (moments tight uber rows pool honest is dates) (λ c image. inl image) only now_left;
         ends = λ tight uber rows pool honest is dates. (f.says tight pool honest (ready tight uber rows pool honest is dates)).ends;
         opened = λ honest. let was = answers (falls honest) in
-            opened_says here mid here' input input' kept.body was.1 (told result)
-            (record { opens = (was.0, was.2, was.3); full = λ need largest is. full_in here mid here' input input' (told result) need largest ends is }) ends;
+            opened_says here mid here' input input' ask f.pieces kept.body was.1 (told result)
+            (record {
+              opens = (was.0, was.2, was.3);
+              full = λ need largest is. full_in here mid here' input input' (told result) need largest ends is;
+              planned = subst (λ (r : Rows). SaysOfPlan r ask (concat f.pieces) (told result)) was.4 (plans (concat f.pieces) f.consumed);
+              damaged = λ sector stated found is.
+                  damaged_here here mid kept.body ask.target sector stated found reads.seen (damaged sector stated found honest (told_damaged result (refusals.Damaged sector stated found) is));
+            }) ends;
         text = f.text;
         refused = refused_in here mid here' input input' (told result) later ends;
         later = omega (arith, later, still);

@@ -5,24 +5,26 @@ use Rattle.zst_outside.specs.Causes.{Rose}
 use Rattle.zst_outside.specs.Images.{DiskState, Leaves, OnlyReads}
 use Rattle.zst_outside.specs.States.{SourceState, SinkState, Gave}
 use Rattle.zst_space.specs.FreeSectors.{FreeSectors}
-use Rattle.zst_block.specs.Blocks.{Has}
+use Rattle.zst_block.specs.Blocks.{Has, KeepsBlocks, SparesTaken}
 use Rattle.zst_uber.specs.Slots.{latest}
 use Rattle.zst_uber.specs.declared.uber.Uber.{Uber}
 use Rattle.zst_names.specs.Names.{dataset_of}
 use Rattle.zst_model.specs.declared.refusals.faults.Quantity.TheVariants.{Stream}
 use Rattle.zst_model.specs.declared.refusals.named.Name.{Name}
 use Rattle.zst_model.specs.declared.refusals.named.Name.TheVariants as names
+use Rattle.zst_model.specs.declared.refusals.plan_fault.PlanFault.{PlanFault}
 use Rattle.zst_model.specs.declared.refusals.refusal.Refusal.{Refusal}
 use Rattle.zst_model.specs.declared.refusals.refusal.Refusal.TheVariants as refusals
 use Rattle.zst_model.specs.declared.refusals.stream_fault.StreamFault.{StreamFault}
 use Rattle.zst_model.specs.declared.refusals.stream_fault.StreamFault.TheVariants.{Truncated}
 use Rattle.zst_model.specs.pools.Kept.{kept_of}
 use Rattle.zst_model.specs.pools.Pool.{Pool, Partial}
+use Rattle.zst_model.specs.refusals.Refusal.{refusal_of}
 use Rattle.zst_model.specs.refusals.Texts.{guid_text}
 use Rattle.zst_dir.specs.Rows.{Rows}
 use Rattle.zst_image.specs.Faults.{open_refusal}
 use Rattle.zst_image.specs.Opening.{TellsBody, TellsDir}
-use Rattle.zst_image.specs.Reads.{Reads, ReadsAs, Rests, RunsBy, bound_of, free_by}
+use Rattle.zst_image.specs.Reads.{Reads, ReadsAs, Rests, RunsBy, bound_of, free_by, kept_rows}
 use Rattle.zst_image.specs.declared.kept.Kept.{Kept}
 use Rattle.zst_image.specs.declared.open_fault.OpenFault.{OpenFault}
 use Rattle.zst_plan.specs.RecvPlan.{snapshot_name}
@@ -32,6 +34,8 @@ use Rattle.zst_stream.specs.Reading.{complete, faulty, reading}
 use Rattle.zst_recv.specs.Costs.{PieceIsShort}
 use Rattle.zst_recv.specs.Faults.{IsFeedFault, recv_refusal, stream_limit}
 use Rattle.zst_recv.specs.Feeds.{new_records, receives}
+use Rattle.zst_recv.specs.Damage.{IsDamagedState}
+use Rattle.zst_recv.specs.Planning.{RefusesEach, RefusesOne}
 use Rattle.zst_recv.specs.Receiving.{Stage, Waits, Lives, Ends, Goes, Stops, left_by, pool_of}
 use Rattle.zst_recv.specs.Stages.{TellsTarget}
 use Rattle.zst_recv.specs.declared.fault.RecvFault.{RecvFault}
@@ -174,23 +178,46 @@ pub record IsReceiveRefusal (here here' : DiskState) (input input' : SourceState
   pub pool : IsPoolRefusal OfReceiving here here' refusal
   pub cause : refusal ≡ refusals.SourceFault → Rose input.faults input'.faults
 
--- a receive into a pool that was opened by this body and these rows, whether or not the image reads as a pool: E24 comes only where the longest run is shorter than what is needed
-pub record ReceiveRan (here : DiskState) (answer : Result (List (List ℕ)) Refusal) (uber : Uber) (rows : Rows) : Type 0 where
+-- What the rows of the directory tell alone of a receive of this text, whatever the object sets hold: where its plan refuses a pool that the rows name, that is the
+-- answer, and nothing else comes before it; and each refusal of a plan but those of a limit comes where the plan refuses each pool that they name.
+pub record SaysOfPlan (rows : Rows) (ask : RecvAsk) (text : List ℕ) (answer : Result (List (List ℕ)) Refusal) : Type 0 where
+  pub planned : (fault : PlanFault) → length text ≤ stream_limit → RefusesOne rows ask text fault → answer ≡ Err (refusal_of fault)
+  pub because : (fault : PlanFault) → answer ≡ Err (refusals.Plan fault) → RefusesEach rows ask text fault
+
+-- E25 of a receive: of the set of a partial state of its target, as the refused record found it. On the image that the refused piece found, over the sectors
+-- that the latest body then left free, each block still stood that stood as the run began; up to the record free sectors alone were written.
+pub record IsDamagedReceive (here : DiskState) (uber : Uber) (target : List ℕ) (sector : ℕ) (stated found : List ℕ) : Type 0 where
+  pub before : List ℕ
+  pub size : ℕ
+  pub kept : Kept
+  pub blocks : KeepsBlocks here.seen (free_by uber) before (free_by kept.body)
+  pub seen : List ℕ
+  pub free : FreeSectors
+  pub spares : SparesTaken (free_by kept.body) before seen
+  pub state : IsDamagedState (SparesTaken free seen) size kept.dir target sector stated found
+
+-- a receive of what is asked, by these pieces, into a pool that was opened by this body and these rows, whether or not the image reads as a pool: E24 comes only
+-- where the longest run is shorter than what is needed
+pub record ReceiveRan (ask : RecvAsk) (pieces : List (List ℕ)) (here : DiskState) (answer : Result (List (List ℕ)) Refusal) (uber : Uber) (rows : Rows) : Type 0 where
   pub opens : Opens here uber rows
   pub full : (need largest : ℕ) → answer ≡ Err (refusals.Full need largest) → largest < need
+  pub planned : SaysOfPlan (kept_rows rows) ask (concat pieces) answer
+  pub damaged : (sector : ℕ) (stated found : List ℕ) → answer ≡ Err (refusals.Damaged sector stated found) → IsDamagedReceive here uber ask.target sector stated found
 
 -- What an answer says of any image. E26 comes where there is no latest body, E27 where it has another version, E25 where it
--- or its directory isn't of the layout: then nothing is written or read. Any other answer comes where both are, E28 and E32 aside.
-abbrev pub ReceiveOpened : DiskState → DiskState → SourceState → SourceState → Result (List (List ℕ)) Refusal → Type 0
-ReceiveOpened here here' input input' (Err refusals.NoPool) = (latest here.seen ≡ None) × OnlyReads here here' × (input' ≡ input)
-ReceiveOpened here here' input input' (Err (refusals.BadVersion number)) = HasVersion here number × OnlyReads here here' × (input' ≡ input)
-ReceiveOpened here here' input input' (Err (refusals.Damaged sector stated found)) =
+-- or its directory isn't of the layout: then nothing is written or read. Any other answer comes where both are, but for E28 and E32 before
+-- anything is written or read.
+abbrev pub ReceiveOpened : RecvAsk → List (List ℕ) → DiskState → DiskState → SourceState → SourceState → Result (List (List ℕ)) Refusal → Type 0
+ReceiveOpened ask pieces here here' input input' (Err refusals.NoPool) = (latest here.seen ≡ None) × OnlyReads here here' × (input' ≡ input)
+ReceiveOpened ask pieces here here' input input' (Err (refusals.BadVersion number)) = HasVersion here number × OnlyReads here here' × (input' ≡ input)
+ReceiveOpened ask pieces here here' input input' (Err (refusals.Damaged sector stated found)) =
     ((TellsBody here sector stated found ⊎ TellsDir here sector stated found) × OnlyReads here here' × (input' ≡ input))
-    ⊎ ((uber : Uber) × (rows : Rows) × ReceiveRan here (Err (refusals.Damaged sector stated found)) uber rows)
-ReceiveOpened here here' input input' (Err refusals.DiskFault) = Unit {0}
-ReceiveOpened here here' input input' (Err refusals.OutOfMemory) =
-    (OnlyReads here here' × (input' ≡ input)) ⊎ ((uber : Uber) × (rows : Rows) × ReceiveRan here (Err refusals.OutOfMemory) uber rows)
-ReceiveOpened here here' input input' answer = (uber : Uber) × (rows : Rows) × ReceiveRan here answer uber rows
+    ⊎ ((uber : Uber) × (rows : Rows) × ReceiveRan ask pieces here (Err (refusals.Damaged sector stated found)) uber rows)
+ReceiveOpened ask pieces here here' input input' (Err refusals.DiskFault) =
+    (OnlyReads here here' × (input' ≡ input)) ⊎ ((uber : Uber) × (rows : Rows) × ReceiveRan ask pieces here (Err refusals.DiskFault) uber rows)
+ReceiveOpened ask pieces here here' input input' (Err refusals.OutOfMemory) =
+    (OnlyReads here here' × (input' ≡ input)) ⊎ ((uber : Uber) × (rows : Rows) × ReceiveRan ask pieces here (Err refusals.OutOfMemory) uber rows)
+ReceiveOpened ask pieces here here' input input' answer = (uber : Uber) × (rows : Rows) × ReceiveRan ask pieces here answer uber rows
 
 -- What an answer says of the pieces that were read, whatever the image: a fault that is found in a stream is that of their reading, E20 tells the count of
 -- their bytes at the end of an input that didn't fail, and there is a line only where their reading is complete.
@@ -213,7 +240,7 @@ pub record Receiving (ask : RecvAsk) (here here' : DiskState) (input input' : So
       → (c : List ℕ) → here'.images c → IsOnTheWay tight here ask pool pieces c
   pub ends : (tight : Bool) (uber : Uber) (rows : Rows) (pool : Pool) → here'.honest → ReadsAs tight uber rows pool here.seen → TellsTarget ask rows pool
       → ReceiveEnds tight ask pool pieces here' input input' answer
-  pub opened : here'.honest → ReceiveOpened here here' input input' answer
+  pub opened : here'.honest → ReceiveOpened ask pieces here here' input input' answer
   pub text : SaysOfText pieces input input' answer
   pub refused : IfErr answer (IsReceiveRefusal here here' input input')
   pub later : here.faults ≤ here'.faults

@@ -5,6 +5,8 @@ use Rattle.zst_outside.specs.Causes.{Rose}
 use Rattle.zst_outside.specs.Images.{DiskState, Leaves}
 use Rattle.zst_outside.specs.States.{SourceState, Gave}
 use Rattle.zst_block.specs.Blocks.{Has}
+use Rattle.zst_dir.specs.Rows.{Rows}
+use Rattle.zst_model.specs.declared.refusals.plan_fault.PlanFault.{PlanFault}
 use Rattle.zst_model.specs.declared.refusals.refusal.Refusal.{Refusal}
 use Rattle.zst_model.specs.declared.refusals.refusal.Refusal.TheVariants as refusals
 use Rattle.zst_model.specs.declared.refusals.stream_fault.StreamFault.{StreamFault}
@@ -21,16 +23,17 @@ use Rattle.zst_record.specs.Heads.{Covered}
 use Rattle.zst_stream.specs.Findings.{IsFound}
 use Rattle.zst_stream.specs.Reading.{complete, faulty, reading}
 use Rattle.zst_recv.specs.Answers.{received_of}
-use Rattle.zst_recv.specs.Faults.{IsFeedFault, recv_refusal}
+use Rattle.zst_recv.specs.Faults.{IsFeedFault, recv_refusal, stream_limit}
 use Rattle.zst_recv.specs.Feeds.{receives}
+use Rattle.zst_recv.specs.Planning.{RefusesOne}
 use Rattle.zst_recv.specs.Receiving.{Stage, Goes, Ends, pool_of}
 use Rattle.zst_recv.specs.Stages as standing
-use Rattle.zst_recv.specs.Stages.{TellsBefore, TellsTarget, fed_of, is_live, received_by}
+use Rattle.zst_recv.specs.Stages.{TellsBefore, TellsTarget, fed_of, is_live, is_waiting, received_by}
 use Rattle.zst_recv.specs.declared.fault.RecvFault.{RecvFault}
 use Rattle.zst_recv.specs.declared.recv.Recv.{Recv}
 use Rattle.zst_replication.specs.Counting.{Counts}
 use Rattle.zst_run.specs.Dumps.{NoFault}
-use Rattle.zst_run.specs.Receives.{ArePieces, IsOpen, ReceiveEnds, SaysOfText, piece_size, receipt_line}
+use Rattle.zst_run.specs.Receives.{ArePieces, IsOpen, ReceiveEnds, SaysOfPlan, SaysOfText, piece_size, receipt_line}
 use Rattle.zst_run.specs.declared.receive.End.{End}
 use Rattle.zst_run.specs.declared.receive.End.TheVariants.{Ended, Failed}
 use Rattle.zst_run.specs.declared.receive.Receipt.{Receipt}
@@ -131,6 +134,20 @@ TurnReads recv text turns.More = HasFed recv text
 TurnReads recv text turns.Received = (reading text).outcome ≡ complete
 TurnReads recv text (turns.Over end) = HasFed recv text
 TurnReads recv text (turns.Refused refusal) = (fault : StreamFault) → refusal ≡ refusals.Stream fault → IsFound fault × ((reading text).outcome ≡ faulty fault)
+
+-- What the plan says of a receive that goes on, over the rows at its start, whatever the image: as long as it waits for BEGIN the rows stay, and nothing is
+-- covered; behind it the plan has passed, of each pool that the rows name.
+pub record PlansOn (rows : Rows) (kept : Kept) (recv : Recv) (text : List ℕ) : Type 0 where
+  pub fed : HasFed recv text
+  pub waits : is_waiting recv ≡ true → (kept.dir ≡ rows) × ((reading text).covered ≡ [])
+  pub passed : is_waiting recv ≡ false → (more : List ℕ) (fault : PlanFault) → RefusesOne rows recv.ask (text ++ more) fault → ⊥
+
+-- and of a turn, behind which all of this text was fed
+abbrev pub TurnPlans : Rows → RecvAsk → Kept → Recv → List ℕ → Turn → Type 0
+TurnPlans rows ask kept recv text turns.More = PlansOn rows kept recv text
+TurnPlans rows ask kept recv text turns.Received = (fault : PlanFault) → length text ≤ stream_limit → RefusesOne rows ask text fault → ⊥
+TurnPlans rows ask kept recv text (turns.Over end) = PlansOn rows kept recv text
+TurnPlans rows ask kept recv text (turns.Refused refusal) = SaysOfPlan rows ask text (Err refusal)
 
 -- One turn: a piece was read, and fed behind those before.
 pub record Turns (old now : DiskState) (kept kept' : Kept) (recv recv' : Recv) (items items' : ℕ) (input input' : SourceState) (turn : Turn) : Type 0 where

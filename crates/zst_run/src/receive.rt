@@ -1,10 +1,10 @@
 // The line that receives a snapshot: its stream is read piece by piece, and each piece is one commit of the image.
-ghost use Rattle.std.specs.Prelude.{◌≡◌, ◌++◌, ◌∷◌, ◌≤◌, ℕ, Bool, List, [], IfErr, IsSome, OnOk, Option, Some, codes, false, length, take, true};
+ghost use Rattle.std.specs.Prelude.{◌≡◌, ◌++◌, ◌∷◌, ◌≤◌, ℕ, Bool, List, [], Err, IfErr, IsSome, OnOk, Option, Some, codes, false, length, take, true};
 ghost use Rattle.std.specs.List.{concat};
 ghost use Rattle.zst_outside.specs.Printing.{Prints};
 ghost use Rattle.zst_outside.specs.States.{Gave, HandedOn};
 ghost use Rattle.zst_space.specs.FreeSectors.{FreeSectors};
-ghost use Rattle.zst_block.specs.Blocks.{Has};
+ghost use Rattle.zst_block.specs.Blocks.{Has, KeepsBlocks};
 ghost use Rattle.zst_image.specs.Committing.{Ready};
 ghost use Rattle.zst_image.specs.Reads.{free_by};
 ghost use Rattle.zst_model.specs.pools.Pool.{Pool as Plain};
@@ -12,12 +12,14 @@ ghost use Rattle.zst_plan.specs.RecvPlan.{snapshot_name};
 ghost use Rattle.zst_pool.specs.Calls.{IsAtRest};
 ghost use Rattle.zst_reader.specs.StandsFor.{StandsFor};
 ghost use Rattle.zst_record.specs.Laws.{AreBytes};
+ghost use Rattle.zst_recv.specs.Damage.{IsDamagedFeed};
 ghost use Rattle.zst_recv.specs.Faults.{stream_limit};
 ghost use Rattle.zst_recv.specs.Receiving.{Stage, left_by};
 ghost use Rattle.zst_recv.specs.Stages.{Receives as HasTaken, RecvFits, fed_of, is_live, received_by};
-ghost use Rattle.zst_run.specs.Receives.{IsTarget, Receives, Receiving, piece_size, receipt_of, snapshot_of, target_of};
+ghost use Rattle.zst_dir.specs.Rows.{Rows};
+ghost use Rattle.zst_run.specs.Receives.{IsDamagedReceive, IsTarget, Receives, Receiving, SaysOfPlan, piece_size, receipt_of, snapshot_of, target_of};
 ghost use Rattle.zst_run.specs.Replies.{reply_text};
-ghost use Rattle.zst_run.specs.Underway.{Fed, Fills, IsEnd, IsReady, TurnLeaves, Turns, Underway, cut_refusal, line_of, told, turn_behind};
+ghost use Rattle.zst_run.specs.Underway.{Fed, Fills, IsEnd, IsReady, PlansOn, TurnLeaves, TurnPlans, Turns, Underway, cut_refusal, line_of, told, turn_behind};
 
 use itoa::Buffer;
 use std::alloc::Global;
@@ -28,6 +30,7 @@ use zst_outside::{Disk, Fault, Sink, Source, write_all};
 use zst_pool::{Pool, opened_is_at_rest};
 use zst_recv::{Received, Recv, RecvAsk};
 use zst_replication::records_are_counted;
+use zst_stream::fronts_agree;
 
 /// How many bytes are read at once, and committed once.
 const PIECE: usize = 1_048_576;
@@ -161,6 +164,12 @@ fn feed_piece<D: Disk, S: Source>(
     requires ready { Ready (D.state pool.old.io.disk.now) pool.old.kept.body }
     requires room { length room.old ≡ piece_size }
     ensures turns { Turns (D.state pool.old.io.disk.now) (D.state pool.new.io.disk.now) pool.old.kept pool.new.kept recv.old recv.new items.old items.new (S.state input.old) (S.state input.new) result }
+    // Whatever the image, the plan over the rows at the start says whether BEGIN is refused.
+    ensures plans { (rows : Rows) (text piece : List ℕ) → Gave (S.state input.old) (S.state input.new) piece → PlansOn rows pool.old.kept recv.old text → TurnPlans rows recv.old.ask pool.new.kept recv.new (text ++ piece) result }
+    // One that goes on leaves each block that was there, and E25 tells a damage of the set as the refused record found it.
+    ensures blocks { result ≡ Turn.More → KeepsBlocks (D.state pool.old.io.disk.now).seen (free_by pool.old.kept.body) (D.state pool.new.io.disk.now).seen (free_by pool.new.kept.body) }
+    ensures damaged { (sector : ℕ) (stated found : List ℕ) → (D.state pool.new.io.disk.now).honest → result ≡ Turn.Refused (Refusal.Damaged sector stated found)
+        → IsDamagedFeed (D.state pool.old.io.disk.now) (free_by pool.old.kept.body) pool.old.kept.dir recv.old.ask.target sector stated found }
     // A receive that goes on is live over a pool that works; each piece before it was whole, and a stream has no more bytes than it may have.
     ensures leaves { TurnLeaves (D.state pool.old.io.disk.now) (D.state pool.new.io.disk.now) recv.old recv.new pool.new.io.failed result }
     ensures within { fed_of recv.new ≤ stream_limit }
@@ -174,6 +183,7 @@ fn feed_piece<D: Disk, S: Source>(
     ensures same { pool.new.io.disk.ghost_name ≡ pool.old.io.disk.ghost_name }
 {
     records_are_counted();
+    fronts_agree();
     let piece = read_piece(input, room);
     if piece.count == 0 {
         return turn_behind(piece.end);
@@ -240,6 +250,9 @@ fn feed_all<D: Disk, S: Source>(
     requires works { pool.old.io.failed ≡ false }
     requires ready { Ready (D.state pool.old.io.disk.now) pool.old.kept.body }
     requires room { length room.old ≡ piece_size }
+    ensures plans { (rows : Rows) (text : List ℕ) → Gave (S.state input.old) (S.state input.new) text → PlansOn rows pool.old.kept recv [] → SaysOfPlan rows recv.ask text (told result) }
+    ensures damaged { (sector : ℕ) (stated found : List ℕ) → (D.state pool.new.io.disk.now).honest → result ≡ Err (Refusal.Damaged sector stated found)
+        → IsDamagedReceive (D.state pool.old.io.disk.now) pool.old.kept.body recv.ask.target sector stated found }
     ensures fed { Fed (λ tight start. Underway tight (D.state pool.old.io.disk.now) pool.old.kept recv recv.ask start [] 0) (D.state pool.old.io.disk.now) (D.state pool.new.io.disk.now) recv.ask (S.state input.old) (S.state input.new) (told result) }
     ensures refused { IfErr result (IsEnd (D.state pool.old.io.disk.now) (D.state pool.new.io.disk.now) (S.state input.old) (S.state input.new)) }
     ensures later { (D.state pool.old.io.disk.now).faults ≤ (D.state pool.new.io.disk.now).faults }
@@ -267,6 +280,9 @@ fn receive_into<D: Disk, S: Source>(
 ) -> Result<Receipt, Refusal>
     requires works { pool.old.io.failed ≡ false }
     requires ready { Ready (D.state pool.old.io.disk.now) pool.old.kept.body }
+    ensures plans { (text : List ℕ) → Gave (S.state input.old) (S.state input.new) text → SaysOfPlan pool.old.kept.dir ask text (told result) }
+    ensures damaged { (sector : ℕ) (stated found : List ℕ) → (D.state pool.new.io.disk.now).honest → result ≡ Err (Refusal.Damaged sector stated found)
+        → IsDamagedReceive (D.state pool.old.io.disk.now) pool.old.kept.body ask.target sector stated found }
     ensures fed { Fed (λ tight. IsReady ask tight (D.state pool.old.io.disk.now) pool.old.kept) (D.state pool.old.io.disk.now) (D.state pool.new.io.disk.now) ask (S.state input.old) (S.state input.new) (told result) }
     ensures refused { IfErr result (IsEnd (D.state pool.old.io.disk.now) (D.state pool.new.io.disk.now) (S.state input.old) (S.state input.new)) }
     ensures later { (D.state pool.old.io.disk.now).faults ≤ (D.state pool.new.io.disk.now).faults }

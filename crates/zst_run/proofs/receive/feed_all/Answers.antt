@@ -1,11 +1,23 @@
-use Rattle.std.proofs.Common.{refl, ◌∙◌, arith}
+use Rattle.std.specs.List.{concat}
+use Rattle.std.proofs.Common.{ℕ, List, [], ◌∷◌, ◌++◌, Ok, Err, refl, sym, ap, ◌∙◌, subst, arith}
+use Rattle.zst_plan.specs.declared.receive.RecvAsk.{RecvAsk}
 use Rattle.zst_recv.specs.Stages.{fed_of}
 use Rattle.zst_run.proofs.Receiving.{cut_fed, cut_refused, fed_none, more_fed, received_fed, refused_fed, rose_behind}
+use Rattle.zst_run.specs.Receives.{SaysOfPlan}
+use Rattle.zst_run.specs.Underway.{PlansOn, line_of, told}
+use Rattle.zst_image.specs.Reads.{free_by}
+use Rattle.zst_model.specs.declared.refusals.refusal.Refusal.{Refusal}
+use Rattle.zst_recv.specs.Damage.{IsDamagedFeed}
+use Rattle.zst_run.specs.declared.receive.Turn.TheVariants as turns
+use Rattle.zst_run.proofs.Damaged.{cut_undamaged, damaged_behind, err_refused}
+use Rattle.zst_run.proofs.Planning.{cut_plans, gave_none, received_plans, so_far}
 use Rattle.zst_run.proofs.receive.feed_all.Goals as goal
 
 pub pieces-init : goal.pieces-init
 pieces-init g c = record {
   feeding = fed_none _ _ _ _ c.requires.reads;
+  plans = λ rows text gave on. subst (λ (t : List ℕ). PlansOn rows c.args.pool.now.kept c.args.recv t) (sym (gave_none (g.S.Source.state c.args.input.now) text gave)) on;
+  blocks = λ ptr bytes has. has;
   live = c.requires.live;
   recv = c.requires.recv;
   works = c.requires.works;
@@ -24,6 +36,11 @@ pieces-preserved g c =
     let e = c.in-More.ensures in
     record {
       feeding = more_fed _ _ _ _ _ _ _ _ _ _ _ _ _ _ i.feeding i.ask e.honest e.turns;
+      plans = λ rows text gave on.
+          let front = concat i.feeding.pieces in
+          let is = so_far (g.S.Source.state c.args.input.now) (g.S.Source.state c.pieces.input) (g.S.Source.state c.feed_piece.new.input) front e.turns.piece text i.feeding.consumed e.turns.gave gave in
+          subst (λ (t : List ℕ). PlansOn rows c.feed_piece.new.pool.kept c.feed_piece.new.recv t) (sym is) (e.plans rows front e.turns.piece e.turns.gave (i.plans rows front i.feeding.consumed on));
+      blocks = λ ptr bytes has. c.feed_piece.ensures.blocks c.in-More.is ptr bytes (i.blocks ptr bytes has);
       live = e.leaves.0;
       recv = e.recv;
       works = e.leaves.1;
@@ -65,3 +82,50 @@ returns-in-Refused-clause-fed g c =
     let i = c.pieces.invariant in
     let e = c.in-Refused.ensures in
     refused_fed _ _ _ _ _ _ _ _ _ _ _ _ _ _ i.feeding i.ask e.honest c.in-Refused.refusal e.turns
+
+pub returns-in-Received-clause-plans : goal.returns-in-Received-clause-plans
+returns-in-Received-clause-plans g c = λ rows text gave on.
+    let e = c.in-Received.ensures in
+    let i = c.pieces.invariant in
+    let front = concat i.feeding.pieces in
+    let is = so_far (g.S.Source.state c.args.input.now) (g.S.Source.state c.pieces.input) (g.S.Source.state c.feed_piece.new.input) front e.turns.piece text i.feeding.consumed e.turns.gave gave in
+    let turn = e.plans rows front e.turns.piece e.turns.gave (i.plans rows front i.feeding.consumed on) in
+    subst (λ (t : List ℕ). SaysOfPlan rows c.args.recv.ask t (told (Ok c.made_receipt.result))) (sym is)
+    (subst (λ (a : RecvAsk). SaysOfPlan rows a (front ++ e.turns.piece) (told (Ok c.made_receipt.result))) i.ask
+    (received_plans rows c.pieces.recv.ask (front ++ e.turns.piece) (line_of c.made_receipt.result ∷ []) turn))
+
+pub returns-in-Over-clause-plans : goal.returns-in-Over-clause-plans
+returns-in-Over-clause-plans g c = λ rows text gave on.
+    let e = c.in-Over.ensures in
+    let i = c.pieces.invariant in
+    let front = concat i.feeding.pieces in
+    let is = so_far (g.S.Source.state c.args.input.now) (g.S.Source.state c.pieces.input) (g.S.Source.state c.feed_piece.new.input) front e.turns.piece text i.feeding.consumed e.turns.gave gave in
+    let turn = e.plans rows front e.turns.piece e.turns.gave (i.plans rows front i.feeding.consumed on) in
+    subst (λ (t : List ℕ). SaysOfPlan rows c.args.recv.ask t (Err c.cut.result)) (sym is)
+    (cut_plans rows c.feed_piece.new.pool.kept c.feed_piece.new.recv c.args.recv.ask (front ++ e.turns.piece) c.in-Over.end (fed_of c.feed_piece.new.recv) c.cut.result (e.ask ∙ i.ask) c.cut.ensures.is turn)
+
+pub returns-in-Refused-clause-plans : goal.returns-in-Refused-clause-plans
+returns-in-Refused-clause-plans g c = λ rows text gave on.
+    let e = c.in-Refused.ensures in
+    let i = c.pieces.invariant in
+    let front = concat i.feeding.pieces in
+    let is = so_far (g.S.Source.state c.args.input.now) (g.S.Source.state c.pieces.input) (g.S.Source.state c.feed_piece.new.input) front e.turns.piece text i.feeding.consumed e.turns.gave gave in
+    let turn = e.plans rows front e.turns.piece e.turns.gave (i.plans rows front i.feeding.consumed on) in
+    subst (λ (t : List ℕ). SaysOfPlan rows c.args.recv.ask t (Err c.in-Refused.refusal)) (sym is)
+    (subst (λ (a : RecvAsk). SaysOfPlan rows a (front ++ e.turns.piece) (Err c.in-Refused.refusal)) i.ask turn)
+
+pub returns-in-Received-clause-damaged : goal.returns-in-Received-clause-damaged
+returns-in-Received-clause-damaged g c = λ sector stated found honest is. absurd (cc is)
+
+pub returns-in-Over-clause-damaged : goal.returns-in-Over-clause-damaged
+returns-in-Over-clause-damaged g c = λ sector stated found honest is.
+    absurd (cut_undamaged c.in-Over.end (fed_of c.feed_piece.new.recv) sector stated found (sym c.cut.ensures.is ∙ err_refused c.cut.result _ is))
+
+pub returns-in-Refused-clause-damaged : goal.returns-in-Refused-clause-damaged
+returns-in-Refused-clause-damaged g c = λ sector stated found honest is.
+    let i = c.pieces.invariant in
+    let old = g.D.Disk.state c.pieces.pool.io.disk.now in
+    let kept = c.pieces.pool.kept in
+    damaged_behind (g.D.Disk.state c.args.pool.now.io.disk.now) old c.args.pool.now.kept.body kept c.args.recv.ask.target sector stated found i.blocks
+    (subst (λ (a : RecvAsk). IsDamagedFeed old (free_by kept.body) kept.dir a.target sector stated found) i.ask
+    (c.in-Refused.ensures.damaged sector stated found honest (ap (λ (r : Refusal). turns.Refused r) (err_refused c.in-Refused.refusal _ is))))

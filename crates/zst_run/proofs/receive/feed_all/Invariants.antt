@@ -1,9 +1,13 @@
-use Rattle.std.proofs.Common.{◌≡◌, ◌≤◌, ◌-◌, length, true, false}
+use Rattle.std.proofs.Common.{◌≡◌, ◌≤◌, ◌-◌, ℕ, List, [], length, true, false}
+use Rattle.zst_outside.specs.States.{Gave}
+use Rattle.zst_dir.specs.Rows.{Rows}
+use Rattle.zst_block.specs.Blocks.{KeepsBlocks}
 use Rattle.zst_image.specs.Committing.{Ready}
+use Rattle.zst_image.specs.Reads.{free_by}
 use Rattle.zst_recv.specs.Faults.{stream_limit}
 use Rattle.zst_recv.specs.Stages.{RecvFits, fed_of, is_live}
 use Rattle.zst_run.specs.Receives.{piece_size}
-use Rattle.zst_run.specs.Underway.{Feeding}
+use Rattle.zst_run.specs.Underway.{Feeding, PlansOn}
 use Rattle.zst_run.proofs.receive.feed_all.Given as goal
 
 -- whole pieces were fed, and the receive waits for more
@@ -13,6 +17,8 @@ invariant-pieces g l =
     let source = g.S.Source in
     record {
       feeding : Feeding (disk.state l.fn.pool.io.disk.now) (disk.state l.pool.io.disk.now) l.fn.pool.kept l.pool.kept l.fn.recv l.recv l.items (source.state l.fn.input) (source.state l.input);
+      plans : (rows : Rows) (text : List ℕ) → Gave (source.state l.fn.input) (source.state l.input) text → PlansOn rows l.fn.pool.kept l.fn.recv [] → PlansOn rows l.pool.kept l.recv text;
+      blocks : KeepsBlocks (disk.state l.fn.pool.io.disk.now).seen (free_by l.fn.pool.kept.body) (disk.state l.pool.io.disk.now).seen (free_by l.pool.kept.body);
       live : is_live l.recv.stage ≡ true;
       recv : RecvFits l.pool.kept.dir l.recv;
       works : l.pool.io.failed ≡ false;

@@ -1,8 +1,16 @@
-use Rattle.std.proofs.Common.{ℕ, ◌<◌, Err, ap, take, ◌∙◌, arith}
+use Rattle.std.proofs.Common.{ℕ, ◌<◌, Err, ap, take, ◌∙◌, arith, ◌≡◌, ◌||◌, Bool, false, List, [], ◌++◌, Ok, refl, sym, subst}
+use Rattle.std.specs.Prelude.{not}
 use Rattle.std.proofs.lemmas.List.Elements.{All-take}
 use Rattle.zst_recv.specs.declared.fault.RecvFault.{RecvFault}
 use Rattle.zst_run.proofs.Shorts.{short_behind}
 use Rattle.zst_run.proofs.TurnEnds.{turns_on, turns_received, turns_refused, turns_without}
+use Rattle.zst_recv.specs.Faults.{recv_refusal}
+use Rattle.zst_run.specs.Underway.{TurnPlans, turn_behind}
+use Rattle.zst_run.specs.declared.receive.Turn.TheVariants as turns
+use Rattle.zst_model.specs.declared.refusals.refusal.Refusal.TheVariants as refusals
+use Rattle.zst_run.proofs.Damaged.{damaged_only, never_refused, turn_refused}
+use Rattle.zst_run.proofs.Leaving.{leaves_on}
+use Rattle.zst_run.proofs.Planning.{ends_plans, gave_one, goes_plans, none_plans, refused_plans, turn_plans}
 use Rattle.zst_run.proofs.receive.feed_piece.Goals as goal
 
 pub returns-then-piece-eq0-clause-turns : goal.returns-then-piece-eq0-clause-turns
@@ -42,3 +50,85 @@ returns-in-Err-clause-turns g c =
     (λ text handed need largest hands is.
     let full = ap (λ (f : RecvFault). Err f) is in
     short_behind c.args.recv.now.reader text (take p.result.count p.new.room) handed _ _ _ need largest hands (e.stays need largest full) (e.short text handed need largest hands.stands full)))
+
+pub returns-then-piece-eq0-clause-plans : goal.returns-then-piece-eq0-clause-plans
+returns-then-piece-eq0-clause-plans g c = λ rows text piece gave on.
+    let p = c.read_piece-piece in
+    let old = g.S.Source.state c.args.input.now in
+    let new = g.S.Source.state p.new.input in
+    let given = take p.result.count p.new.room in
+    let recv = c.args.recv.now in
+    let kept = c.args.pool.now.kept in
+    let one : piece ≡ given = gave_one old new piece given gave p.ensures.gave in
+    let none : piece ≡ [] = one ∙ ap (λ (n : ℕ). take n p.new.room) c.if-piece-eq0.true in
+    rw c.turn_behind.ensures (turn_plans rows recv.ask kept recv (text ++ piece) p.result.end (none_plans rows kept recv text piece none on))
+
+pub returns-then-fed-clause-plans : goal.returns-then-fed-clause-plans
+returns-then-fed-clause-plans g c = λ rows text piece gave on.
+    let p = c.read_piece-piece in
+    let old = g.S.Source.state c.args.input.now in
+    let new = g.S.Source.state p.new.input in
+    let given = take p.result.count p.new.room in
+    let recv = c.args.recv.now in
+    let kept = c.args.pool.now.kept in
+    let one : piece ≡ given = gave_one old new piece given gave p.ensures.gave in
+    let e = c.in-Ok.ensures in
+    subst (λ (q : List ℕ). TurnPlans rows recv.ask c.feed.new.pool.kept c.feed.new.self (text ++ q) turns.Received) (sym one)
+    (ends_plans c.fronts_agree.ensures rows kept c.feed.new.pool.kept recv c.feed.new.self text given (Ok c.in-Ok.fed) on e.ask (λ fault waits none within refuses. e.planned text on.fed.0 fault c.requires.works waits on.fed.1 none within refuses) c.in-Ok.fed refl)
+
+pub returns-else-fed-clause-plans : goal.returns-else-fed-clause-plans
+returns-else-fed-clause-plans g c = λ rows text piece gave on.
+    let p = c.read_piece-piece in
+    let old = g.S.Source.state c.args.input.now in
+    let new = g.S.Source.state p.new.input in
+    let given = take p.result.count p.new.room in
+    let recv = c.args.recv.now in
+    let kept = c.args.pool.now.kept in
+    let one : piece ≡ given = gave_one old new piece given gave p.ensures.gave in
+    let e = c.in-Ok.ensures in
+    rw c.turn_behind-in-Ok.ensures
+    (subst (λ (q : List ℕ). TurnPlans rows recv.ask c.feed.new.pool.kept c.feed.new.self (text ++ q) (turn_behind p.result.end)) (sym one)
+    (turn_plans rows recv.ask c.feed.new.pool.kept c.feed.new.self (text ++ given) p.result.end
+    (goes_plans c.fronts_agree.ensures rows kept c.feed.new.pool.kept recv c.feed.new.self text given (Ok c.in-Ok.fed) on e.ask (λ fault waits none within refuses. e.planned text on.fed.0 fault c.requires.works waits on.fed.1 none within refuses) c.in-Ok.fed refl
+    (e.stands text on.fed.0 on.fed.1 c.if-fed.false) e.waits e.waited (λ none waits. e.uncovered text on.fed.0 on.fed.1 none waits) (λ waits none. e.still text on.fed.0 waits on.fed.1 none))))
+
+pub returns-in-Err-clause-plans : goal.returns-in-Err-clause-plans
+returns-in-Err-clause-plans g c = λ rows text piece gave on.
+    let p = c.read_piece-piece in
+    let old = g.S.Source.state c.args.input.now in
+    let new = g.S.Source.state p.new.input in
+    let given = take p.result.count p.new.room in
+    let recv = c.args.recv.now in
+    let kept = c.args.pool.now.kept in
+    let one : piece ≡ given = gave_one old new piece given gave p.ensures.gave in
+    let e = c.in-Err.ensures in
+    rw c.from.ensures
+    (subst (λ (q : List ℕ). TurnPlans rows recv.ask c.feed.new.pool.kept c.feed.new.self (text ++ q) (turns.Refused (recv_refusal c.in-Err.fault))) (sym one)
+    (refused_plans c.fronts_agree.ensures rows kept c.feed.new.pool.kept recv c.feed.new.self text given (Err c.in-Err.fault) on e.ask (λ fault waits none within refuses. e.planned text on.fed.0 fault c.requires.works waits on.fed.1 none within refuses) c.in-Err.fault refl (λ told kind is. e.because text on.fed.0 told c.requires.works on.fed.1 kind is)))
+
+pub returns-then-piece-eq0-clause-blocks : goal.returns-then-piece-eq0-clause-blocks
+returns-then-piece-eq0-clause-blocks g c = λ more ptr bytes has. has
+
+pub returns-then-piece-eq0-clause-damaged : goal.returns-then-piece-eq0-clause-damaged
+returns-then-piece-eq0-clause-damaged g c = λ sector stated found honest is.
+    absurd (never_refused c.read_piece-piece.result.end (refusals.Damaged sector stated found) (sym c.turn_behind.ensures ∙ is))
+
+pub returns-else-fed-clause-blocks : goal.returns-else-fed-clause-blocks
+returns-else-fed-clause-blocks g c = λ more. c.in-Ok.ensures.blocks c.if-fed.false
+
+pub returns-else-fed-clause-damaged : goal.returns-else-fed-clause-damaged
+returns-else-fed-clause-damaged g c = λ sector stated found honest is.
+    absurd (never_refused c.read_piece-piece.result.end (refusals.Damaged sector stated found) (sym c.turn_behind-in-Ok.ensures ∙ is))
+
+pub returns-in-Err-clause-damaged : goal.returns-in-Err-clause-damaged
+returns-in-Err-clause-damaged g c = λ sector stated found honest is.
+    c.in-Err.ensures.damaged sector stated found honest c.requires.works
+    (ap (λ (f : RecvFault). Err f) (damaged_only c.in-Err.fault sector stated found (sym c.from.ensures ∙ turn_refused c.from.result (refusals.Damaged sector stated found) is)))
+
+pub returns-else-fed-clause-leaves : goal.returns-else-fed-clause-leaves
+returns-else-fed-clause-leaves g c =
+    let p = c.read_piece-piece in
+    let e = c.in-Ok.ensures in
+    rw c.turn_behind-in-Ok.ensures
+    (leaves_on (g.D.Disk.state c.args.pool.now.io.disk.now) (g.D.Disk.state c.feed.new.pool.io.disk.now) c.args.recv.now c.feed.new.self c.feed.new.pool.io.failed (g.S.Source.state c.args.input.now) (g.S.Source.state p.new.input) p.new.room p.result.count p.result.end p.ensures.within (p.ensures.room ∙ c.requires.room) p.ensures.fills
+    (e.live ∙ ap not c.if-fed.false) (e.failed ∙ ap (λ (b : Bool). b || false) c.requires.works) (e.fed c.if-fed.false))

@@ -22,5 +22,5 @@ returns g c =
     opened c.args.ask (g.D.Disk.state c.args.here.now) (g.D.Disk.state c.open.new.disk) (g.D.Disk.state c.receive_into-result.new.pool.io.disk.now) (g.S.Source.state c.args.input.now)
     (g.S.Source.state c.receive_into-result.new.input) c.in_ok-kept.kept c.receive_into-result.result e.there e.answer e.reads e.rests
     (λ tight rows pool rests same. c.opened_is_at_rest.ensures.rests tight c.open.new.disk c.in_ok-kept.kept rows pool rests same) e.cause.later
-    (λ honest. rw (n.disk) at (r.honest honest)) (rw (n.disk, n.kept) at r.fed) (g.met.D.Disk.only_now c.args.here.now) (g.met.D.Disk.counts_now c.receive_into-result.new.pool.io.disk.now)
+    (λ honest. rw (n.disk) at (r.honest honest)) (rw (n.disk, n.kept) at r.fed) (rw (n.kept) at r.plans) (rw (n.disk, n.kept) at r.damaged) (g.met.D.Disk.only_now c.args.here.now) (g.met.D.Disk.counts_now c.receive_into-result.new.pool.io.disk.now)
     (rw (n.disk) at r.refused) (rw (n.disk) at r.later) r.input_later)

@@ -1,4 +1,12 @@
+use Rattle.std.proofs.Common.{ℕ, List, Err, sym, subst}
 use Rattle.std.proofs.lemmas.Result.{err_from_is_err_and}
+use Rattle.zst_image.specs.declared.kept.Kept.{Kept}
+use Rattle.zst_model.specs.declared.refusals.refusal.Refusal.TheVariants as refusals
+use Rattle.zst_plan.specs.declared.receive.RecvAsk.{RecvAsk}
+use Rattle.zst_run.specs.Receives.{SaysOfPlan}
+use Rattle.zst_run.specs.Underway.{told}
+use Rattle.zst_run.proofs.Damaged.{memory_undamaged}
+use Rattle.zst_run.proofs.Planning.{gave_none, none_covered, starts, unread_plans}
 use Rattle.zst_run.proofs.Receiving.{begins, fed_weaker, unread, without_memory}
 use Rattle.zst_run.proofs.receive.receive_into.Goals as goal
 
@@ -26,3 +34,41 @@ pub returns-clause-fed : goal.returns-clause-fed
 returns-clause-fed g c =
     let e = c.in_ok-recv.ensures in
     fed_weaker _ _ _ _ _ _ _ _ _ e.ask (λ tight pool ready. begins tight _ _ c.in_ok-recv.recv pool e.opens _ e.ask ready) (rw (e.disk, e.kept) at c.feed_all.ensures.fed)
+
+pub returns-in_default-clause-plans : goal.returns-in_default-clause-plans
+returns-in_default-clause-plans g c = λ text gave.
+    let rows = c.args.pool.now.kept.dir in
+    subst (λ (t : List ℕ). SaysOfPlan rows c.args.ask t (Err refusals.OutOfMemory)) (sym (gave_none (g.S.Source.state c.args.input.now) text gave))
+    (unread_plans rows c.args.ask refusals.OutOfMemory (λ fault is. absurd (cc is)) none_covered)
+
+pub returns-in_err-recv-clause-plans : goal.returns-in_err-recv-clause-plans
+returns-in_err-recv-clause-plans g c = λ text gave.
+    let rows = c.args.pool.now.kept.dir in
+    let p = err_from_is_err_and c.from_residual.result c.from_residual.ensures.1 in
+    let known = c.in_err-recv.ensures.known c.requires.works in
+    rw (p.1, p.2, known)
+    (subst (λ (t : List ℕ). SaysOfPlan rows c.args.ask t (Err refusals.OutOfMemory)) (sym (gave_none (g.S.Source.state c.args.input.now) text gave))
+    (unread_plans rows c.args.ask refusals.OutOfMemory (λ fault is. absurd (cc is)) none_covered))
+
+pub returns-clause-plans : goal.returns-clause-plans
+returns-clause-plans g c = λ text gave.
+    let e = c.in_ok-recv.ensures in
+    let kept = c.open.new.pool.kept in
+    let recv = c.in_ok-recv.recv in
+    let says = c.feed_all.ensures.plans kept.dir text gave (starts kept recv e.stands e.waiting none_covered) in
+    subst (λ (k : Kept). SaysOfPlan k.dir c.args.ask text (told c.feed_all.result)) e.kept (subst (λ (a : RecvAsk). SaysOfPlan kept.dir a text (told c.feed_all.result)) e.ask says)
+
+pub returns-in_default-clause-damaged : goal.returns-in_default-clause-damaged
+returns-in_default-clause-damaged g c = λ sector stated found honest is. absurd (cc is)
+
+pub returns-in_err-recv-clause-damaged : goal.returns-in_err-recv-clause-damaged
+returns-in_err-recv-clause-damaged g c = λ sector stated found honest is.
+    let p = err_from_is_err_and c.from_residual.result c.from_residual.ensures.1 in
+    let known = c.in_err-recv.ensures.known c.requires.works in
+    absurd (memory_undamaged sector stated found (rw (p.1, p.2, known) at is))
+
+pub returns-clause-damaged : goal.returns-clause-damaged
+returns-clause-damaged g c = λ sector stated found honest is.
+    let e = c.in_ok-recv.ensures in
+    let told = c.feed_all.ensures.damaged sector stated found honest is in
+    rw (e.ask, e.disk, e.kept) at told
