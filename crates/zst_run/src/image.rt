@@ -1,8 +1,8 @@
 // How the program opens the image that a line names.
-ghost use Rattle.std.specs.Prelude.{◌≡◌, IfOk, [], option_map};
+ghost use Rattle.std.specs.Prelude.{◌≡◌, IfOk, [], map, option_map, string_bytes};
 ghost use Rattle.zst_file.specs.FileDisk.{history_of};
 ghost use Rattle.zst_run.specs.Lines.{IsInRange};
-ghost use Rattle.zst_run.specs.Openings.{is_shared, shares};
+ghost use Rattle.zst_run.specs.Openings.{OpensBy, image_in, is_shared, shares, way_of};
 
 use std::alloc::{AllocError, Global};
 use std::fs::{self, File};
@@ -29,7 +29,8 @@ pub enum Opening {
 /// for what isn't built.
 fn opening_for(line: &Line) -> Option<Opening>
     requires { IsInRange line.now }
-    ensures { option_map is_shared result ≡ shares line.now }
+    ensures shared { option_map is_shared result ≡ shares line.now }
+    ensures way { result ≡ way_of line.now }
 {
     match line {
         Line::Create { sectors, .. } => {
@@ -44,7 +45,9 @@ fn opening_for(line: &Line) -> Option<Opening>
 }
 
 /// The image that a line names, where it is built.
-fn image_of(line: Line) -> Option<Text> {
+fn image_of(line: Line) -> Option<Text>
+    ensures { result ≡ image_in line }
+{
     match line {
         Line::Create { image, .. } => Some(image),
         Line::Step { image, .. } => Some(image),
@@ -57,17 +60,21 @@ fn image_of(line: Line) -> Option<Text> {
 
 /// The image that the words name, and how it is opened; None where they name none, are no line, or ask for what isn't
 /// built.
-pub fn opening_of(alloc: Global, words: &[String]) -> Result<Option<(Text, Opening)>, AllocError> {
+pub fn opening_of(alloc: Global, words: &[String]) -> Result<Option<(Text, Opening)>, AllocError>
+    ensures { IfOk result (OpensBy (map string_bytes words.now)) }
+{
     let line = match parse(alloc, words) {
         Ok(line) => line,
         Err(LineFault::Memory) => return Err(AllocError),
         Err(_) => return Ok(None),
     };
-    let opening = opening_for(&line);
-    match (image_of(line), opening) {
-        (Some(image), Some(opening)) => Ok(Some((image, opening))),
-        _ => Ok(None),
-    }
+    let Some(opening) = opening_for(&line) else {
+        return Ok(None);
+    };
+    let Some(image) = image_of(line) else {
+        return Ok(None);
+    };
+    Ok(Some((image, opening)))
 }
 
 /// Syncs the folder of a path, and with it the entry of a file that was made there.

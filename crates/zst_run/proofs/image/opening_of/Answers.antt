@@ -1,5 +1,5 @@
 use Rattle.zst_run.proofs.InRange.{in_range}
 use Rattle.zst_run.proofs.image.opening_of.Goals as goal
 
-pub opening_for-opening-requires : goal.opening_for-opening-requires
-opening_for-opening-requires c = in_range c.in-Ok.line _ c.in-Ok.ensures.0 c.in-Ok.ensures.1
+pub opening_for-requires : goal.opening_for-requires
+opening_for-requires c = in_range c.in-Ok.line _ c.in-Ok.ensures.0 c.in-Ok.ensures.1
