@@ -1,5 +1,5 @@
 -- How the program opens an image.
-use Rattle.std.specs.Prelude.{◌≡◌, ◌≢◌, ℕ, ◌*◌, Bool, true, false, not, if◌then◌else◌, List, Option, Some, None, Result, Ok, Err}
+use Rattle.std.specs.Prelude.{◌≡◌, ◌≢◌, ℕ, ◌*◌, if◌then◌else◌, List, Option, Some, None, Result, Ok, Err}
 use Rattle.zst_line.specs.Lines.{LineAnswers}
 use Rattle.zst_line.specs.declared.line.Line.{Line}
 use Rattle.zst_line.specs.declared.line.Line.TheVariants.{Create, Step, Send, Receive, Token}
@@ -8,21 +8,6 @@ use Rattle.zst_line.specs.declared.line.LineFault.TheVariants.{Memory}
 use Rattle.zst_model.specs.pools.Step.{commits}
 use Rattle.zst_run.specs.declared.image.Opening.{Opening}
 use Rattle.zst_run.specs.declared.image.Opening.TheVariants.{Shared, Alone, Made}
-
--- beside others, and to be read alone
-abbrev pub is_shared : Opening → Bool
-is_shared Shared = true
-is_shared Alone = false
-is_shared (Made bytes) = false
-
--- whether a line needs its image only so; none where it names no image, or isn't built
-abbrev pub shares : Line → Option Bool
-shares (Create image sectors id) = Some false
-shares (Step image command) = Some (not (commits command))
-shares (Send image from redacts snapshot) = Some true
-shares (Receive image keeps forces origin target) = Some false
-shares (Token image dataset) = Some true
-shares line = None
 
 -- the image that a line names, where it is built
 abbrev pub image_in : Line → Option (List ℕ)
@@ -42,14 +27,15 @@ way_of (Receive image keeps forces origin target) = Some Alone
 way_of (Token image dataset) = Some Shared
 way_of line = None
 
--- both of them; none where a line names no image, or isn't built
+-- both of them, where they are there
+abbrev pub both : Option (List ℕ) → Option Opening → Option (List ℕ × Opening)
+both None way = None
+both (Some image) None = None
+both (Some image) (Some way) = Some (image, way)
+
+-- the image of a line and how it is opened; none where a line names no image, or isn't built
 abbrev pub opening_in : Line → Option (List ℕ × Opening)
-opening_in (Create image sectors id) = Some (image, Made (sectors * 512))
-opening_in (Step image command) = Some (image, if commits command then Alone else Shared)
-opening_in (Send image from redacts snapshot) = Some (image, Shared)
-opening_in (Receive image keeps forces origin target) = Some (image, Alone)
-opening_in (Token image dataset) = Some (image, Shared)
-opening_in line = None
+opening_in line = both (image_in line) (way_of line)
 
 -- the same of what words are; none where they are no line
 abbrev pub opening_by : Result Line LineFault → Option (List ℕ × Opening)

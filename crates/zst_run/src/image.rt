@@ -1,8 +1,8 @@
 // How the program opens the image that a line names.
-ghost use Rattle.std.specs.Prelude.{◌≡◌, IfOk, [], map, option_map, string_bytes};
+ghost use Rattle.std.specs.Prelude.{◌≡◌, IfOk, [], map, string_bytes};
 ghost use Rattle.zst_file.specs.FileDisk.{history_of};
 ghost use Rattle.zst_run.specs.Lines.{IsInRange};
-ghost use Rattle.zst_run.specs.Openings.{OpensBy, image_in, is_shared, shares, way_of};
+ghost use Rattle.zst_run.specs.Openings.{OpensBy, image_in, way_of};
 
 use std::alloc::{AllocError, Global};
 use std::fs::{self, File};
@@ -29,8 +29,7 @@ pub enum Opening {
 /// for what isn't built.
 fn opening_for(line: &Line) -> Option<Opening>
     requires { IsInRange line.now }
-    ensures shared { option_map is_shared result ≡ shares line.now }
-    ensures way { result ≡ way_of line.now }
+    ensures { result ≡ way_of line.now }
 {
     match line {
         Line::Create { sectors, .. } => {

@@ -305,31 +305,6 @@ returns-clause-over g c = λ text handed stands live over.
 
 pub returns-in_err-drain-clause-spends : goal.returns-in_err-drain-clause-spends
 returns-in_err-drain-clause-spends g c = λ text handed stands.
-pub returns-in_err-drain-clause-planned : goal.returns-in_err-drain-clause-planned
-returns-in_err-drain-clause-planned g c = λ text handed fault stands waits none refuses.
-    let p = err_from_is_err_and c.from_residual.result c.from_residual.ensures.1 in
-    let i = c.pushes.invariant in
-    let e = c.in_err-drain.ensures in
-    let n = c.push-count.result in
-    let rest = c.pushes.rest.now in
-    let rows = c.args.kept.now.dir in
-    let ask = c.args.ask.now in
-    let m = i.planned.2 text handed stands in
-    let read = (text ++ i.planned.0) ++ take n rest in
-    let at = c.push-count.ensures.stands (text ++ i.planned.0) m.0 m.1 in
-    let was = i.planned.4 text handed fault stands waits refuses in
-    let whole = whole_read text c.args.piece.now i.planned.0 (take n rest) (drop n rest) (piece_split c.args.piece.now i.planned.0 rest n i.planned.1) in
-    by_covered ((c.from_residual.result ≡ Err (faults.Pool (pools.Plan fault))) × (waits_at c.drain.new.batch.stage ≡ true)) read
-    (λ empty.
-    let s = e.still read m.0 at was empty in
-    let told = e.stream read m.0 s.1.0 at (ap (λ (f : RecvFault). Err f) s.1.1) in
-    absurd (faulty_begins read (drop n rest) s.1.0 refuses.header empty told (subst (λ (t : List ℕ). Begins t refuses.header) whole refuses.begins)))
-    (λ first others covers.
-    let d = e.planned read m.0 fault at was (front_refused rows ask read (drop n rest) fault first others covers (subst (λ (t : List ℕ). RefusesOne rows ask t fault) whole refuses)) in
-    (p.1 ∙ ap (λ (f : RecvFault). Err f) (p.2 ∙ err_told Bool _ _ d.0), d.1))
-
-pub returns-in_err-drain-clause-because : goal.returns-in_err-drain-clause-because
-returns-in_err-drain-clause-because g c = λ text handed fault stands kind is.
     let p = err_from_is_err_and c.from_residual.result c.from_residual.ensures.1 in
     let i = c.pushes.invariant in
     let n = c.push-count.result in
@@ -373,6 +348,36 @@ returns-clause-hands_out g c = λ live text handed hands.
     let i = c.pushes.invariant in
     let m = i.hands.2 text handed hands in
     (m.0, subst (λ (t : List ℕ). HandsOut c.pushes.reader (text ++ t) m.0 waiting) (sym (piece_done c.args.piece.now i.hands.0 c.pushes.rest.now i.hands.1 c.pushes-test.ensures)) m.1)
+
+pub returns-in_err-drain-clause-planned : goal.returns-in_err-drain-clause-planned
+returns-in_err-drain-clause-planned g c = λ text handed fault stands waits none refuses.
+    let p = err_from_is_err_and c.from_residual.result c.from_residual.ensures.1 in
+    let i = c.pushes.invariant in
+    let e = c.in_err-drain.ensures in
+    let n = c.push-count.result in
+    let rest = c.pushes.rest.now in
+    let rows = c.args.kept.now.dir in
+    let ask = c.args.ask.now in
+    let m = i.planned.2 text handed stands in
+    let read = (text ++ i.planned.0) ++ take n rest in
+    let at = c.push-count.ensures.stands (text ++ i.planned.0) m.0 m.1 in
+    let was = i.planned.4 text handed fault stands waits refuses in
+    let whole = whole_read text c.args.piece.now i.planned.0 (take n rest) (drop n rest) (piece_split c.args.piece.now i.planned.0 rest n i.planned.1) in
+    by_covered ((c.from_residual.result ≡ Err (faults.Pool (pools.Plan fault))) × (waits_at c.drain.new.batch.stage ≡ true)) read
+    (λ empty.
+    let s = e.still read m.0 at was empty in
+    let told = e.stream read m.0 s.1.0 at (ap (λ (f : RecvFault). Err f) s.1.1) in
+    absurd (faulty_begins read (drop n rest) s.1.0 refuses.header empty told (subst (λ (t : List ℕ). Begins t refuses.header) whole refuses.begins)))
+    (λ first others covers.
+    let d = e.planned read m.0 fault at was (front_refused rows ask read (drop n rest) fault first others covers (subst (λ (t : List ℕ). RefusesOne rows ask t fault) whole refuses)) in
+    (p.1 ∙ ap (λ (f : RecvFault). Err f) (p.2 ∙ err_told Bool _ _ d.0), d.1))
+
+pub returns-in_err-drain-clause-because : goal.returns-in_err-drain-clause-because
+returns-in_err-drain-clause-because g c = λ text handed fault stands kind is.
+    let p = err_from_is_err_and c.from_residual.result c.from_residual.ensures.1 in
+    let i = c.pushes.invariant in
+    let n = c.push-count.result in
+    let rest = c.pushes.rest.now in
     let m = i.planned.2 text handed stands in
     let read = (text ++ i.planned.0) ++ take n rest in
     let told = c.in_err-drain.ensures.because read m.0 fault (c.push-count.ensures.stands (text ++ i.planned.0) m.0 m.1) kind (ap (λ (f : RecvFault). Err f) (sym p.2 ∙ err_told (Unit {0}) _ _ (sym p.1 ∙ is))) in
