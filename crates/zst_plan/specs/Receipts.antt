@@ -1,5 +1,5 @@
 -- Which receipt a plan is of.
-use Rattle.std.specs.Prelude.{◌≡◌, ◌<◌, ℕ, true, false, List, length, max, nat_lt, Some, IfSome, is_some}
+use Rattle.std.specs.Prelude.{◌≡◌, ◌<◌, ℕ, true, false, List, length, max, nat_lt, Some, IfSome, is_some, bit_and}
 use Rattle.std.specs.List.{position}
 use Rattle.std.specs.Str.{bytes_eq}
 use Rattle.zst_names.specs.Names.{IsSnapshot, dataset_of}
@@ -8,6 +8,7 @@ use Rattle.zst_dir.specs.Rows.{Rows, HasSnapshot}
 use Rattle.zst_dir.specs.declared.rows.Dataset as rows
 use Rattle.zst_model.specs.declared.sends.header.Header.{Header}
 use Rattle.zst_model.specs.pools.Pool.{Pool, Dataset, dataset_named}
+use Rattle.zst_model.specs.sends.Features.{resuming}
 use Rattle.zst_tree.specs.declared.tree.ObjSet.{ObjSet}
 use Rattle.zst_plan.specs.Places.{FindAlike, StandsAt}
 use Rattle.zst_plan.specs.RecvPlan.{Base, RecvPlan, Resumes, Begins, is_dated_after, is_full, snapshot_name}
@@ -57,3 +58,8 @@ IsRecvInside rows (plans.Begins name place rolls) = IfSome place (λ p. p < leng
 abbrev pub IsNewPlan : Rows → List ℕ → coded.RecvPlan → Type 0
 IsNewPlan rows target (plans.Resumes place) = position (λ partial. bytes_eq partial.target target) rows.partials ≡ Some place
 IsNewPlan rows target (plans.Begins name place rolls) = IsSnapshot name × (dataset_of 64 name ≡ target) × (HasSnapshot rows name → ⊥)
+
+-- whatever the pool is, what begins anew is no resumed stream
+abbrev pub IsPlainPlan : Header → coded.RecvPlan → Type 0
+IsPlainPlan header (plans.Resumes place) = Unit {0}
+IsPlainPlan header (plans.Begins name place rolls) = bit_and header.features resuming ≡ 0

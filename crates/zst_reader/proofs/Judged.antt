@@ -10,7 +10,12 @@ use Rattle.zst_record.specs.declared.head.Head.{Head}
 use Rattle.zst_model.specs.declared.refusals.stream_fault.StreamFault.{StreamFault}
 use Rattle.zst_model.specs.declared.refusals.stream_fault.StreamFault.TheVariants.{Unsupported}
 use Rattle.zst_model.specs.declared.refusals.faults.Lack.TheVariants as lacks
-use Rattle.zst_stream.specs.Reading.{refuse, more, sum_fault, sealed_next, cover, opened, ruling, rule_by, closing, is_built}
+use Rattle.zst_model.specs.declared.sends.header.Header.{Header}
+use Rattle.zst_record.specs.declared.head.Head.TheVariants as heads
+use Rattle.zst_record.specs.Heads.{payload_len}
+use Rattle.zst_record.specs.Payload as payloads
+use Rattle.zst_record.specs.Payload.{Opened}
+use Rattle.zst_stream.specs.Reading.{begun, refuse, more, sum_fault, sealed_next, opened, ruling, rule_by, closing, is_built}
 use Rattle.zst_reader.specs.declared.place.Place.{Place}
 use Rattle.zst_reader.specs.Place.{IsPlaceAfter}
 use Rattle.zst_reader.specs.Verdict.{IsHeadOf, ruled}
@@ -27,18 +32,37 @@ pub whole-part : (before held : List ℕ) (size : ℕ) → IsWhole before → si
 whole-part before held size whole words inside = omega (arith, length-append before (take size held), length-take-le size held inside)
 
 -- the next record's checksum is wrong
-pub cover-refused : (before held : List ℕ) (head : Head) (fault : StreamFault) → size_of head + 312 ≤ length held
-    → Some fault ≡ sum_fault before held (size_of head + 280) (size_of head + 280) → refuse fault ≡ cover before held head
-unfolding cover opened sealed_next
-cover-refused before held head fault room found =
-    rw (le-ltb (length held) (size_of head) (omega arith), le-ltb (length held) (size_of head + 312) room, sym found) refl
+pub sealed-refused : (before held : List ℕ) (head : Head) (fault : StreamFault) → size_of head + 312 ≤ length held
+    → Some fault ≡ sum_fault before held (size_of head + 280) (size_of head + 280) → refuse fault ≡ sealed_next before held head
+unfolding sealed_next
+sealed-refused before held head fault room found = rw (le-ltb (length held) (size_of head + 312) room, sym found) refl
 
 -- the next record's checksum is right
-pub cover-right : (before held : List ℕ) (head : Head) → size_of head + 312 ≤ length held
-    → None ≡ sum_fault before held (size_of head + 280) (size_of head + 280) → more head ≡ cover before held head
-unfolding cover opened sealed_next
-cover-right before held head room fine =
-    rw (le-ltb (length held) (size_of head) (omega arith), le-ltb (length held) (size_of head + 312) room, sym fine) refl
+pub sealed-right : (before held : List ℕ) (head : Head) → size_of head + 312 ≤ length held
+    → None ≡ sum_fault before held (size_of head + 280) (size_of head + 280) → more head ≡ sealed_next before held head
+unfolding sealed_next
+sealed-right before held head room fine = rw (le-ltb (length held) (size_of head + 312) room, sym fine) refl
+
+-- ---- the payload
+
+-- BEGIN says with its payload what that says of its header
+pub says-begin : (head : Head) (header same : Header) (len : ℕ) (held payload : List ℕ) (o : Opened) → head ≡ heads.Begin header len → payload ≡ take len (drop 312 held)
+    → same ≡ header → o ≡ payloads.opened same payload → opened head (take (payload_len head) (drop 312 held)) ≡ begun len o
+unfolding opened
+says-begin head header same len held payload o is payload_is same_is o_is =
+    rw is (ap (begun len) (sym (o_is ∙ ap (λ (h : Header). payloads.opened h payload) same_is ∙ ap (payloads.opened header) payload_is)))
+
+-- no other record does
+pub says-other : (head : Head) (payload : List ℕ) → ((header : Header) (len : ℕ) → head ≡ heads.Begin header len → ⊥) → opened head payload ≡ Ok head
+unfolding opened
+says-other (heads.Begin header len) payload other = absurd (other header len refl)
+says-other (heads.Object object kind bonus_kind block_size bonus_len max_block to) payload other = refl
+says-other (heads.FreeObjects first count to) payload other = refl
+says-other (heads.Write object kind offset size to) payload other = refl
+says-other (heads.Free object offset size to) payload other = refl
+says-other (heads.End sums to) payload other = refl
+says-other (heads.Spill object size to) payload other = refl
+says-other (heads.Redact object offset size to) payload other = refl
 
 -- ---- the head
 
@@ -89,9 +113,3 @@ pub ruled-as : (before held : List ℕ) (place : Place) (head head' : Head) (ver
 ruled-as before held place head head' verdict same is known e =
     let P : Head → Type 0 = λ h. IsHeadOf place held h in
     ap (λ h. ruled h verdict) same ∙ e ∙ sym (ruled-by before held place head' is (subst P same known))
-
--- a record but END
-pub ruled-later : (before held : List ℕ) (place : Place) (head : Head) (verdict : Verdict) → closing head ≡ None → IsPlaceAfter before held place → IsHeadOf place held head
-    → ruled head verdict ≡ cover before held head → ruled head verdict ≡ ruling before held
-ruled-later before held place head verdict later is known e =
-    e ∙ sym (ruled-by before held place head is known ∙ ap (rule_by before held head) later)

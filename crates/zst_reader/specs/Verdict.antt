@@ -1,11 +1,11 @@
 -- What the code's verdict says.
-use Rattle.std.specs.Prelude.{ℕ, ◌+◌, ◌*◌, ◌<◌, ◌≤◌, ◌≡◌, Bool, true, false, List, ◌++◌, length, take, drop, Result, Ok, Err}
-use Rattle.zst_record.specs.Decode.{decoded}
+use Rattle.std.specs.Prelude.{ℕ, ◌+◌, ◌*◌, ◌<◌, ◌≤◌, ◌≡◌, Bool, true, false, Option, Some, None, List, ◌++◌, length, take, drop, Result, Ok, Err}
+use Rattle.zst_record.specs.Decode.{Decoded, decoded}
 use Rattle.zst_record.specs.Formats.{record_len, longest_payload}
 use Rattle.zst_record.specs.Heads.{payload_len, size_of}
 use Rattle.zst_record.specs.declared.head.Head.{Head}
 use Rattle.zst_model.specs.declared.refusals.stream_fault.StreamFault.{StreamFault}
-use Rattle.zst_stream.specs.Reading.{Ruling, wait, refuse, last, more, ruling, is_built}
+use Rattle.zst_stream.specs.Reading.{Ruling, wait, refuse, last, more, ruling, closing, is_built}
 use Rattle.zst_reader.specs.Place.{IsPlaceAfter, IsWithin}
 use Rattle.zst_reader.specs.Mark.{mark_after}
 use Rattle.zst_reader.specs.declared.mark.Mark.{Mark}
@@ -25,6 +25,18 @@ abbrev pub ReadsHead : Place → List ℕ → Head → Result Bool StreamFault �
 ReadsHead place held head (Ok true) = IsHeadOf place held head
 ReadsHead place held head (Ok false) = length held < record_len
 ReadsHead place held head (Err fault) = (before : List ℕ) → IsPlaceAfter before held place → ruling before held ≡ refuse fault
+
+-- with its payload a record says this, of the same length, and isn't END
+pub record Opens (head : Head) (d : Decoded) (whole : Head) : Type 0 where
+  pub says : d ≡ Ok whole
+  pub len : payload_len whole ≡ payload_len head
+  pub later : closing whole ≡ None
+
+-- The record says no more with its payload, or says this, or its payload is wrong.
+abbrev pub SaysWith : Head → Decoded → Result (Option Head) StreamFault → Type 0
+SaysWith head d (Ok None) = d ≡ Ok head
+SaysWith head d (Ok (Some whole)) = Opens head d whole
+SaysWith head d (Err fault) = d ≡ Err fault
 
 -- the ruling on a record of this head that the verdict is
 abbrev pub ruled : Head → Verdict → Ruling

@@ -3,14 +3,16 @@ ghost use Rattle.zst_fletcher.specs.WeightSum.{weight_sum};
 ghost use Rattle.zst_record.specs.Formats.{longest_payload, record_len};
 ghost use Rattle.zst_record.specs.Heads.{payload_len, size_of};
 ghost use Rattle.zst_record.specs.declared.head.Head.TheVariants.{End};
-ghost use Rattle.zst_stream.specs.Reading.{sum_fault, closing, cover, rule_by, ruling};
+ghost use Rattle.zst_stream.specs.Reading.{sum_fault, closing, cover, opened, rule_by, ruling, sealed_next};
 ghost use Rattle.zst_reader.specs.Place.{IsPlaceAfter};
-ghost use Rattle.zst_reader.specs.Verdict.{IsHeadOf, ReadsHead, ruled, LeadsOn, FitsIn};
+ghost use Rattle.zst_reader.specs.Verdict.{IsHeadOf, ReadsHead, SaysWith, ruled, LeadsOn, FitsIn};
 
 use crate::place::{Ahead, Place};
 use zst_fletcher::Sum;
 use zst_model::{Lack, StreamFault};
-use zst_record::{Head, RECORD_LEN, SUMMED_LEN, decode, get_sums, payload_is_bounded};
+use zst_record::{
+    Head, RECORD_LEN, SUMMED_LEN, begin_payload, decode, get_sums, payload_is_bounded,
+};
 use zst_stream::is_form_built;
 
 /// What is found at the front of the held bytes.
@@ -86,14 +88,38 @@ pub(crate) fn read_head(held: &[u8], place: &Place, head: &mut Head) -> Result<b
     }
 }
 
-// Judges a record but END: it is covered once the next record is there with the right checksum.
-#[tactic(auto, unfolding(zst_stream::specs::Reading::cover, zst_stream::specs::Reading::sealed_next, zst_stream::specs::Reading::opened))]
-fn judge_cover(held: &[u8], place: &Place, head: &Head) -> Verdict
+// What the record at the front says with its payload, where that says more than its 312 bytes: only BEGIN's does.
+fn open_payload(held: &[u8], head: &Head) -> Result<Option<Head>, StreamFault>
+    requires there { size_of head.now ≤ length held.now }
+    requires later { closing head.now ≡ None }
+    ensures { SaysWith head.now (opened head.now (take (payload_len head.now) (drop record_len held.now))) result }
+{
+    match head {
+        Head::Begin {
+            header,
+            payload_len,
+        } => {
+            let payload = &held[RECORD_LEN..RECORD_LEN + *payload_len as usize];
+            match begin_payload(payload, header.duplicate()) {
+                Ok(header) => Ok(Some(Head::Begin {
+                    header,
+                    payload_len: *payload_len,
+                })),
+                Err(fault) => Err(fault),
+            }
+        }
+        _ => Ok(None),
+    }
+}
+
+// Judges a record but END whose payload is there: it is covered once the next record is there with the right checksum.
+#[tactic(auto, unfolding(zst_stream::specs::Reading::sealed_next))]
+fn judge_sealed(held: &[u8], place: &Place, head: &Head) -> Verdict
     requires words { payload_len head.now % 4 ≡ 0 }
     requires short { payload_len head.now ≤ longest_payload }
     requires later { closing head.now ≡ None }
     requires fits { place.now.at + length held.now ≤ 2 ^ 62 }
-    ensures rules { (before : List ℕ) → IsPlaceAfter before held.now place.now → ruled head.now result ≡ cover before held.now head.now }
+    ensures rules { (before : List ℕ) → IsPlaceAfter before held.now place.now → ruled head.now result ≡ sealed_next before held.now head.now }
     ensures leads { (before : List ℕ) → IsPlaceAfter before held.now place.now → LeadsOn before held.now head.now result }
     ensures fits { FitsIn place.now (length held.now) head.now result }
 {
@@ -114,6 +140,33 @@ fn judge_cover(held: &[u8], place: &Place, head: &Head) -> Verdict
             Verdict::More(place.after(held, size, sum, ahead))
         }
     }
+}
+
+// Judges a record but END: once its payload is whole, by what it says with that. Where it is covered, that is its head.
+#[tactic(auto, unfolding(zst_stream::specs::Reading::cover))]
+fn judge_later(held: &[u8], place: &Place, head: &mut Head) -> Verdict
+    requires words { payload_len head.old % 4 ≡ 0 }
+    requires short { payload_len head.old ≤ longest_payload }
+    requires later { closing head.old ≡ None }
+    requires fits { place.now.at + length held.now ≤ 2 ^ 62 }
+    ensures rules { (before : List ℕ) → IsPlaceAfter before held.now place.now → ruled head.new result ≡ cover before held.now head.old }
+    ensures leads { (before : List ℕ) → IsPlaceAfter before held.now place.now → LeadsOn before held.now head.new result }
+    ensures fits { FitsIn place.now (length held.now) head.new result }
+    ensures kept { result ≡ Verdict.Wait → head.new ≡ head.old }
+{
+    if held.len() < RECORD_LEN + head.payload_len() as usize {
+        return Verdict::Wait;
+    }
+    let whole = match open_payload(held, head) {
+        Ok(None) => return judge_sealed(held, place, head),
+        Ok(Some(whole)) => whole,
+        Err(_) => return Verdict::Refuse(not_built(place.at)),
+    };
+    let verdict = judge_sealed(held, place, &whole);
+    if let Verdict::More(_) = verdict {
+        *head = whole;
+    }
+    verdict
 }
 
 // Judges END by what it states.
@@ -137,18 +190,20 @@ fn judge_end(held: &[u8], place: &Place, sums: [u64; 4], to: u64) -> Verdict
     Verdict::Last(place.after(held, RECORD_LEN, sum, ahead))
 }
 
-/// Judges the record of this head at the front of the held bytes.
-pub(crate) fn judge(held: &[u8], place: &Place, head: &Head) -> Verdict
-    requires is { IsHeadOf place.now held.now head.now }
+/// Judges the record of this head at the front of the held bytes. Where it is covered, its head is what it says with its
+/// payload.
+pub(crate) fn judge(held: &[u8], place: &Place, head: &mut Head) -> Verdict
+    requires is { IsHeadOf place.now held.now head.old }
     requires fits { place.now.at + length held.now ≤ 2 ^ 62 }
-    ensures rules { (before : List ℕ) → IsPlaceAfter before held.now place.now → ruled head.now result ≡ ruling before held.now }
-    ensures leads { (before : List ℕ) → IsPlaceAfter before held.now place.now → LeadsOn before held.now head.now result }
-    ensures fits { FitsIn place.now (length held.now) head.now result }
+    ensures rules { (before : List ℕ) → IsPlaceAfter before held.now place.now → ruled head.new result ≡ ruling before held.now }
+    ensures leads { (before : List ℕ) → IsPlaceAfter before held.now place.now → LeadsOn before held.now head.new result }
+    ensures fits { FitsIn place.now (length held.now) head.new result }
+    ensures kept { result ≡ Verdict.Wait → head.new ≡ head.old }
 {
     // The record that passes is whole words and fits the buffer.
     payload_is_bounded();
-    match head {
+    match &*head {
         Head::End { sums, to } => judge_end(held, place, *sums, *to),
-        _ => judge_cover(held, place, head),
+        _ => judge_later(held, place, head),
     }
 }

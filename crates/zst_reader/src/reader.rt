@@ -195,7 +195,9 @@ impl Reader {
                 Err(fault) => return Verdict::Refuse(fault),
             }
         }
-        judge(held, &self.place, &self.head)
+        let verdict = judge(held, &self.place, &mut self.head);
+        self.known = matches!(verdict, Verdict::Wait);
+        verdict
     }
 
     // Takes the record at the window's front as handed out, before which this place stands.

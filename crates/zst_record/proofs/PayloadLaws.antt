@@ -229,7 +229,7 @@ behind-words header numbers small =
     ∙ ap (λ (n : ℕ). content_of header (numbers_in n bytes)) count ∙ ap (content_of header) (numbers-read numbers small)
 
 -- a header without what a payload says is bare
-bare-same : (header : Header) → header.resume ≡ None → header.redact ≡ [] → header.from_redact ≡ [] → bare header ≡ header
+pub bare-same : (header : Header) → header.resume ≡ None → header.redact ≡ [] → header.from_redact ≡ [] → bare header ≡ header
 unfolding bare
 bare-same header resume redact from_redact =
     let no_resume = sym resume in

@@ -8,8 +8,10 @@ use Rattle.zst_record.specs.declared.head.Head.{Head}
 use Rattle.zst_record.specs.declared.head.Head.TheVariants as heads
 use Rattle.zst_record.specs.Decode.{Decoded, check, named, needs_payload, is_payload_len, snapshot_with, snapshot_of, begin_with, begin_of, decoded, features_in, others_of}
 use Rattle.zst_record.specs.Formats.{begin_type, compound_stream, large_blocks, reversed_magic, stream_magic, substream}
-use Rattle.zst_record.specs.Heads.{Covered, size_of}
-use Rattle.zst_stream.specs.Reading.{Outcome, waiting, faulty, complete, Reading, Ruling, Closing, wait, refuse, last, more, unless, sum_fault, is_built, not_built, opened, sealed_next, cover, finish, rule_by, closing, judged, ruling, after, reading_from, reading}
+use Rattle.zst_record.specs.Heads.{Covered, payload_len, size_of}
+use Rattle.zst_record.specs.Payload as payloads
+use Rattle.zst_record.specs.Payload.{Opened}
+use Rattle.zst_stream.specs.Reading.{Outcome, waiting, faulty, complete, Reading, Ruling, Closing, wait, refuse, last, more, unless, sum_fault, is_built, begun, next_by, not_built, opened, sealed_next, cover, finish, rule_by, closing, judged, ruling, after, reading_from, reading}
 use Rattle.zst_recv.specs.Stages.{is_begin, is_end}
 
 -- END is the last of these where all is covered, and else none of them
@@ -60,12 +62,38 @@ an_end (heads.End sums to) c is = refl
 an_end (heads.Spill object size to) c is = absurd cc
 an_end (heads.Redact object offset size to) c is = absurd cc
 
-rules-by : (before rest : List ℕ) (head : Head) (o : Option Closing) → closing head ≡ o → Rules (rule_by before rest head o)
-unfolding cover finish opened sealed_next
-rules-by before rest head None is =
+-- what a record says with its payload is END no more than the record
+abbrev OkNoEnd : Decoded → Type 0
+OkNoEnd (Ok head) = is_end head ≡ false
+OkNoEnd (Err fault) = Unit {0}
+
+no_end-begun : (len : ℕ) (o : Opened) → OkNoEnd (begun len o)
+no_end-begun len (Ok header) = refl
+no_end-begun len (Err fault) = tt
+
+no_end-opened : (head : Head) (payload : List ℕ) → closing head ≡ None → OkNoEnd (opened head payload)
+unfolding opened
+no_end-opened (heads.Begin header len) payload is = no_end-begun len (payloads.opened header payload)
+no_end-opened (heads.Object object kind bonus_kind block_size bonus_len max_block to) payload is = refl
+no_end-opened (heads.FreeObjects first count to) payload is = refl
+no_end-opened (heads.Write object kind offset size to) payload is = refl
+no_end-opened (heads.Free object offset size to) payload is = refl
+no_end-opened (heads.End sums to) payload is = absurd cc
+no_end-opened (heads.Spill object size to) payload is = refl
+no_end-opened (heads.Redact object offset size to) payload is = refl
+
+rules-next : (before rest : List ℕ) (d : Decoded) → OkNoEnd d → Rules (next_by before rest d)
+unfolding sealed_next
+rules-next before rest (Ok head) is =
     let end = size_of head + 280 in
-    rules-cond (nat_lt (length rest) (size_of head)) wait _ tt
-    (rules-cond (nat_lt (length rest) (size_of head + 312)) wait _ tt (rules-unless (sum_fault before rest end end) (more head) (no_end head is)))
+    rules-cond (nat_lt (length rest) (size_of head + 312)) wait _ tt (rules-unless (sum_fault before rest end end) (more head) is)
+rules-next before rest (Err fault) is = tt
+
+rules-by : (before rest : List ℕ) (head : Head) (o : Option Closing) → closing head ≡ o → Rules (rule_by before rest head o)
+unfolding cover finish
+rules-by before rest head None is =
+    let payload = take (payload_len head) (drop 312 rest) in
+    rules-cond (nat_lt (length rest) (size_of head)) wait _ tt (rules-next before rest (opened head payload) (no_end-opened head payload is))
 rules-by before rest head (Some c) is =
     rules-unless (sum_fault before rest 0 8) _ (rules-cond (c.to == number_at before 40 8) (last head) (refuse (not_built before)) (an_end head c is) tt)
 
@@ -163,12 +191,33 @@ opens-unless : (o : Option StreamFault) (r : Ruling) → Opens r → Opens (unle
 opens-unless None r h = h
 opens-unless (Some fault) r h = tt
 
-opens-by : (before rest : List ℕ) (head : Head) (o : Option Closing) → is_begin head ≡ true → Opens (rule_by before rest head o)
-unfolding cover finish opened sealed_next
-opens-by before rest head None is =
+begins-begun : (len : ℕ) (o : Opened) → OkBegins (begun len o)
+begins-begun len (Ok header) = refl
+begins-begun len (Err fault) = tt
+
+begins-opened : (head : Head) (payload : List ℕ) → is_begin head ≡ true → OkBegins (opened head payload)
+unfolding opened
+begins-opened (heads.Begin header len) payload is = begins-begun len (payloads.opened header payload)
+begins-opened (heads.Object object kind bonus_kind block_size bonus_len max_block to) payload is = is
+begins-opened (heads.FreeObjects first count to) payload is = is
+begins-opened (heads.Write object kind offset size to) payload is = is
+begins-opened (heads.Free object offset size to) payload is = is
+begins-opened (heads.End sums to) payload is = is
+begins-opened (heads.Spill object size to) payload is = is
+begins-opened (heads.Redact object offset size to) payload is = is
+
+opens-next : (before rest : List ℕ) (d : Decoded) → OkBegins d → Opens (next_by before rest d)
+unfolding sealed_next
+opens-next before rest (Ok head) is =
     let end = size_of head + 280 in
-    opens-cond (nat_lt (length rest) (size_of head)) wait _ tt
-    (opens-cond (nat_lt (length rest) (size_of head + 312)) wait _ tt (opens-unless (sum_fault before rest end end) (more head) is))
+    opens-cond (nat_lt (length rest) (size_of head + 312)) wait _ tt (opens-unless (sum_fault before rest end end) (more head) is)
+opens-next before rest (Err fault) is = tt
+
+opens-by : (before rest : List ℕ) (head : Head) (o : Option Closing) → is_begin head ≡ true → Opens (rule_by before rest head o)
+unfolding cover finish
+opens-by before rest head None is =
+    let payload = take (payload_len head) (drop 312 rest) in
+    opens-cond (nat_lt (length rest) (size_of head)) wait _ tt (opens-next before rest (opened head payload) (begins-opened head payload is))
 opens-by before rest head (Some c) is =
     opens-unless (sum_fault before rest 0 8) _ (opens-cond (c.to == number_at before 40 8) (last head) (refuse (not_built before)) is tt)
 

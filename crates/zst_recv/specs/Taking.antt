@@ -13,7 +13,7 @@ use Rattle.zst_record.specs.Formats.{to_end}
 use Rattle.zst_record.specs.Heads.{Covered, payload_len}
 use Rattle.zst_record.specs.declared.head.Head.{Head}
 use Rattle.zst_record.specs.declared.head.Head.TheVariants as heads
-use Rattle.zst_stream.specs.Passed.{StatesHeader}
+use Rattle.zst_stream.specs.Passed.{StatesHeader, bare_head}
 use Rattle.zst_stream.specs.Reading.{Outcome, waiting, faulty, complete, reading}
 use Rattle.zst_recv.specs.Faults.{recv_refusal}
 use Rattle.zst_recv.specs.Feeds.{fault_of, new_records}
@@ -26,7 +26,7 @@ use Rattle.zst_recv.specs.declared.stage.Stage as coded
 -- a record that passed its checks, in a stream of some features: the header of a BEGIN can be stated
 pub record IsRead (c : Covered) : Type 0 where
   pub features : ℕ
-  pub fits : Fits features c.head
+  pub fits : Fits features (bare_head c.head)
   pub payload : length c.payload ≡ payload_len c.head
   pub stated : StatesHeader c.head
 

@@ -8,9 +8,10 @@ ghost use Rattle.zst_dir.specs.Rows.{Rows};
 ghost use Rattle.zst_image.specs.Reads.{PartialIs, RunsBy, bound_of};
 ghost use Rattle.zst_model.specs.declared.refusals.plan_fault.PlanFault.{PlanFault};
 ghost use Rattle.zst_model.specs.declared.sends.header.Header.{Header as PlainHeader};
-ghost use Rattle.zst_model.specs.pools.Pool.{IsStated, Partial as PlainPartial, Pool as Plain};
+ghost use Rattle.zst_model.specs.pools.Pool.{Partial as PlainPartial, Pool as Plain};
 ghost use Rattle.zst_plan.specs.Receipts.{TellsNeeded};
 ghost use Rattle.zst_plan.specs.RecvPlan.{recv_plan};
+ghost use Rattle.zst_stream.specs.Passed.{StatesBegin};
 ghost use Rattle.zst_plan.specs.declared.receive.RecvAsk.{RecvAsk as Ask};
 ghost use Rattle.zst_pool.specs.Calls.{IsUnderWay};
 ghost use Rattle.zst_record.specs.Fits.{IsLater};
@@ -60,6 +61,7 @@ fn move_by<D: Disk>(
 ) -> Result<(), RecvFault>
     requires fits { FitsDisk (D.state io.old.disk.now).size io.old.space }
     requires covered { IsRead (covered_of covered.now) }
+    requires later { IsLater covered.now.head.now }
     ensures moved { (tight : Bool) (state : PlainPartial) → (D.state io.new.disk.now).honest → PartialIs (bound_of tight number) (Has (D.state io.old.disk.now).seen io.old.space) partial.old state
         → Makes (PartialIs (bound_of tight number) (Has (D.state io.new.disk.now).seen io.new.space) partial.new) (moved_by number (covered_of covered.now) flags state) result }
     ensures stays { OnErr result (partial.new ≡ partial.old) }
@@ -144,7 +146,7 @@ impl Batch {
 
     // BEGIN: a reading gives it first, and only there.
     fn begin(&mut self, dir: &Dir, ask: &RecvAsk, header: &Header) -> Result<(), RecvFault>
-        requires header { IsStated header.now }
+        requires header { StatesBegin header.now }
         requires stage { StageFits dir.now ask.now.target self.old.stage }
         ensures began { (bound : Option ℕ) (image : List ℕ) (space : FreeSectors) (running : Plain) (work : Work) (c : Covered) (len : ℕ) → c.head ≡ heads.Begin header.now len → RunsBy bound (Has image space) dir.now running → TellsBefore ask.now work.stage dir.now running
             → IsWork bound (Has image space) self.old work → Takes (IsWork bound (Has image space) self.new) work (taken ask.now running c work) result }

@@ -7,6 +7,7 @@ ghost use Rattle.zst_dir.specs.Named.{AreNamed};
 ghost use Rattle.zst_dir.specs.Rows.{HasSnapshot};
 ghost use Rattle.zst_image.specs.Reads.{PartialIs, RunsBy, SetIs};
 ghost use Rattle.zst_model.specs.pools.Pool.{IsStated, Pool as Plain, Snapshot as PlainSnapshot, untouched};
+ghost use Rattle.zst_stream.specs.Passed.{StatesBegin};
 ghost use Rattle.zst_names.specs.Names.{IsSnapshot, dataset_of};
 ghost use Rattle.zst_plan.specs.Places.{AnswerAlike, FindAlike, StandsAt};
 ghost use Rattle.zst_plan.specs.Receipts.{TellsNeeded};
@@ -100,7 +101,7 @@ fn opened(header: &Header, partial: Partial, rolls: bool) -> Batch
 
 /// Plans a receive by the header of its stream, and begins it.
 pub(crate) fn open(dir: &Dir, ask: &RecvAsk, header: &Header) -> Result<Batch, PlanFault>
-    requires header { IsStated header.now }
+    requires header { StatesBegin header.now }
     ensures fits { IfOk result (λ batch. StageFits dir.now ask.now.target batch.stage) }
     ensures lives { IfOk result (λ batch. has_partial batch.stage ≡ true) }
     ensures live { IfOk result (λ batch. is_live batch.stage ≡ true) }

@@ -21,7 +21,11 @@ use Rattle.zst_model.specs.states.State.{IsState}
 use Rattle.zst_record.specs.Decode.{is_payload_len, needs_payload, others_of}
 use Rattle.zst_record.specs.Fits.{BeginFits}
 use Rattle.zst_record.specs.Formats.{large_blocks}
+use Rattle.zst_model.specs.declared.sends.header.Header.{Header}
+use Rattle.zst_record.specs.Payload.{StatesPayload, StatesResume, bare, begin_payload, has_payload, payload_bytes}
+use Rattle.zst_stream.specs.Image.{CanBegin}
 use Rattle.zst_stream.specs.Items.{PlainIsAllowed, keeps_spill}
+use Rattle.zst_stream.specs.Reading.{is_payload_built}
 use Rattle.zst_send.specs.Opening.{built, is_plain, opening}
 use Rattle.zst_replication.specs.Matching.{PlainCanBeSent}
 use Rattle.zst_replication.proofs.Results.{bound, ok_parts, unless_ok}
@@ -93,17 +97,13 @@ unfolding sa_spill needs_payload resuming redacts
 no_payload None e = refl
 no_payload (Some bookmark) e = absurd cc
 
-none_redacts : (redaction : Option Bookmark) → redaction ≡ None → redaction_guids redaction ≡ []
-none_redacts None e = refl
-none_redacts (Some bookmark) e = absurd cc
-
 no_length : is_payload_len 0 ≡ true
 unfolding is_payload_len
 no_length = refl
 
-begins : (sent : Sent) → IsStated (header_of sent) → sent.redaction ≡ None → source_guids sent.source ≡ [] → BeginFits (header_of sent) 0
-unfolding features_of
-begins sent stated whole plain = record {
+fits_bare : (sent : Sent) → IsStated (header_of sent) → sent.redaction ≡ None → BeginFits (bare (header_of sent)) 0
+unfolding features_of bare
+fits_bare sent stated whole = record {
   features = stated.features;
   accepted = accepted sent.redaction whole;
   small_blocks = small_blocks sent.redaction whole;
@@ -118,9 +118,34 @@ begins sent stated whole plain = record {
   len = no_length;
   stated = λ e. no_payload sent.redaction whole;
   no_resume = refl;
-  no_redact = none_redacts sent.redaction whole;
-  no_from_redact = plain;
+  no_redact = refl;
+  no_from_redact = refl;
 }
+
+-- its BEGIN has no payload
+begins_alone : (sent : Sent) → sent.redaction ≡ None → source_guids sent.source ≡ [] → begin_payload (header_of sent) ≡ []
+unfolding begin_payload has_payload features_of
+begins_alone sent whole plain =
+    ap (λ (b : Bool). if b || nat_lt 0 (length (source_guids sent.source)) then payload_bytes (header_of sent) else []) (no_payload sent.redaction whole)
+    ∙ ap (λ (guids : List ℕ). if nat_lt 0 (length guids) then payload_bytes (header_of sent) else []) plain
+
+states_payload : (header : Header) → IsStated header → StatesPayload header
+states_payload header stated = record {
+  resume = subst (StatesResume header.features) (sym stated.resume) (ap (λ (n : ℕ). n == 0) stated.unresumed);
+  redact = stated.redact;
+  from_redact = stated.from_redact;
+  redacted = stated.redacted;
+  source = stated.source;
+}
+
+begins : (sent : Sent) → IsStated (header_of sent) → sent.redaction ≡ None → source_guids sent.source ≡ [] → CanBegin (header_of sent)
+begins sent stated whole plain =
+    let none = begins_alone sent whole plain in
+    record {
+      begins = subst (λ (payload : List ℕ). BeginFits (bare (header_of sent)) (length payload)) (sym none) (fits_bare sent stated whole);
+      payload = states_payload (header_of sent) stated;
+      built = ap (λ (payload : List ℕ). (length payload == 0) || is_payload_built (header_of sent).features) none;
+    }
 
 spills_stated : (sent : Sent) → keeps_spill (flags_of sent) ≡ false
 unfolding flags_of clone_flag free_records spill_block

@@ -11,7 +11,8 @@ use Rattle.zst_record.specs.declared.head.Head.{Head}
 use Rattle.zst_record.specs.declared.head.Head.TheVariants as heads
 use Rattle.zst_record.specs.Fits.{IsLater}
 use Rattle.zst_record.specs.Heads.{Covered}
-use Rattle.zst_stream.specs.Image.{Piece, PiecesFit, begin_head, begin_payload, covers}
+use Rattle.zst_record.specs.Payload.{begin_payload}
+use Rattle.zst_stream.specs.Image.{Piece, PiecesFit, begin_head, covers}
 use Rattle.zst_stream.specs.Items.{CanSend, ViewIsRead, ViewIsStream, items_by, items_of}
 use Rattle.zst_stream.specs.Laws.{CoversArePieces, ImageIsRead, all_pieces, piece_of}
 use Rattle.zst_stream.specs.Reading.{Reading, closing, reading}

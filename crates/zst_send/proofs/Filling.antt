@@ -15,7 +15,9 @@ use Rattle.zst_laws.specs.Walk.{WalkBegins, walk_left}
 use Rattle.zst_model.specs.states.Dated.{DatedState}
 use Rattle.zst_record.specs.Formats.{record_len}
 use Rattle.zst_record.specs.declared.head.Head.TheVariants as heads
-use Rattle.zst_stream.specs.Image.{begin_head, end_after, front_of, image, image_after, piece_after, record_after}
+use Rattle.zst_record.specs.Payload.{begin_payload}
+use Rattle.zst_record.specs.Table.{head_bytes}
+use Rattle.zst_stream.specs.Image.{end_after, front_of, image, image_after, piece_after, record_after}
 use Rattle.zst_stream.specs.Records.{piece_for, pieces_for, view_text}
 use Rattle.zst_tree.specs.Indices.{Blocks}
 use Rattle.zst_writer.specs.Writes.{HasWritten, bytes_after}
@@ -179,14 +181,22 @@ module _ (has : Blocks) where
           loaded = loaded;
         }
 
+-- where BEGIN has no payload, it is its 312 bytes
+begin-alone : (header : Header) → begin_payload header ≡ [] → bytes_after [] (heads.Begin header 0) ≡ front_of header
+unfolding front_of bytes_after
+begin-alone header none =
+    sym (append-nil (head_bytes (heads.Begin header 0)))
+    ∙ ap (λ (payload : List ℕ). head_bytes (heads.Begin header (length payload)) ++ payload) (sym none)
+
 -- a send begins with BEGIN, and then has all items of its view
-pub begins : WalkBegins → (has : Blocks) (snap : DatedState) (view : View) (header : Header) (stand : Stand) → HasWritten stand.writer (bytes_after [] (begin_head header)) → stand.work.head ≡ bytes_after [] (begin_head header)
+pub begins : (header : Header) → begin_payload header ≡ [] → WalkBegins → (has : Blocks) (snap : DatedState) (view : View) (stand : Stand)
+    → HasWritten stand.writer (bytes_after [] (heads.Begin header 0)) → stand.work.head ≡ bytes_after [] (heads.Begin header 0)
     → stand.work.payload ≡ Nothing → stand.work.given ≡ 0 → stand.walk.held ≡ None → stand.walk.place.point ≡ origin → stand.walk.place.slot ≡ true → stand.ended ≡ false
     → StandsAt has snap view header.to stand (view_text header view origin)
-unfolding view_text image front_of bytes_after
-begins all has snap view header stand written head payload given held point slot open_still =
+unfolding view_text image
+begins header none all has snap view stand written head payload given held point slot open_still =
     let front : List ℕ = front_of header in
-    let front_is : bytes_after [] (begin_head header) ≡ front = sym (append-nil (bytes_after [] (begin_head header))) in
+    let front_is : bytes_after [] (heads.Begin header 0) ≡ front = begin-alone header none in
     let left : walk_left view stand.walk.place.point stand.walk.place.slot ≡ single_items view origin =
     ap (λ (p : Point). walk_left view p stand.walk.place.slot) point ∙ ap (walk_left view origin) slot ∙ all view origin in
     let rest : List ℕ = image_after front (pieces_for header.to (items view origin)) header.to in

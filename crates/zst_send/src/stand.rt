@@ -17,6 +17,7 @@ ghost use Rattle.zst_send.specs.Knowing.{IsAmong, IsOfSet};
 ghost use Rattle.zst_tree.specs.declared.tree.ObjSet.{ObjSet};
 ghost use Rattle.zst_send.specs.Standing.{Advances, Fills, StandFits, StandsAt};
 ghost use Rattle.zst_record.specs.Formats.{record_len};
+ghost use Rattle.zst_record.specs.Payload.{begin_payload};
 ghost use Rattle.zst_send.specs.Working.{IsLoaded, RoomFits, payload_size};
 ghost use Rattle.zst_stream.specs.Records.{view_text};
 ghost use Rattle.zst_traverse.specs.Cells.{choice_after};
@@ -52,9 +53,9 @@ pub(crate) struct Stand {
 }
 
 impl Stand {
-    /// A send that gives BEGIN first.
+    /// A send that gives BEGIN first, of a stream whose BEGIN has no payload.
     pub(crate) fn start(header: Header) -> Stand
-        ensures stands { (image : List ℕ) (space : FreeSectors) (snap : DatedState) (view : View) → StandsAt (Has image space) snap view header.to result (view_text header view origin) }
+        ensures stands { (image : List ℕ) (space : FreeSectors) (snap : DatedState) (view : View) → begin_payload header ≡ [] → StandsAt (Has image space) snap view header.to result (view_text header view origin) }
         ensures knows { (images : List (List ℕ)) (set : ObjSet) → IsOfSet (IsAmong images) set result }
         ensures puts { (image : List ℕ) (space : FreeSectors) (snap : DatedState) (view : View) → HasPut (Has image space) snap view [] 0 result }
         ensures fits { StandFits result }

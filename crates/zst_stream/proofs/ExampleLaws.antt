@@ -1,5 +1,5 @@
 -- The small stream can be stated.
-use Rattle.std.proofs.Common.{◌^◌, ◌-◌, refl, lit<, lit≤}
+use Rattle.std.proofs.Common.{◌^◌, ◌-◌, ◌<◌, [], length, refl, lit<, lit≤, arith}
 use Rattle.std.specs.List.{All}
 use Rattle.std.proofs.lemmas.List.Elements.{All-from_recursion}
 use Rattle.zst_model.specs.sends.Headers.{spill_block}
@@ -8,16 +8,18 @@ use Rattle.zst_model.specs.sends.Features.{sa_spill, resuming, redacts}
 use Rattle.zst_model.specs.states.State.{number_bound, is_block_size, largest_block}
 use Rattle.zst_record.specs.Decode.{is_object, is_range, is_payload_len, needs_payload}
 use Rattle.zst_record.specs.Fits.{BeginFits, ObjectFits, WriteFits, FreeFits}
+use Rattle.zst_model.specs.fields.Guids.{IsGuidSet}
+use Rattle.zst_record.specs.Payload.{bare, begin_payload, has_payload}
 use Rattle.zst_record.specs.Table.{padded}
 use Rattle.zst_stream.specs.Reading.{opened}
-use Rattle.zst_stream.specs.Image.{PiecesFit}
+use Rattle.zst_stream.specs.Image.{CanBegin, PiecesFit}
 use Rattle.zst_stream.specs.Example.{example_header, example_items, example_pieces, no_snapshot, full_choice, ExampleIsStream, ExampleCanBeSent}
 use Rattle.zst_stream.specs.Items.{Says}
 use Rattle.zst_stream.proofs.Plain.{plain_allowed}
 
-begins : BeginFits example_header 0
-unfolding is_payload_len needs_payload sa_spill resuming redacts
-begins = record {
+begins-bare : BeginFits (bare example_header) (length (begin_payload example_header))
+unfolding is_payload_len needs_payload sa_spill resuming redacts bare begin_payload has_payload
+begins-bare = record {
   features = lit< tt;
   accepted = refl;
   small_blocks = refl;
@@ -34,6 +36,17 @@ begins = record {
   no_resume = refl;
   no_redact = refl;
   no_from_redact = refl;
+}
+
+no-guids : IsGuidSet []
+no-guids = record { few = lit≤ tt; rising = refl; fit = All-from_recursion (λ guid. guid < 2 ^ 64) [] tt }
+
+begins : CanBegin example_header
+unfolding needs_payload resuming redacts begin_payload has_payload
+begins = record {
+  begins = begins-bare;
+  payload = record { resume = refl; redact = no-guids; from_redact = no-guids; redacted = refl; source = λ some. absurd (omega arith) };
+  built = refl;
 }
 
 object-fits : ObjectFits 1 19 0 512 0 0 4294967297

@@ -1,22 +1,29 @@
 -- What the covered records of a text have passed, and in which places they stand.
-use Rattle.std.proofs.Common.{◌≡◌, inl, inr, ℕ, zero, suc, ◌+◌, ◌/◌, ◌%◌, ◌^◌, ◌<◌, ◌≤◌, ◌==◌, Bool, true, false, cond, List, [], ◌∷◌, ◌++◌, length, take, drop, Option, Some, None, Ok, Err, nat_lt, refl, sym, ap, ◌∙◌, subst, arith, length-append}
-use Rattle.std.specs.Prelude.{slice_get}
+use Rattle.std.proofs.Common.{◌≡◌, inl, inr, ℕ, zero, suc, ◌+◌, ◌/◌, ◌%◌, ◌^◌, ◌<◌, ◌≤◌, ◌==◌, ◌&&◌, ◌||◌, Bool, true, false, not, cond, List, [], ◌∷◌, ◌++◌, length, take, drop, Option, Some, None, Ok, Err, nat_lt, refl, sym, ap, ◌∙◌, subst, arith, length-append, length-take}
+use Rattle.std.specs.Prelude.{bit_and, slice_get}
 use Rattle.std.specs.List.{All}
-use Rattle.std.proofs.lemmas.Bool.{cases_lt, eqb-true}
-use Rattle.std.proofs.lemmas.List.{take-append-drop, take_all, length-take-le, length-drop}
+use Rattle.std.proofs.lemmas.Bool.{and_parts, cases_eq, cases_lt, eqb-false, ne_eqb, not-true}
+use Rattle.std.proofs.lemmas.List.{nil_from_length, take-append-drop, take_all, length-take-le, length-drop}
 use Rattle.std.proofs.lemmas.List.Elements.{All-nil, All-cons, All-take, All-drop}
 use Rattle.zst_bytes.specs.Bytes.{number_at}
 use Rattle.zst_model.specs.declared.refusals.stream_fault.StreamFault.{StreamFault}
+use Rattle.zst_model.specs.declared.sends.header.Header.{Header}
+use Rattle.zst_model.specs.pools.Pool.{IsStated}
+use Rattle.zst_model.specs.sends.Features.{redacts, resuming}
+use Rattle.zst_record.specs.Payload as payloads
+use Rattle.zst_record.specs.Payload.{bare}
+use Rattle.zst_record.proofs.PayloadFields.{require-ok}
+use Rattle.zst_record.proofs.PayloadLaws.{bare-same, payload-written}
 use Rattle.zst_record.specs.declared.head.Head.{Head}
 use Rattle.zst_record.specs.declared.head.Head.TheVariants as heads
-use Rattle.zst_record.specs.Decode.{Decoded, decoded, features_in}
+use Rattle.zst_record.specs.Decode.{Decoded, decoded, features_in, needs_payload}
 use Rattle.zst_record.specs.Fits.{Fits, IsLater, BeginFits}
 use Rattle.zst_record.specs.Heads.{Covered, payload_len, size_of}
 use Rattle.zst_record.specs.Laws.{AreBytes, Begins, Follows}
 use Rattle.zst_record.proofs.FitsLaws.{begins, follows}
 use Rattle.zst_record.proofs.StatedLaws.{begin-stated}
-use Rattle.zst_stream.specs.Reading.{Reading, Ruling, Closing, wait, refuse, last, more, unless, sum_fault, is_built, not_built, opened, sealed_next, cover, finish, rule_by, closing, judged, ruling, covered_at, covered_last, after, reading_from, reading}
-use Rattle.zst_stream.specs.Passed.{StatesHeader, HasPassed, IsBegin, IsInPlace}
+use Rattle.zst_stream.specs.Reading.{Reading, Ruling, Closing, wait, refuse, last, more, unless, sum_fault, is_built, is_payload_built, begun, next_by, not_built, opened, sealed_next, cover, finish, rule_by, closing, judged, ruling, covered_at, covered_last, after, reading_from, reading}
+use Rattle.zst_stream.specs.Passed.{StatesHeader, bare_head, HasPassed, IsBegin, IsInPlace}
 use Rattle.zst_stream.proofs.Growth.{number-grown, more-fits}
 
 -- ---- what a ruling covers
@@ -28,79 +35,92 @@ Rules M L (refuse fault) = Unit {0}
 Rules M L (last head) = L head
 Rules M L (more head) = M head
 
--- what was decoded is a record but END, or END
-abbrev IsMiddle : Decoded → Head → Type 0
-IsMiddle d head = (d ≡ Ok head) × (is_built head ≡ true) × (closing head ≡ None)
+-- what was decoded is a record but END, and is this one with its payload
+record IsMiddle (rest : List ℕ) (d : Decoded) (head : Head) : Type 0 where
+  bare : Head
+  is : d ≡ Ok bare
+  built : is_built bare ≡ true
+  middle : closing bare ≡ None
+  whole : opened bare (take (payload_len bare) (drop 312 rest)) ≡ Ok head
 
+-- or END
 abbrev IsFinal : Decoded → Head → Type 0
 IsFinal d head = (d ≡ Ok head) × (is_built head ≡ true) × ((c : Closing) × (closing head ≡ Some c))
 
-abbrev IsRuled : Decoded → Ruling → Type 0
-IsRuled d r = Rules (IsMiddle d) (IsFinal d) r
+abbrev IsRuled : List ℕ → Decoded → Ruling → Type 0
+IsRuled rest d r = Rules (IsMiddle rest d) (IsFinal d) r
 
-ruled-cond : (d : Decoded) (b : Bool) (x y : Ruling) → IsRuled d x → IsRuled d y → IsRuled d (cond b x y)
-ruled-cond d true x y h k = h
-ruled-cond d false x y h k = k
+ruled-cond : (rest : List ℕ) (d : Decoded) (b : Bool) (x y : Ruling) → IsRuled rest d x → IsRuled rest d y → IsRuled rest d (cond b x y)
+ruled-cond rest d true x y h k = h
+ruled-cond rest d false x y h k = k
 
-ruled-unless : (d : Decoded) (o : Option StreamFault) (r : Ruling) → IsRuled d r → IsRuled d (unless o r)
-ruled-unless d None r h = h
-ruled-unless d (Some fault) r h = tt
+ruled-unless : (rest : List ℕ) (d : Decoded) (o : Option StreamFault) (r : Ruling) → IsRuled rest d r → IsRuled rest d (unless o r)
+ruled-unless rest d None r h = h
+ruled-unless rest d (Some fault) r h = tt
 
-ruled-by : (before rest : List ℕ) (head : Head) (o : Option Closing) → is_built head ≡ true → closing head ≡ o → IsRuled (Ok head) (rule_by before rest head o)
-unfolding cover finish opened sealed_next
-ruled-by before rest head None built is =
+ruled-next : (before rest : List ℕ) (bare : Head) (d : Decoded) → is_built bare ≡ true → closing bare ≡ None → opened bare (take (payload_len bare) (drop 312 rest)) ≡ d
+    → IsRuled rest (Ok bare) (next_by before rest d)
+unfolding sealed_next
+ruled-next before rest bare (Ok head) built middle whole =
     let end = size_of head + 280 in
-    ruled-cond (Ok head) (nat_lt (length rest) (size_of head)) wait _ tt
-    (ruled-cond (Ok head) (nat_lt (length rest) (size_of head + 312)) wait _ tt (ruled-unless (Ok head) (sum_fault before rest end end) (more head) (refl, built, is)))
-ruled-by before rest head (Some c) built is =
-    ruled-unless (Ok head) (sum_fault before rest 0 8) _
-    (ruled-cond (Ok head) (c.to == number_at before 40 8) (last head) (refuse (not_built before)) (refl, built, (c, is)) tt)
+    ruled-cond rest (Ok bare) (nat_lt (length rest) (size_of head + 312)) wait _ tt
+    (ruled-unless rest (Ok bare) (sum_fault before rest end end) (more head) (record { bare = bare; is = refl; built = built; middle = middle; whole = whole }))
+ruled-next before rest bare (Err fault) built middle whole = tt
 
-ruled-judged : (before rest : List ℕ) (d : Decoded) → IsRuled d (judged before rest d)
+ruled-by : (before rest : List ℕ) (head : Head) (o : Option Closing) → is_built head ≡ true → closing head ≡ o → IsRuled rest (Ok head) (rule_by before rest head o)
+unfolding cover finish
+ruled-by before rest head None built is =
+    ruled-cond rest (Ok head) (nat_lt (length rest) (size_of head)) wait _ tt
+    (ruled-next before rest head (opened head (take (payload_len head) (drop 312 rest))) built is refl)
+ruled-by before rest head (Some c) built is =
+    ruled-unless rest (Ok head) (sum_fault before rest 0 8) _
+    (ruled-cond rest (Ok head) (c.to == number_at before 40 8) (last head) (refuse (not_built before)) (refl, built, (c, is)) tt)
+
+ruled-judged : (before rest : List ℕ) (d : Decoded) → IsRuled rest d (judged before rest d)
 ruled-judged before rest (Ok head) = by_test (is_built head) refl
   where
-    by_test : (b : Bool) → is_built head ≡ b → IsRuled (Ok head) (cond b (rule_by before rest head (closing head)) (refuse (not_built before)))
+    by_test : (b : Bool) → is_built head ≡ b → IsRuled rest (Ok head) (cond b (rule_by before rest head (closing head)) (refuse (not_built before)))
     by_test true built = ruled-by before rest head (closing head) built refl
     by_test false built = tt
 ruled-judged before rest (Err fault) = tt
 
 -- what is covered was decoded from its 312 bytes
-is-ruled : (before rest : List ℕ) (r : Ruling) → ruling before rest ≡ r → IsRuled (decoded (length before) (features_in before) (take 312 rest)) r
+is-ruled : (before rest : List ℕ) (r : Ruling) → ruling before rest ≡ r → IsRuled rest (decoded (length before) (features_in before) (take 312 rest)) r
 unfolding ruling
 is-ruled before rest r is =
     let d = decoded (length before) (features_in before) (take 312 rest) in
-    subst (IsRuled d) is (ruled-cond d (nat_lt (length rest) 312) wait (judged before rest d) tt (ruled-judged before rest d))
+    subst (IsRuled rest d) is (ruled-cond rest d (nat_lt (length rest) 312) wait (judged before rest d) tt (ruled-judged before rest d))
 
 -- ---- what was decoded
 
--- a record that fits, in its place
+-- a BEGIN whose name is bytes
+abbrev HasName : Head → Type 0
+HasName (heads.Begin header len) = AreBytes header.name
+HasName head = Unit {0}
+
+-- a record that fits by its 312 bytes, in its place
 record IsSound (features place : ℕ) (head : Head) : Type 0 where
   fits : Fits features head
-  stated : is_built head ≡ true → StatesHeader head
+  name : HasName head
   first : place ≡ 0 → IsBegin head
   later : 0 < place → IsLater head
 
-states-later : (head : Head) → IsLater head → StatesHeader head
-states-later (heads.Begin header len) is = absurd is
-states-later (heads.Object object kind bonus_kind block_size bonus_len max_block to) is = tt
-states-later (heads.FreeObjects first count to) is = tt
-states-later (heads.Write object kind offset size to) is = tt
-states-later (heads.Free object offset size to) is = tt
-states-later (heads.End sums to) is = tt
-states-later (heads.Spill object size to) is = tt
-states-later (heads.Redact object offset size to) is = tt
+later-name : (head : Head) → IsLater head → HasName head
+later-name (heads.Begin header len) is = absurd is
+later-name (heads.Object object kind bonus_kind block_size bonus_len max_block to) is = tt
+later-name (heads.FreeObjects first count to) is = tt
+later-name (heads.Write object kind offset size to) is = tt
+later-name (heads.Free object offset size to) is = tt
+later-name (heads.End sums to) is = tt
+later-name (heads.Spill object size to) is = tt
+later-name (heads.Redact object offset size to) is = tt
 
 sound-later : (features place : ℕ) (head : Head) → 0 < place → Follows features head → IsSound features place head
 sound-later features place head some f =
-    record { fits = f.1; stated = λ built. states-later head f.0; first = λ none. absurd (omega arith); later = λ also. f.0 }
+    record { fits = f.1; name = later-name head f.0; first = λ none. absurd (omega arith); later = λ also. f.0 }
 
 sound-begin : (features : ℕ) (head : Head) → Begins features head → IsSound features 0 head
-sound-begin features (heads.Begin header len) b = record {
-  fits = b.0;
-  stated = λ built. begin-stated header (subst (BeginFits header) (eqb-true len 0 built) b.0.1) b.1;
-  first = λ none. tt;
-  later = λ some. absurd (omega arith);
-}
+sound-begin features (heads.Begin header len) b = record { fits = b.0; name = b.1; first = λ none. tt; later = λ some. absurd (omega arith) }
 sound-begin features (heads.Object object kind bonus_kind block_size bonus_len max_block to) b = absurd b
 sound-begin features (heads.FreeObjects first count to) b = absurd b
 sound-begin features (heads.Write object kind offset size to) b = absurd b
@@ -108,6 +128,105 @@ sound-begin features (heads.Free object offset size to) b = absurd b
 sound-begin features (heads.End sums to) b = absurd b
 sound-begin features (heads.Spill object size to) b = absurd b
 sound-begin features (heads.Redact object offset size to) b = absurd b
+
+-- ---- with its payload
+
+-- a record that has passed, in its place
+record IsWhole (features place : ℕ) (head : Head) : Type 0 where
+  fits : Fits features (bare_head head)
+  built : is_built head ≡ true
+  stated : StatesHeader head
+  first : place ≡ 0 → IsBegin head
+  later : 0 < place → IsLater head
+  middle : closing head ≡ None
+
+-- no payload without the feature
+none-built : (features len : ℕ) → ((len == 0) || is_payload_built features) ≡ true → bit_and features resuming ≡ 0 → len ≡ 0
+unfolding is_payload_built
+none-built features len built none = elim (cases_eq len 0) [
+  | inl empty ↦ empty
+  | inr some ↦
+      let needs : (not (bit_and features resuming == 0) && (bit_and features redacts == 0)) ≡ true = rw (ne_eqb len 0 some) at built in
+      let resumed = not-true _ (and_parts (not (bit_and features resuming == 0)) (bit_and features redacts == 0) needs).0 in
+      absurd (eqb-false (bit_and features resuming) 0 resumed none)
+]
+
+-- what BEGIN says without a payload
+opened-empty : (header said : Header) → payloads.opened header [] ≡ Ok said → header ≡ said
+unfolding payloads.opened
+opened-empty header said is = let e = require-ok (not (needs_payload header.features)) _ (Ok header) said is in cc e.1
+
+begin-kept : (header said : Header) (len : ℕ) (payload : List ℕ) → BeginFits header len → AreBytes header.name → ((len == 0) || is_payload_built header.features) ≡ true
+    → length payload ≤ len → payloads.opened header payload ≡ Ok said → bit_and said.features resuming ≡ 0 → said.features ≡ header.features → IsStated said
+begin-kept header said len payload fits name built short is none same =
+    let empty : len ≡ 0 = none-built header.features len built (ap (λ (n : ℕ). bit_and n resuming) (sym same) ∙ none) in
+    let nothing : payload ≡ [] = nil_from_length payload (omega arith) in
+    let again : header ≡ said = opened-empty header said (ap (payloads.opened header) (sym nothing) ∙ is) in
+    subst IsStated again (begin-stated header (subst (BeginFits header) empty fits) name)
+
+whole-begin : (features place len : ℕ) (header said : Header) (payload : List ℕ) → AreBytes payload → length payload ≤ len → IsSound features place (heads.Begin header len)
+    → is_built (heads.Begin header len) ≡ true → payloads.opened header payload ≡ Ok said → IsWhole features place (heads.Begin said len)
+unfolding bare
+whole-begin features place len header said payload all short sound built is =
+    let fits = sound.fits.1 in
+    let alone : bare header ≡ header = bare-same header fits.no_resume fits.no_redact fits.no_from_redact in
+    let has = payload-written header said payload all (ap (λ (h : Header). payloads.opened h payload) alone ∙ is) in
+    let same : bare said ≡ header = has.over ∙ alone in
+    let kind : said.features ≡ header.features = ap (λ (h : Header). h.features) same in
+    record {
+      fits = subst (λ (h : Header). (features ≡ h.features) × BeginFits h len) (sym same) sound.fits;
+      built = ap (λ (n : ℕ). (len == 0) || is_payload_built n) kind ∙ built;
+      stated = record {
+        payload = has.stated;
+        kept = λ none. begin-kept header said len payload fits sound.name built short is none kind;
+      };
+      first = λ none. tt;
+      later = λ some. sound.later some;
+      middle = refl;
+    }
+
+begun-is : (features place len : ℕ) (whole : Head) (o : payloads.Opened) → begun len o ≡ Ok whole
+    → ((said : Header) → o ≡ Ok said → IsWhole features place (heads.Begin said len)) → IsWhole features place whole
+begun-is features place len whole (Ok said) is each = let same : heads.Begin said len ≡ whole = cc is in subst (IsWhole features place) same (each said refl)
+begun-is features place len whole (Err fault) is each = absurd (cc is)
+
+-- a record other than BEGIN says with its payload what it says without
+whole-later : (features place : ℕ) (head whole : Head) → bare_head head ≡ head → StatesHeader head → IsSound features place head → is_built head ≡ true → closing head ≡ None
+    → head ≡ whole → IsWhole features place whole
+whole-later features place head whole alone states sound built middle same =
+    subst (IsWhole features place) same (record {
+      fits = subst (Fits features) (sym alone) sound.fits;
+      built = built;
+      stated = states;
+      first = sound.first;
+      later = sound.later;
+      middle = middle;
+    })
+
+is-whole : (features place : ℕ) (head whole : Head) (payload : List ℕ) → AreBytes payload → length payload ≤ payload_len head → IsSound features place head → is_built head ≡ true
+    → closing head ≡ None → opened head payload ≡ Ok whole → IsWhole features place whole
+unfolding opened
+is-whole features place (heads.Begin header len) whole payload all short sound built middle is =
+    begun-is features place len whole (payloads.opened header payload) is (λ said e. whole-begin features place len header said payload all short sound built e)
+is-whole features place (heads.Object object kind bonus_kind block_size bonus_len max_block to) whole payload all short sound built middle is =
+    whole-later features place _ whole refl tt sound built middle (cc is)
+is-whole features place (heads.FreeObjects first count to) whole payload all short sound built middle is = whole-later features place _ whole refl tt sound built middle (cc is)
+is-whole features place (heads.Write object kind offset size to) whole payload all short sound built middle is = whole-later features place _ whole refl tt sound built middle (cc is)
+is-whole features place (heads.Free object offset size to) whole payload all short sound built middle is = whole-later features place _ whole refl tt sound built middle (cc is)
+is-whole features place (heads.End sums to) whole payload all short sound built middle is = absurd cc
+is-whole features place (heads.Spill object size to) whole payload all short sound built middle is = whole-later features place _ whole refl tt sound built middle (cc is)
+is-whole features place (heads.Redact object offset size to) whole payload all short sound built middle is = absurd (cc built)
+
+-- END says with nothing what it says
+final : (head : Head) (c : Closing) → closing head ≡ Some c → (bare_head head ≡ head) × StatesHeader head
+final (heads.Begin header len) c is = absurd cc
+final (heads.Object object kind bonus_kind block_size bonus_len max_block to) c is = absurd cc
+final (heads.FreeObjects first count to) c is = absurd cc
+final (heads.Write object kind offset size to) c is = absurd cc
+final (heads.Free object offset size to) c is = absurd cc
+final (heads.End sums to) c is = (refl, tt)
+final (heads.Spill object size to) c is = absurd cc
+final (heads.Redact object offset size to) c is = absurd cc
 
 -- END has no payload
 last-empty : (head : Head) (c : Closing) → closing head ≡ Some c → 0 ≡ payload_len head
@@ -127,29 +246,34 @@ record Stands (features place count : ℕ) (c : Covered) : Type 0 where
   passed : HasPassed features c
   in_place : IsInPlace place count c
 
-module _ (features index : ℕ) (before rest : List ℕ) (sound : (head : Head) → decoded (length before) (features_in before) (take 312 rest) ≡ Ok head → IsSound features index head) where
+module _ (features index : ℕ) (before rest : List ℕ) (all : AreBytes rest) (sound : (head : Head) → decoded (length before) (features_in before) (take 312 rest) ≡ Ok head → IsSound features index head) where
   last-stands : (head : Head) (count place : ℕ) → ruling before rest ≡ last head → count ≡ index + 1 → place ≡ index → Stands features place count (covered_last index before head)
   last-stands head count place is counted at =
       let f = is-ruled before rest (last head) is in
       let s = sound head f.0 in
+      let end = final head f.2.0 f.2.1 in
       record {
-        passed = record { fits = s.fits; built = f.1; len = last-empty head f.2.0 f.2.1; stated = s.stated f.1 };
+        passed = record { fits = subst (Fits features) (sym end.0) s.fits; built = f.1; len = last-empty head f.2.0 f.2.1; stated = end.1 };
         in_place = record { index = sym at; first = λ none. s.first (omega arith); later = λ some. s.later (omega arith); last = inr (omega arith) };
       }
 
   more-stands : (head : Head) (count place : ℕ) → ruling before rest ≡ more head → place ≡ index → Stands features place count (covered_at index before rest head)
   more-stands head count place is at =
       let f = is-ruled before rest (more head) is in
-      let s = sound head f.0 in
+      let payload = take (payload_len f.bare) (drop 312 rest) in
+      let bytes : AreBytes payload =
+      All-take (λ byte. byte < 2 ^ 8) (payload_len f.bare) (drop 312 rest) (All-drop (λ byte. byte < 2 ^ 8) 312 rest all) in
+      let short : length payload ≤ payload_len f.bare = omega (arith, length-take (payload_len f.bare) (drop 312 rest)) in
+      let s = is-whole features index f.bare head payload bytes short (sound f.bare f.is) f.built f.middle f.whole in
       let room = more-fits before rest head is in
       record {
         passed = record {
           fits = s.fits;
-          built = f.1;
+          built = s.built;
           len = length-take-le (payload_len head) (drop 312 rest) (omega (arith, length-drop 312 rest));
-          stated = s.stated f.1;
+          stated = s.stated;
         };
-        in_place = record { index = sym at; first = λ none. s.first (omega arith); later = λ some. s.later (omega arith); last = inl f.2 };
+        in_place = record { index = sym at; first = λ none. s.first (omega arith); later = λ some. s.later (omega arith); last = inl s.middle };
       }
 
   after-stands : (next : Head → Reading) (count k place : ℕ) (c : Covered) (r : Ruling) → ruling before rest ≡ r → count ≡ index + length (after index before rest r next).covered → place ≡ index + k
@@ -185,7 +309,7 @@ unfolding reading_from
 stands-from features zero index before rest count k place c some long is all counted at there = absurd cc
 stands-from features (suc fuel) index before rest count k place c some long is all counted at there =
     let front : AreBytes (take 312 rest) = All-take (λ byte. byte < 2 ^ 8) 312 rest all in
-    after-stands features index before rest
+    after-stands features index before rest all
     (λ head d. sound-later features index head some
     (follows (length before) features (take 312 rest) head front (omega arith) (subst (λ (n : ℕ). decoded (length before) n (take 312 rest) ≡ Ok head) is d)))
     (λ head. reading_from fuel (index + 1) (before ++ take (size_of head) rest) (drop (size_of head) rest)) count k place c (ruling before rest) refl counted at there
@@ -200,7 +324,7 @@ stands-first zero text count k c all counted there = absurd cc
 stands-first (suc fuel) text count k c all counted there =
     let features = features_in text in
     let front : AreBytes (take 312 text) = All-take (λ byte. byte < 2 ^ 8) 312 text all in
-    after-stands features 0 [] text
+    after-stands features 0 [] text all
     (λ head d. sound-begin features head (subst (λ (n : ℕ). Begins n head) (features-front 312 text (omega arith)) (begins (features_in []) (take 312 text) head front d)))
     (λ head. reading_from fuel 1 (take (size_of head) text) (drop (size_of head) text)) count k k c (ruling [] text) refl (omega arith) (omega arith) there
     (λ head j ruled counted at there.

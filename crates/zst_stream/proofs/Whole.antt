@@ -12,13 +12,15 @@ use Rattle.zst_record.specs.declared.head.Head.{Head}
 use Rattle.zst_record.specs.declared.head.Head.TheVariants as heads
 use Rattle.zst_record.specs.Heads.{payload_len, size_of}
 use Rattle.zst_record.specs.Table.{head_bytes, sealed_bytes}
-use Rattle.zst_record.specs.Fits.{Fits, IsLater, SumsFit}
+use Rattle.zst_record.specs.Fits.{BeginFits, Fits, IsLater, SumsFit}
+use Rattle.zst_record.specs.Payload.{StatesPayload, bare, begin_payload}
+use Rattle.zst_record.proofs.PayloadLaws.{payload-read}
 use Rattle.zst_record.specs.Decode.{sums_at, decoded, features_in}
 use Rattle.zst_record.proofs.TableLaws.{length-head, length-end, length-sealed, sealed-front, sealed-sums, end-states, begin-features, begin-to}
 use Rattle.zst_record.proofs.DecodeLaws.{later-back}
 use Rattle.zst_record.proofs.BeginLaws.{begin-back}
-use Rattle.zst_stream.specs.Reading.{Reading, FrontOf, last, more, waiting, complete, same_sums, sum_fault, is_built, cover, finish, ruling, closing, opened, after, reading_from, reading, prepend, sealed_next}
-use Rattle.zst_stream.specs.Image.{Piece, record_after, piece_after, end_after, image_after, front_of, begin_head, begin_payload, image, covers_after, covers, PiecesFit, IsStream}
+use Rattle.zst_stream.specs.Reading.{Reading, FrontOf, last, more, waiting, complete, same_sums, sum_fault, is_built, cover, finish, ruling, closing, begun, opened, after, reading_from, reading, prepend, sealed_next}
+use Rattle.zst_stream.specs.Image.{Piece, record_after, piece_after, end_after, image_after, front_of, begin_head, image, covers_after, covers, PiecesFit, IsStream}
 use Rattle.zst_stream.proofs.Growth.{number-grown, front}
 use Rattle.zst_stream.specs.Laws.{piece_of, all_pieces}
 
@@ -212,30 +214,59 @@ whole-from (p ∷ ps) (suc fuel) index before features to room b small fit =
     (ap (prepend (record { head = p.head; at = length before; index = index; payload = p.payload } ∷ []))
     (whole-from ps fuel (index + 1) (before ++ r) features to (omega arith) (begun-on before r features to b) small fit.1))
 
--- BEGIN is judged by nothing before it
-begin-opened : (header : Header) (len : ℕ) (payload : List ℕ) → opened (heads.Begin header len) payload ≡ Ok (heads.Begin header len)
+-- BEGIN says with its payload the whole header
+begin-opened : (header : Header) (len : ℕ) → StatesPayload header → opened (heads.Begin (bare header) len) (begin_payload header) ≡ Ok (heads.Begin header len)
 unfolding opened
-begin-opened header len payload = refl
+begin-opened header len states = ap (begun len) (payload-read header states)
+
+-- its 312 bytes say no more of it than the bare header
+begin-bare : (header : Header) (len : ℕ) → head_bytes (heads.Begin (bare header) len) ≡ head_bytes (heads.Begin header len)
+unfolding head_bytes bare
+begin-bare header len = refl
+
+begin-decoded : (features : ℕ) (header : Header) (len : ℕ) → BeginFits (bare header) len → decoded 0 features (head_bytes (heads.Begin header len)) ≡ Ok (heads.Begin (bare header) len)
+begin-decoded features header len fits =
+    ap (decoded 0 features) (sym (begin-bare header len)) ∙ begin-back features (bare header) len fits
+
+bare-built : (header : Header) (len : ℕ) → is_built (heads.Begin header len) ≡ true → is_built (heads.Begin (bare header) len) ≡ true
+unfolding bare
+bare-built header len built = built
+
+-- what later records are judged by stands in BEGIN
+begin-begun : (header : Header) (len : ℕ) (payload : List ℕ) → BeginFits (bare header) len → Begun (head_bytes (heads.Begin header len) ++ payload) header.features header.to
+unfolding bare
+begin-begun header len payload fits =
+    let bytes = head_bytes (heads.Begin (bare header) len) in
+    let size = length-head (bare header).features (heads.Begin (bare header) len) (refl, fits) in
+    subst (λ (bytes : List ℕ). Begun (bytes ++ payload) header.features header.to) (begin-bare header len) (begun-on bytes payload header.features header.to (record {
+      long = omega arith;
+      features_is = begin-features (bare header) len fits;
+      to_is = begin-to (bare header) len fits;
+    }))
+
+pub small-to : (header : Header) (len : ℕ) → BeginFits (bare header) len → header.to < 2 ^ 64
+unfolding bare
+small-to header len fits = fits.to
 
 -- an image is read as its records
 pub whole : (header : Header) (ps : List Piece) → IsStream header ps → reading (image header ps) ≡ record { covered = covers header ps; outcome = complete }
 unfolding reading reading_from after image covers front_of
 whole header ps s =
     let payload = begin_payload header in
+    let len = length payload in
+    let fits = s.begins.begins in
+    let small : header.to < 2 ^ 64 = small-to header len fits in
     let head = begin_head header in
+    let alone = heads.Begin (bare header) len in
     let bytes = head_bytes head in
     let r = bytes ++ payload in
     let rest = image_after r ps header.to in
-    let size = length-head header.features head (refl, s.begins) in
+    let size : length bytes ≡ 312 = ap length (sym (begin-bare header len)) ∙ length-head (bare header).features alone (refl, fits) in
     let all : length r ≡ size_of head = omega (arith, length-append bytes payload) in
-    let begun : Begun r header.features header.to = begun-on bytes payload header.features header.to (record {
-      long = omega arith;
-      features_is = begin-features header (length payload) s.begins;
-      to_is = begin-to header (length payload) s.begins;
-    }) in
+    let begun : Begun r header.features header.to = begin-begun header len payload fits in
     let ruled : ruling [] (r ++ rest) ≡ more head =
-    ruling-piece [] bytes payload rest head head size (begin-back (features_in []) header (length payload) s.begins) refl refl refl (begin-opened header (length payload) payload) refl
-    (image-opens r ps header.features header.to s.pieces_fit s.begins.to) in
+    ruling-piece [] bytes payload rest alone head size (begin-decoded (features_in []) header len fits) (bare-built header len s.begins.built) refl refl
+    (begin-opened header len s.begins.payload) refl (image-opens r ps header.features header.to s.pieces_fit small) in
     let body : take (payload_len head) (drop 312 (r ++ rest)) ≡ payload =
     ap (λ (t : List ℕ). take (payload_len head) (drop 312 t)) (append_assoc bytes payload rest)
     ∙ ap (take (payload_len head)) (drop_at bytes (payload ++ rest) 312 size) ∙ take_at payload rest (payload_len head) refl in
@@ -243,7 +274,7 @@ whole header ps s =
     let room : length ps < length (r ++ rest) = omega (arith, length-append r rest) in
     rw (add-one, ruled, body, take_at r rest (size_of head) all, drop_at r rest (size_of head) all)
     (ap (prepend (record { head = head; at = 0; index = 0; payload = payload } ∷ []))
-    (whole-from ps (length (r ++ rest)) 1 r header.features header.to room begun s.begins.to s.pieces_fit))
+    (whole-from ps (length (r ++ rest)) 1 r header.features header.to room begun small s.pieces_fit))
 
 -- a front of an image
 pub front_whole : (header : Header) (ps : List Piece) (text later : List ℕ) → IsStream header ps → text ++ later ≡ image header ps

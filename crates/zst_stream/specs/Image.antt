@@ -6,6 +6,7 @@ use Rattle.zst_record.specs.declared.head.Head.{Head}
 use Rattle.zst_record.specs.declared.head.Head.TheVariants as heads
 use Rattle.zst_record.specs.Formats.{summed_len}
 use Rattle.zst_record.specs.Heads.{Covered, payload_len}
+use Rattle.zst_record.specs.Payload.{StatesPayload, bare, begin_payload}
 use Rattle.zst_record.specs.Table.{head_bytes, sealed_bytes}
 use Rattle.zst_record.specs.Fits.{Fits, IsLater, BeginFits}
 use Rattle.zst_stream.specs.Reading.{closing, is_built, opened}
@@ -30,10 +31,6 @@ end_after before to = heads.End (parts_of (weight_sum before)) to
 unfoldable pub image_after : List ℕ → List Piece → ℕ → List ℕ
 image_after before [] to = record_after before (end_after before to)
 image_after before (p ∷ ps) to = piece_after before p ++ image_after (before ++ piece_after before p) ps to
-
--- BEGIN's payload: streams that have one aren't built yet
-abbrev pub begin_payload : Header → List ℕ
-begin_payload header = []
 
 -- BEGIN as the writer states it
 abbrev pub begin_head : Header → Head
@@ -72,7 +69,13 @@ abbrev pub PiecesFit : ℕ → List Piece → Type 0
 PiecesFit features [] = Unit {0}
 PiecesFit features (p ∷ ps) = PieceFits features p × PiecesFit features ps
 
+-- a header that BEGIN states with its payload, in a form that is built
+pub record CanBegin (header : Header) : Type 0 where
+  pub begins : BeginFits (bare header) (length (begin_payload header))
+  pub payload : StatesPayload header
+  pub built : is_built (begin_head header) ≡ true
+
 -- a header and pieces that a stream can state
 pub record IsStream (header : Header) (pieces : List Piece) : Type 0 where
-  pub begins : BeginFits header (length (begin_payload header))
+  pub begins : CanBegin header
   pub pieces_fit : PiecesFit header.features pieces

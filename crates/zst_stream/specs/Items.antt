@@ -15,10 +15,10 @@ use Rattle.zst_model.specs.sends.Items.{items}
 use Rattle.zst_model.specs.sends.View.{view_of}
 use Rattle.zst_record.specs.declared.head.Head.{Head}
 use Rattle.zst_record.specs.declared.head.Head.TheVariants as heads
-use Rattle.zst_record.specs.Fits.{Fits, BeginFits}
+use Rattle.zst_record.specs.Fits.{Fits}
 use Rattle.zst_record.specs.Formats.{to_end}
 use Rattle.zst_record.specs.Heads.{Covered, payload_len}
-use Rattle.zst_stream.specs.Image.{IsStream, begin_payload, image}
+use Rattle.zst_stream.specs.Image.{CanBegin, IsStream, image}
 use Rattle.zst_stream.specs.Reading.{reading, complete}
 use Rattle.zst_stream.specs.Records.{Allows, item_head, item_payload, pieces_for, view_text}
 
@@ -71,7 +71,7 @@ ItemsAreRead =
 -- allow each item
 pub record CanSend (header : Header) (snap : DatedState) (choice : Choice) (point : Point) : Type 0 where
   pub lawful : IsState snap.state
-  pub begins : BeginFits header (length (begin_payload header))
+  pub begins : CanBegin header
   pub flags : keeps_spill header.flags ≡ false
   pub allowed : All (Allows header.features) (items (view_of header snap choice) point)
 

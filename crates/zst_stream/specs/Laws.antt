@@ -5,7 +5,8 @@ use Rattle.zst_record.specs.declared.head.Head.TheVariants as heads
 use Rattle.zst_record.specs.Heads.{Covered}
 use Rattle.zst_stream.specs.Reading.{reading, FrontOf, waiting, complete}
 use Rattle.zst_stream.specs.Findings.{FindsAtEnd}
-use Rattle.zst_stream.specs.Image.{begin_head, begin_payload, Piece, IsStream, image, image_after, piece_after, covers}
+use Rattle.zst_record.specs.Payload.{begin_payload}
+use Rattle.zst_stream.specs.Image.{begin_head, Piece, IsStream, image, image_after, piece_after, covers}
 
 -- However a text goes on, the reading of a front of it is a front of its reading.
 abbrev pub FrontsAgree : Type 0

@@ -1,22 +1,35 @@
 -- What the covered records of a text have passed, and in which places they stand.
-use Rattle.std.specs.Prelude.{ℕ, ◌+◌, ◌≡◌, ◌⊎◌, ◌<◌, true, List, length, Some, None, slice_get, All}
+use Rattle.std.specs.Prelude.{ℕ, ◌+◌, ◌≡◌, ◌⊎◌, ◌<◌, true, List, length, Some, None, slice_get, bit_and, All}
+use Rattle.zst_model.specs.declared.sends.header.Header.{Header}
 use Rattle.zst_model.specs.pools.Pool.{IsStated}
+use Rattle.zst_model.specs.sends.Features.{resuming}
 use Rattle.zst_record.specs.declared.head.Head.{Head}
 use Rattle.zst_record.specs.declared.head.Head.TheVariants as heads
 use Rattle.zst_record.specs.Decode.{features_in}
 use Rattle.zst_record.specs.Fits.{Fits, IsLater}
 use Rattle.zst_record.specs.Heads.{Covered, payload_len}
 use Rattle.zst_record.specs.Laws.{AreBytes}
+use Rattle.zst_record.specs.Payload.{StatesPayload, bare}
 use Rattle.zst_stream.specs.Reading.{reading, closing, is_built}
 
--- a header that can be stated, where the record is BEGIN
+-- a header that BEGIN states with its payload: one that a pool can keep where the stream isn't resumed
+pub record StatesBegin (header : Header) : Type 0 where
+  pub payload : StatesPayload header
+  pub kept : bit_and header.features resuming ≡ 0 → IsStated header
+
+-- such a header, where the record is BEGIN
 abbrev pub StatesHeader : Head → Type 0
-StatesHeader (heads.Begin header len) = IsStated header
+StatesHeader (heads.Begin header len) = StatesBegin header
 StatesHeader head = Unit {0}
 
--- a record that fits a stream with these features (a BEGIN has these) and is of a form that is built, with a payload as long as it says
+-- the record as its 312 bytes alone say it
+abbrev pub bare_head : Head → Head
+bare_head (heads.Begin header len) = heads.Begin (bare header) len
+bare_head head = head
+
+-- a record that fits a stream with these features (a BEGIN has these) by its 312 bytes and is of a form that is built, with a payload as long as it says
 pub record HasPassed (features : ℕ) (c : Covered) : Type 0 where
-  pub fits : Fits features c.head
+  pub fits : Fits features (bare_head c.head)
   pub built : is_built c.head ≡ true
   pub len : length c.payload ≡ payload_len c.head
   pub stated : StatesHeader c.head

@@ -1,11 +1,14 @@
 -- A stream, read from its front: which records are covered, and how the reading ends.
-use Rattle.std.specs.Prelude.{ℕ, ◌+◌, ◌==◌, ◌&&◌, ◌≡◌, ◌⊎◌, Bool, true, false, if◌then◌else◌, List, [], ◌∷◌, ◌++◌, length, take, drop, Option, Some, None, Ok, Err, nat_lt, slice_index, zero, suc}
+use Rattle.std.specs.Prelude.{ℕ, ◌+◌, ◌==◌, ◌&&◌, ◌||◌, ◌≡◌, ◌⊎◌, Bool, true, false, not, if◌then◌else◌, List, [], ◌∷◌, ◌++◌, length, take, drop, Option, Some, None, Ok, Err, nat_lt, slice_index, bit_and, zero, suc}
 use Rattle.zst_fletcher.specs.WeightSum.{weight_sum, parts_of}
 use Rattle.zst_bytes.specs.Bytes.{number_at}
 use Rattle.zst_model.specs.declared.refusals.faults.Lack.TheVariants as lacks
+use Rattle.zst_model.specs.sends.Features.{redacts, resuming}
 use Rattle.zst_record.specs.Formats.{record_len, summed_len}
 use Rattle.zst_record.specs.Heads.{Covered, payload_len, size_of}
 use Rattle.zst_record.specs.Decode.{Decoded, sums_at, decoded, features_in}
+use Rattle.zst_record.specs.Payload as payloads
+use Rattle.zst_record.specs.Payload.{Opened}
 use Rattle.zst_record.specs.declared.head.Head.{Head}
 use Rattle.zst_record.specs.declared.head.Head.TheVariants as heads
 use Rattle.zst_model.specs.declared.refusals.stream_fault.StreamFault.{StreamFault}
@@ -62,9 +65,13 @@ sum_fault before rest n place = compared (length before + place) (sums_at rest p
 abbrev pub not_built : List ℕ → StreamFault
 not_built before = Unsupported (length before) lacks.NotBuilt
 
+-- a payload of BEGIN is built where the stream is resumed and isn't redacted
+unfoldable pub is_payload_built : ℕ → Bool
+is_payload_built features = not (bit_and features resuming == 0) && (bit_and features redacts == 0)
+
 -- the forms that are built
 abbrev pub is_built : Head → Bool
-is_built (heads.Begin header len) = len == 0
+is_built (heads.Begin header len) = (len == 0) || is_payload_built header.features
 is_built (heads.Object object kind bonus_kind block_size bonus_len max_block to) = true
 is_built (heads.FreeObjects first count to) = true
 is_built (heads.Write object kind offset size to) = true
@@ -89,8 +96,14 @@ closing (heads.End sums to) = Some (record { sums = sums; to = to })
 closing (heads.Spill object size to) = None
 closing (heads.Redact object offset size to) = None
 
--- the record with what its payload says beside: only BEGIN's payload says more, and such streams aren't built yet
+-- BEGIN with the header that it says with its payload
+abbrev pub begun : ℕ → Opened → Decoded
+begun len (Ok header) = Ok (heads.Begin header len)
+begun len (Err fault) = Err fault
+
+-- the record with what its payload says beside: only BEGIN's payload says more
 unfoldable pub opened : Head → List ℕ → Decoded
+opened (heads.Begin header len) payload = begun len (payloads.opened header payload)
 opened head payload = Ok head
 
 -- A record but END is covered once the next record is there with the right checksum.

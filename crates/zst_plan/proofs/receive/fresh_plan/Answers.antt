@@ -1,7 +1,14 @@
-use Rattle.std.proofs.Common.{◌∙◌, Ok, sym, ap}
+use Rattle.std.proofs.Common.{◌≡◌, ◌==◌, ◌∙◌, ℕ, List, Result, Ok, Err, inl, inr, sym, ap}
+use Rattle.std.specs.Prelude.{bit_and}
+use Rattle.std.proofs.lemmas.Bool.{cases_Bool, eqb-true}
+use Rattle.zst_model.specs.declared.refusals.faults.Lack.TheVariants as lacks
+use Rattle.zst_model.specs.declared.refusals.plan_fault.PlanFault.{PlanFault}
+use Rattle.zst_model.specs.declared.refusals.plan_fault.PlanFault.TheVariants as faults
+use Rattle.zst_model.specs.declared.sends.header.Header.{Header}
+use Rattle.zst_model.specs.sends.Features.{resuming}
 use Rattle.zst_model.specs.states.Apply.{◌>>=◌}
 use Rattle.zst_plan.specs.Receipts.{IsBaseOf, IsRecvPlanOf}
-use Rattle.zst_plan.specs.RecvPlan.{Begins, base_for, fresh_plan, if_new, if_room, snapshot_name}
+use Rattle.zst_plan.specs.RecvPlan.{Begins, RecvPlan, base_for, fresh_plan, if_new, if_plain, if_room, snapshot_name}
 use Rattle.zst_plan.specs.declared.receive.RecvPlan.TheVariants as plans
 use Rattle.zst_plan.proofs.Chain.{err_alike, ok_alike}
 use Rattle.zst_plan.proofs.Receiving.{answers, refuses, with_base}
@@ -78,3 +85,19 @@ returns-clause-exact c = λ pool component are tells named.
     ∙ ap (λ n. if_new n pool last) (sym named) ∙ c.in_ok-check_new.ensures.exact pool last are
     ∙ c.in_ok-check_room.ensures pool (Ok (Begins component b.0)) are)
     (named, b.2.0, b.2.1)
+
+-- an answer that no check of E14 gives
+abbrev other : Result RecvPlan PlanFault
+other = Err (faults.Unsupported lacks.NotBuilt)
+
+-- what passes the check of E14 is no resumed stream
+passes_plain : (target : List ℕ) (header : Header) → if_plain target header other ≡ other → bit_and header.features resuming ≡ 0
+passes_plain target header is = elim (cases_Bool (bit_and header.features resuming == 0)) [
+  | inl none ↦ eqb-true (bit_and header.features resuming) 0 none
+  | inr some ↦
+      let refused : Err (faults.NoPartial target) ≡ other = rw some at is in
+      absurd (cc refused)
+]
+
+pub returns-clause-plain : goal.returns-clause-plain
+returns-clause-plain c = passes_plain c.args.ask.now.target c.args.header.now (c.in_ok-check_plain.ensures other)

@@ -1,6 +1,6 @@
-use Rattle.std.proofs.Common.{◌≡◌, None, rules}
-use Rattle.zst_stream.specs.Reading.{closing}
-use Rattle.zst_reader.proofs.Judged.{ruled-as, ruled-later}
+use Rattle.std.proofs.Common.{◌≡◌, ◌∙◌, None, rules, sym, ap}
+use Rattle.zst_stream.specs.Reading.{closing, rule_by}
+use Rattle.zst_reader.proofs.Judged.{ruled-as, ruled-by}
 use Rattle.zst_reader.proofs.judging.judge.Goals as goal
 
 pub returns-in-End-clause-rules : goal.returns-in-End-clause-rules
@@ -9,9 +9,13 @@ returns-in-End-clause-rules c = λ before is.
 
 pub returns-in_default : goal.returns-in_default
 returns-in_default c =
-    let later : closing c.args.head.now ≡ None = search rules in
+    let held = c.args.held.now in
+    let head = c.args.head.now in
+    let later : closing head ≡ None = search rules in
     record {
-      rules = λ before is. ruled-later before c.args.held.now c.args.place.now c.args.head.now c.judge_cover.result later is c.requires.is (c.judge_cover.ensures.rules before is);
-      leads = c.judge_cover.ensures.leads;
-      fits = c.judge_cover.ensures.fits;
+      rules = λ before is.
+          c.judge_later.ensures.rules before is ∙ sym (ruled-by before held c.args.place.now head is c.requires.is ∙ ap (rule_by before held head) later);
+      leads = c.judge_later.ensures.leads;
+      fits = c.judge_later.ensures.fits;
+      kept = c.judge_later.ensures.kept;
     }

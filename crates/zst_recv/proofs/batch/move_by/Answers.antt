@@ -1,7 +1,11 @@
-use Rattle.std.proofs.Common.{◌≡◌, Ok, Err, sym, ◌∙◌, subst, [], ◌∷◌}
+use Rattle.std.proofs.Common.{◌≡◌, Ok, Err, sym, ◌∙◌, subst, [], ◌∷◌, ℕ}
 use Rattle.zst_apply.specs.Damage.{apply_damage}
 use Rattle.zst_block.specs.Blocks.{Has, SparesTaken}
+use Rattle.zst_record.specs.Fits.{Fits, IsLater}
 use Rattle.zst_record.specs.Heads.{covered_of}
+use Rattle.zst_record.specs.declared.head.Head.{Head}
+use Rattle.zst_record.specs.declared.head.Head.TheVariants as heads
+use Rattle.zst_stream.specs.Passed.{bare_head}
 use Rattle.zst_pool.specs.declared.fault.PoolFault.TheVariants as pools
 use Rattle.zst_recv.specs.Faults.{IsRecordFault, of_record, stop_at}
 use Rattle.zst_recv.specs.Receiving.{moved_by}
@@ -19,6 +23,21 @@ use Rattle.zst_recv.proofs.Spending.{spends_one, stop_same}
 use Rattle.zst_recv.proofs.Planning.{record_unplanned}
 use Rattle.zst_recv.proofs.batch.move_by.Goals as goal
 
+-- a record behind BEGIN fits as it stands
+later_fits : (features : ℕ) (head : Head) → IsLater head → Fits features (bare_head head) → Fits features head
+later_fits features (heads.Begin header len) later fits = absurd later
+later_fits features (heads.Object object kind bonus_kind block_size bonus_len max_block to) later fits = fits
+later_fits features (heads.FreeObjects first count to) later fits = fits
+later_fits features (heads.Write object kind offset size to) later fits = fits
+later_fits features (heads.Free object offset size to) later fits = fits
+later_fits features (heads.End sums to) later fits = fits
+later_fits features (heads.Spill object size to) later fits = fits
+later_fits features (heads.Redact object offset size to) later fits = fits
+
+pub apply-requires-clause-record : goal.apply-requires-clause-record
+apply-requires-clause-record g c =
+    (c.requires.covered.features, later_fits c.requires.covered.features c.args.covered.now.head.now c.requires.later c.requires.covered.fits)
+
 pub returns-in-Ok-clause-moved : goal.returns-in-Ok-clause-moved
 returns-in-Ok-clause-moved g c = λ tight state honest stands.
     let covered = covered_of c.args.covered.now in
@@ -29,7 +48,8 @@ returns-in-Ok-clause-moved g c = λ tight state honest stands.
     let made =
     applies_so tight c.args.number covered.index (items_by c.args.flags covered.payload covered.head) before after c.args.partial.now.objects c.apply.new.set state.objects (Ok tt) (c.in-Ok.ensures.changed state.objects honest)
     (c.in-Ok.ensures.tight state.objects honest) stands.objects in
-    let fits = ends_fit c.requires.covered.features c.args.number covered.index c.args.flags covered.head covered.payload state.objects made.0 c.requires.covered.fits c.requires.covered.payload made.1 in
+    let fits = ends_fit c.requires.covered.features c.args.number covered.index c.args.flags covered.head covered.payload state.objects made.0
+    (later_fits c.requires.covered.features covered.head c.requires.later c.requires.covered.fits) c.requires.covered.payload made.1 in
     moved_is (bound_of tight c.args.number) before after c.args.number c.args.flags covered c.args.partial.now c.apply.new.set c.point_behind-partial.result
     state made.0 stands made.1 made.2 (c.point_behind-partial.ensures c.args.flags covered.payload fits c.requires.covered.payload)
 

@@ -1,7 +1,7 @@
 use Rattle.std.proofs.Common.{List, sym, ap, ◌∙◌, subst, get_or}
 use Rattle.zst_block.specs.Blocks.{Has}
 use Rattle.zst_dir.specs.declared.rows.Partial.{Partial}
-use Rattle.zst_plan.specs.Receipts.{IsNewPlan, IsRecvPlanOf}
+use Rattle.zst_plan.specs.Receipts.{IsNewPlan, IsPlainPlan, IsRecvPlanOf}
 use Rattle.zst_plan.specs.RecvPlan.{RecvPlan, recv_plan}
 use Rattle.zst_plan.specs.declared.receive.RecvPlan as plans
 use Rattle.zst_recv.proofs.Answering.{answers, err_alike, ok_alike, refuses}
@@ -81,3 +81,5 @@ pub returns-in-Begins-clause-planned : goal.returns-in-Begins-clause-planned
 returns-in-Begins-clause-planned c = λ running named tells.
     let plan = ok_alike (IsRecvPlanOf c.args.dir.now running c.args.ask.now) c.in_ok-place.field-0 (recv_plan c.args.ask.now c.args.header.now running) (c.in_ok-place.ensures.exact running named tells) in
     answers (λ (batch : Batch) (p : RecvPlan). Unit {0}) c.opened-in-Begins.result plan.0 (recv_plan c.args.ask.now c.args.header.now running) plan.1 tt
+pub begun-requires-clause-header : goal.begun-requires-clause-header
+begun-requires-clause-header c = c.requires.header.kept (subst (IsPlainPlan c.args.header.now) c.in-Begins.is c.in_ok-place.ensures.plain)

@@ -9,8 +9,8 @@ use Rattle.zst_send.specs.declared.work.Payload.{Payload}
 use Rattle.zst_send.proofs.stand.Stand.start.Goals as goal
 
 pub returns-clause-stands : goal.returns-clause-stands
-returns-clause-stands c = λ image space snap view.
-    begins c.walk_begins.ensures (Has image space) snap view c.args.header (record { walk = c.start.result; writer = c.alone-work.new.writer; work = c.alone-work.result; ended = false })
+returns-clause-stands c = λ image space snap view none.
+    begins c.args.header none c.walk_begins.ensures (Has image space) snap view (record { walk = c.start.result; writer = c.alone-work.new.writer; work = c.alone-work.result; ended = false })
     (c.alone-work.ensures.written [] c.new-writer.ensures) (c.alone-work.ensures.head [] c.new-writer.ensures) c.alone-work.ensures.payload c.alone-work.ensures.given
     c.start.ensures.held c.start.ensures.point c.start.ensures.slot refl
 

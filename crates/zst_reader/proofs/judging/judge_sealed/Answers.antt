@@ -1,8 +1,8 @@
 use Rattle.std.proofs.Common.{◌≡◌, ◌+◌, ◌-◌, ◌++◌, take, drop, ap, ◌∙◌, arith, length-drop}
 use Rattle.zst_fletcher.specs.WeightSum.{weight_sum}
 use Rattle.zst_record.specs.Heads.{size_of}
-use Rattle.zst_reader.proofs.Judged.{two-parts, whole-part, cover-refused, cover-right}
-use Rattle.zst_reader.proofs.judging.judge_cover.Goals as goal
+use Rattle.zst_reader.proofs.Judged.{two-parts, whole-part, sealed-refused, sealed-right}
+use Rattle.zst_reader.proofs.judging.judge_sealed.Goals as goal
 
 pub returns-in-Some-clause-rules : goal.returns-in-Some-clause-rules
 returns-in-Some-clause-rules c = λ before is.
@@ -12,7 +12,7 @@ returns-in-Some-clause-rules c = λ before is.
     let same : size ≡ size_of head = ap (λ n. 312 + n) c.payload_len.ensures in
     let with = c.sum_with-sum.ensures before is in
     let found = c.add.ensures (before ++ take size held) (whole-part before held size is.words (omega arith) (omega arith)) with ∙ ap weight_sum (two-parts before held size (size + 280) (omega arith)) in
-    cover-refused before held head c.in-Some.fault (omega arith) (rw same at (c.in-Some.ensures before (size + 280) found is.at))
+    sealed-refused before held head c.in-Some.fault (omega arith) (rw same at (c.in-Some.ensures before (size + 280) found is.at))
 
 pub returns-in-None-clause-rules : goal.returns-in-None-clause-rules
 returns-in-None-clause-rules c = λ before is.
@@ -22,7 +22,7 @@ returns-in-None-clause-rules c = λ before is.
     let same : size ≡ size_of head = ap (λ n. 312 + n) c.payload_len.ensures in
     let with = c.sum_with-sum.ensures before is in
     let found = c.add.ensures (before ++ take size held) (whole-part before held size is.words (omega arith) (omega arith)) with ∙ ap weight_sum (two-parts before held size (size + 280) (omega arith)) in
-    cover-right before held head (omega arith) (rw same at (c.in-None.ensures before (size + 280) found is.at))
+    sealed-right before held head (omega arith) (rw same at (c.in-None.ensures before (size + 280) found is.at))
 
 pub returns-in-None-clause-leads : goal.returns-in-None-clause-leads
 returns-in-None-clause-leads c = λ before is.
