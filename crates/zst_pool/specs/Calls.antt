@@ -1,5 +1,5 @@
 -- What a call of a receive does to a pool that runs.
-use Rattle.std.specs.Prelude.{◌≡◌, ◌⊎◌, ◌+◌, ◌<◌, ℕ, Bool, length, Result, Ok, Err}
+use Rattle.std.specs.Prelude.{◌≡◌, ◌⊎◌, ◌+◌, ◌<◌, ◌≤◌, ℕ, Bool, [], length, Result, Ok, Err}
 use Rattle.zst_outside.specs.Images.{DiskState, Leaves}
 use Rattle.zst_space.specs.FreeSectors.{FreeSectors, largest_of}
 use Rattle.zst_block.specs.Blocks.{FillsFree, FitsDisk, Has}
@@ -87,3 +87,9 @@ pub record IsCallFull (space left : FreeSectors) (rows : Rows) (need largest : �
   pub needed : need ≡ 16
   pub is_longest : largest ≡ largest_of left
   pub before : largest_of space < dir_sectors (length (dir_bytes rows) + 2048)
+
+-- what a call of a receive committed over these free sectors: the directory has at most 2,048 bytes more; the body has as many sectors, and where all that is free stands behind the end, it ends no later than such a directory may
+pub record CallGrows (space : FreeSectors) (before after : Kept) : Type 0 where
+  pub directory : length (dir_bytes after.dir) ≤ length (dir_bytes before.dir) + 2048
+  pub sectors : after.body.sectors ≡ before.body.sectors
+  pub end : space.free ≡ [] → after.body.end ≤ space.end + dir_sectors (length (dir_bytes before.dir) + 2048)

@@ -6,7 +6,7 @@ ghost use Rattle.zst_dir.specs.Rows.{HasSnapshot, IsDatasetRow, IsPartialRow, Is
 ghost use Rattle.zst_dir.specs.Spelling.{dir_bytes};
 ghost use Rattle.zst_image.specs.Committing.{Ready};
 ghost use Rattle.zst_image.specs.Reads.{PartialIs, bound_of, free_by};
-ghost use Rattle.zst_pool.specs.Calls.{CallDid, CanCommit, IsCallFault, IsCallFull, IsUnderWay, keeping};
+ghost use Rattle.zst_pool.specs.Calls.{CallDid, CallGrows, CanCommit, IsCallFault, IsCallFull, IsUnderWay, keeping};
 ghost use Rattle.zst_pool.specs.Faults.{HasDiskCause, is_disk_fault, is_full};
 ghost use Rattle.zst_pool.specs.FinishedRows.{dataset_row_from, rows_with_finished, rows_with_target, snapshot_row_from};
 ghost use Rattle.zst_pool.specs.Partials.{partial_finished};
@@ -98,6 +98,7 @@ fn commit_finished<D: Disk>(
     ensures rows { IfOk result (λ next. next.dir ≡ rows_with_finished (kept.now.body.number + 1) partial.now kept.now.dir) }
     ensures known { IfErr result IsCallFault }
     ensures full { (need largest : ℕ) → result ≡ Err (PoolFault.Full need largest) → IsCallFull io.old.space io.new.space kept.now.dir need largest }
+    ensures grows { IfOk result (CallGrows io.old.space kept.now) }
     ensures ready { IfOk result (λ next. Ready (D.state io.new.disk.now) next.body) }
     // The blocks that were there still are, over the sectors that the new body leaves free.
     ensures blocks { IfOk result (λ next. KeepsBlocks (D.state io.old.disk.now).seen io.old.space (D.state io.new.disk.now).seen (free_by next.body)) }
@@ -135,6 +136,7 @@ impl<'d, D: Disk> Pool<'d, D> {
         // Whatever the image is, there is no other refusal than E23, E24, E28 and E32.
         ensures known { self.old.io.failed ≡ false → IfErr result IsCallFault }
         ensures full { (need largest : ℕ) → result ≡ Err (PoolFault.Full need largest) → IsCallFull self.old.io.space self.new.io.space self.old.kept.dir need largest }
+        ensures grows { OnOk result (CallGrows self.old.io.space self.old.kept self.new.kept) }
         ensures stays { OnErr result (self.new.kept ≡ self.old.kept) }
         // The blocks that were there still are.
         ensures blocks { OnOk result (KeepsBlocks (D.state self.old.io.disk.now).seen self.old.io.space (D.state self.new.io.disk.now).seen self.new.io.space) }

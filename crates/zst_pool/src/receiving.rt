@@ -1,12 +1,12 @@
 // What a receive does to a pool: it commits a partial state, or drops one.
-ghost use Rattle.std.specs.Prelude.{◌≡◌, ◌+◌, ◌<◌, ◌^◌, ◌∷◌, ◌++◌, ◌||◌, ℕ, false, true, filter, length, not, IfErr, IfOk, IfSome, OnErr, OnOk, Err, Bool};
+ghost use Rattle.std.specs.Prelude.{◌≡◌, ◌+◌, ◌<◌, ◌≤◌, ◌^◌, ◌∷◌, ◌++◌, ◌||◌, ℕ, [], false, true, filter, length, not, IfErr, IfOk, IfSome, OnErr, OnOk, Err, Bool};
 ghost use Rattle.zst_block.specs.Blocks.{Has, KeepsBlocks};
 ghost use Rattle.zst_block.specs.Working.{TakesAtMost};
 ghost use Rattle.zst_model.specs.pools.Pool.{Pool as Plain, Partial as PlainPartial};
 ghost use Rattle.zst_model.specs.pools.Kept.{kept_of};
 ghost use Rattle.zst_dir.specs.Rows.{HasSnapshot, IsPartialRow, is_unkept_for};
 ghost use Rattle.zst_dir.specs.Spelling.{dir_bytes};
-ghost use Rattle.zst_pool.specs.Calls.{CallDid, CanCommit, IsAtRest, IsCallFault, IsCallFull, IsUnderWay, ListsAnew, keeping};
+ghost use Rattle.zst_pool.specs.Calls.{CallDid, CallGrows, CanCommit, IsAtRest, IsCallFault, IsCallFull, IsUnderWay, ListsAnew, keeping};
 ghost use Rattle.zst_pool.specs.Faults.{HasDiskCause, is_disk_fault, is_full};
 ghost use Rattle.zst_pool.specs.PartialRows.{rows_with_partial};
 ghost use Rattle.zst_pool.specs.Partials.{next_commit, partial_put, without_unkept};
@@ -39,6 +39,8 @@ pub fn commit_next<D: Disk>(
     ensures known { IfErr result IsCallFault }
     ensures full { (need largest : ℕ) → result ≡ Err (PoolFault.Full need largest) → IsDirFull io.old.space io.new.space dir need largest }
     ensures takes { TakesAtMost (dir_sectors (length (dir_bytes dir))) io.old.space io.new.space }
+    ensures sectors { IfOk result (λ next. next.body.sectors ≡ kept.now.body.sectors) }
+    ensures ends { io.old.space.free ≡ [] → IfOk result (λ next. next.body.end ≤ io.old.space.end + dir_sectors (length (dir_bytes dir))) }
     ensures ready { IfOk result (λ next. Ready (D.state io.new.disk.now) next.body) }
     // The blocks that were there still are, over the sectors that the new body leaves free.
     ensures blocks { IfOk result (λ next. KeepsBlocks (D.state io.old.disk.now).seen io.old.space (D.state io.new.disk.now).seen (free_by next.body)) }
@@ -69,6 +71,7 @@ fn commit_partial<D: Disk>(
     ensures rows { IfOk result (λ next. next.dir ≡ rows_with_partial roll partial kept.now.dir) }
     ensures known { IfErr result IsCallFault }
     ensures full { (need largest : ℕ) → result ≡ Err (PoolFault.Full need largest) → IsCallFull io.old.space io.new.space kept.now.dir need largest }
+    ensures grows { IfOk result (CallGrows io.old.space kept.now) }
     ensures ready { IfOk result (λ next. Ready (D.state io.new.disk.now) next.body) }
     // The blocks that were there still are, over the sectors that the new body leaves free.
     ensures blocks { IfOk result (λ next. KeepsBlocks (D.state io.old.disk.now).seen io.old.space (D.state io.new.disk.now).seen (free_by next.body)) }
@@ -153,6 +156,7 @@ impl<'d, D: Disk> Pool<'d, D> {
         // Whatever the image is, there is no other refusal than E23, E24, E28 and E32.
         ensures known { self.old.io.failed ≡ false → IfErr result IsCallFault }
         ensures full { (need largest : ℕ) → result ≡ Err (PoolFault.Full need largest) → IsCallFull self.old.io.space self.new.io.space self.old.kept.dir need largest }
+        ensures grows { OnOk result (CallGrows self.old.io.space self.old.kept self.new.kept) }
         ensures stays { OnErr result (self.new.kept ≡ self.old.kept) }
         // The blocks that were there still are.
         ensures blocks { OnOk result (KeepsBlocks (D.state self.old.io.disk.now).seen self.old.io.space (D.state self.new.io.disk.now).seen self.new.io.space) }

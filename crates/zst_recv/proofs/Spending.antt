@@ -4,7 +4,7 @@ use Rattle.std.specs.Prelude.{Option, Some, None, Err}
 use Rattle.std.proofs.Math.Seq.{drop-append_seam}
 use Rattle.std.proofs.lemmas.List.Sums.{sum_by-append}
 use Rattle.zst_outside.specs.Images.{DiskState}
-use Rattle.zst_space.specs.FreeSectors.{FreeSectors, largest_of}
+use Rattle.zst_space.specs.FreeSectors.{FreeSectors, largest_of, total}
 use Rattle.zst_block.specs.Working.{TakesAtMost, Works}
 use Rattle.zst_block.specs.declared.fault.BlockFault.{BlockFault}
 use Rattle.zst_block.specs.declared.fault.BlockFault.TheVariants as blocks
@@ -14,13 +14,13 @@ use Rattle.zst_image.specs.declared.kept.Kept.{Kept}
 use Rattle.zst_objset.specs.declared.fault.ObjFault.{ObjFault}
 use Rattle.zst_objset.specs.declared.fault.ObjFault.TheVariants as sets
 use Rattle.zst_objset.specs.Answers as objset
-use Rattle.zst_pool.specs.Calls.{IsCallFull}
+use Rattle.zst_pool.specs.Calls.{CallGrows, IsCallFull}
 use Rattle.zst_reader.specs.StandsFor.{StandsFor}
 use Rattle.zst_reader.specs.declared.reader.Reader.{Reader}
 use Rattle.zst_record.specs.Heads.{Covered}
 use Rattle.zst_stream.specs.Reading.{reading}
 use Rattle.zst_apply.specs.Costs.{record_block, record_cost}
-use Rattle.zst_recv.specs.Costs.{IsNeeded, PieceIsShort, Spends, piece_cost, records_behind, records_cost}
+use Rattle.zst_recv.specs.Costs.{IsNeeded, PieceGrows, PieceIsShort, Spends, piece_cost, records_behind, records_cost}
 use Rattle.zst_recv.specs.Faults.{keeps_before, of_record, stop_at}
 use Rattle.zst_recv.specs.declared.fault.RecvFault.{RecvFault}
 use Rattle.zst_recv.specs.declared.fault.RecvFault.TheVariants as faults
@@ -170,3 +170,22 @@ same_pool one other is = cc
 -- a full disk keeps no records before it
 pub full_keeps_none : (fault : RecvFault) (need largest : ℕ) → keeps_before fault ≡ true → fault ≡ faults.Pool (pools.Full need largest) → ⊥
 full_keeps_none fault need largest keeps is = let none : keeps_before fault ≡ false = ap keeps_before is in let both : true ≡ false = sym keeps ∙ none in cc
+
+-- ---- what is committed
+
+-- without extents below the end, that came no further than the records cost
+pub ends_within : (records : List Covered) (kept : Kept) (space : FreeSectors) → TakesAtMost (records_cost records) (free_by kept.body) space → space.end ≤ space.sectors
+    → (space.free ≡ []) × (space.end ≤ kept.body.end + records_cost records)
+ends_within records kept space takes within =
+    let none : space.free ≡ [] = takes.unbroken refl in
+    let nothing : total space.free ≡ 0 = ap total none in
+    (none, omega (arith, takes.left, takes.sectors, nothing, within))
+
+-- a commit behind the records, or none
+pub piece_grows : (records : List Covered) (kept after : Kept) (space : FreeSectors) → TakesAtMost (records_cost records) (free_by kept.body) space → space.end ≤ space.sectors
+    → (after ≡ kept) ⊎ CallGrows space kept after → PieceGrows records kept after
+piece_grows records kept after space takes within (inl same) = subst (PieceGrows records kept) (sym same) (record { directory = omega arith; sectors = refl; end = omega arith })
+piece_grows records kept after space takes within (inr grows) =
+    let ends = ends_within records kept space takes within in
+    let most = grows.end ends.0 in
+    record { directory = grows.directory; sectors = grows.sectors; end = omega (arith, most, ends.1) }

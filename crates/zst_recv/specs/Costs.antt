@@ -1,5 +1,5 @@
 -- What a piece of a stream costs of the free sectors, and where it finds no room.
-use Rattle.std.specs.Prelude.{◌≡◌, ◌⊎◌, ◌+◌, ◌-◌, ◌<◌, ℕ, List, [], ◌∷◌, drop, length, sum_by, Option, Some}
+use Rattle.std.specs.Prelude.{◌≡◌, ◌⊎◌, ◌+◌, ◌-◌, ◌<◌, ◌≤◌, ℕ, List, [], ◌∷◌, drop, length, sum_by, Option, Some}
 use Rattle.zst_space.specs.FreeSectors.{FreeSectors, largest_of}
 use Rattle.zst_block.specs.Working.{TakesAtMost}
 use Rattle.zst_block.specs.declared.fault.BlockFault.{BlockFault}
@@ -44,3 +44,9 @@ pub record PieceIsShort (records : List Covered) (kept : Kept) (left : FreeSecto
   pub needed : IsNeeded need records
   pub is_longest : largest ≡ largest_of left
   pub room : kept.body.sectors - kept.body.end < piece_cost records kept.dir
+
+-- what a piece that covers these records made of what the pool keeps: the directory has at most 2,048 bytes more, and the body as many sectors, of which no more are taken than the piece costs
+pub record PieceGrows (records : List Covered) (before after : Kept) : Type 0 where
+  pub directory : length (dir_bytes after.dir) ≤ length (dir_bytes before.dir) + 2048
+  pub sectors : after.body.sectors ≡ before.body.sectors
+  pub end : after.body.end ≤ before.body.end + piece_cost records before.dir

@@ -55,7 +55,7 @@ impl Recv {
     ghost use Rattle.zst_stream.specs.Reading.{complete, faulty, reading, waiting};
     ghost use Rattle.zst_space.specs.FreeSectors.{FreeSectors, largest_of};
     ghost use Rattle.zst_recv.specs.Answers.{Feeds, goes_on};
-    ghost use Rattle.zst_recv.specs.Costs.{PieceIsShort, records_behind};
+    ghost use Rattle.zst_recv.specs.Costs.{PieceGrows, PieceIsShort, records_behind};
     ghost use Rattle.zst_recv.specs.Damage.{IsDamagedFeed};
     ghost use Rattle.zst_recv.specs.Faults.{IsFeedFault, cut_of, stop_of, stream_limit};
     ghost use Rattle.zst_recv.specs.Planning.{RefusesEach, RefusesOne, is_planned};
@@ -135,6 +135,8 @@ impl Recv {
         // Whatever the image and the text: fewer sectors were free before it than the piece costs, by what it covers behind what was handed out.
         ensures short { (text : List ℕ) (handed : List Covered) (need largest : ℕ) → StandsFor self.old.reader text handed → result ≡ Err (RecvFault.Pool (PoolFault.Full need largest))
             → PieceIsShort (records_behind handed (text ++ piece.now)) pool.old.kept pool.new.io.space need largest }
+        // And where it is taken, no more sectors are taken than it costs.
+        ensures grows { (text : List ℕ) (handed : List Covered) → StandsFor self.old.reader text handed → OnOk result (PieceGrows (records_behind handed (text ++ piece.now)) pool.old.kept pool.new.kept) }
         // After E24 the body is as it was.
         ensures stays { (need largest : ℕ) → result ≡ Err (RecvFault.Pool (PoolFault.Full need largest)) → pool.new.kept.body ≡ pool.old.kept.body }
         ensures ask { self.new.ask ≡ self.old.ask }

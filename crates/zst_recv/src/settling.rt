@@ -1,10 +1,10 @@
 // What a feed commits.
-ghost use Rattle.std.specs.Prelude.{◌≡◌, ◌+◌, ◌<◌, Bool, Err, ℕ, List, Option, IfErr, OnErr, OnOk, false, true};
+ghost use Rattle.std.specs.Prelude.{◌≡◌, ◌+◌, ◌<◌, Bool, Err, ℕ, List, Option, IfErr, OnErr, OnOk, false, true, ◌⊎◌};
 ghost use Rattle.zst_block.specs.Blocks.{Has, KeepsBlocks};
 ghost use Rattle.zst_image.specs.Committing.{Ready};
 ghost use Rattle.zst_image.specs.Reads.{bound_of, free_by};
 ghost use Rattle.zst_model.specs.pools.Pool.{Pool as Plain};
-ghost use Rattle.zst_pool.specs.Calls.{CanCommit, IsCallFault, IsCallFull, IsUnderWay};
+ghost use Rattle.zst_pool.specs.Calls.{CallGrows, CanCommit, IsCallFault, IsCallFull, IsUnderWay};
 ghost use Rattle.zst_space.specs.FreeSectors.{largest_of};
 ghost use Rattle.zst_pool.specs.Faults.{HasDiskCause, is_disk_fault};
 ghost use Rattle.zst_recv.specs.Faults.{keeps_before};
@@ -55,6 +55,7 @@ pub(crate) fn put<D: Disk>(
     ensures idle_disk { batch.now.taken ≡ false → pool.new.io.disk.now ≡ pool.old.io.disk.now }
     ensures idle_kept { batch.now.taken ≡ false → pool.new.kept ≡ pool.old.kept }
     ensures fits { (target : List ℕ) → StageFits pool.old.kept.dir target batch.now.stage → OnOk result (LivesOn pool.new.kept.dir target batch.now.stage) }
+    ensures grows { OnOk result ((pool.new.kept ≡ pool.old.kept) ⊎ CallGrows pool.old.io.space pool.old.kept pool.new.kept) }
     ensures stays { OnErr result (pool.new.kept ≡ pool.old.kept) }
     ensures known { IfErr result IsCallFault }
     // E24 tells the longest run of those that are left then.

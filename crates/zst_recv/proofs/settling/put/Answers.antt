@@ -1,4 +1,4 @@
-use Rattle.std.proofs.Common.{◌+◌, ◌||◌, Bool, false, sym, ap, ◌∙◌, subst}
+use Rattle.std.proofs.Common.{◌+◌, ◌||◌, Bool, false, sym, ap, ◌∙◌, subst, inl, inr, refl}
 use Rattle.std.specs.Prelude.{Result}
 use Rattle.zst_space.specs.FreeSectors.{FreeSectors}
 use Rattle.zst_block.specs.Blocks.{Has, KeepsBlocks}
@@ -121,3 +121,12 @@ returns-in_ok-put_partial-in-Lives-clause-blocks g c = λ taken lives.
     let pool = c.args.pool.now in
     let after = c.put_partial.new.self in
     subst (λ (s : FreeSectors). KeepsBlocks (g.D.Disk.state pool.io.disk.now).seen pool.io.space (g.D.Disk.state after.io.disk.now).seen s) (e.space (ap (λ (b : Bool). b || false) c.requires.open)) e.blocks
+
+pub returns-then-not-batch-clause-grows : goal.returns-then-not-batch-clause-grows
+returns-then-not-batch-clause-grows g c = inl refl
+
+pub returns-in_ok-put_partial-in-Lives-clause-grows : goal.returns-in_ok-put_partial-in-Lives-clause-grows
+returns-in_ok-put_partial-in-Lives-clause-grows g c = inr c.in_ok-put_partial-in-Lives.ensures.grows
+
+pub returns-in_ok-finish_partial-in-Ends-clause-grows : goal.returns-in_ok-finish_partial-in-Ends-clause-grows
+returns-in_ok-finish_partial-in-Ends-clause-grows g c = inr c.in_ok-finish_partial-in-Ends.ensures.grows

@@ -1,4 +1,4 @@
-use Rattle.std.proofs.Common.{◌≡◌, ◌&&◌, ◌++◌, Bool, true, false, Some, None, Ok, Err, refl, sym, ap, ◌∙◌, subst, arith}
+use Rattle.std.proofs.Common.{◌≡◌, ◌&&◌, ◌++◌, Bool, true, false, Some, None, Ok, Err, refl, sym, ap, ◌∙◌, subst, arith, ◌⊎◌}
 use Rattle.std.specs.Prelude.{◌+◌, ◌-◌, ℕ, IsSome, not, sum_by}
 use Rattle.zst_space.specs.FreeSectors.{FreeSectors}
 use Rattle.zst_reader.specs.StandsFor.{StandsFor, pushed_of, HandsOut}
@@ -11,7 +11,7 @@ use Rattle.zst_image.specs.Reads.{bound_of, free_by}
 use Rattle.zst_image.specs.declared.kept.Kept.{Kept}
 use Rattle.zst_model.specs.pools.Pool.{Pool}
 use Rattle.zst_plan.specs.declared.receive.RecvAsk.{RecvAsk}
-use Rattle.zst_pool.specs.Calls.{IsCallFull}
+use Rattle.zst_pool.specs.Calls.{CallGrows, IsCallFull}
 use Rattle.zst_pool.specs.declared.fault.PoolFault.{PoolFault}
 use Rattle.zst_pool.proofs.Resting.{commit_still, rests_on, rests_still}
 use Rattle.zst_model.specs.declared.refusals.faults.Quantity.TheVariants as quantities
@@ -36,7 +36,7 @@ use Rattle.zst_recv.proofs.Behind.{over_reads}
 use Rattle.zst_recv.proofs.Serving.{behind_fits, both_false, by_test, fed_so, first_stage, first_way, fits_within, kept_is, left_rests, live_fits, loose, lost, not_false, not_not, over_fits, received_then, stopped, too_long, unmade, untaken_stands, waits_behind, known_call, still_open}
 use Rattle.zst_stream.specs.Reading.{waiting}
 use Rattle.zst_recv.specs.Costs.{PieceIsShort, Spends, records_behind}
-use Rattle.zst_recv.proofs.Spending.{full_keeps_none, same_pool, short_put, short_read}
+use Rattle.zst_recv.proofs.Spending.{full_keeps_none, same_pool, short_put, short_read, piece_grows}
 use Rattle.zst_recv.specs.Planning.{RefusesEach, RefusesOne, is_planned}
 use Rattle.zst_recv.proofs.Keeping.{keeps_behind, live_partial}
 use Rattle.zst_recv.proofs.Planning.{both_planned, call_unplanned, over_waits, waits_ahead, waits_kept}
@@ -498,6 +498,7 @@ returns-in-Err-put-2-clause-stays g c = λ need largest is. c.give_up-in-Err-put
 pub returns-in-Ok-put-2-clause-stays : goal.returns-in-Ok-put-2-clause-stays
 returns-in-Ok-put-2-clause-stays g c = λ need largest is.
     absurd (full_keeps_none c.in-Err.fault need largest (sym c.keeps_before.ensures ∙ c.if-keeps_before.true) (err_told coded_recv.Fed c.in-Err.fault _ is))
+
 pub returns-then-pool-clause-planned : goal.returns-then-pool-clause-planned
 returns-then-pool-clause-planned g c = λ text handed fault alive waits stands none within refuses. absurd (let failed = c.if-pool.true in cc)
 
@@ -604,3 +605,10 @@ returns-in-Ok-put-clause-blocks g c = λ goes.
     keeps_behind old two three free c.read.new.io.space (free_by c.put.new.pool.kept.body) batch.taken fills
     (λ idle. (ap (λ (d : g.row.D.Denot). g.D.Disk.state d) (c.put.ensures.idle_disk idle), ap (λ (k : Kept). free_by k.body) (c.put.ensures.idle_kept idle ∙ c.renew.ensures.kept)))
     (λ taken. c.in-Ok-put.ensures.blocks taken (live_partial batch.stage live (λ waits. let both = sym taken ∙ none waits in cc (both))))
+
+pub returns-in-Ok-put-clause-grows : goal.returns-in-Ok-put-clause-grows
+returns-in-Ok-put-clause-grows g c = λ text handed stands.
+    let records = records_behind handed (text ++ c.args.piece.now) in
+    let spends = subst (λ (s : FreeSectors). Spends records s c.read.new.io.space None) c.renew.ensures.space (c.in-Ok.ensures.spends text handed stands) in
+    piece_grows records c.args.pool.now.kept c.put.new.pool.kept c.read.new.io.space spends.takes c.read.ensures.fills.fits.extents.end
+    (subst (λ (k : Kept). (c.put.new.pool.kept ≡ k) ⊎ CallGrows c.read.new.io.space k c.put.new.pool.kept) c.renew.ensures.kept c.in-Ok-put.ensures.grows)
