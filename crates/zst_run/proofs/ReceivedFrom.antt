@@ -31,7 +31,7 @@ use Rattle.zst_recv.specs.Receiving.{Waits}
 use Rattle.zst_recv.specs.Stages.{TellsTarget}
 use Rattle.zst_recv.specs.declared.fault.RecvFault.{RecvFault}
 use Rattle.zst_recv.specs.declared.fault.RecvFault.TheVariants as faults
-use Rattle.zst_run.specs.Receives.{IsDamagedReceive, IsOnTheWay, IsReceiveRefusal, ReceiveEnds, ReceiveOpened, ReceiveRan, Receives, Receiving, SaysOfPlan, Stopped}
+use Rattle.zst_run.specs.Receives.{IsDamagedReceive, IsOnTheWay, IsReceiveRefusal, ReceiveEnds, ReceiveOpened, ReceiveRan, Receives, Receiving, SaysOfPlan, Stopped, CostMore}
 use Rattle.zst_run.specs.Replies.{Replied}
 use Rattle.zst_run.specs.Underway.{Along, Fed, IsEnd, IsReady, told}
 use Rattle.zst_run.specs.declared.receive.Receipt.{Receipt}
@@ -60,6 +60,16 @@ open_no_source opens.NoPool is = absurd (cc is)
 open_no_source (opens.BadVersion version) is = absurd (cc is)
 open_no_source opens.DiskFault is = absurd (cc is)
 open_no_source opens.OutOfMemory is = absurd (cc is)
+
+abbrev answered : Refusal → Result (List (List ℕ)) Refusal
+answered refusal = Err refusal
+
+open_no_full : (fault : OpenFault) (need largest : ℕ) → answered (open_refusal fault) ≡ answered (refusals.Full need largest) → ⊥
+open_no_full (opens.Damaged sector stated found) need largest is = absurd (cc is)
+open_no_full opens.NoPool need largest is = absurd (cc is)
+open_no_full (opens.BadVersion version) need largest is = absurd (cc is)
+open_no_full opens.DiskFault need largest is = absurd (cc is)
+open_no_full opens.OutOfMemory need largest is = absurd (cc is)
 
 -- the pool that was there stands
 nothing_fed : (tight : Bool) (ask : RecvAsk) (here' : DiskState) (uber : Uber) (rows : Rows) (pool : Pool) → kept_of pool ≡ pool → Rests tight here' uber rows pool → Stopped tight ask pool [] here'
@@ -102,6 +112,7 @@ unopened whole ask here here' input fault there answer reads synced cause = reco
       (λ alive. rests_read here here' uber rows pool is reads (synced alive));
   opened = λ told. unopened_says ask here here' input fault reads (answer told);
   text = says_other [] input input (open_refusal fault) (open_no_stream fault);
+  cost = λ told need largest is. absurd (open_no_full fault need largest is);
   refused = record {
     pool = record { one = inl (fault, refl); alive = open_alive fault; cause = λ is. cause.fault (ap (λ (f : OpenFault). Err f) (open_disk fault is)) };
     cause = λ is. absurd (open_no_source fault is);
@@ -185,7 +196,7 @@ module _ (ask : RecvAsk) (here mid here' : DiskState) (input input' : SourceStat
     (answers : mid.honest → OpenAnswers here (Ok kept)) (reads : OnlyReads here mid)
     (stands : (tight : Bool) (uber : Uber) (rows : Rows) (pool : Pool) → mid.honest → ReadsAs tight uber rows pool here.seen → Rests tight mid kept.body rows pool)
     (at_rest : (tight : Bool) (rows : Rows) (pool : Pool) → Rests tight mid kept.body rows pool → kept.dir ≡ kept_rows rows → IsAtRest tight mid kept pool)
-    (later : here.faults ≤ mid.faults) (falls : here'.honest → mid.honest) (f : Fed (λ tight. IsReady ask tight mid kept) mid here' ask input input' (told result)) (plans : (text : List ℕ) → Gave input input' text → SaysOfPlan kept.dir ask text (told result))
+    (later : here.faults ≤ mid.faults) (falls : here'.honest → mid.honest) (f : Fed (λ tight. IsReady ask tight mid kept) kept mid here' ask input input' (told result)) (plans : (text : List ℕ) → Gave input input' text → SaysOfPlan kept.dir ask text (told result))
     (damaged : (sector : ℕ) (stated found : List ℕ) → here'.honest → result ≡ Err (refusals.Damaged sector stated found) → IsDamagedReceive mid kept.body ask.target sector stated found)
     (only : (c : List ℕ) → here.left_since here.moment c → here.images c) (now_left : (t : ℕ) (c : List ℕ) → t ≤ here'.moment → here'.images c → here'.left_since t c) where
   ready : (tight : Bool) (uber : Uber) (rows : Rows) (pool : Pool) → here'.honest → ReadsAs tight uber rows pool here.seen → TellsTarget ask rows pool → IsReady ask tight mid kept pool
@@ -220,6 +231,7 @@ module _ (ask : RecvAsk) (here mid here' : DiskState) (input input' : SourceStat
                   damaged_here here mid kept.body ask.target sector stated found reads.seen (damaged sector stated found honest (told_damaged result (refusals.Damaged sector stated found) is));
             }) ends;
         text = f.text;
+        cost = λ honest need largest is. let was = answers (falls honest) in (kept.body, was.1, (was.0, was.2, was.3), subst (λ (r : Rows). CostMore (record { body = kept.body; dir = r }) f.pieces) was.4 (f.cost need largest is));
         refused = refused_in here mid here' input input' (told result) later ends;
         later = omega (arith, later, still);
         input_later = input_later;

@@ -32,8 +32,8 @@ use Rattle.zst_recv.specs.declared.recv.Recv.{Recv}
 use Rattle.zst_stream.specs.Findings.{IsFound}
 use Rattle.zst_stream.specs.Reading.{Reading, complete, reading}
 use Rattle.zst_reader.specs.StandsFor.{StandsFor}
-use Rattle.zst_run.specs.Receives.{ReceiveEnds, SaysOfText, Waited, piece_size, receipt_line}
-use Rattle.zst_run.specs.Underway.{Along, Fed, Feeding, HasFed, IsEnd, IsFeedRefusal, IsInputOf, IsReady, IsReceived, TurnReads, Turned, Turns, Underway, cut_refusal, line_of, told, with_piece}
+use Rattle.zst_run.specs.Receives.{CostMore, ReceiveEnds, SaysOfText, Waited, piece_size, receipt_line}
+use Rattle.zst_run.specs.Underway.{Along, Fed, Feeding, GrewBy, HasFed, HasHanded, IsEnd, IsFeedRefusal, IsInputOf, IsReady, IsReceived, TurnReads, Turned, Turns, Underway, cut_refusal, line_of, told, with_piece}
 use Rattle.zst_run.specs.Dumps.{NoFault}
 use Rattle.zst_run.specs.declared.receive.End.{End}
 use Rattle.zst_run.specs.declared.receive.End.TheVariants.{Ended, Failed}
@@ -42,7 +42,8 @@ use Rattle.zst_run.specs.declared.receive.Turn.{Turn}
 use Rattle.zst_run.specs.declared.receive.Turn.TheVariants as turns
 use Rattle.zst_run.proofs.Commanded.{disk_fault, failed_before, full_only}
 use Rattle.zst_run.proofs.FedPieces.{along_then, none_fed}
-use Rattle.zst_run.proofs.Pieces.{concat_with, pieces_then, whole_then}
+use Rattle.zst_run.proofs.Pieces.{concat_with, pieces_then, whole_then, with_some}
+use Rattle.zst_run.proofs.Shorts.{costs_more, grew_more, grew_none}
 
 -- ---- refusals
 
@@ -56,7 +57,7 @@ recv_failed (faults.Pool fault) is = ap (λ f. faults.Pool f) (failed_before fau
 recv_failed (faults.Stream fault) is = absurd (cc is)
 recv_failed (faults.CannotApply index fault) is = absurd (cc is)
 
-recv_full : (fault : RecvFault) (need largest : ℕ) → recv_refusal fault ≡ refusals.Full need largest → fault ≡ faults.Pool (pools.Full need largest)
+pub recv_full : (fault : RecvFault) (need largest : ℕ) → recv_refusal fault ≡ refusals.Full need largest → fault ≡ faults.Pool (pools.Full need largest)
 recv_full (faults.Pool fault) need largest is = ap (λ f. faults.Pool f) (full_only fault need largest is)
 recv_full (faults.Stream fault) need largest is = absurd (cc is)
 recv_full (faults.CannotApply index fault) need largest is = absurd (cc is)
@@ -126,6 +127,19 @@ says_cut pieces input mid input' recv Ended refusal is none after has = record {
 }
 says_cut pieces input mid input' recv Failed refusal is none after has = says_other pieces input input' refusal (λ fault e. cc (is, e))
 
+-- ---- a full disk
+
+abbrev refused : Refusal → Result (List (List ℕ)) Refusal
+refused refusal = Err refusal
+
+err_same : (one other : Refusal) → refused one ≡ refused other → one ≡ other
+err_same one other is = cc
+
+-- what cuts a receive isn't one
+cut_no_full : (end : End) (count need largest : ℕ) → cut_refusal end count ≡ refusals.Full need largest → ⊥
+cut_no_full Ended count need largest is = absurd (cc is)
+cut_no_full Failed count need largest is = absurd (cc is)
+
 -- ---- turns
 
 gave_then : (a b c : SourceState) (text more : List ℕ) → Gave a b text → Gave b c more → Gave a c (text ++ more)
@@ -158,13 +172,15 @@ module _ (start old now : DiskState) (first kept kept' : Kept) (begun recv recv'
 
   -- an end by this answer, where each pool that the pieces came from ends so
   ended : (answer : Result (List (List ℕ)) Refusal) → length t.piece ≤ piece_size → SaysOfText all_pieces input input' answer
+      → ((need largest : ℕ) → answer ≡ Err (refusals.Full need largest) → CostMore first all_pieces)
       → ((tight : Bool) (pool : Pool) → now.honest → Turned tight start now kept' recv' begun.ask pool all_pieces items' turn → ReceiveEnds tight begun.ask pool all_pieces now input input' answer)
-      → Fed (λ tight pool. Underway tight start first begun begun.ask pool [] 0) start now begun.ask input input' answer
-  ended answer most text ends = record {
+      → Fed (λ tight pool. Underway tight start first begun begun.ask pool [] 0) first start now begun.ask input input' answer
+  ended answer most text cost ends = record {
     pieces = all_pieces;
     are_pieces = pieces_then f.pieces t.piece f.whole most;
     consumed = consumed;
     text = text;
+    cost = cost;
     says = λ tight pool honest begins. let done = turned tight pool honest begins in record { wanted = done.wanted; moments = done.moments; ends = ends tight pool honest done };
   }
 
@@ -178,6 +194,11 @@ module _ (start old now : DiskState) (first kept kept' : Kept) (begun recv recv'
     consumed = consumed start old now first kept kept' begun recv recv' items items' input mid input' turns.More f t same falls;
     no_fault = t.input_is ∙ f.no_fault;
     reads = reads start old now first kept kept' begun recv recv' items items' input mid input' turns.More f t same falls;
+    hands = let s = t.spends (concat f.pieces) f.hands in subst (HasHanded recv') (sym (concat_with f.pieces t.piece)) s.0;
+    grew =
+        let s = t.spends (concat f.pieces) f.hands in
+        let long : 0 < piece_size = omega arith in
+        subst (λ (l : List (List ℕ)). GrewBy first kept' l) (sym (with_some f.pieces t.piece (let sized = t.sized in omega (arith, sized, long)))) (grew_more first kept kept' f.pieces t.piece f.grew s.1);
     says = turned start old now first kept kept' begun recv recv' items items' input mid input' turns.More f t same falls;
   }
 
@@ -198,18 +219,20 @@ module _ (start old now : DiskState) (first kept kept' : Kept) (begun recv recv'
 
   -- the snapshot stands
   pub received_fed : Turns old now kept kept' recv recv' items items' mid input' turns.Received → (receipt : Receipt) → received_by recv' ≡ Some receipt.snapshot → receipt.items ≡ items'
-      → Fed (λ tight pool. Underway tight start first begun begun.ask pool [] 0) start now begun.ask input input' (told (Ok receipt))
+      → Fed (λ tight pool. Underway tight start first begun begun.ask pool [] 0) first start now begun.ask input input' (told (Ok receipt))
   received_fed t receipt snapshot count =
       ended start old now first kept kept' begun recv recv' items items' input mid input' turns.Received f t same falls (Ok (line_of receipt ∷ [])) t.sized.1
       (says_line (with_piece f.pieces t.piece) input input' (line_of receipt ∷ []) (reads start old now first kept kept' begun recv recv' items items' input mid input' turns.Received f t same falls))
+      (λ need largest is. absurd (cc is))
       (λ tight pool honest done. line_is tight pool (with_piece f.pieces t.piece) receipt snapshot count done.stands)
 
   -- the piece was refused
   pub refused_fed : (refusal : Refusal) → Turns old now kept kept' recv recv' items items' mid input' (turns.Refused refusal)
-      → Fed (λ tight pool. Underway tight start first begun begun.ask pool [] 0) start now begun.ask input input' (told (Err refusal))
+      → Fed (λ tight pool. Underway tight start first begun begun.ask pool [] 0) first start now begun.ask input input' (told (Err refusal))
   refused_fed refusal t =
       ended start old now first kept kept' begun recv recv' items items' input mid input' (turns.Refused refusal) f t same falls (Err refusal) t.sized.1
       (says_refused (with_piece f.pieces t.piece) input input' recv' refusal (reads start old now first kept kept' begun recv recv' items items' input mid input' (turns.Refused refusal) f t same falls))
+      (λ need largest is. subst (λ (l : List (List ℕ)). CostMore first l) (sym (with_some f.pieces t.piece t.sized.0)) (costs_more first kept f.pieces t.piece f.grew (t.spends (concat f.pieces) f.hands need largest (err_same refusal (refusals.Full need largest) is))))
       (λ tight pool honest done. done.stands input input')
 
   -- what is left of a receive that waits for more
@@ -228,22 +251,25 @@ module _ (start old now : DiskState) (first kept kept' : Kept) (begun recv recv'
 
     -- the input gave no more
     pub cut_fed : (end : End) (refusal : Refusal) → Turns old now kept kept' recv recv' items items' mid input' (turns.Over end) → refusal ≡ cut_refusal end (fed_of recv')
-        → Fed (λ tight pool. Underway tight start first begun begun.ask pool [] 0) start now begun.ask input input' (told (Err refusal))
+        → Fed (λ tight pool. Underway tight start first begun begun.ask pool [] 0) first start now begun.ask input input' (told (Err refusal))
     cut_fed end refusal t is =
         ended start old now first kept kept' begun recv recv' items items' input mid input' (turns.Over end) f t same falls (Err refusal) t.sized
         (says_cut (with_piece f.pieces t.piece) input mid input' recv' end refusal is f.no_fault t.input_is (reads start old now first kept kept' begun recv recv' items items' input mid input' (turns.Over end) f t same falls))
+        (λ need largest e. absurd (cut_no_full end (fed_of recv') need largest (sym is ∙ err_same refusal (refusals.Full need largest) e)))
         (λ tight pool honest done. cut_so end refusal t is tight pool (with_piece f.pieces t.piece) done.stands)
 
 -- ---- the start
 
 -- nothing was read yet
-pub fed_none : (start : DiskState) (first : Kept) (begun : Recv) (input : SourceState) → StandsFor begun.reader [] [] → Feeding start start first first begun begun 0 input input
-fed_none start first begun input stands = record {
+pub fed_none : (start : DiskState) (first : Kept) (begun : Recv) (input : SourceState) → StandsFor begun.reader [] [] → HasHanded begun [] → Feeding start start first first begun begun 0 input input
+fed_none start first begun input stands hands = record {
   pieces = [];
   whole = All-nil (λ (piece : List ℕ). length piece ≡ piece_size);
   consumed = sym (append-nil input.given);
   no_fault = refl;
   reads = ([], stands);
+  hands = hands;
+  grew = grew_none first;
   says = λ tight pool honest u. record { wanted = u.wanted; moments = Leaves-none start (Along tight begun.ask pool []); stands = u };
 }
 
@@ -265,19 +291,20 @@ begins tight start first recv pool opens ask same ready =
       wanted = λ n less. absurd (omega (arith, less));
     }
 
-pub fed_weaker : (Starts Then : (tight : Bool) → Pool → Type 0) (start now : DiskState) (ask asked : RecvAsk) (input input' : SourceState) (answer : Result (List (List ℕ)) Refusal) → ask ≡ asked → ((tight : Bool) (pool : Pool) → Then tight pool → Starts tight pool)
-    → Fed Starts start now ask input input' answer → Fed Then start now asked input input' answer
-fed_weaker Starts Then start now ask asked input input' answer same is f =
-    subst (λ (a : RecvAsk). Fed Then start now a input input' answer) same
-    (record { pieces = f.pieces; are_pieces = f.are_pieces; consumed = f.consumed; text = f.text; says = λ tight pool honest begins. f.says tight pool honest (is tight pool begins) })
+pub fed_weaker : (Starts Then : (tight : Bool) → Pool → Type 0) (first : Kept) (start now : DiskState) (ask asked : RecvAsk) (input input' : SourceState) (answer : Result (List (List ℕ)) Refusal) → ask ≡ asked → ((tight : Bool) (pool : Pool) → Then tight pool → Starts tight pool)
+    → Fed Starts first start now ask input input' answer → Fed Then first start now asked input input' answer
+fed_weaker Starts Then first start now ask asked input input' answer same is f =
+    subst (λ (a : RecvAsk). Fed Then first start now a input input' answer) same
+    (record { pieces = f.pieces; are_pieces = f.are_pieces; consumed = f.consumed; text = f.text; cost = f.cost; says = λ tight pool honest begins. f.says tight pool honest (is tight pool begins) })
 
 -- no memory was left for it
-pub unread : (start : DiskState) (first : Kept) (ask : RecvAsk) (input : SourceState) → Fed (λ tight. IsReady ask tight start first) start start ask input input (Err refusals.OutOfMemory)
+pub unread : (start : DiskState) (first : Kept) (ask : RecvAsk) (input : SourceState) → Fed (λ tight. IsReady ask tight start first) first start start ask input input (Err refusals.OutOfMemory)
 unread start first ask input = record {
   pieces = [];
   are_pieces = tt;
   consumed = sym (append-nil input.given);
   text = says_other [] input input refusals.OutOfMemory (λ fault is. absurd (cc is));
+  cost = λ need largest is. absurd (cc is);
   says = λ tight pool honest ready. record {
     wanted = λ n less. absurd (omega (arith, less));
     moments = Leaves-none start (Along tight ask pool []);

@@ -29,11 +29,14 @@ use Rattle.zst_recv.specs.declared.recv.Fed as coded
 use Rattle.zst_recv.specs.declared.recv.Recv.{Recv}
 use Rattle.zst_replication.specs.Counting.{RecordsAreCounted}
 use Rattle.zst_run.specs.Receives.{piece_size}
-use Rattle.zst_run.specs.Underway.{Fills, HasFed, IsInputOf, IsPieceOf, Turned, TurnLeaves, TurnReads, Turns, Underway, turn_behind, with_piece}
+use Rattle.zst_run.specs.Underway.{Fills, HasFed, HasHanded, IsInputOf, IsPieceOf, Turned, TurnLeaves, TurnReads, TurnSpends, Turns, Underway, turn_behind, with_piece}
 use Rattle.zst_run.specs.declared.receive.End.{End}
 use Rattle.zst_run.specs.declared.receive.End.TheVariants.{Ended, Failed}
 use Rattle.zst_run.specs.declared.receive.Turn.TheVariants as turns
 use Rattle.zst_run.proofs.Commanded.{of_plan}
+use Rattle.zst_recv.specs.Costs.{PieceGrows}
+use Rattle.zst_recv.specs.Feeds.{new_records}
+use Rattle.zst_run.proofs.Receiving.{recv_full}
 use Rattle.zst_run.proofs.Shorts.{IsShortBehind}
 use Rattle.zst_run.proofs.Turning.{turn_without, turned_more, turned_over, turned_received, turned_refused}
 
@@ -91,6 +94,10 @@ module _ (input input' : SourceState) (room : List ℕ) (count : ℕ) (end : Opt
         let nothing : take count room ≡ [] = nil_from_length (take count room) (long ∙ none) in
         subst (HasFed recv) (sym (ap (λ (piece : List ℕ). text ++ piece) nothing ∙ append-nil text)) has
 
+    spends_none : (e : Option End) → Fills input input' (length room) count e → (text : List ℕ) → TurnSpends kept kept recv text (take count room) (turn_behind e)
+    spends_none None is text = absurd (let full = is.0 in omega (arith, full, none, size))
+    spends_none (Some e) is text = tt
+
     pub turns_without : Turns now now kept kept recv recv items items input input' (turn_behind end)
     turns_without = record {
       piece = take count room;
@@ -98,6 +105,7 @@ module _ (input input' : SourceState) (room : List ℕ) (count : ℕ) (end : Opt
       sized = sized end fills;
       input_is = input_is end fills;
       reads = λ text has. goes_reads end recv (text ++ take count room) (same_text text has);
+      spends = λ text has. spends_none end fills text;
       says = without end fills;
     }
 
@@ -127,15 +135,21 @@ module _ (input input' : SourceState) (room : List ℕ) (count : ℕ) (end : Opt
       behind (Some e) not still tight pool pieces honest u =
           turned_over law tight old now kept kept' recv recv' recv.ask pool pieces (take count room) items u has_some same told (feeds tight u.after _ u.stage honest u.rests u.tells u.fed) bytes most items' adds e not still
 
+      spends_on : (e : Option End) (text : List ℕ) → HasHanded recv' (text ++ take count room) × PieceGrows (new_records text (take count room)) kept kept' → TurnSpends kept kept' recv' text (take count room) (turn_behind e)
+      spends_on None text both = both
+      spends_on (Some e) text both = tt
+
       -- more is waited for
       pub turns_on : told.done ≡ false → (is_waiting recv' ≡ true → kept' ≡ kept)
-          → ((text : List ℕ) (handed : List Covered) → StandsFor recv.reader text handed → HasFed recv' (text ++ take count room)) → Turns old now kept kept' recv recv' items items' input input' (turn_behind end)
-      turns_on not still stands = record {
+          → ((text : List ℕ) (handed : List Covered) → StandsFor recv.reader text handed → HasFed recv' (text ++ take count room))
+          → ((text : List ℕ) (has : HasHanded recv text) → HasHanded recv' (text ++ take count room) × PieceGrows (new_records text (take count room)) kept kept') → Turns old now kept kept' recv recv' items items' input input' (turn_behind end)
+      turns_on not still stands grows = record {
         piece = take count room;
         gave = gave;
         sized = sized end fills;
         input_is = input_is end fills;
         reads = λ text has. goes_reads end recv' (text ++ take count room) (stands text has.0 has.1);
+        spends = λ text has. spends_on end text (grows text has);
         says = behind end not still;
       }
 
@@ -148,6 +162,7 @@ module _ (input input' : SourceState) (room : List ℕ) (count : ℕ) (end : Opt
         sized = (has_some, most);
         input_is = tt;
         reads = λ text has. whole text has.0 has.1;
+        spends = λ text has. tt;
         says = λ tight pool pieces honest u.
             turned_received law tight old now kept kept' recv recv' recv.ask pool pieces (take count room) items u has_some same told (feeds tight u.after _ u.stage honest u.rests u.tells u.fed) bytes most items' adds over;
       }
@@ -162,6 +177,7 @@ module _ (input input' : SourceState) (room : List ℕ) (count : ℕ) (end : Opt
       sized = (has_some, most);
       input_is = tt;
       reads = λ text has told is. let same = recv_stream fault told is in (subst IsFeedFault same known, stream text has.0 told has.1 same);
+      spends = λ text has need largest is. let s = short text has.0 need largest has.1 (recv_full fault need largest is) in s.short.room;
       says = λ tight pool pieces honest u.
           turned_refused law tight old now kept kept' recv recv' recv.ask pool pieces (take count room) items u has_some same items' fault known (feeds tight u.after _ u.stage honest u.rests u.tells u.fed)
           (λ need largest is. short _ u.fed.handed need largest u.fed.reads is);

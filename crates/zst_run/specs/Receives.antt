@@ -1,5 +1,5 @@
 -- What a receive reads, what it leaves of an image, and why it ends.
-use Rattle.std.specs.Prelude.{ℕ, ◌-◌, ◌≡◌, ◌⊎◌, ◌<◌, ◌≤◌, Bool, IsTrue, IfErr, List, [], ◌∷◌, ◌++◌, length, take, codes, decimal, Option, Some, None, Result, Ok, Err}
+use Rattle.std.specs.Prelude.{ℕ, ◌+◌, ◌-◌, ◌≡◌, ◌⊎◌, ◌<◌, ◌≤◌, Bool, IsTrue, IfErr, List, [], ◌∷◌, ◌++◌, length, take, codes, decimal, Option, Some, None, Result, Ok, Err}
 use Rattle.std.specs.List.{concat}
 use Rattle.zst_outside.specs.Causes.{Rose}
 use Rattle.zst_outside.specs.Images.{DiskState, Leaves, OnlyReads}
@@ -22,16 +22,17 @@ use Rattle.zst_model.specs.pools.Pool.{Pool, Partial}
 use Rattle.zst_model.specs.refusals.Refusal.{refusal_of}
 use Rattle.zst_model.specs.refusals.Texts.{guid_text}
 use Rattle.zst_dir.specs.Rows.{Rows}
+use Rattle.zst_dir.specs.Spelling.{dir_bytes}
 use Rattle.zst_image.specs.Faults.{open_refusal}
 use Rattle.zst_image.specs.Opening.{TellsBody, TellsDir}
-use Rattle.zst_image.specs.Reads.{Reads, ReadsAs, Rests, RunsBy, bound_of, free_by, kept_rows}
+use Rattle.zst_image.specs.Reads.{Reads, ReadsAs, Rests, RunsBy, bound_of, free_by, kept_rows, dir_sectors}
 use Rattle.zst_image.specs.declared.kept.Kept.{Kept}
 use Rattle.zst_image.specs.declared.open_fault.OpenFault.{OpenFault}
 use Rattle.zst_plan.specs.RecvPlan.{snapshot_name}
 use Rattle.zst_plan.specs.declared.receive.RecvAsk.{RecvAsk}
 use Rattle.zst_stream.specs.Findings.{IsFound}
 use Rattle.zst_stream.specs.Reading.{complete, faulty, reading}
-use Rattle.zst_recv.specs.Costs.{PieceIsShort}
+use Rattle.zst_recv.specs.Costs.{PieceIsShort, records_cost}
 use Rattle.zst_recv.specs.Faults.{IsFeedFault, recv_refusal, stream_limit}
 use Rattle.zst_recv.specs.Feeds.{new_records, receives}
 use Rattle.zst_recv.specs.Damage.{IsDamagedState}
@@ -128,6 +129,16 @@ pub record Refused (tight : Bool) (ask : RecvAsk) (pool : Pool) (pieces : List (
   pub after : Pool
   pub is : receives ask pool pieces ≡ Stops after refusal
   pub keeps : Keeps tight here' after
+
+-- so many sectors these pieces cost behind a text, in a pool whose directory has so many bytes before them: each the records that it covers, and a
+-- directory that has 2,048 bytes more than before it
+unfoldable pub pieces_cost : (count : ℕ) → List ℕ → List (List ℕ) → ℕ
+pieces_cost count text [] = 0
+pieces_cost count text (piece ∷ rest) = records_cost (new_records text piece) + dir_sectors (count + 2048) + pieces_cost (count + 2048) (text ++ piece) rest
+
+-- fewer sectors were free by what was opened than the pieces cost together
+abbrev pub CostMore : Kept → List (List ℕ) → Type 0
+CostMore kept pieces = kept.body.sectors - kept.body.end < pieces_cost (length (dir_bytes kept.dir)) [] pieces
 
 -- The last of the pieces found no room: those before it left the receive waiting, and a pool whose rows in memory stood for it then, by a body by
 -- which the image rests still; and by them fewer sectors were free than the last piece costs, by the records that it covers.
@@ -242,6 +253,9 @@ pub record Receiving (ask : RecvAsk) (here here' : DiskState) (input input' : So
       → ReceiveEnds tight ask pool pieces here' input input' answer
   pub opened : here'.honest → ReceiveOpened ask pieces here here' input input' answer
   pub text : SaysOfText pieces input input' answer
+  -- whatever the image: E24 comes only where fewer sectors were free, by the body and the directory that were opened, than all pieces cost that were read
+  pub cost : here'.honest → (need largest : ℕ) → answer ≡ Err (refusals.Full need largest)
+      → (uber : Uber) × (rows : Rows) × Opens here uber rows × CostMore (record { body = uber; dir = kept_rows rows }) pieces
   pub refused : IfErr answer (IsReceiveRefusal here here' input input')
   pub later : here.faults ≤ here'.faults
   pub input_later : input.faults ≤ input'.faults

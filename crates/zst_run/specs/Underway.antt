@@ -1,5 +1,5 @@
 -- A receive that is under way, piece by piece.
-use Rattle.std.specs.Prelude.{ℕ, ◌+◌, ◌-◌, ◌≡◌, ◌⊎◌, ◌<◌, ◌≤◌, Bool, true, false, IsTrue, IsSome, All, List, [], ◌∷◌, ◌++◌, length, take, Option, None, Some, Result, Ok, Err}
+use Rattle.std.specs.Prelude.{ℕ, ◌+◌, ◌*◌, ◌-◌, ◌≡◌, ◌⊎◌, ◌<◌, ◌≤◌, Bool, true, false, IsTrue, IsSome, All, List, [], ◌∷◌, ◌++◌, length, take, Option, None, Some, Result, Ok, Err}
 use Rattle.std.specs.List.{concat}
 use Rattle.zst_outside.specs.Causes.{Rose}
 use Rattle.zst_outside.specs.Images.{DiskState, Leaves}
@@ -13,19 +13,21 @@ use Rattle.zst_model.specs.declared.refusals.stream_fault.StreamFault.{StreamFau
 use Rattle.zst_model.specs.declared.refusals.stream_fault.StreamFault.TheVariants.{Truncated}
 use Rattle.zst_model.specs.pools.Kept.{kept_of}
 use Rattle.zst_model.specs.pools.Pool.{Pool, Partial}
+use Rattle.zst_dir.specs.Spelling.{dir_bytes}
 use Rattle.zst_image.specs.Reads.{Reads, bound_of, free_by}
 use Rattle.zst_image.specs.declared.kept.Kept.{Kept}
 use Rattle.zst_plan.specs.declared.receive.RecvAsk.{RecvAsk}
 use Rattle.zst_pool.specs.Calls.{IsAtRest}
 use Rattle.zst_record.specs.Laws.{AreBytes}
-use Rattle.zst_reader.specs.StandsFor.{StandsFor}
+use Rattle.zst_reader.specs.StandsFor.{HandsOut, StandsFor}
 use Rattle.zst_record.specs.Heads.{Covered}
 use Rattle.zst_stream.specs.Findings.{IsFound}
-use Rattle.zst_stream.specs.Reading.{complete, faulty, reading}
+use Rattle.zst_stream.specs.Reading.{complete, faulty, reading, waiting}
 use Rattle.zst_recv.specs.Answers.{received_of}
 use Rattle.zst_recv.specs.Faults.{IsFeedFault, recv_refusal, stream_limit}
-use Rattle.zst_recv.specs.Feeds.{receives}
+use Rattle.zst_recv.specs.Feeds.{receives, new_records}
 use Rattle.zst_recv.specs.Planning.{RefusesOne}
+use Rattle.zst_recv.specs.Costs.{PieceGrows, piece_cost}
 use Rattle.zst_recv.specs.Receiving.{Stage, Goes, Ends, pool_of}
 use Rattle.zst_recv.specs.Stages as standing
 use Rattle.zst_recv.specs.Stages.{TellsBefore, TellsTarget, fed_of, is_live, is_waiting, received_by}
@@ -33,7 +35,7 @@ use Rattle.zst_recv.specs.declared.fault.RecvFault.{RecvFault}
 use Rattle.zst_recv.specs.declared.recv.Recv.{Recv}
 use Rattle.zst_replication.specs.Counting.{Counts}
 use Rattle.zst_run.specs.Dumps.{NoFault}
-use Rattle.zst_run.specs.Receives.{ArePieces, IsOpen, ReceiveEnds, SaysOfPlan, SaysOfText, piece_size, receipt_line}
+use Rattle.zst_run.specs.Receives.{ArePieces, IsOpen, ReceiveEnds, SaysOfPlan, SaysOfText, piece_size, receipt_line, CostMore, pieces_cost}
 use Rattle.zst_run.specs.declared.receive.End.{End}
 use Rattle.zst_run.specs.declared.receive.End.TheVariants.{Ended, Failed}
 use Rattle.zst_run.specs.declared.receive.Receipt.{Receipt}
@@ -149,6 +151,24 @@ TurnPlans rows ask kept recv text turns.Received = (fault : PlanFault) → lengt
 TurnPlans rows ask kept recv text (turns.Over end) = PlansOn rows kept recv text
 TurnPlans rows ask kept recv text (turns.Refused refusal) = SaysOfPlan rows ask text (Err refusal)
 
+-- Whatever the image, the receive has handed out all that this text covers
+abbrev pub HasHanded : Recv → List ℕ → Type 0
+HasHanded recv text = (handed : List Covered) × HandsOut recv.reader text handed waiting
+
+-- and behind a piece more that is taken it has again, and no more is taken than it costs; where it found no room, it costs more than was free.
+abbrev pub TurnSpends : (kept kept' : Kept) → Recv → (text piece : List ℕ) → Turn → Type 0
+TurnSpends kept kept' recv text piece turns.More = HasHanded recv (text ++ piece) × PieceGrows (new_records text piece) kept kept'
+TurnSpends kept kept' recv text piece turns.Received = Unit {0}
+TurnSpends kept kept' recv text piece (turns.Over end) = Unit {0}
+TurnSpends kept kept' recv text piece (turns.Refused refusal) =
+    (need largest : ℕ) → refusal ≡ refusals.Full need largest → kept.body.sectors - kept.body.end < piece_cost (new_records text piece) kept.dir
+
+-- what the pool keeps has grown by no more than these pieces cost
+pub record GrewBy (first kept : Kept) (pieces : List (List ℕ)) : Type 0 where
+  pub directory : length (dir_bytes kept.dir) ≤ length (dir_bytes first.dir) + 2048 * length pieces
+  pub sectors : kept.body.sectors ≡ first.body.sectors
+  pub end : kept.body.end ≤ first.body.end + pieces_cost (length (dir_bytes first.dir)) [] pieces
+
 -- One turn: a piece was read, and fed behind those before.
 pub record Turns (old now : DiskState) (kept kept' : Kept) (recv recv' : Recv) (items items' : ℕ) (input input' : SourceState) (turn : Turn) : Type 0 where
   pub piece : List ℕ
@@ -156,6 +176,7 @@ pub record Turns (old now : DiskState) (kept kept' : Kept) (recv recv' : Recv) (
   pub sized : IsPieceOf turn piece
   pub input_is : IsInputOf input input' turn
   pub reads : (text : List ℕ) → HasFed recv text → TurnReads recv' (text ++ piece) turn
+  pub spends : (text : List ℕ) → HasHanded recv text → TurnSpends kept kept' recv' text piece turn
   pub says : (tight : Bool) (pool : Pool) (pieces : List (List ℕ)) → now.honest → Underway tight old kept recv recv.ask pool pieces items
       → Turned tight old now kept' recv' recv.ask pool (with_piece pieces piece) items' turn
 
@@ -180,6 +201,8 @@ pub record Feeding (old now : DiskState) (kept kept' : Kept) (recv recv' : Recv)
   pub consumed : Gave input input' (concat pieces)
   pub no_fault : NoFault input input'
   pub reads : HasFed recv' (concat pieces)
+  pub hands : HasHanded recv' (concat pieces)
+  pub grew : GrewBy kept kept' pieces
   pub says : (tight : Bool) (pool : Pool) → now.honest → Underway tight old kept recv recv.ask pool [] 0 → Turned tight old now kept' recv' recv.ask pool pieces items turns.More
 
 -- ---- all of them
@@ -209,11 +232,12 @@ pub record Outcome (tight : Bool) (old now : DiskState) (ask : RecvAsk) (pool : 
   pub ends : ReceiveEnds tight ask pool pieces now input input' answer
 
 -- All pieces were read and fed, from each pool that starts so.
-pub record Fed (Starts : (tight : Bool) → Pool → Type 0) (old now : DiskState) (ask : RecvAsk) (input input' : SourceState) (answer : Result (List (List ℕ)) Refusal) : Type 0 where
+pub record Fed (Starts : (tight : Bool) → Pool → Type 0) (first : Kept) (old now : DiskState) (ask : RecvAsk) (input input' : SourceState) (answer : Result (List (List ℕ)) Refusal) : Type 0 where
   pub pieces : List (List ℕ)
   pub are_pieces : ArePieces pieces
   pub consumed : Gave input input' (concat pieces)
   pub text : SaysOfText pieces input input' answer
+  pub cost : (need largest : ℕ) → answer ≡ Err (refusals.Full need largest) → CostMore first pieces
   pub says : (tight : Bool) (pool : Pool) → now.honest → Starts tight pool → Outcome tight old now ask pool pieces input input' answer
 
 -- a pool at rest, whose sets tell the dates that a plan may look at

@@ -19,7 +19,7 @@ ghost use Rattle.zst_recv.specs.Stages.{Receives as HasTaken, RecvFits, fed_of, 
 ghost use Rattle.zst_dir.specs.Rows.{Rows};
 ghost use Rattle.zst_run.specs.Receives.{IsDamagedReceive, IsTarget, Receives, Receiving, SaysOfPlan, piece_size, receipt_of, snapshot_of, target_of};
 ghost use Rattle.zst_run.specs.Replies.{reply_text};
-ghost use Rattle.zst_run.specs.Underway.{Fed, Fills, IsEnd, IsReady, PlansOn, TurnLeaves, TurnPlans, Turns, Underway, cut_refusal, line_of, told, turn_behind};
+ghost use Rattle.zst_run.specs.Underway.{Fed, Fills, IsEnd, IsReady, PlansOn, TurnLeaves, TurnPlans, Turns, Underway, cut_refusal, line_of, told, turn_behind, HasHanded};
 
 use itoa::Buffer;
 use std::alloc::Global;
@@ -247,13 +247,14 @@ fn feed_all<D: Disk, S: Source>(
     requires live { is_live recv.stage ≡ true }
     requires recv { RecvFits pool.old.kept.dir recv }
     requires reads { StandsFor recv.reader [] [] }
+    requires hands { HasHanded recv [] }
     requires works { pool.old.io.failed ≡ false }
     requires ready { Ready (D.state pool.old.io.disk.now) pool.old.kept.body }
     requires room { length room.old ≡ piece_size }
     ensures plans { (rows : Rows) (text : List ℕ) → Gave (S.state input.old) (S.state input.new) text → PlansOn rows pool.old.kept recv [] → SaysOfPlan rows recv.ask text (told result) }
     ensures damaged { (sector : ℕ) (stated found : List ℕ) → (D.state pool.new.io.disk.now).honest → result ≡ Err (Refusal.Damaged sector stated found)
         → IsDamagedReceive (D.state pool.old.io.disk.now) pool.old.kept.body recv.ask.target sector stated found }
-    ensures fed { Fed (λ tight start. Underway tight (D.state pool.old.io.disk.now) pool.old.kept recv recv.ask start [] 0) (D.state pool.old.io.disk.now) (D.state pool.new.io.disk.now) recv.ask (S.state input.old) (S.state input.new) (told result) }
+    ensures fed { Fed (λ tight start. Underway tight (D.state pool.old.io.disk.now) pool.old.kept recv recv.ask start [] 0) pool.old.kept (D.state pool.old.io.disk.now) (D.state pool.new.io.disk.now) recv.ask (S.state input.old) (S.state input.new) (told result) }
     ensures refused { IfErr result (IsEnd (D.state pool.old.io.disk.now) (D.state pool.new.io.disk.now) (S.state input.old) (S.state input.new)) }
     ensures later { (D.state pool.old.io.disk.now).faults ≤ (D.state pool.new.io.disk.now).faults }
     ensures input_later { (S.state input.old).faults ≤ (S.state input.new).faults }
@@ -283,7 +284,7 @@ fn receive_into<D: Disk, S: Source>(
     ensures plans { (text : List ℕ) → Gave (S.state input.old) (S.state input.new) text → SaysOfPlan pool.old.kept.dir ask text (told result) }
     ensures damaged { (sector : ℕ) (stated found : List ℕ) → (D.state pool.new.io.disk.now).honest → result ≡ Err (Refusal.Damaged sector stated found)
         → IsDamagedReceive (D.state pool.old.io.disk.now) pool.old.kept.body ask.target sector stated found }
-    ensures fed { Fed (λ tight. IsReady ask tight (D.state pool.old.io.disk.now) pool.old.kept) (D.state pool.old.io.disk.now) (D.state pool.new.io.disk.now) ask (S.state input.old) (S.state input.new) (told result) }
+    ensures fed { Fed (λ tight. IsReady ask tight (D.state pool.old.io.disk.now) pool.old.kept) pool.old.kept (D.state pool.old.io.disk.now) (D.state pool.new.io.disk.now) ask (S.state input.old) (S.state input.new) (told result) }
     ensures refused { IfErr result (IsEnd (D.state pool.old.io.disk.now) (D.state pool.new.io.disk.now) (S.state input.old) (S.state input.new)) }
     ensures later { (D.state pool.old.io.disk.now).faults ≤ (D.state pool.new.io.disk.now).faults }
     ensures input_later { (S.state input.old).faults ≤ (S.state input.new).faults }

@@ -15,7 +15,7 @@ use Rattle.zst_run.proofs.receive.feed_all.Goals as goal
 
 pub pieces-init : goal.pieces-init
 pieces-init g c = record {
-  feeding = fed_none _ _ _ _ c.requires.reads;
+  feeding = fed_none _ _ _ _ c.requires.reads c.requires.hands;
   plans = λ rows text gave on. subst (λ (t : List ℕ). PlansOn rows c.args.pool.now.kept c.args.recv t) (sym (gave_none (g.S.Source.state c.args.input.now) text gave)) on;
   blocks = λ ptr bytes has. has;
   live = c.requires.live;

@@ -2,7 +2,7 @@ use Rattle.std.proofs.Common.{ℕ, ◌<◌, Err, ap, take, ◌∙◌, arith, ◌
 use Rattle.std.specs.Prelude.{not}
 use Rattle.std.proofs.lemmas.List.Elements.{All-take}
 use Rattle.zst_recv.specs.declared.fault.RecvFault.{RecvFault}
-use Rattle.zst_run.proofs.Shorts.{short_behind}
+use Rattle.zst_run.proofs.Shorts.{grows_behind, short_behind}
 use Rattle.zst_run.proofs.TurnEnds.{turns_on, turns_received, turns_refused, turns_without}
 use Rattle.zst_recv.specs.Faults.{recv_refusal}
 use Rattle.zst_run.specs.Underway.{TurnPlans, turn_behind}
@@ -36,7 +36,8 @@ returns-else-fed-clause-turns g c =
     rw c.turn_behind-in-Ok.ensures
     (turns_on _ _ p.new.room p.result.count p.result.end p.ensures.within (p.ensures.room ∙ c.requires.room) p.ensures.gave p.ensures.fills c.records_are_counted.ensures (λ is. c.if-piece-eq0.false is) bytes
     _ _ _ _ _ _ _ e.ask c.in-Ok.fed _ (let adds = c.saturating_add.ensures in omega (arith, adds)) (λ tight running text stage honest rests tells fed. e.feeds tight running text stage honest c.requires.works rests tells fed) c.if-fed.false
-    e.waits (λ text handed stands. e.stands text handed stands c.if-fed.false))
+    e.waits (λ text handed stands. e.stands text handed stands c.if-fed.false)
+    (λ text has. (e.hands_out text has.0 has.1 c.if-fed.false, grows_behind c.args.recv.now text (take p.result.count p.new.room) _ _ has (e.grows text has.0 has.1.stands))))
 
 pub returns-in-Err-clause-turns : goal.returns-in-Err-clause-turns
 returns-in-Err-clause-turns g c =

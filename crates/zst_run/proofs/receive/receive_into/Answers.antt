@@ -1,4 +1,4 @@
-use Rattle.std.proofs.Common.{ℕ, List, Err, sym, subst}
+use Rattle.std.proofs.Common.{ℕ, List, Err, sym, subst, []}
 use Rattle.std.proofs.lemmas.Result.{err_from_is_err_and}
 use Rattle.zst_image.specs.declared.kept.Kept.{Kept}
 use Rattle.zst_model.specs.declared.refusals.refusal.Refusal.TheVariants as refusals
@@ -8,6 +8,8 @@ use Rattle.zst_run.specs.Underway.{told}
 use Rattle.zst_run.proofs.Damaged.{memory_undamaged}
 use Rattle.zst_run.proofs.Planning.{gave_none, none_covered, starts, unread_plans}
 use Rattle.zst_run.proofs.Receiving.{begins, fed_weaker, unread, without_memory}
+use Rattle.std.specs.Prelude.{None}
+use Rattle.zst_image.specs.Reads.{free_by}
 use Rattle.zst_run.proofs.receive.receive_into.Goals as goal
 
 pub returns-in_default-clause-fed : goal.returns-in_default-clause-fed
@@ -33,7 +35,7 @@ returns-in_err-recv-clause-refused g c =
 pub returns-clause-fed : goal.returns-clause-fed
 returns-clause-fed g c =
     let e = c.in_ok-recv.ensures in
-    fed_weaker _ _ _ _ _ _ _ _ _ e.ask (λ tight pool ready. begins tight _ _ c.in_ok-recv.recv pool e.opens _ e.ask ready) (rw (e.disk, e.kept) at c.feed_all.ensures.fed)
+    fed_weaker _ _ _ _ _ _ _ _ _ _ e.ask (λ tight pool ready. begins tight _ _ c.in_ok-recv.recv pool e.opens _ e.ask ready) (rw (e.disk, e.kept) at c.feed_all.ensures.fed)
 
 pub returns-in_default-clause-plans : goal.returns-in_default-clause-plans
 returns-in_default-clause-plans g c = λ text gave.
@@ -72,3 +74,6 @@ returns-clause-damaged g c = λ sector stated found honest is.
     let e = c.in_ok-recv.ensures in
     let told = c.feed_all.ensures.damaged sector stated found honest is in
     rw (e.ask, e.disk, e.kept) at told
+
+pub feed_all-requires-clause-hands : goal.feed_all-requires-clause-hands
+feed_all-requires-clause-hands g c = let fed = c.in_ok-recv.ensures.opens None [] (free_by c.args.pool.now.kept.body) in (fed.handed, fed.reads)
