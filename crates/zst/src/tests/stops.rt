@@ -1,11 +1,11 @@
-// Runs that are stopped at each call of the disk, runs of which each call fails, and images with each byte turned.
+// Runs that are stopped at each call of the disk, and runs of which each call fails.
 
 use super::images::{SMALL, bytes_of, disk_of, image_of, ok_line, run_all, run_on, zeros};
 use super::runs::{check, text_of};
 use std::alloc::Global;
 use std::process::Abort;
 use std::test::Fail;
-use zst_outside::{Call, Disk, Entry, MemDisk};
+use zst_outside::{Disk, MemDisk};
 
 /// What a stop may leave in a range that was written and not synced.
 const FILLS: [u8; 4] = [0x00, 0x01, 0xa5, 0xff];
@@ -140,145 +140,5 @@ fn each_call_may_fail(rt: HostRuntime) -> Result<(), Fail> {
         check_kept(&rt, alloc, &mut disk, accepted, call)?;
     }
     assert!(rt; false, "five lines make fewer calls");
-    Ok(())
-}
-
-// A directory and a head take 16 sectors each, a block one, and all stand from sector 8 on in the order in which they
-// are written: the directories of two commits, a head and a directory, the block, the latest head and a directory, and
-// the latest directory. The first commit goes into the first slot, and each later one into the other.
-
-/// Where the latest body begins.
-const LATEST: u64 = 512;
-
-/// Where the body before it begins.
-const OLDER: u64 = 1536;
-
-/// Where the latest head begins.
-const HEAD: u64 = 73 * 512;
-
-/// Where the latest directory begins.
-const DIRECTORY: u64 = 105 * 512;
-
-/// Where what is written ends.
-const END: u64 = 121 * 512;
-
-/// How many bytes a head or a directory takes.
-const RUN: u64 = 16 * 512;
-
-/// Whether a place is one of so many.
-fn is_in(place: u64, start: u64, count: u64) -> bool {
-    start <= place && place - start < count
-}
-
-/// What a line answers on the image of a small pool with the lowest bit of a byte turned: its status, and the start of
-/// what it prints or notes.
-fn answer_at(place: u64, reads_head: bool) -> (u8, &'static str) {
-    // Without its gate or its magic the latest body doesn't count, and the one before it has number 4.
-    if place == 0 || is_in(place, LATEST, 8) {
-        return (0, "ok 5\n");
-    }
-    if is_in(place, LATEST + 8, 4) {
-        return (8, "zst: E27 bad version ");
-    }
-    if is_in(place, LATEST + 12, 500) {
-        return (8, "zst: E25 damaged at sector 1: stated ");
-    }
-
-    // With a bit of a higher byte of its number the older body is the latest.
-    if is_in(place, OLDER + 17, 7) {
-        return (8, "zst: E25 damaged at sector 3: stated ");
-    }
-    if is_in(place, DIRECTORY, RUN) {
-        return (8, "zst: E25 damaged at sector 105: stated ");
-    }
-    if reads_head && is_in(place, HEAD, RUN) {
-        return (8, "zst: E25 damaged at sector 73: stated ");
-    }
-    (0, "ok 6\n")
-}
-
-/// Turns the lowest bit of a byte of a disk.
-fn turn(rt: &impl Abort, disk: &mut MemDisk, place: u64) -> Result<(), Fail> {
-    assert!(rt; place < disk.bytes(), "{place}");
-    let mut byte = [0; 1];
-    disk.read(place, &mut byte)?;
-    disk.write_at(place, &[byte[0] ^ 1])?;
-    Ok(())
-}
-
-/// Whether an entry is a write.
-fn writes(entry: &Entry) -> bool {
-    matches!(&entry.call, Call::Write(_, _))
-}
-
-/// Turns a byte of an image, runs a line, and checks its answer. A refused line writes nothing, and the byte is turned
-/// back. After an accepted one the disk is begun anew.
-fn check_turned(
-    rt: &impl Abort,
-    alloc: Global,
-    disk: &mut MemDisk,
-    image: &[u8],
-    place: u64,
-    line: &str,
-) -> Result<(), Fail> {
-    turn(rt, disk, place)?;
-    let before = disk.log().len();
-    let ran = run_on(alloc, disk, line)?;
-    let what = format!(in alloc; "{line}: {place}")?;
-    let reads_head = line.starts_with("object") || line.starts_with("write");
-    let (status, text) = answer_at(place, reads_head);
-    assert_eq!(rt; ran.status, status, "{what}");
-    if status == 0 {
-        check(rt, &what, &ran, 0, text, "");
-        *disk = disk_of(alloc, image)?;
-        return Ok(());
-    }
-    assert_eq!(rt; text_of(&ran.out), "", "{what}");
-    assert!(rt; text_of(&ran.note).starts_with(text), "{what}");
-    let since = disk.log().get(before..).ok_or("the calls of the run")?;
-    assert!(rt; !since.iter().any(writes), "{what}");
-    turn(rt, disk, place)
-}
-
-const FS: &str = "fs I tank/zz";
-
-const OBJECT: &str = "object I tank/a 2 19 512 0 none none";
-
-const WRITE: &str = "write I tank/a 1 0 bb";
-
-const SNAPSHOT: &str = "snapshot I tank/a@t";
-
-/// A line, from where to where a byte is turned, and of how many one is.
-const TURNS: [(&str, u64, u64, u64); 13] = [
-    (FS, LATEST, LATEST + 512, 1),
-    (OBJECT, LATEST, LATEST + 512, 7),
-    (WRITE, LATEST, LATEST + 512, 7),
-    (SNAPSHOT, LATEST, LATEST + 512, 7),
-    (FS, 1024, 1025, 1),
-    (FS, OLDER, OLDER + 32, 1),
-    (FS, DIRECTORY, DIRECTORY + RUN, 7),
-    (WRITE, HEAD, HEAD + RUN, 7),
-    (OBJECT, HEAD, HEAD + RUN, 61),
-    (FS, 0, END, 1021),
-    (OBJECT, 0, END, 4093),
-    (WRITE, 0, END, 1021),
-    (SNAPSHOT, 0, END, 4093),
-];
-
-#[test]
-fn each_byte_may_be_flipped(rt: HostRuntime) -> Result<(), Fail> {
-    let alloc = rt.alloc();
-    let mut disk = disk_of(alloc, &zeros(alloc, 160)?)?;
-    run_all(&rt, alloc, &mut disk, &["create I 160 1"], 1)?;
-    run_all(&rt, alloc, &mut disk, &SMALL[1..], 2)?;
-    let image = bytes_of(alloc, &mut disk)?;
-    for (line, start, end, step) in TURNS {
-        let mut disk = disk_of(alloc, &image)?;
-        for place in start..end {
-            if place.checked_rem(step) == Some(0) {
-                check_turned(&rt, alloc, &mut disk, &image, place, line)?;
-            }
-        }
-    }
     Ok(())
 }
