@@ -15,7 +15,7 @@ use Rattle.zst_model.specs.fields.Guids.{IsGuidSet}
 use Rattle.zst_model.specs.pools.Before.{Source}
 use Rattle.zst_model.specs.pools.Pool.{Bookmark, IsGuid, IsKind, IsStated, Pool, Snapshot}
 use Rattle.zst_model.specs.sends.Features.{redacts, resuming, sa_spill}
-use Rattle.zst_model.specs.sends.Headers.{Sent, choice_of, clone_flag, clone_part, features_of, flags_of, free_records, header_of, is_elsewhere, redacted_part, redaction_guids, redaction_list, source_guids, spill_block}
+use Rattle.zst_model.specs.sends.Headers.{Sent, choice_of, clone_flag, clone_part, features_of, flags_of, free_records, header_of, is_elsewhere, redacted_part, redaction_list, source_guids, spill_block}
 use Rattle.zst_model.specs.sends.SendPlan.{has_guids, send_plan}
 use Rattle.zst_model.specs.states.State.{IsState}
 use Rattle.zst_record.specs.Decode.{is_payload_len, needs_payload, others_of}
