@@ -86,6 +86,7 @@ returns-in-Err-clause-spends g c =
     let covered = covered_of c.args.covered.now in
     subst (λ (fault : RecvFault). Spends (covered ∷ []) old new (stop_at fault)) (sym c.of_record.ensures)
     (subst (λ (stop : Option BlockFault). Spends (covered ∷ []) old new stop) (sym (stop_same covered.index c.in-Err.fault)) (spends_one covered _ _ _ _ _ _ _ c.in-Err.ensures.works))
+
 pub returns-in-Err-clause-unplanned : goal.returns-in-Err-clause-unplanned
 returns-in-Err-clause-unplanned g c = λ fault is.
     record_unplanned (covered_of c.args.covered.now).index c.in-Err.fault fault (sym c.of_record.ensures ∙ err_told (Unit {0}) c.of_record.result _ is)

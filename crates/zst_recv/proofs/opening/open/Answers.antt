@@ -81,5 +81,6 @@ pub returns-in-Begins-clause-planned : goal.returns-in-Begins-clause-planned
 returns-in-Begins-clause-planned c = λ running named tells.
     let plan = ok_alike (IsRecvPlanOf c.args.dir.now running c.args.ask.now) c.in_ok-place.field-0 (recv_plan c.args.ask.now c.args.header.now running) (c.in_ok-place.ensures.exact running named tells) in
     answers (λ (batch : Batch) (p : RecvPlan). Unit {0}) c.opened-in-Begins.result plan.0 (recv_plan c.args.ask.now c.args.header.now running) plan.1 tt
+
 pub begun-requires-clause-header : goal.begun-requires-clause-header
 begun-requires-clause-header c = c.requires.header.kept (subst (IsPlainPlan c.args.header.now) c.in-Begins.is c.in_ok-place.ensures.plain)

@@ -259,6 +259,7 @@ returns-in-Ok-End-clause-hands_out g c = λ text handed stands is. absurd (cc is
 
 pub returns-in-Err-clause-hands_out : goal.returns-in-Err-clause-hands_out
 returns-in-Err-clause-hands_out g c = λ text handed stands is. absurd (cc is)
+
 pub returns-in-Ok-NeedMore-clause-planned : goal.returns-in-Ok-NeedMore-clause-planned
 returns-in-Ok-NeedMore-clause-planned g c = λ text handed fault stands waits refuses.
     let h = rw (c.in-Ok-NeedMore.is, c.in-Ok-NeedMore.field-0-is) at c.next.follows.holds-at-none in

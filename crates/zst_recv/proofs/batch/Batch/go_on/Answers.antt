@@ -70,6 +70,7 @@ pub returns-in_err-move_by-in-Lives-clause-spends : goal.returns-in_err-move_by-
 returns-in_err-move_by-in-Lives-clause-spends g c =
     let covered = covered_of c.args.covered.now in
     subst (λ (r : Result (Unit {0}) RecvFault). Spends (covered ∷ []) c.args.io.now.space c.move_by.new.io.space (stop_of r)) (sym (err_is c.from_residual.result c.in_err-move_by-in-Lives.field-0.0 c.from_residual.ensures.1)) c.in_err-move_by-in-Lives.ensures.spends
+
 pub returns-in_err-move_by-in-Lives-clause-unplanned : goal.returns-in_err-move_by-in-Lives-clause-unplanned
 returns-in_err-move_by-in-Lives-clause-unplanned g c = λ fault is.
     c.in_err-move_by-in-Lives.ensures.unplanned fault (sym (err_is c.from_residual.result c.in_err-move_by-in-Lives.field-0.0 c.from_residual.ensures.1) ∙ is)
