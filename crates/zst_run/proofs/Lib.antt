@@ -20,5 +20,6 @@ pub mod Receiving
 pub mod ReceivedFrom
 pub mod ReceiptLine
 pub mod Piped
+pub mod Complete
 pub mod TurnEnds
 pub mod TokenTold

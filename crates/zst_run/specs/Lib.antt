@@ -1,6 +1,7 @@
 pub mod Dumps
 pub mod Receives
 pub mod Replicated
+pub mod Completeness
 pub mod Replies
 pub mod Commands
 pub mod Devices

@@ -1,6 +1,7 @@
 //! What the program does with the words of a line: each command over an image and the standard streams.
 #![tactic(auto)]
 
+mod completeness;
 mod dump;
 mod image;
 mod note;
@@ -13,6 +14,7 @@ mod running;
 mod send;
 mod telling;
 
+pub use completeness::{receives_complete, sends_complete};
 pub use dump::dumps_have_one_answer;
 pub use image::{Opening, open, opening_of};
 pub use note::status_of;

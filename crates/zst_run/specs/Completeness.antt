@@ -1,0 +1,77 @@
+-- Runs that nothing stands in the way of: they are done, unless no memory was left.
+use Rattle.std.specs.Prelude.{ℕ, ◌≡◌, ◌≢◌, ◌⊎◌, ◌≤◌, ◌++◌, false, Bool, IsTrue, List, [], length, Result, Ok, Err}
+use Rattle.std.specs.List.{concat}
+use Rattle.zst_outside.specs.Causes.{Rose}
+use Rattle.zst_outside.specs.Images.{DiskState}
+use Rattle.zst_outside.specs.States.{SourceState, SinkState, Gave}
+use Rattle.zst_uber.specs.declared.uber.Uber.{Uber}
+use Rattle.zst_model.specs.declared.refusals.refusal.Refusal.{Refusal}
+use Rattle.zst_model.specs.declared.refusals.refusal.Refusal.TheVariants as refusals
+use Rattle.zst_model.specs.declared.sends.ask.SendAsk.{SendAsk}
+use Rattle.zst_model.specs.pools.Pool.{Pool}
+use Rattle.zst_model.specs.sends.Headers.{Sent}
+use Rattle.zst_dir.specs.Rows.{Rows}
+use Rattle.zst_image.specs.Reads.{Reads, ReadsAs, kept_rows}
+use Rattle.zst_plan.specs.declared.receive.RecvAsk.{RecvAsk}
+use Rattle.zst_reader.specs.Filling.{stream_limit}
+use Rattle.zst_recv.specs.Feeds.{receives}
+use Rattle.zst_recv.specs.Receiving.{Stage, Goes, Stops}
+use Rattle.zst_recv.specs.Stages.{TellsTarget}
+use Rattle.zst_send.specs.Opening.{opening}
+use Rattle.zst_send.specs.Sends.{sent_text}
+use Rattle.zst_run.specs.Commands.{Opens}
+use Rattle.zst_run.specs.Receives.{ArePieces, CostMore, IsOpen, Receives}
+use Rattle.zst_run.specs.Sends.{Sends}
+
+-- no fault was counted in between
+abbrev pub NoneCounted : (before after : ℕ) → Type 0
+NoneCounted before after = ¬ (Rose before after)
+
+-- status 0, or E32: no memory was left
+abbrev pub DoneOrNoMemory : Result (Unit {0}) Refusal → Type 0
+DoneOrNoMemory result = (result ≡ Ok tt) ⊎ (result ≡ Err refusals.OutOfMemory)
+
+-- ---- sends
+
+-- A run of `send` from an image that reads as a pool: where its plan passes, what is to be sent is no longer than a stream may be, and neither
+-- the disk nor the output counted a fault, it is done.
+abbrev pub SendsComplete : (here here' : DiskState) → Type 0
+SendsComplete here here' =
+    (ask : SendAsk) (pool : Pool) (sent : Sent) (out out' : SinkState) (result : Result (Unit {0}) Refusal)
+    → here'.honest → Reads false pool here.seen → opening ask pool ≡ Ok sent → length (sent_text sent) ≤ stream_limit
+    → NoneCounted here.faults here'.faults → NoneCounted out.faults out'.faults
+    → Sends ask here here' out out' result → DoneOrNoMemory result
+
+-- ---- receives
+
+-- an input that has this text: a front of it was read, and all of it where the input told its end
+pub record HasText (text : List ℕ) (input input' : SourceState) : Type 0 where
+  pub read : List ℕ
+  pub unread : List ℕ
+  pub gave : Gave input input' read
+  pub is : read ++ unread ≡ text
+  pub whole : IsTrue input'.ended → unread ≡ []
+
+-- these are pieces that are read of the front of a text
+abbrev pub AreOfFront : List ℕ → List (List ℕ) → Type 0
+AreOfFront text pieces = ArePieces pieces × ((rest : List ℕ) × (concat pieces ++ rest ≡ text))
+
+-- The definition takes this text to its END: the plan of BEGIN passes, each record applies, and with all of the text END is covered.
+pub record Takes (ask : RecvAsk) (pool : Pool) (text : List ℕ) : Type 0 where
+  pub goes_on : (pieces : List (List ℕ)) → AreOfFront text pieces → (after : Pool) (refusal : Refusal) → receives ask pool pieces ≢ Stops after refusal
+  pub to_end : (pieces : List (List ℕ)) → ArePieces pieces → concat pieces ≡ text → (after : Pool) (stage : Stage) → receives ask pool pieces ≡ Goes after stage → ¬ (IsOpen stage)
+
+-- there is room for this text: by the body and the directory that are opened as many sectors are free as its pieces cost
+abbrev pub HasRoom : DiskState → List ℕ → Type 0
+HasRoom here text = (uber : Uber) (rows : Rows) (pieces : List (List ℕ)) → Opens here uber rows → AreOfFront text pieces
+    → ¬ (CostMore (record { body = uber; dir = kept_rows rows }) pieces)
+
+-- A run of `receive` into an image that reads as a pool: where the definition takes the text that the input has, which is no longer than a stream may be, there is
+-- room for it, and none of the disk, the input and the output counted a fault, it is done.
+abbrev pub ReceivesComplete : (here here' : DiskState) → Type 0
+ReceivesComplete here here' =
+    (tight : Bool) (ask : RecvAsk) (uber : Uber) (rows : Rows) (pool : Pool) (text : List ℕ) (input input' : SourceState) (out out' : SinkState) (result : Result (Unit {0}) Refusal)
+    → here'.honest → ReadsAs tight uber rows pool here.seen → TellsTarget ask rows pool
+    → HasText text input input' → length text ≤ stream_limit → Takes ask pool text → HasRoom here text
+    → NoneCounted here.faults here'.faults → NoneCounted input.faults input'.faults → NoneCounted out.faults out'.faults
+    → Receives ask here here' input input' out out' result → DoneOrNoMemory result
