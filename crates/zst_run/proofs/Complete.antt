@@ -1,5 +1,5 @@
 -- Runs that nothing stands in the way of.
-use Rattle.std.proofs.Common.{◌≡◌, ◌≢◌, inl, inr, ◌⊎◌, ℕ, ◌≤◌, ◌<◌, Bool, List, [], ◌++◌, length, Result, Ok, Err, refl, sym, ap, ◌∙◌, subst, arith}
+use Rattle.std.proofs.Common.{◌≡◌, ◌≢◌, inl, inr, ◌⊎◌, ℕ, ◌≤◌, ◌<◌, ◌+◌, Bool, List, [], ◌++◌, length, Result, Ok, Err, refl, sym, ap, ◌∙◌, subst, arith}
 use Rattle.std.specs.Prelude.{IfErr}
 use Rattle.std.specs.List.{concat}
 use Rattle.std.proofs.lemmas.List.{append-nil, append_cancel_left, length-append}
@@ -88,7 +88,7 @@ answer_done : (out out' : SinkState) (answer : Result (List (List ℕ)) Refusal)
     → ((refusal : Refusal) → answer ≡ Err refusal → refusal ≡ refusals.OutOfMemory) → Replied out out' answer result → DoneOrNoMemory result
 answer_done out out' (Ok lines) result sink alone replied = replied_done out out' lines result sink replied
 answer_done out out' (Err refusal) result sink alone replied =
-    inr (replied.0 ∙ ap (λ (r : Refusal). Err {T = Unit {0}} r) (alone refusal refl))
+    inr (subst (λ (r : Refusal). result ≡ Err r) (alone refusal refl) replied.0)
 
 pub receives_complete : (here here' : DiskState) → ReceivesComplete here here'
 receives_complete here here' tight ask uber rows pool text input input' out out' result honest reads tells has within takes room disk source sink run =
