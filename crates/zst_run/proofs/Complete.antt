@@ -17,6 +17,7 @@ use Rattle.zst_plan.specs.declared.receive.RecvAsk.{RecvAsk}
 use Rattle.zst_reader.specs.Filling.{stream_limit}
 use Rattle.zst_recv.specs.Feeds.{receives}
 use Rattle.zst_send.specs.Sends.{sent_text}
+use Rattle.zst_stream.specs.Reading.{complete, reading, waiting}
 use Rattle.zst_run.specs.Completeness.{AreOfFront, DoneOrNoMemory, HasRoom, HasText, NoneCounted, ReceivesComplete, SendsComplete, Takes}
 use Rattle.zst_run.specs.Receives.{ArePieces, IsReceiveRefusal, ReceiveEnds, Receiving, Refused, Waited}
 use Rattle.zst_run.specs.Replies.{Replied}
@@ -52,13 +53,13 @@ module _ (tight : Bool) (ask : RecvAsk) (pool : Pool) (text : List ℕ) (pieces 
     (has : HasText text input input') (is : concat pieces ++ has.unread ≡ text) (front : AreOfFront text pieces) (takes : Takes ask pool text) where
   -- a refusal of the definition doesn't come
   never_refused : (refusal : Refusal) → Refused tight ask pool pieces here' refusal → ⊥
-  never_refused refusal refused = takes.goes_on pieces front refused.after refusal refused.is
+  never_refused refusal refused = takes.accepts pieces front refused.after refusal refused.is
 
   -- nor does the input end where more is waited for
   never_cut : (at : ℕ) → ReceiveEnds tight ask pool pieces here' input input' (Err (refusals.Stream (Truncated at))) → ⊥
   never_cut at ends =
-      let all : concat pieces ≡ text = sym (append-nil (concat pieces)) ∙ ap (λ (rest : List ℕ). concat pieces ++ rest) (sym (has.whole ends.1)) ∙ is in
-      takes.to_end pieces front.0 all ends.3.after ends.3.stage ends.3.is ends.3.live
+      let all : concat pieces ≡ text = sym (append-nil (concat pieces)) ∙ ap (λ (rest : List ℕ). concat pieces ++ rest) (sym (has.whole ends.2)) ∙ is in
+      let waits : waiting ≡ complete = sym ends.0 ∙ ap (λ (t : List ℕ). (reading t).outcome) all ∙ takes.whole in cc
 
   never_past : (number : ℕ) → length text ≤ stream_limit → ReceiveEnds tight ask pool pieces here' input input' (Err (refusals.Limit quantities.Stream number)) → ⊥
   never_past number within ends =

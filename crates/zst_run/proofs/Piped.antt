@@ -164,7 +164,7 @@ module _ (law : CutLeavesNothing) (left : LeftIsKept) (tight : Bool) (ask : Recv
 
   ends_nothing : (pieces : List (List ℕ)) (input input' : SourceState) (refusal : Refusal) → WaitedForEach ask pool pieces → refusal ≢ refusals.DiskFault
       → ReceiveEnds tight ask pool pieces there' input input' (Err refusal) → LeavesNothing tight ask pool there'
-  ends_nothing pieces input input' (refusals.Stream (Truncated at)) waits other ends = waited_nothing pieces ends.3
+  ends_nothing pieces input input' (refusals.Stream (Truncated at)) waits other ends = waited_nothing pieces ends.4
   ends_nothing pieces input input' refusals.SourceFault waits other ends = waited_nothing pieces ends
   ends_nothing pieces input input' refusals.DiskFault waits other ends = absurd (other refl)
   ends_nothing pieces input input' refusals.OutOfMemory waits other ends = stopped_nothing pieces ends

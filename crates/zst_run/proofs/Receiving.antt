@@ -246,7 +246,8 @@ module _ (start old now : DiskState) (first kept kept' : Kept) (begun recv recv'
     cut_so : (end : End) (refusal : Refusal) (t : Turns old now kept kept' recv recv' items items' mid input' (turns.Over end)) → refusal ≡ cut_refusal end (fed_of recv') → (tight : Bool) (pool : Pool) (pieces : List (List ℕ))
         → Underway tight now kept' recv' begun.ask pool pieces items' → ReceiveEnds tight begun.ask pool pieces now input input' (Err refusal)
     cut_so Ended refusal t is tight pool pieces u =
-        subst (λ (r : Refusal). ReceiveEnds tight begun.ask pool pieces now input input' (Err r)) (sym is) (u.fed.reads.stands.pushed, t.input_is.0, t.input_is.1 ∙ f.no_fault, waited tight pool pieces u)
+        subst (λ (r : Refusal). ReceiveEnds tight begun.ask pool pieces now input input' (Err r)) (sym is)
+        (ap (λ (r : Reading). r.outcome) u.fed.reads.whole, u.fed.reads.stands.pushed, t.input_is.0, t.input_is.1 ∙ f.no_fault, waited tight pool pieces u)
     cut_so Failed refusal t is tight pool pieces u = subst (λ (r : Refusal). ReceiveEnds tight begun.ask pool pieces now input input' (Err r)) (sym is) (waited tight pool pieces u)
 
     -- the input gave no more

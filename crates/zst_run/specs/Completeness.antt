@@ -15,12 +15,13 @@ use Rattle.zst_image.specs.Reads.{Reads, ReadsAs, kept_rows}
 use Rattle.zst_plan.specs.declared.receive.RecvAsk.{RecvAsk}
 use Rattle.zst_reader.specs.Filling.{stream_limit}
 use Rattle.zst_recv.specs.Feeds.{receives}
-use Rattle.zst_recv.specs.Receiving.{Stage, Goes, Stops}
+use Rattle.zst_recv.specs.Receiving.{Stops}
 use Rattle.zst_recv.specs.Stages.{TellsTarget}
 use Rattle.zst_send.specs.Opening.{opening}
 use Rattle.zst_send.specs.Sends.{sent_text}
+use Rattle.zst_stream.specs.Reading.{complete, reading}
 use Rattle.zst_run.specs.Commands.{Opens}
-use Rattle.zst_run.specs.Receives.{ArePieces, CostMore, IsOpen, Receives}
+use Rattle.zst_run.specs.Receives.{ArePieces, CostMore, Receives}
 use Rattle.zst_run.specs.Sends.{Sends}
 
 -- no fault was counted in between
@@ -56,10 +57,10 @@ pub record HasText (text : List ℕ) (input input' : SourceState) : Type 0 where
 abbrev pub AreOfFront : List ℕ → List (List ℕ) → Type 0
 AreOfFront text pieces = ArePieces pieces × ((rest : List ℕ) × (concat pieces ++ rest ≡ text))
 
--- The definition takes this text to its END: the plan of BEGIN passes, each record applies, and with all of the text END is covered.
+-- The definition takes this text: its reading comes to END, and no pieces of its front are refused, so that the plan of BEGIN passes and each record applies.
 pub record Takes (ask : RecvAsk) (pool : Pool) (text : List ℕ) : Type 0 where
-  pub goes_on : (pieces : List (List ℕ)) → AreOfFront text pieces → (after : Pool) (refusal : Refusal) → receives ask pool pieces ≢ Stops after refusal
-  pub to_end : (pieces : List (List ℕ)) → ArePieces pieces → concat pieces ≡ text → (after : Pool) (stage : Stage) → receives ask pool pieces ≡ Goes after stage → ¬ (IsOpen stage)
+  pub whole : (reading text).outcome ≡ complete
+  pub accepts : (pieces : List (List ℕ)) → AreOfFront text pieces → (after : Pool) (refusal : Refusal) → receives ask pool pieces ≢ Stops after refusal
 
 -- there is room for this text: by the body and the directory that are opened as many sectors are free as its pieces cost
 abbrev pub HasRoom : DiskState → List ℕ → Type 0

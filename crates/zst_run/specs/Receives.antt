@@ -31,7 +31,7 @@ use Rattle.zst_image.specs.declared.open_fault.OpenFault.{OpenFault}
 use Rattle.zst_plan.specs.RecvPlan.{snapshot_name}
 use Rattle.zst_plan.specs.declared.receive.RecvAsk.{RecvAsk}
 use Rattle.zst_stream.specs.Findings.{IsFound}
-use Rattle.zst_stream.specs.Reading.{complete, faulty, reading}
+use Rattle.zst_stream.specs.Reading.{complete, faulty, reading, waiting}
 use Rattle.zst_recv.specs.Costs.{PieceIsShort, records_cost}
 use Rattle.zst_recv.specs.Faults.{IsFeedFault, recv_refusal, stream_limit}
 use Rattle.zst_recv.specs.Feeds.{new_records, receives}
@@ -157,13 +157,13 @@ pub record LastFindsNoRoom (tight : Bool) (ask : RecvAsk) (pool : Pool) (pieces 
   pub left : FreeSectors
   pub short : PieceIsShort (new_records (concat before) last) kept left need largest
 
--- How a receive into a pool ends, and what then stands: the snapshot, with its line; E20 where the input ended, and E29 where it failed, with all that was
--- read taken; E23 of a stream of more bytes than one has, E24 and E32 with nothing of the last piece taken, and E24 where fewer sectors were free before
+-- How a receive into a pool ends, and what then stands: the snapshot, with its line; E20 where the input ended while its stream waits for more, and E29 where it failed, with all
+-- that was read taken; E23 of a stream of more bytes than one has, E24 and E32 with nothing of the last piece taken, and E24 where fewer sectors were free before
 -- that one than it costs; else as the definition refuses what was read. Nothing is damaged.
 abbrev pub ReceiveEnds : (tight : Bool) → RecvAsk → Pool → List (List ℕ) → DiskState → SourceState → SourceState → Result (List (List ℕ)) Refusal → Type 0
 ReceiveEnds tight ask pool pieces here' input input' (Ok lines) = Received tight ask pool pieces here' lines
 ReceiveEnds tight ask pool pieces here' input input' (Err (refusals.Stream (Truncated at))) =
-    (at ≡ length (concat pieces)) × IsTrue input'.ended × NoFault input input' × Waited tight ask pool pieces here'
+    ((reading (concat pieces)).outcome ≡ waiting) × (at ≡ length (concat pieces)) × IsTrue input'.ended × NoFault input input' × Waited tight ask pool pieces here'
 ReceiveEnds tight ask pool pieces here' input input' (Err refusals.SourceFault) = Waited tight ask pool pieces here'
 ReceiveEnds tight ask pool pieces here' input input' (Err refusals.DiskFault) = Unit {0}
 ReceiveEnds tight ask pool pieces here' input input' (Err refusals.OutOfMemory) = Stopped tight ask pool pieces here'
