@@ -1,14 +1,17 @@
 -- Runs that nothing stands in the way of: they are done, unless no memory was left.
-use Rattle.std.specs.Prelude.{ℕ, ◌≡◌, ◌≢◌, ◌⊎◌, ◌≤◌, ◌++◌, false, Bool, IsTrue, List, [], length, Result, Ok, Err}
+use Rattle.std.specs.Prelude.{ℕ, ◌≡◌, ◌≢◌, ◌⊎◌, ◌≤◌, ◌-◌, ◌*◌, ◌++◌, false, Bool, IsTrue, List, [], length, None, Result, Ok, Err}
 use Rattle.std.specs.List.{concat}
 use Rattle.zst_outside.specs.Causes.{Rose}
 use Rattle.zst_outside.specs.Images.{DiskState}
 use Rattle.zst_outside.specs.States.{SourceState, SinkState, Gave}
+use Rattle.zst_uber.specs.Slots.{latest}
 use Rattle.zst_uber.specs.declared.uber.Uber.{Uber}
+use Rattle.zst_model.specs.declared.pools.command.Command.{Command}
 use Rattle.zst_model.specs.declared.refusals.refusal.Refusal.{Refusal}
 use Rattle.zst_model.specs.declared.refusals.refusal.Refusal.TheVariants as refusals
 use Rattle.zst_model.specs.declared.sends.ask.SendAsk.{SendAsk}
 use Rattle.zst_model.specs.pools.Pool.{Pool}
+use Rattle.zst_model.specs.pools.Step.{Stepped, stepped}
 use Rattle.zst_model.specs.sends.Headers.{Sent}
 use Rattle.zst_dir.specs.Rows.{Rows}
 use Rattle.zst_image.specs.Reads.{Reads, ReadsAs, kept_rows}
@@ -17,12 +20,16 @@ use Rattle.zst_reader.specs.Filling.{stream_limit}
 use Rattle.zst_recv.specs.Feeds.{receives}
 use Rattle.zst_recv.specs.Receiving.{Stops}
 use Rattle.zst_recv.specs.Stages.{TellsTarget}
+use Rattle.zst_recv.specs.Tokens.{token_told}
 use Rattle.zst_send.specs.Opening.{opening}
 use Rattle.zst_send.specs.Sends.{sent_text}
 use Rattle.zst_stream.specs.Reading.{complete, reading}
-use Rattle.zst_run.specs.Commands.{Opens}
+use Rattle.zst_token.specs.declared.token.Token.{Token}
+use Rattle.zst_run.specs.Commands.{Creates, Opens, Steps, most_of}
+use Rattle.zst_run.specs.Dumps.{Dumps}
 use Rattle.zst_run.specs.Receives.{ArePieces, CostMore, Receives}
 use Rattle.zst_run.specs.Sends.{Sends}
+use Rattle.zst_run.specs.Tokens.{Tokens}
 
 -- no fault was counted in between
 abbrev pub NoneCounted : (before after : ℕ) → Type 0
@@ -76,3 +83,38 @@ ReceivesComplete here here' =
     → HasText text input input' → length text ≤ stream_limit → Takes ask pool text → HasRoom here text
     → NoneCounted here.faults here'.faults → NoneCounted input.faults input'.faults → NoneCounted out.faults out'.faults
     → Receives ask here here' input input' out out' result → DoneOrNoMemory result
+
+-- ---- the other lines
+
+-- A run of a command on an image that reads as a pool: where the definition accepts it, as many sectors are free by the latest body as it takes at most, and neither
+-- the disk nor the output counted a fault, it is done.
+abbrev pub StepsComplete : (here here' : DiskState) → Type 0
+StepsComplete here here' =
+    (tight : Bool) (now : ℕ) (command : Command) (uber : Uber) (rows : Rows) (pool : Pool) (done : Stepped) (out out' : SinkState) (result : Result (Unit {0}) Refusal)
+    → here'.honest → ReadsAs tight uber rows pool here.seen → stepped [] now command pool ≡ Ok done → most_of command rows pool ≤ uber.sectors - uber.end
+    → NoneCounted here.faults here'.faults → NoneCounted out.faults out'.faults
+    → Steps now command here here' out out' result → DoneOrNoMemory result
+
+-- A run of `create`: where no pool is there, the image has as many sectors as are asked, and no fault was counted, it is done.
+abbrev pub CreatesComplete : (here here' : DiskState) → Type 0
+CreatesComplete here here' =
+    (sectors id : ℕ) (out out' : SinkState) (result : Result (Unit {0}) Refusal)
+    → here'.honest → latest here.seen ≡ None → 512 * sectors ≤ here.size
+    → NoneCounted here.faults here'.faults → NoneCounted out.faults out'.faults
+    → Creates sectors id here here' out out' result → DoneOrNoMemory result
+
+-- A run of `token` on an image that reads as a pool: where that tells a token, and no fault was counted, it is done.
+abbrev pub TokensComplete : (here here' : DiskState) → Type 0
+TokensComplete here here' =
+    (dataset : List ℕ) (pool : Pool) (token : Token) (out out' : SinkState) (result : Result (Unit {0}) Refusal)
+    → here'.honest → Reads false pool here.seen → token_told dataset pool ≡ Ok token
+    → NoneCounted here.faults here'.faults → NoneCounted out.faults out'.faults
+    → Tokens dataset here here' out out' result → DoneOrNoMemory result
+
+-- A run of `dump`: where the text that the input has is read to END, and no fault was counted, it is done.
+abbrev pub DumpsComplete : Type 0
+DumpsComplete =
+    (text : List ℕ) (input input' : SourceState) (out out' : SinkState) (result : Result (Unit {0}) Refusal)
+    → HasText text input input' → length text ≤ stream_limit → (reading text).outcome ≡ complete
+    → NoneCounted input.faults input'.faults → NoneCounted out.faults out'.faults
+    → Dumps input input' out out' result → DoneOrNoMemory result

@@ -1,14 +1,37 @@
 // Runs that nothing stands in the way of.
-ghost use Rattle.zst_run.specs.Completeness.{ReceivesComplete, SendsComplete};
+ghost use Rattle.zst_run.specs.Completeness.{CreatesComplete, DumpsComplete, ReceivesComplete, SendsComplete, StepsComplete, TokensComplete};
 
 use zst_outside::Disk;
+use zst_stream::fronts_agree;
 
-/// A send whose plan passes is done where no fault is counted, or ends for want of memory.
+/// A command that its pool accepts is done where there is room and no fault is counted, or ends for want of memory.
+pub fn steps_complete<D: Disk>()
+    ensures { (here now : D) → StepsComplete (D.state here) (D.state now) }
+{}
+
+/// So is a send whose plan passes.
 pub fn sends_complete<D: Disk>()
     ensures { (here now : D) → SendsComplete (D.state here) (D.state now) }
 {}
 
-/// So is a receive of a text that its pool takes, where there is room for it.
+/// So is a receive of a text that its pool takes.
 pub fn receives_complete<D: Disk>()
     ensures { (here now : D) → ReceivesComplete (D.state here) (D.state now) }
 {}
+
+/// So is the making of a pool where none is.
+pub fn creates_complete<D: Disk>()
+    ensures { (here now : D) → CreatesComplete (D.state here) (D.state now) }
+{}
+
+/// So is the telling of a token that a pool has.
+pub fn tokens_complete<D: Disk>()
+    ensures { (here now : D) → TokensComplete (D.state here) (D.state now) }
+{}
+
+/// So is the dump of a text that is read to END.
+pub fn dumps_complete()
+    ensures { DumpsComplete }
+{
+    fronts_agree();
+}

@@ -14,7 +14,10 @@ mod running;
 mod send;
 mod telling;
 
-pub use completeness::{receives_complete, sends_complete};
+pub use completeness::{
+    creates_complete, dumps_complete, receives_complete, sends_complete, steps_complete,
+    tokens_complete,
+};
 pub use dump::dumps_have_one_answer;
 pub use image::{Opening, open, opening_of};
 pub use note::status_of;

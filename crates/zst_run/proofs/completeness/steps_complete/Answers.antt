@@ -1,0 +1,5 @@
+use Rattle.zst_run.proofs.Complete.{steps_complete}
+use Rattle.zst_run.proofs.completeness.steps_complete.Goals as goal
+
+pub returns : goal.returns
+returns g c = λ here now. steps_complete _ _
