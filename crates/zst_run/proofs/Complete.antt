@@ -1,9 +1,8 @@
 -- Runs that nothing stands in the way of.
-use Rattle.std.proofs.Common.{◌≡◌, ◌≢◌, inl, inr, ◌⊎◌, ℕ, ◌≤◌, ◌<◌, ◌+◌, ◌-◌, ◌*◌, Bool, List, [], ◌∷◌, ◌++◌, length, None, Result, Ok, Err, refl, sym, ap, ◌∙◌, subst, arith}
+use Rattle.std.proofs.Common.{◌≡◌, ◌≢◌, inl, inr, ◌⊎◌, ℕ, ◌≤◌, ◌+◌, ◌-◌, ◌*◌, Bool, List, [], ◌∷◌, ◌++◌, length, None, Result, Ok, Err, refl, sym, ap, ◌∙◌, subst, arith}
 use Rattle.std.specs.Prelude.{IfErr}
 use Rattle.std.specs.List.{concat}
 use Rattle.std.proofs.lemmas.List.{append-nil, append_cancel_left, length-append}
-use Rattle.zst_outside.specs.Causes.{Rose}
 use Rattle.zst_outside.specs.Images.{DiskState}
 use Rattle.zst_outside.specs.States.{SourceState, SinkState, Gave}
 use Rattle.zst_uber.specs.Slots.{latest}
@@ -21,7 +20,6 @@ use Rattle.zst_model.specs.sends.Headers.{Sent}
 use Rattle.zst_dir.specs.Rows.{Rows}
 use Rattle.zst_plan.specs.declared.receive.RecvAsk.{RecvAsk}
 use Rattle.zst_reader.specs.Filling.{stream_limit}
-use Rattle.zst_recv.specs.Feeds.{receives}
 use Rattle.zst_recv.specs.Tokens.{token_told}
 use Rattle.zst_send.specs.Sends.{sent_text}
 use Rattle.zst_stream.specs.Laws.{FrontsAgree}
@@ -29,12 +27,19 @@ use Rattle.zst_stream.specs.Reading.{complete, faulty, reading, waiting}
 use Rattle.zst_token.specs.Spelling.{token_text}
 use Rattle.zst_token.specs.declared.token.Token.{Token}
 use Rattle.zst_run.specs.Commands.{Answers, IsPoolRefusal, Makes, OfMaking, OfStepping, most_of}
-use Rattle.zst_run.specs.Completeness.{AreOfFront, DoneOrNoMemory, HasRoom, HasText, NoneCounted, ReceivesComplete, SendsComplete, StepsComplete, CreatesComplete, TokensComplete, DumpsComplete, Takes}
+use Rattle.zst_run.specs.Completeness.{AreOfFront, DoneIsTold, DoneOrNoMemory, HasText, NoneCounted, ReceivesComplete, SendsComplete, StepsComplete, CreatesComplete, TokensComplete, DumpsComplete, Takes}
 use Rattle.zst_run.specs.Dumps.{Ends}
-use Rattle.zst_run.specs.Receives.{ArePieces, IsReceiveRefusal, ReceiveEnds, Receiving, Refused, Waited}
+use Rattle.zst_run.specs.Receives.{ArePieces, IsReceiveRefusal, ReceiveEnds, Refused}
 use Rattle.zst_run.specs.Replies.{Replied}
+use Rattle.zst_run.specs.Runs.{status_of}
 use Rattle.zst_run.specs.Sends.{SendEnds, TextEnds}
 use Rattle.zst_run.specs.Tokens.{AnswersBy, OfToken, as_answer, token_lines}
+
+pub done_is_told : DoneIsTold
+done_is_told note note' status (Ok done) alone told = inl told.0
+done_is_told note note' status (Err refusal) (inl is) told = absurd (cc is)
+done_is_told note note' status (Err refusal) (inr is) told =
+    let same : refusal ≡ refusals.OutOfMemory = cc is in inr (told.0 ∙ ap status_of same)
 
 -- ---- sends
 

@@ -28,6 +28,7 @@ use Rattle.zst_token.specs.declared.token.Token.{Token}
 use Rattle.zst_run.specs.Commands.{Creates, Opens, Steps, most_of}
 use Rattle.zst_run.specs.Dumps.{Dumps}
 use Rattle.zst_run.specs.Receives.{ArePieces, CostMore, Receives}
+use Rattle.zst_run.specs.Runs.{Told}
 use Rattle.zst_run.specs.Sends.{Sends}
 use Rattle.zst_run.specs.Tokens.{Tokens}
 
@@ -35,14 +36,18 @@ use Rattle.zst_run.specs.Tokens.{Tokens}
 abbrev pub NoneCounted : (before after : ℕ) → Type 0
 NoneCounted before after = ¬ (Rose before after)
 
--- status 0, or E32: no memory was left
+-- it is done, or no memory was left (E32)
 abbrev pub DoneOrNoMemory : Result (Unit {0}) Refusal → Type 0
 DoneOrNoMemory result = (result ≡ Ok tt) ⊎ (result ≡ Err refusals.OutOfMemory)
+
+-- The program tells either by its status.
+abbrev pub DoneIsTold : Type 0
+DoneIsTold = (note note' : SinkState) (status : ℕ) (result : Result (Unit {0}) Refusal) → DoneOrNoMemory result → Told note note' status result → (status ≡ 0) ⊎ (status ≡ 10)
 
 -- ---- sends
 
 -- A run of `send` from an image that reads as a pool: where its plan passes, what is to be sent is no longer than a stream may be, and neither
--- the disk nor the output counted a fault, it is done.
+-- the disk nor the output counted a fault, it is done, or no memory was left.
 abbrev pub SendsComplete : (here here' : DiskState) → Type 0
 SendsComplete here here' =
     (ask : SendAsk) (pool : Pool) (sent : Sent) (out out' : SinkState) (result : Result (Unit {0}) Refusal)
@@ -75,7 +80,7 @@ HasRoom here text = (uber : Uber) (rows : Rows) (pieces : List (List ℕ)) → O
     → ¬ (CostMore (record { body = uber; dir = kept_rows rows }) pieces)
 
 -- A run of `receive` into an image that reads as a pool: where the definition takes the text that the input has, which is no longer than a stream may be, there is
--- room for it, and none of the disk, the input and the output counted a fault, it is done.
+-- room for it, and none of the disk, the input and the output counted a fault, it is done, or no memory was left.
 abbrev pub ReceivesComplete : (here here' : DiskState) → Type 0
 ReceivesComplete here here' =
     (tight : Bool) (ask : RecvAsk) (uber : Uber) (rows : Rows) (pool : Pool) (text : List ℕ) (input input' : SourceState) (out out' : SinkState) (result : Result (Unit {0}) Refusal)
@@ -87,7 +92,7 @@ ReceivesComplete here here' =
 -- ---- the other lines
 
 -- A run of a command on an image that reads as a pool: where the definition accepts it, as many sectors are free by the latest body as it takes at most, and neither
--- the disk nor the output counted a fault, it is done.
+-- the disk nor the output counted a fault, it is done, or no memory was left.
 abbrev pub StepsComplete : (here here' : DiskState) → Type 0
 StepsComplete here here' =
     (tight : Bool) (now : ℕ) (command : Command) (uber : Uber) (rows : Rows) (pool : Pool) (done : Stepped) (out out' : SinkState) (result : Result (Unit {0}) Refusal)
@@ -95,7 +100,7 @@ StepsComplete here here' =
     → NoneCounted here.faults here'.faults → NoneCounted out.faults out'.faults
     → Steps now command here here' out out' result → DoneOrNoMemory result
 
--- A run of `create`: where no pool is there, the image has as many sectors as are asked, and no fault was counted, it is done.
+-- A run of `create`: where no pool is there, the image has as many sectors as are asked, and no fault was counted, it is done, or no memory was left.
 abbrev pub CreatesComplete : (here here' : DiskState) → Type 0
 CreatesComplete here here' =
     (sectors id : ℕ) (out out' : SinkState) (result : Result (Unit {0}) Refusal)
@@ -103,7 +108,7 @@ CreatesComplete here here' =
     → NoneCounted here.faults here'.faults → NoneCounted out.faults out'.faults
     → Creates sectors id here here' out out' result → DoneOrNoMemory result
 
--- A run of `token` on an image that reads as a pool: where that tells a token, and no fault was counted, it is done.
+-- A run of `token` on an image that reads as a pool: where that tells a token, and no fault was counted, it is done, or no memory was left.
 abbrev pub TokensComplete : (here here' : DiskState) → Type 0
 TokensComplete here here' =
     (dataset : List ℕ) (pool : Pool) (token : Token) (out out' : SinkState) (result : Result (Unit {0}) Refusal)
@@ -111,7 +116,7 @@ TokensComplete here here' =
     → NoneCounted here.faults here'.faults → NoneCounted out.faults out'.faults
     → Tokens dataset here here' out out' result → DoneOrNoMemory result
 
--- A run of `dump`: where the text that the input has is read to END, and no fault was counted, it is done.
+-- A run of `dump`: where the text that the input has is read to END, and no fault was counted, it is done, or no memory was left.
 abbrev pub DumpsComplete : Type 0
 DumpsComplete =
     (text : List ℕ) (input input' : SourceState) (out out' : SinkState) (result : Result (Unit {0}) Refusal)

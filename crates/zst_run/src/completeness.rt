@@ -1,8 +1,13 @@
 // Runs that nothing stands in the way of.
-ghost use Rattle.zst_run.specs.Completeness.{CreatesComplete, DumpsComplete, ReceivesComplete, SendsComplete, StepsComplete, TokensComplete};
+ghost use Rattle.zst_run.specs.Completeness.{CreatesComplete, DoneIsTold, DumpsComplete, ReceivesComplete, SendsComplete, StepsComplete, TokensComplete};
 
 use zst_outside::Disk;
 use zst_stream::fronts_agree;
+
+/// What is done is told by status 0, and want of memory by 10.
+pub fn done_is_told()
+    ensures { DoneIsTold }
+{}
 
 /// A command that its pool accepts is done where there is room and no fault is counted, or ends for want of memory.
 pub fn steps_complete<D: Disk>()

@@ -15,8 +15,8 @@ mod send;
 mod telling;
 
 pub use completeness::{
-    creates_complete, dumps_complete, receives_complete, sends_complete, steps_complete,
-    tokens_complete,
+    creates_complete, done_is_told, dumps_complete, receives_complete, sends_complete,
+    steps_complete, tokens_complete,
 };
 pub use dump::dumps_have_one_answer;
 pub use image::{Opening, open, opening_of};

@@ -1,0 +1,5 @@
+use Rattle.zst_run.proofs.Complete as complete
+use Rattle.zst_run.proofs.completeness.done_is_told.Goals as goal
+
+pub returns : goal.returns
+returns c = complete.done_is_told
