@@ -1,4 +1,5 @@
 mod filling;
+mod resumed;
 mod streams;
 
 use super::*;
@@ -51,7 +52,7 @@ fn open_reader(rt: &impl Abort, alloc: Global) -> Reader {
 }
 
 fn push_all(rt: &impl Abort, reader: &mut Reader, piece: &[u8]) {
-    assert!(rt; piece.len() <= 624 && reader.pushed() <= 624);
+    assert!(rt; piece.len() <= 1_000 && reader.pushed() <= 1_000);
     assert!(rt; reader.push(piece) == piece.len());
 }
 

@@ -1,5 +1,5 @@
 // Streams of the tests' own.
-use super::{GUID, smallest_stream};
+use super::{GUID, set, smallest_stream};
 use std::alloc::Global;
 use std::process::Abort;
 use std::test::Fail;
@@ -14,15 +14,36 @@ pub(super) struct Stream {
 }
 
 impl Stream {
+    fn new(alloc: Global) -> Stream {
+        Stream {
+            bytes: Vec::new(alloc),
+            sum: Sum::zero(),
+        }
+    }
+
     /// BEGIN of the smallest stream.
     pub(super) fn begin(rt: &impl Abort, alloc: Global) -> Result<Stream, Fail> {
         let smallest = smallest_stream(rt);
         let (begin, _) = smallest.split_at(RECORD_LEN);
-        let mut stream = Stream {
-            bytes: Vec::new(alloc),
-            sum: Sum::zero(),
-        };
+        let mut stream = Stream::new(alloc);
         stream.add(rt, begin)?;
+        Ok(stream)
+    }
+
+    /// The same with this `drr_versioninfo` and a payload.
+    pub(super) fn begin_with(
+        rt: &impl Abort,
+        alloc: Global,
+        version: u64,
+        payload: &[u8],
+    ) -> Result<Stream, Fail> {
+        let mut smallest = smallest_stream(rt);
+        set(rt, &mut smallest, 4, 4, payload.len() as u64);
+        set(rt, &mut smallest, 16, 8, version);
+        let (begin, _) = smallest.split_at(RECORD_LEN);
+        let mut stream = Stream::new(alloc);
+        stream.add(rt, begin)?;
+        stream.add(rt, payload)?;
         Ok(stream)
     }
 
