@@ -5,6 +5,7 @@ ghost use Rattle.zst_model.specs.pools.Step.{IsCommand};
 ghost use Rattle.zst_recv.specs.Stages.{RecvFits, is_live};
 
 mod refusals;
+mod resumed;
 mod stops;
 mod streams;
 mod tokens;
@@ -235,23 +236,33 @@ fn stream_of(
     begin: &Begin,
     puts: &[Put],
 ) -> Result<Vec<u8>, Refused> {
+    stream_with(rt, alloc, header_of(begin), &[], puts)
+}
+
+// The stream of these records, whose BEGIN has a payload.
+fn stream_with(
+    rt: &impl Abort,
+    alloc: Global,
+    header: Header,
+    payload: &[u8],
+    puts: &[Put],
+) -> Result<Vec<u8>, Refused> {
+    let to = header.to;
+    assert!(rt; payload.len() <= 40);
     let mut stream = Stream {
         writer: Writer::new(),
         bytes: Vec::new(alloc),
-        to: begin.to,
+        to,
     };
     let head = Head::Begin {
-        header: header_of(begin),
-        payload_len: 0,
+        header,
+        payload_len: payload.len() as u32,
     };
-    stream.put(rt, &head, &[])?;
+    stream.put(rt, &head, payload)?;
     for put in puts {
         stream.put_record(rt, alloc, *put)?;
     }
-    let end = Head::End {
-        sums: [0; 4],
-        to: begin.to,
-    };
+    let end = Head::End { sums: [0; 4], to };
     stream.put(rt, &end, &[])?;
     Ok(stream.bytes)
 }

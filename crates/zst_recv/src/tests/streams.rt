@@ -14,7 +14,7 @@ use zst_outside::MemDisk;
 const SIZES: [usize; 6] = [1, 7, 311, 312, 4_096, 1_048_576];
 
 // A block that begins with this byte, as `read` tells it.
-fn block_line(alloc: Global, first: &str) -> Result<String, Refused> {
+pub(super) fn block_line(alloc: Global, first: &str) -> Result<String, Refused> {
     let mut line = String::new(alloc);
     line.push_str("data ")?;
     line.push_str(first)?;
@@ -25,7 +25,7 @@ fn block_line(alloc: Global, first: &str) -> Result<String, Refused> {
 }
 
 // Checks the guid, the time and the number of a snapshot of the pool.
-fn check_snapshot(
+pub(super) fn check_snapshot(
     rt: &impl Abort,
     alloc: Global,
     disk: &mut MemDisk,

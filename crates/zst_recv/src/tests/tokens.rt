@@ -10,7 +10,7 @@ use zst_pool::Pool;
 use zst_token::Token;
 
 /// How many bytes of the small stream came, and the token then.
-const CUTS: [(usize, &str); 3] = [
+pub(super) const CUTS: [(usize, &str); 3] = [
     (
         700,
         "zst1-0000000000000000010000000100000000000000000000000000000000000000000000000000000000000000000000000000000000000000-0000000000000017",
