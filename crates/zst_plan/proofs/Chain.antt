@@ -1,5 +1,5 @@
--- The checks of a send, one after another.
-use Rattle.std.proofs.Common.{◌≡◌, ℕ, Option, Result, Ok, Err, get_or, refl, sym, ap, ◌∙◌, subst}
+-- The look-ups of a send and its checks, one after another.
+use Rattle.std.proofs.Common.{◌≡◌, ℕ, Option, Result, Ok, Err, refl, sym, ap, ◌∙◌, subst}
 use Rattle.std.specs.Prelude.{IsErrAnd}
 use Rattle.zst_model.specs.declared.refusals.plan_fault.PlanFault.{PlanFault}
 use Rattle.zst_model.specs.declared.sends.ask.SendAsk.{SendAsk}
@@ -8,14 +8,14 @@ use Rattle.zst_model.specs.pools.Pool.{Pool, Bookmark, Snapshot}
 use Rattle.zst_model.specs.sends.Headers.{Sent}
 use Rattle.zst_model.specs.sends.SendPlan.{find_redaction, find_snapshot, find_source, if_no_relay, if_redaction, kind_of, send_plan, sent_of}
 use Rattle.zst_model.specs.states.Apply.{◌>>=◌}
-use Rattle.zst_dir.specs.Named.{AreNamed, NamesSnapshot}
 use Rattle.zst_dir.specs.Rows.{Rows}
-use Rattle.zst_dir.specs.declared.rows.Snapshot as snapshots
 use Rattle.zst_plan.specs.Places.{AnswerAlike, FindAlike, StandsAt}
-use Rattle.zst_plan.specs.Sources.{IsSource, NamesSource}
+use Rattle.zst_plan.specs.Plans.{IsPlanOf}
+use Rattle.zst_plan.specs.ResumePlan.{find_from, find_marked, find_to, resumed_send}
+use Rattle.zst_plan.specs.Sources.{IsSource}
+use Rattle.zst_plan.specs.declared.plan.SendPlan.{SendPlan}
 use Rattle.zst_plan.specs.declared.source.Source as found
-use Rattle.zst_plan.proofs.Lookups.{row_names}
-use Rattle.zst_plan.proofs.Planned.{names_alike}
+use Rattle.zst_token.specs.declared.token.Token.{Token}
 
 -- a refusal that was handed on
 pub err_is : {T E : Type 0} (result : Result T E) (fault : E) → IsErrAnd result (λ e. e ≡ fault) → result ≡ Err fault
@@ -37,34 +37,6 @@ pub both_refuse : {A B E : Type 0} (Is : A → B → Type 0) (result : Result A 
 both_refuse Is result definition fault refused defined =
     subst (λ r. AnswerAlike Is r definition) (sym refused) (subst (λ d. AnswerAlike Is (Err fault) d) (sym defined) refl)
 
-module _ (ask : SendAsk) (pool : Pool) where
-  -- what the look-ups refuse
-  pub no_snapshot : (fault : PlanFault) → find_snapshot ask.snap pool ≡ Err fault → send_plan ask pool ≡ Err fault
-  unfolding send_plan
-  no_snapshot fault none =
-      ap (λ r. r >>= (λ snapshot. find_source ask.from pool >>= (λ source. find_redaction ask.redact pool >>= (λ redaction. sent_of pool snapshot source redaction)))) none
-
-  module _ (snapshot : Snapshot) (there : find_snapshot ask.snap pool ≡ Ok snapshot) where
-    pub past_snapshot : send_plan ask pool ≡ (find_source ask.from pool >>= (λ source. find_redaction ask.redact pool >>= (λ redaction. sent_of pool snapshot source redaction)))
-    unfolding send_plan
-    past_snapshot =
-        ap (λ r. r >>= (λ snapshot. find_source ask.from pool >>= (λ source. find_redaction ask.redact pool >>= (λ redaction. sent_of pool snapshot source redaction)))) there
-
-    pub no_source : (fault : PlanFault) → find_source ask.from pool ≡ Err fault → send_plan ask pool ≡ Err fault
-    no_source fault none =
-        past_snapshot ∙ ap (λ r. r >>= (λ source. find_redaction ask.redact pool >>= (λ redaction. sent_of pool snapshot source redaction))) none
-
-    module _ (source : Option Source) (from : find_source ask.from pool ≡ Ok source) where
-      pub past_source : send_plan ask pool ≡ (find_redaction ask.redact pool >>= (λ redaction. sent_of pool snapshot source redaction))
-      past_source = past_snapshot ∙ ap (λ r. r >>= (λ source. find_redaction ask.redact pool >>= (λ redaction. sent_of pool snapshot source redaction))) from
-
-      pub no_redaction : (fault : PlanFault) → find_redaction ask.redact pool ≡ Err fault → send_plan ask pool ≡ Err fault
-      no_redaction fault none = past_source ∙ ap (λ r. r >>= (λ redaction. sent_of pool snapshot source redaction)) none
-
-      -- what is left once all is found
-      pub all_found : (redaction : Option Bookmark) → find_redaction ask.redact pool ≡ Ok redaction → send_plan ask pool ≡ sent_of pool snapshot source redaction
-      all_found redaction list = past_source ∙ ap (λ r. r >>= (λ redaction. sent_of pool snapshot source redaction)) list
-
 -- what is sent where all checks pass, and what is left of them after each
 abbrev pub the_sent : Pool → Snapshot → Option Source → Option Bookmark → Sent
 the_sent pool snapshot source redaction = record { snapshot = snapshot; kind = kind_of pool snapshot; source = source; redaction = redaction }
@@ -75,36 +47,67 @@ after_redaction pool snapshot source redaction = if_no_relay snapshot source (Ok
 abbrev pub after_before : Pool → Snapshot → Option Source → Option Bookmark → Result Sent PlanFault
 after_before pool snapshot source redaction = if_redaction snapshot redaction (after_redaction pool snapshot source redaction)
 
--- all that was asked for was found, and the snapshot's row and the source's name it
-pub record AllFound (rows : Rows) (pool : Pool) (ask : SendAsk) (snap : ℕ) (row : snapshots.Snapshot) (from : Option found.Source) (book_t : Option ℕ) : Type 0 where
-  pub snapshot : Snapshot
-  pub source : Option Source
-  pub redaction : Option Bookmark
-  pub at : StandsAt rows.snapshots pool.snapshots snap snapshot
-  pub names : NamesSnapshot row snapshot
-  pub is_from : FindAlike (IsSource rows pool) from source
-  pub names_from : FindAlike NamesSource from source
-  pub list : FindAlike (StandsAt rows.bookmarks pool.bookmarks) book_t redaction
-  pub left : send_plan ask pool ≡ sent_of pool snapshot source redaction
+-- the three look-ups of a send, and its checks
+abbrev pub looked_up : Pool → Result Snapshot PlanFault → (Snapshot → Result (Option Source) PlanFault) → Result (Option Bookmark) PlanFault → Result Sent PlanFault
+looked_up pool to from list = to >>= (λ snapshot. from snapshot >>= (λ source. list >>= (λ redaction. sent_of pool snapshot source redaction)))
 
-pub find_all : (rows : Rows) (pool : Pool) → AreNamed rows pool → (ask : SendAsk) (snap : ℕ) (row : snapshots.Snapshot) (from : Option found.Source) (book_t : Option ℕ)
-    → row ≡ get_or rows.snapshots snap row
-    → AnswerAlike (StandsAt rows.snapshots pool.snapshots) (Ok snap) (find_snapshot ask.snap pool)
-    → AnswerAlike (FindAlike (IsSource rows pool)) (Ok from) (find_source ask.from pool)
-    → AnswerAlike (FindAlike (StandsAt rows.bookmarks pool.bookmarks)) (Ok book_t) (find_redaction ask.redact pool)
-    → AllFound rows pool ask snap row from book_t
-find_all rows pool are ask snap row from book_t is has_snapshot has_source has_redaction =
-    let s = ok_alike (StandsAt rows.snapshots pool.snapshots) snap (find_snapshot ask.snap pool) has_snapshot in
-    let f = ok_alike (FindAlike (IsSource rows pool)) from (find_source ask.from pool) has_source in
-    let l = ok_alike (FindAlike (StandsAt rows.bookmarks pool.bookmarks)) book_t (find_redaction ask.redact pool) has_redaction in
-    record {
-      snapshot = s.0;
-      source = f.0;
-      redaction = l.0;
-      at = s.2;
-      names = row_names rows pool are snap row s.0 s.2 is;
-      is_from = f.2;
-      names_from = names_alike rows pool from f.0 f.2;
-      list = l.2;
-      left = all_found ask pool s.0 s.1 f.0 f.1 l.0 l.1;
-    }
+-- so it is with a send of what is named, and with one from a token
+pub named_send : (ask : SendAsk) (pool : Pool) → send_plan ask pool ≡ looked_up pool (find_snapshot ask.snap pool) (λ snapshot. find_source ask.from pool) (find_redaction ask.redact pool)
+unfolding send_plan
+named_send ask pool = refl
+
+pub token_send : (token : Token) (pool : Pool) → resumed_send token pool ≡ looked_up pool (find_to token pool) (find_from token pool) (find_marked token pool)
+unfolding resumed_send
+token_send token pool = refl
+
+module _ (rows : Rows) (pool : Pool) (to : Result Snapshot PlanFault) (from : Snapshot → Result (Option Source) PlanFault) (list : Result (Option Bookmark) PlanFault) where
+  -- the snapshot that was found, and the source that was found for it
+  abbrev pub FoundTo : Result ℕ PlanFault → Type 0
+  FoundTo answer = AnswerAlike (StandsAt rows.snapshots pool.snapshots) answer to
+
+  abbrev pub FoundFrom : ℕ → Result (Option found.Source) PlanFault → Type 0
+  FoundFrom snap answer = (snapshot : Snapshot) → StandsAt rows.snapshots pool.snapshots snap snapshot → AnswerAlike (FindAlike (IsSource rows pool)) answer (from snapshot)
+
+  abbrev pub FoundList : Result (Option ℕ) PlanFault → Type 0
+  FoundList answer = AnswerAlike (FindAlike (StandsAt rows.bookmarks pool.bookmarks)) answer list
+
+  module _ (definition : Result Sent PlanFault) (is : definition ≡ looked_up pool to from list) (result : Result SendPlan PlanFault) where
+    -- what each look-up refuses
+    pub refuses_to : (fault : PlanFault) → IsErrAnd result (λ e. e ≡ fault) → FoundTo (Err fault) → AnswerAlike (IsPlanOf rows pool) result definition
+    refuses_to fault refused no_to =
+        both_refuse (IsPlanOf rows pool) result definition fault (err_is result fault refused)
+        (is ∙ ap (λ t. looked_up pool t from list) (err_alike (StandsAt rows.snapshots pool.snapshots) fault to no_to))
+
+    pub refuses_from : (snap : ℕ) (fault : PlanFault) → IsErrAnd result (λ e. e ≡ fault) → FoundTo (Ok snap) → FoundFrom snap (Err fault)
+        → AnswerAlike (IsPlanOf rows pool) result definition
+    refuses_from snap fault refused has_to no_from =
+        let s = ok_alike (StandsAt rows.snapshots pool.snapshots) snap to has_to in
+        both_refuse (IsPlanOf rows pool) result definition fault (err_is result fault refused)
+        (is ∙ ap (λ t. looked_up pool t from list) s.1
+        ∙ ap (λ f. f >>= (λ source. list >>= (λ redaction. sent_of pool s.0 source redaction))) (err_alike (FindAlike (IsSource rows pool)) fault (from s.0) (no_from s.0 s.2)))
+
+    module _ (snap : ℕ) (has_to : FoundTo (Ok snap)) (source : Option found.Source) (has_from : FoundFrom snap (Ok source)) where
+      pub refuses_list : (fault : PlanFault) → IsErrAnd result (λ e. e ≡ fault) → FoundList (Err fault) → AnswerAlike (IsPlanOf rows pool) result definition
+      refuses_list fault refused no_list =
+          let s = ok_alike (StandsAt rows.snapshots pool.snapshots) snap to has_to in
+          let f = ok_alike (FindAlike (IsSource rows pool)) source (from s.0) (has_from s.0 s.2) in
+          both_refuse (IsPlanOf rows pool) result definition fault (err_is result fault refused)
+          (is ∙ ap (λ t. looked_up pool t from list) s.1
+          ∙ ap (λ f. f >>= (λ source. list >>= (λ redaction. sent_of pool s.0 source redaction))) f.1
+          ∙ ap (λ l. l >>= (λ redaction. sent_of pool s.0 f.0 redaction)) (err_alike (FindAlike (StandsAt rows.bookmarks pool.bookmarks)) fault list no_list))
+
+      -- what is left once all is found
+      pub checks_found : (book_t : Option ℕ) → FoundList (Ok book_t)
+          → ((snapshot : Snapshot) (other : Option Source) (redaction : Option Bookmark) → StandsAt rows.snapshots pool.snapshots snap snapshot
+          → FindAlike (IsSource rows pool) source other → FindAlike (StandsAt rows.bookmarks pool.bookmarks) book_t redaction
+          → AnswerAlike (IsPlanOf rows pool) result (sent_of pool snapshot other redaction))
+          → AnswerAlike (IsPlanOf rows pool) result definition
+      checks_found book_t has_list checked =
+          let s = ok_alike (StandsAt rows.snapshots pool.snapshots) snap to has_to in
+          let f = ok_alike (FindAlike (IsSource rows pool)) source (from s.0) (has_from s.0 s.2) in
+          let l = ok_alike (FindAlike (StandsAt rows.bookmarks pool.bookmarks)) book_t list has_list in
+          subst (AnswerAlike (IsPlanOf rows pool) result)
+          (sym (is ∙ ap (λ t. looked_up pool t from list) s.1
+          ∙ ap (λ f. f >>= (λ source. list >>= (λ redaction. sent_of pool s.0 source redaction))) f.1
+          ∙ ap (λ l. l >>= (λ redaction. sent_of pool s.0 f.0 redaction)) l.1))
+          (checked s.0 f.0 l.0 s.2 f.2 l.2)

@@ -6,5 +6,6 @@ mod Begun
 mod Planned
 mod Components
 mod Latest
+mod First
 mod Marked
 mod Receiving

@@ -2,4 +2,5 @@ pub mod Places
 pub mod Plans
 pub mod Receipts
 pub mod RecvPlan
+pub mod ResumePlan
 pub mod Sources

@@ -31,7 +31,8 @@ pub fn check_before(
     }
 }
 
-fn has_guids(guids: &GuidSet) -> bool
+/// Whether there are redaction guids.
+pub fn has_guids(guids: &GuidSet) -> bool
     ensures { result ≡ has_guids guids.now }
 {
     !guids.as_slice().is_empty()

@@ -7,6 +7,7 @@ mod finding;
 mod flags;
 mod plan;
 mod receive;
+mod resume;
 mod send;
 mod source;
 #[cfg(test)]
@@ -14,5 +15,6 @@ mod tests;
 
 pub use plan::SendPlan;
 pub use receive::{RecvAsk, RecvPlan, recv_plan};
+pub use resume::resume_plan;
 pub use send::send_plan;
 pub use zst_model::{FromName, SendAsk};

@@ -1,12 +1,12 @@
-ghost use Rattle.std.specs.Prelude.{◌≡◌, ◌<◌, length, None, Some, IfOk, IfSome};
+ghost use Rattle.std.specs.Prelude.{◌≡◌, ◌<◌, length, Option, None, Some, IfOk, IfSome};
 ghost use Rattle.std.specs.List.{position};
 ghost use Rattle.std.specs.Str.{bytes_eq};
 ghost use Rattle.zst_dir.specs.Named.{AreNamed, NamesSnapshot};
 ghost use Rattle.zst_dir.specs.Rows.{Rows};
 ghost use Rattle.zst_model.specs.pools.Before as plain;
-ghost use Rattle.zst_model.specs.pools.Pool.{Pool};
+ghost use Rattle.zst_model.specs.pools.Pool.{Pool, Bookmark as PlainBookmark, Snapshot as PlainSnapshot};
 ghost use Rattle.zst_model.specs.sends.Headers.{Sent};
-ghost use Rattle.zst_model.specs.sends.SendPlan.{kind_of, send_plan};
+ghost use Rattle.zst_model.specs.sends.SendPlan.{kind_of, send_plan, sent_of};
 ghost use Rattle.zst_plan.specs.Places.{AnswerAlike, FindAlike, StandsAt};
 ghost use Rattle.zst_plan.specs.Plans.{IsFrom, IsInside, IsPlanOf};
 ghost use Rattle.zst_plan.specs.Sources.{IsInRows, IsSource};
@@ -73,6 +73,29 @@ fn plan_of(
     }
 }
 
+/// The plan of what was found: E6, E7 or E19 where it can't be sent.
+pub fn checked_plan(
+    dir: &Dir,
+    snap: usize,
+    source: &Option<Source<'_>>,
+    book_t: Option<usize>,
+) -> Result<SendPlan, PlanFault>
+    requires snapshot { snap < length dir.now.snapshots }
+    requires source { IfSome source.now (IsInRows dir.now) }
+    requires redaction { IfSome book_t (λ p. p < length dir.now.bookmarks) }
+    ensures inside { IfOk result (IsInside dir.now) }
+    ensures exact { (pool : Pool) (sent : PlainSnapshot) (from : Option plain.Source) (redaction : Option PlainBookmark) → AreNamed dir.now pool
+        → StandsAt dir.now.snapshots pool.snapshots snap sent → FindAlike (IsSource dir.now pool) source.now from
+        → FindAlike (StandsAt dir.now.bookmarks pool.bookmarks) book_t redaction → AnswerAlike (IsPlanOf dir.now pool) result (sent_of pool sent from redaction) }
+    ensures snapshot { IfOk result (λ plan. plan.snap ≡ snap) }
+{
+    let snapshot = &dir.snapshots()[snap];
+    check_before(dir, snapshot, source)?;
+    check_redaction(snapshot, bookmark_at(dir, book_t))?;
+    check_no_relay(snapshot, source)?;
+    Ok(plan_of(snap, snapshot, source, book_t))
+}
+
 /// What a send is to give: the places of what the ask names, or the first refusal of its checks.
 pub fn send_plan(dir: &Dir, ask: &SendAsk) -> Result<SendPlan, PlanFault>
     ensures inside { IfOk result (IsInside dir.now) }
@@ -82,9 +105,5 @@ pub fn send_plan(dir: &Dir, ask: &SendAsk) -> Result<SendPlan, PlanFault>
     let snap = find_snapshot(dir, &ask.snap)?;
     let source = find_source(dir, &ask.from)?;
     let book_t = find_redaction(dir, &ask.redact)?;
-    let snapshot = &dir.snapshots()[snap];
-    check_before(dir, snapshot, &source)?;
-    check_redaction(snapshot, bookmark_at(dir, book_t))?;
-    check_no_relay(snapshot, &source)?;
-    Ok(plan_of(snap, snapshot, &source, book_t))
+    checked_plan(dir, snap, &source, book_t)
 }

@@ -5,10 +5,11 @@ ghost use Rattle.zst_model.specs.pools.Before.{dataset_of_source, number_of_sour
 ghost use Rattle.zst_model.specs.pools.Pool as pools;
 ghost use Rattle.zst_model.specs.sends.Headers.{guid_of_source, is_elsewhere};
 ghost use Rattle.zst_model.specs.sends.SendPlan.{is_earlier, marks, name_of_source};
+ghost use Rattle.zst_plan.specs.ResumePlan.{guids_of_source};
 ghost use Rattle.zst_plan.specs.Sources.{NamesSource};
 
 use zst_dir::{Bookmark, Snapshot};
-use zst_model::Name;
+use zst_model::{GuidSet, Name};
 use zst_names::DatasetName;
 
 /// What an increment is sent from: the row of a snapshot or of a bookmark, and its place in the
@@ -47,6 +48,16 @@ impl Source<'_> {
         match self {
             Source::Snapshot { row, .. } => row.guid,
             Source::Bookmark { row, .. } => row.guid,
+        }
+    }
+
+    /// Its redaction guids.
+    pub fn redact(&self) -> &GuidSet
+        ensures { (source : plain.Source) → NamesSource self.now source → result.now ≡ guids_of_source source }
+    {
+        match self {
+            Source::Snapshot { row, .. } => &row.redact,
+            Source::Bookmark { row, .. } => &row.redact,
         }
     }
 

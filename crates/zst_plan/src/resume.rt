@@ -1,0 +1,146 @@
+// What a token names, looked up in the directory.
+ghost use Rattle.std.specs.Prelude.{◌≡◌, ◌<◌, ◌==◌, ◌&&◌, length, IfOk, IfSome};
+ghost use Rattle.std.specs.List.{position};
+ghost use Rattle.std.specs.Str.{bytes_eq};
+ghost use Rattle.zst_dir.specs.Named.{AreNamed, NamesSnapshot};
+ghost use Rattle.zst_model.specs.pools.Before as plain;
+ghost use Rattle.zst_model.specs.pools.Pool.{Pool, Snapshot as PlainSnapshot};
+ghost use Rattle.zst_plan.specs.Places.{AnswerAlike, FindAlike, StandsAt};
+ghost use Rattle.zst_plan.specs.Plans.{IsInside, IsPlanOf};
+ghost use Rattle.zst_plan.specs.ResumePlan.{find_from, find_marked, find_to, first_bookmark, first_from, first_snapshot, is_from, no_guid, resumed_send};
+ghost use Rattle.zst_plan.specs.Sources.{IsInRows, IsSource, NamesSource};
+
+use crate::before::comes_before;
+use crate::checks::has_guids;
+use crate::plan::SendPlan;
+use crate::send::checked_plan;
+use crate::source::Source;
+use zst_dir::{Dir, Snapshot};
+use zst_model::{Missing, PlanFault};
+use zst_token::Token;
+
+// E3: nothing has this guid and what else the token states.
+fn no_guid(guid: u64) -> PlanFault
+    ensures { result ≡ no_guid guid }
+{
+    PlanFault::NoSuch(Missing::Guid(guid))
+}
+
+// The place of the snapshot that is sent: the first with the token's to guid.
+fn find_to(dir: &Dir, token: &Token) -> Result<usize, PlanFault>
+    ensures inside { IfOk result (λ place. place < length dir.now.snapshots) }
+    ensures found { (pool : Pool) → AreNamed dir.now pool → AnswerAlike (StandsAt dir.now.snapshots pool.snapshots) result (find_to token.now pool) }
+{
+    match dir.by_guid(token.to) {
+        Some(place) => Ok(place),
+        None => Err(no_guid(token.to)),
+    }
+}
+
+// Whether the source has the token's from guid and from-redaction guids and stands before the snapshot.
+fn is_from(dir: &Dir, token: &Token, to: &Snapshot, source: &Source<'_>) -> bool
+    ensures { (pool : Pool) (later : PlainSnapshot) (from : plain.Source) → AreNamed dir.now pool → NamesSnapshot to.now later → NamesSource source.now from
+        → result ≡ is_from token.now pool later from }
+{
+    source.guid() == token.from
+        && source.redact().as_slice() == token.from_redact.as_slice()
+        && comes_before(dir, source, to)
+}
+
+// The first such snapshot.
+fn first_snapshot<'a>(dir: &'a Dir, token: &Token, to: &Snapshot) -> Option<Source<'a>>
+    ensures inside { IfSome result (IsInRows dir.now) }
+    ensures found { (pool : Pool) (later : PlainSnapshot) → AreNamed dir.now pool → NamesSnapshot to.now later
+        → FindAlike (IsSource dir.now pool) result (first_snapshot token.now pool later) }
+{
+    for place in 0..dir.snapshots().len() {
+        let row = &dir.snapshots()[place];
+        let source = Source::Snapshot { place, row };
+        if is_from(dir, token, to, &source) {
+            return Some(source);
+        }
+    }
+    None
+}
+
+// The first such bookmark.
+fn first_bookmark<'a>(dir: &'a Dir, token: &Token, to: &Snapshot) -> Option<Source<'a>>
+    ensures inside { IfSome result (IsInRows dir.now) }
+    ensures found { (pool : Pool) (later : PlainSnapshot) → AreNamed dir.now pool → NamesSnapshot to.now later
+        → FindAlike (IsSource dir.now pool) result (first_bookmark token.now pool later) }
+{
+    for place in 0..dir.bookmarks().len() {
+        let row = &dir.bookmarks()[place];
+        let source = Source::Bookmark { place, row };
+        if is_from(dir, token, to, &source) {
+            return Some(source);
+        }
+    }
+    None
+}
+
+// The snapshot, or else the bookmark.
+fn first_from<'a>(dir: &'a Dir, token: &Token, to: &Snapshot) -> Option<Source<'a>>
+    ensures inside { IfSome result (IsInRows dir.now) }
+    ensures found { (pool : Pool) (later : PlainSnapshot) → AreNamed dir.now pool → NamesSnapshot to.now later
+        → FindAlike (IsSource dir.now pool) result (first_from token.now pool later) }
+{
+    match first_snapshot(dir, token, to) {
+        Some(source) => Some(source),
+        None => first_bookmark(dir, token, to),
+    }
+}
+
+// What the send is from; where the from guid is 0 it is from nothing.
+fn find_from<'a>(
+    dir: &'a Dir,
+    token: &Token,
+    to: &Snapshot,
+) -> Result<Option<Source<'a>>, PlanFault>
+    ensures inside { IfOk result (λ source. IfSome source (IsInRows dir.now)) }
+    ensures found { (pool : Pool) (later : PlainSnapshot) → AreNamed dir.now pool → NamesSnapshot to.now later
+        → AnswerAlike (FindAlike (IsSource dir.now pool)) result (find_from token.now pool later) }
+{
+    if token.from == 0 {
+        return Ok(None);
+    }
+    match first_from(dir, token, to) {
+        Some(source) => Ok(Some(source)),
+        None => Err(no_guid(token.from)),
+    }
+}
+
+// The place of the first bookmark with the token's to guid and redaction guids.
+fn first_marked(dir: &Dir, token: &Token) -> Option<usize>
+    ensures { result ≡ position (λ bookmark. bookmark.guid == token.now.to && bytes_eq bookmark.redact token.now.redact) dir.now.bookmarks }
+{
+    dir.bookmarks().iter().position(|bookmark| {
+        bookmark.guid == token.to && bookmark.redact.as_slice() == token.redact.as_slice()
+    })
+}
+
+// Its place, where the token has redaction guids.
+fn find_marked(dir: &Dir, token: &Token) -> Result<Option<usize>, PlanFault>
+    ensures inside { IfOk result (λ place. IfSome place (λ p. p < length dir.now.bookmarks)) }
+    ensures found { (pool : Pool) → AreNamed dir.now pool → AnswerAlike (FindAlike (StandsAt dir.now.bookmarks pool.bookmarks)) result (find_marked token.now pool) }
+{
+    if !has_guids(&token.redact) {
+        return Ok(None);
+    }
+    match first_marked(dir, token) {
+        Some(place) => Ok(Some(place)),
+        None => Err(no_guid(token.to)),
+    }
+}
+
+/// What a send from a token is to give: the places of what the token names, or the first refusal
+/// of its checks.
+pub fn resume_plan(dir: &Dir, token: &Token) -> Result<SendPlan, PlanFault>
+    ensures inside { IfOk result (IsInside dir.now) }
+    ensures exact { (pool : Pool) → AreNamed dir.now pool → AnswerAlike (IsPlanOf dir.now pool) result (resumed_send token.now pool) }
+{
+    let snap = find_to(dir, token)?;
+    let source = find_from(dir, token, &dir.snapshots()[snap])?;
+    let book_t = find_marked(dir, token)?;
+    checked_plan(dir, snap, &source, book_t)
+}
