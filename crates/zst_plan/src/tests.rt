@@ -1,5 +1,6 @@
 //! Plans in directories that are spelled by hand.
 mod receive;
+mod resume;
 mod send;
 
 use std::alloc::{AllocError, Global};
