@@ -9,14 +9,13 @@ use Rattle.std.proofs.Math.ListN.{drop_of_length-le}
 use Rattle.zst_model.specs.declared.states.item.Item.{Item}
 use Rattle.zst_model.specs.declared.sends.header.Header.{Header}
 use Rattle.zst_model.specs.declared.sends.header.Point.{Point}
-use Rattle.zst_model.specs.sends.Items.{items, joined, origin, single_items}
+use Rattle.zst_model.specs.sends.Items.{items, joined, single_items}
 use Rattle.zst_model.specs.sends.View.{View}
 use Rattle.zst_laws.specs.Walk.{WalkBegins, walk_left}
 use Rattle.zst_model.specs.states.Dated.{DatedState}
 use Rattle.zst_record.specs.Formats.{record_len}
 use Rattle.zst_record.specs.declared.head.Head.TheVariants as heads
 use Rattle.zst_record.specs.Payload.{begin_payload}
-use Rattle.zst_record.specs.Table.{head_bytes}
 use Rattle.zst_stream.specs.Image.{end_after, front_of, image, image_after, piece_after, record_after}
 use Rattle.zst_stream.specs.Records.{piece_for, pieces_for, view_text}
 use Rattle.zst_tree.specs.Indices.{Blocks}
@@ -182,32 +181,26 @@ module _ (has : Blocks) where
         }
 
 -- where BEGIN has no payload, it is its 312 bytes
-begin-alone : (header : Header) → begin_payload header ≡ [] → bytes_after [] (heads.Begin header 0) ≡ front_of header
-unfolding front_of bytes_after
-begin-alone header none =
-    sym (append-nil (head_bytes (heads.Begin header 0)))
-    ∙ ap (λ (payload : List ℕ). head_bytes (heads.Begin header (length payload)) ++ payload) (sym none)
-
--- a send begins with BEGIN, and then has all items of its view
-pub begins : (header : Header) → begin_payload header ≡ [] → WalkBegins → (has : Blocks) (snap : DatedState) (view : View) (stand : Stand)
-    → HasWritten stand.writer (bytes_after [] (heads.Begin header 0)) → stand.work.head ≡ bytes_after [] (heads.Begin header 0)
-    → stand.work.payload ≡ Nothing → stand.work.given ≡ 0 → stand.walk.held ≡ None → stand.walk.place.point ≡ origin → stand.walk.place.slot ≡ true → stand.ended ≡ false
-    → StandsAt has snap view header.to stand (view_text header view origin)
+-- a send begins with BEGIN and its payload, and then has all items of its view from the point on
+pub begins : (header : Header) (start : Point) → WalkBegins → (has : Blocks) (snap : DatedState) (view : View) (stand : Stand)
+    → HasWritten stand.writer (front_of header) → stand.work.head ++ begin_payload header ≡ front_of header
+    → (payload : (field : List ℕ) × (stand.work.payload ≡ Bonus field (length (begin_payload header))) × (take (length (begin_payload header)) field ≡ begin_payload header)) → stand.work.given ≡ 0
+    → stand.walk.held ≡ None → stand.walk.place.point ≡ start → stand.walk.place.slot ≡ true → stand.ended ≡ false
+    → StandsAt has snap view header.to stand (view_text header view start)
 unfolding view_text image
-begins header none all has snap view stand written head payload given held point slot open_still =
+begins header start all has snap view stand written head payload given held point slot open_still =
     let front : List ℕ = front_of header in
-    let front_is : bytes_after [] (heads.Begin header 0) ≡ front = begin-alone header none in
-    let left : walk_left view stand.walk.place.point stand.walk.place.slot ≡ single_items view origin =
-    ap (λ (p : Point). walk_left view p stand.walk.place.slot) point ∙ ap (walk_left view origin) slot ∙ all view origin in
-    let rest : List ℕ = image_after front (pieces_for header.to (items view origin)) header.to in
+    let left : walk_left view stand.walk.place.point stand.walk.place.slot ≡ single_items view start =
+    ap (λ (p : Point). walk_left view p stand.walk.place.slot) point ∙ ap (walk_left view start) slot ∙ all view start in
+    let rest : List ℕ = image_after front (pieces_for header.to (items view start)) header.to in
     record {
       text = front;
-      written = subst (λ (l : List ℕ). HasWritten stand.writer l) front_is written;
+      written = written;
       pending = front;
       work = record {
-        payload = [];
-        payload_is = subst (λ (p : Payload). IsPayload has p []) (sym payload) refl;
-        left_are = sym front_is ∙ sym head ∙ sym (append-nil stand.work.head) ∙ ap (λ (n : ℕ). drop n (stand.work.head ++ [])) (sym given);
+        payload = begin_payload header;
+        payload_is = subst (λ (p : Payload). IsPayload has p (begin_payload header)) (sym payload.1) (sym payload.2);
+        left_are = sym head ∙ ap (λ (n : ℕ). drop n (stand.work.head ++ begin_payload header)) (sym given);
       };
       rest = rest;
       is_rest = subst (λ (e : Bool). IsRest has snap view header.to front stand.walk e rest) (sym open_still) (
@@ -219,22 +212,25 @@ begins header none all has snap view stand written head payload given held point
     }
 
 -- and has put none of them
-pub begins_put : WalkBegins → (has : Blocks) (snap : DatedState) (view : View) (stand : Stand) → stand.work.payload ≡ Nothing → stand.work.given ≡ 0
-    → stand.walk.held ≡ None → stand.walk.place.point ≡ origin → stand.walk.place.slot ≡ true → stand.ended ≡ false → HasPut has snap view [] 0 stand
-begins_put all has snap view stand payload given held point slot open_still =
-    let left : walk_left view stand.walk.place.point stand.walk.place.slot ≡ single_items view origin =
-    ap (λ (p : Point). walk_left view p stand.walk.place.slot) point ∙ ap (walk_left view origin) slot ∙ all view origin in
+pub begins_put : (header : Header) (start : Point) → WalkBegins → (has : Blocks) (snap : DatedState) (view : View) (stand : Stand)
+    → length stand.work.head ≡ record_len → stand.work.head ++ begin_payload header ≡ front_of header
+    → (payload : (field : List ℕ) × (stand.work.payload ≡ Bonus field (length (begin_payload header))) × (take (length (begin_payload header)) field ≡ begin_payload header)) → stand.work.given ≡ 0
+    → stand.walk.held ≡ None → stand.walk.place.point ≡ start → stand.walk.place.slot ≡ true → stand.ended ≡ false → HasPut has snap view start (length (front_of header)) [] 0 stand
+begins_put header start all has snap view stand long head payload given held point slot open_still =
+    let left : walk_left view stand.walk.place.point stand.walk.place.slot ≡ single_items view start =
+    ap (λ (p : Point). walk_left view p stand.walk.place.slot) point ∙ ap (walk_left view start) slot ∙ all view start in
     record {
-      later = items view origin;
+      later = items view start;
       are = refl;
-      are_left = subst (λ (e : Bool). AreLeft has snap view stand.walk e (items view origin)) (sym open_still) (
+      are_left = subst (λ (e : Bool). AreLeft has snap view stand.walk e (items view start)) (sym open_still) (
         [],
         record { held_are = subst (λ (h : Option Due). AreHeld has h []) (sym held) refl; place_is = λ passed. absurd (true≢false (sym slot ∙ passed)) },
         ap joined (sym left),
       );
-      in_work = subst (λ (p : Payload). IsInWork [] stand.ended p) (sym payload) tt;
+      in_work = subst (λ (p : Payload). IsInWork [] stand.ended p) (sym payload.1) tt;
       place_is =
-          let size : payload_size stand.work.payload ≡ 0 = ap payload_size payload in
+          let size : payload_size stand.work.payload ≡ length (begin_payload header) = ap payload_size payload.1 in
           let none : end_size stand.ended ≡ 0 = ap end_size open_still in
-          omega (arith, size, none, given);
+          let whole : length (front_of header) ≡ length stand.work.head + length (begin_payload header) = ap length (sym head) ∙ length-append stand.work.head (begin_payload header) in
+          omega (arith, size, none, given, whole, long);
     }

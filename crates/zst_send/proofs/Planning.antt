@@ -1,11 +1,11 @@
 -- What a plan's rows tell of the send that it is of, where they stand for what a pool lists.
-use Rattle.std.proofs.Common.{◌≡◌, ℕ, ◌+◌, ◌||◌, Bool, true, false, not, List, [], ◌∷◌, length, is_some, Option, Some, None, Result, Ok, Err, cond, option_map, suc, zero, ◌<◌, refl, sym, ap, ◌∙◌, subst, get_or, arith}
+use Rattle.std.proofs.Common.{◌≡◌, ℕ, Bool, true, false, not, List, [], ◌∷◌, length, is_some, Option, Some, None, Result, Ok, Err, cond, option_map, suc, zero, ◌<◌, refl, sym, ap, ◌∙◌, subst, get_or, arith}
 use Rattle.std.proofs.lemmas.List.{get_or_default}
 use Rattle.std.proofs.lemmas.List.Quantifiers.{position-Some}
 use Rattle.std.specs.List.{find, position}
 use Rattle.std.specs.Str.{bytes_eq}
 use Rattle.std.specs.Prelude.{IsErrAnd}
-use Rattle.std.proofs.lemmas.Bool.{and_parts, cond-false, lt-ltb, not-true, or_from, true≢false}
+use Rattle.std.proofs.lemmas.Bool.{and_parts, lt-ltb, true≢false}
 use Rattle.zst_dir.proofs.Matching.{Match-alike}
 use Rattle.zst_dir.specs.Named.{Match}
 use Rattle.zst_dir.specs.Rows.{Rows}
@@ -19,10 +19,7 @@ use Rattle.zst_model.specs.declared.sends.ask.SendAsk.{SendAsk}
 use Rattle.zst_model.specs.fields.Lists.{Runs, has_pair}
 use Rattle.zst_model.specs.pools.Before.{Source, OfSnapshot, OfBookmark}
 use Rattle.zst_model.specs.pools.Pool.{Bookmark, Pool}
-use Rattle.zst_model.specs.sends.Features.{redacts, resuming, sa_spill}
-use Rattle.zst_record.specs.Decode.{needs_payload}
-use Rattle.zst_record.specs.Payload.{begin_payload, has_payload, payload_bytes}
-use Rattle.zst_model.specs.sends.Headers.{Sent, choice_of, features_of, header_of, redacted_part, redaction_list, source_guids, source_list}
+use Rattle.zst_model.specs.sends.Headers.{Sent, choice_of, redaction_list, source_guids, source_list}
 use Rattle.zst_model.specs.sends.Included.{Choice, Pairs, no_pairs}
 use Rattle.zst_model.specs.sends.SendPlan.{has_guids, send_plan}
 use Rattle.zst_model.specs.states.Apply.{unless, ◌>>=◌}
@@ -156,18 +153,3 @@ passed sent = go (is_plain sent)
     go : (plain : Bool) → unless (not plain) (plans.Unsupported lacks.NotBuilt) (Ok sent) ≡ Ok sent → plain ≡ true
     go true e = refl
     go false e = absurd (cc)
-
--- what isn't redacted has no guids of redaction
-none_whole : (redaction : Option Bookmark) → not (is_some redaction) ≡ true → needs_payload (redacted_part redaction + sa_spill) ≡ false
-unfolding sa_spill needs_payload resuming redacts
-none_whole None plain = refl
-none_whole (Some bookmark) plain = absurd (cc plain)
-
--- BEGIN of a plain send has no payload
-pub plain_begins : (sent : Sent) → is_plain sent ≡ true → begin_payload (header_of sent) ≡ []
-unfolding begin_payload has_payload features_of
-plain_begins sent plain =
-    let parts = and_parts (not (is_some sent.redaction)) (not (has_guids (source_guids sent.source))) plain in
-    let none : (needs_payload (redacted_part sent.redaction + sa_spill) || has_guids (source_guids sent.source)) ≡ false =
-    or_from (needs_payload (redacted_part sent.redaction + sa_spill)) (has_guids (source_guids sent.source)) (none_whole sent.redaction parts.0) (not-true (has_guids (source_guids sent.source)) parts.1) in
-    cond-false (needs_payload (redacted_part sent.redaction + sa_spill) || has_guids (source_guids sent.source)) (payload_bytes (header_of sent)) [] none

@@ -1,6 +1,7 @@
 -- What a send keeps stands for as long as its blocks are there.
 use Rattle.std.proofs.Common.{ℕ, Bool, true, false, List, Option, Some, None}
 use Rattle.zst_block.specs.declared.ptr.Ptr.{Ptr}
+use Rattle.zst_model.specs.declared.sends.header.Point.{Point}
 use Rattle.zst_model.specs.declared.states.item.Item.{Item}
 use Rattle.zst_model.specs.sends.View.{View}
 use Rattle.zst_model.specs.states.Dated.{DatedState}
@@ -85,6 +86,6 @@ module _ (old new : Blocks) (keeps : (ptr : Ptr) (bytes : List ℕ) → old ptr 
   left_stay snap view walk true items are = are
   left_stay snap view walk false items are = (are.0, record { held_are = held_stay walk.held are.0 are.1.held_are; place_is = are.1.place_is }, are.2)
 
-  pub put_stays : (snap : DatedState) (view : View) (put : List Item) (place : ℕ) (stand : Stand) → HasPut old snap view put place stand → HasPut new snap view put place stand
-  put_stays snap view put place stand had =
+  pub put_stays : (snap : DatedState) (view : View) (point : Point) (front : ℕ) (put : List Item) (place : ℕ) (stand : Stand) → HasPut old snap view point front put place stand → HasPut new snap view point front put place stand
+  put_stays snap view point front put place stand had =
       record { later = had.later; are = had.are; are_left = left_stay snap view stand.walk stand.ended had.later had.are_left; in_work = had.in_work; place_is = had.place_is }

@@ -4,13 +4,13 @@ use Rattle.zst_block.specs.declared.ptr.Ptr.{Ptr}
 use Rattle.zst_model.specs.declared.states.item.Change.TheVariants as changes
 use Rattle.zst_model.specs.declared.states.item.Item.{Item}
 use Rattle.zst_model.specs.declared.states.item.Item.TheVariants.{At, FreeObjects}
+use Rattle.zst_model.specs.declared.sends.header.Point.{Point}
 use Rattle.zst_model.specs.sends.Headers.{Sent, sent_view}
-use Rattle.zst_model.specs.sends.Items.{items, origin}
+use Rattle.zst_model.specs.sends.Items.{items}
 use Rattle.zst_model.specs.sends.View.{View}
 use Rattle.zst_model.specs.states.Dated.{DatedState, size_at}
 use Rattle.zst_model.specs.states.State.{number_bound}
 use Rattle.zst_tree.specs.Indices.{Blocks}
-use Rattle.zst_record.specs.Formats.{record_len}
 use Rattle.zst_send.specs.Records.{AreLeft, HasPut, reads_of, sizes_of, touched}
 use Rattle.zst_send.specs.declared.due.Due.{Due}
 use Rattle.zst_send.specs.declared.due.Due.TheVariants.{Absent, Object, Spill, Tail, Holes, Redacted, Block}
@@ -114,20 +114,20 @@ listed None = []
 listed (Some item) = item ∷ []
 
 -- a step puts the next item, whose block the room has then, or END, or nothing, for no more calls than the item and the looks take that the walk is further ahead, where the set is tight
-pub record Puts (has : Blocks) (snap : DatedState) (view : View) (tight : Type 0) (put : List Item) (place : ℕ) (old new : Stand) (was holds : Option Ptr) (before after : ℕ) : Type 0 where
+pub record Puts (has : Blocks) (snap : DatedState) (view : View) (tight : Type 0) (point : Point) (front : ℕ) (put : List Item) (place : ℕ) (old new : Stand) (was holds : Option Ptr) (before after : ℕ) : Type 0 where
   pub next : Option Item
-  pub now : HasPut has snap view (put ++ listed next) place new
-  pub begins : IfSome next (λ item. place ≡ record_len + sizes_of put)
+  pub now : HasPut has snap view point front (put ++ listed next) place new
+  pub begins : IfSome next (λ item. place ≡ front + sizes_of put)
   pub room : ((next ≡ None) × (new.work.payload ≡ old.work.payload) × (holds ≡ was)) ⊎ IsHeld holds new.work.payload
   pub few : tight → after + 64 * looks_ahead snap old.walk ≤ before + calls_for snap (listed next) + 64 * looks_ahead snap new.walk
 
 -- while it gives `count` bytes a send puts some items, for no more calls than these and the looks take, and one where the block of the record in work is read again: all of them are for items that have a byte among those
-pub record PutsIn (has : Blocks) (snap : DatedState) (view : View) (tight : Type 0) (put : List Item) (place count : ℕ) (old new : Stand) (before after : ℕ) : Type 0 where
+pub record PutsIn (has : Blocks) (snap : DatedState) (view : View) (tight : Type 0) (point : Point) (front : ℕ) (put : List Item) (place count : ℕ) (old new : Stand) (before after : ℕ) : Type 0 where
   pub more : List Item
-  pub now : HasPut has snap view (put ++ more) (place + count) new
+  pub now : HasPut has snap view point front (put ++ more) (place + count) new
   pub again : ℕ
   pub once : again ≤ 1
-  pub given : again + calls_for snap more ≤ calls_for snap (touched place count record_len (items view origin))
+  pub given : again + calls_for snap more ≤ calls_for snap (touched place count front (items view point))
   pub few : tight → after + 64 * looks_ahead snap old.walk ≤ before + (again + calls_for snap more) + 64 * looks_ahead snap new.walk
 
 -- ---- a send

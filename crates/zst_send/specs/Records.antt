@@ -3,11 +3,13 @@ use Rattle.std.specs.Prelude.{◌≡◌, ℕ, ◌+◌, Bool, true, false, max, m
 use Rattle.zst_model.specs.declared.states.item.Change.TheVariants as changes
 use Rattle.zst_model.specs.declared.states.item.Item.{Item}
 use Rattle.zst_model.specs.declared.states.item.Item.TheVariants.{At, FreeObjects}
-use Rattle.zst_model.specs.sends.Headers.{Sent, sent_view}
+use Rattle.zst_model.specs.declared.sends.header.Point.{Point}
+use Rattle.zst_model.specs.sends.Headers.{Sent, header_of, sent_view}
 use Rattle.zst_model.specs.sends.Items.{items, origin}
 use Rattle.zst_model.specs.sends.View.{View}
 use Rattle.zst_model.specs.states.Dated.{DatedState}
 use Rattle.zst_record.specs.Formats.{record_len}
+use Rattle.zst_stream.specs.Image.{front_of}
 use Rattle.zst_stream.specs.Records.{item_payload}
 use Rattle.zst_tree.specs.Indices.{Blocks}
 use Rattle.zst_send.specs.Places.{IsWalk, items_left}
@@ -40,9 +42,9 @@ touched place count start (item ∷ items) =
     then item ∷ touched place count (start + size_of item) items
     else touched place count (start + size_of item) items
 
--- the items of a send that stand, in whole or in part, in `count` bytes of its text from `place` on: the first one stands behind BEGIN
+-- the items of a send that stand, in whole or in part, in `count` bytes of its text from `place` on: the first one stands behind BEGIN and its payload
 abbrev pub items_in : Sent → (place count : ℕ) → List Item
-items_in sent place count = touched place count record_len (items (sent_view sent) origin)
+items_in sent place count = touched place count (length (front_of (header_of sent))) (items (sent_view sent) origin)
 
 -- ---- what was put
 
@@ -83,10 +85,10 @@ IsInWork put ended Nothing = Unit {0}
 IsInWork put ended (Bonus field count) = Unit {0}
 IsInWork put ended (Block ptr) = (first : List Item) × (last : Item) × (put ≡ first ++ last ∷ []) × IsOfItem last (Block ptr) × (ended ≡ false)
 
--- a send that has given `place` bytes has put the records of these first items of its view, and END where it says so; the others are left
-pub record HasPut (has : Blocks) (snap : DatedState) (view : View) (put : List Item) (place : ℕ) (stand : Stand) : Type 0 where
+-- a send from a point on, whose BEGIN has `front` bytes with its payload, and that has given `place` bytes, has put the records of these first items of its view, and END where it says so; the others are left
+pub record HasPut (has : Blocks) (snap : DatedState) (view : View) (point : Point) (front : ℕ) (put : List Item) (place : ℕ) (stand : Stand) : Type 0 where
   pub later : List Item
-  pub are : items view origin ≡ put ++ later
+  pub are : items view point ≡ put ++ later
   pub are_left : AreLeft has snap view stand.walk stand.ended later
   pub in_work : IsInWork put stand.ended stand.work.payload
-  pub place_is : place + record_len + payload_size stand.work.payload ≡ record_len + sizes_of put + end_size stand.ended + stand.work.given
+  pub place_is : place + record_len + payload_size stand.work.payload ≡ front + sizes_of put + end_size stand.ended + stand.work.given

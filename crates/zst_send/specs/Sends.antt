@@ -8,6 +8,7 @@ use Rattle.zst_objset.specs.Sets.{SetHolds}
 use Rattle.zst_pool.specs.declared.fault.PoolFault.{PoolFault}
 use Rattle.zst_pool.specs.declared.fault.PoolFault.TheVariants.{Plan, CannotApply, Redacted, Full, Damaged, DiskFault, Failed, OutOfMemory}
 use Rattle.zst_space.specs.FreeSectors.{FreeSectors}
+use Rattle.zst_stream.specs.Image.{front_of}
 use Rattle.zst_stream.specs.Records.{view_text}
 use Rattle.zst_traverse.specs.Cells.{choice_after}
 use Rattle.zst_tree.specs.Indices.{Blocks}
@@ -29,7 +30,7 @@ pub record Sends (has : Blocks) (send : Send) (sent : Sent) (given left : List â
   pub to : send.subject.to â‰¡ (header_of sent).to
   pub stands : StandsAt has sent.snapshot.objects (sent_view sent) send.subject.to send.stand left
   pub put : List Item
-  pub has_put : HasPut has sent.snapshot.objects (sent_view sent) put (length given) send.stand
+  pub has_put : HasPut has sent.snapshot.objects (sent_view sent) origin (length (front_of (header_of sent))) put (length given) send.stand
   pub loaded : IsLoaded has send.room
 
 -- the object set of the snapshot that is sent

@@ -2,7 +2,6 @@ ghost use Rattle.std.specs.Prelude.{◌≡◌, ◌*◌, ◌+◌, ◌<◌, ◌≤
 ghost use Rattle.zst_block.specs.Blocks.{FitsDisk, Has};
 ghost use Rattle.zst_block.specs.Working.{Looks, stop_of};
 ghost use Rattle.zst_model.specs.declared.sends.header.Header.{Header};
-ghost use Rattle.zst_model.specs.sends.Items.{origin};
 ghost use Rattle.zst_model.specs.sends.View.{view_of};
 ghost use Rattle.zst_model.specs.states.Dated.{DatedState};
 ghost use Rattle.zst_model.specs.states.State.{number_bound};
@@ -88,17 +87,14 @@ fn place_after(place: &Place, found: &Found) -> Place
 }
 
 impl Place {
-    /// Before all numbers. No object was passed yet, and any block size stands for that.
-    pub(crate) fn start() -> Place
-        ensures point { result.point ≡ origin }
+    /// At a point, whose own number comes first. No object was passed yet, and any block size stands for that.
+    pub(crate) fn start(point: Point) -> Place
+        ensures point { result.point ≡ point }
         ensures slot { result.slot ≡ true }
         ensures fits { PlaceFits result }
     {
         Place {
-            point: Point {
-                object: 0,
-                offset: 0,
-            },
+            point,
             slot: true,
             type_: 0,
             block_size: 512,

@@ -3,7 +3,7 @@ use crate::room::Room;
 use crate::stand::{Stand, Subject};
 use std::alloc::Global;
 use zst_dir::Dir;
-use zst_model::SendAsk;
+use zst_model::{Point, SendAsk};
 use zst_outside::Disk;
 use zst_plan::{SendPlan, send_plan};
 use zst_pool::{Pool, PoolFault};
@@ -146,6 +146,10 @@ impl Send {
             → SetIsTight (Has image space) result.subject.set sent.snapshot.objects }
     {
         let header = plan.header(dir);
+        let point = Point {
+            object: 0,
+            offset: 0,
+        };
         let subject = Subject {
             set: dir.snapshots()[plan.snap].objects,
             source: plan.from_number,
@@ -153,7 +157,7 @@ impl Send {
         };
         Send {
             subject,
-            stand: Stand::start(header),
+            stand: Stand::start(header, point),
             room,
         }
     }

@@ -3,8 +3,8 @@ ghost use Rattle.zst_space.specs.FreeSectors.{FreeSectors};
 ghost use Rattle.zst_block.specs.Blocks.{FitsDisk, Has};
 ghost use Rattle.zst_block.specs.Working.{Looks, stop_of};
 ghost use Rattle.zst_model.specs.declared.sends.header.Header.{Header};
+ghost use Rattle.zst_model.specs.declared.sends.header.Point.{Point};
 ghost use Rattle.zst_model.specs.declared.states.item.Item.{Item};
-ghost use Rattle.zst_model.specs.sends.Items.{origin};
 ghost use Rattle.zst_model.specs.sends.View.{View, view_of};
 ghost use Rattle.zst_model.specs.states.Dated.{DatedState};
 ghost use Rattle.zst_objset.specs.Damage.{IfDamaged};
@@ -17,8 +17,8 @@ ghost use Rattle.zst_send.specs.Knowing.{IsAmong, IsOfSet};
 ghost use Rattle.zst_tree.specs.declared.tree.ObjSet.{ObjSet};
 ghost use Rattle.zst_send.specs.Standing.{Advances, Fills, StandFits, StandsAt};
 ghost use Rattle.zst_record.specs.Formats.{record_len};
-ghost use Rattle.zst_record.specs.Payload.{begin_payload};
 ghost use Rattle.zst_send.specs.Working.{IsLoaded, RoomFits, payload_size};
+ghost use Rattle.zst_stream.specs.Image.{front_of};
 ghost use Rattle.zst_stream.specs.Records.{view_text};
 ghost use Rattle.zst_traverse.specs.Cells.{choice_after};
 ghost use Rattle.zst_tree.specs.Indices.{Delivers};
@@ -28,7 +28,7 @@ use crate::walk::Walk;
 use crate::work::Work;
 use zst_block::{BlockFault, Io};
 use zst_laws::walk_begins;
-use zst_model::Header;
+use zst_model::{Header, Point};
 use zst_outside::Disk;
 use zst_record::Head;
 use zst_tree::ObjSet;
@@ -53,22 +53,18 @@ pub(crate) struct Stand {
 }
 
 impl Stand {
-    /// A send that gives BEGIN first, of a stream whose BEGIN has no payload.
-    pub(crate) fn start(header: Header) -> Stand
-        ensures stands { (image : List ℕ) (space : FreeSectors) (snap : DatedState) (view : View) → begin_payload header ≡ [] → StandsAt (Has image space) snap view header.to result (view_text header view origin) }
+    /// A send that gives BEGIN with its payload first, and then the items from this point on.
+    pub(crate) fn start(header: Header, point: Point) -> Stand
+        ensures stands { (image : List ℕ) (space : FreeSectors) (snap : DatedState) (view : View) → StandsAt (Has image space) snap view header.to result (view_text header view point) }
         ensures knows { (images : List (List ℕ)) (set : ObjSet) → IsOfSet (IsAmong images) set result }
-        ensures puts { (image : List ℕ) (space : FreeSectors) (snap : DatedState) (view : View) → HasPut (Has image space) snap view [] 0 result }
+        ensures puts { (image : List ℕ) (space : FreeSectors) (snap : DatedState) (view : View) → HasPut (Has image space) snap view point (length (front_of header)) [] 0 result }
         ensures fits { StandFits result }
     {
         walk_begins();
         let mut writer = Writer::new();
-        let begin = Head::Begin {
-            header,
-            payload_len: 0,
-        };
-        let work = Work::alone(&mut writer, &begin);
+        let work = Work::begin(&mut writer, header);
         Stand {
-            walk: Walk::start(),
+            walk: Walk::start(point),
             writer,
             work,
             ended: false,
@@ -100,9 +96,9 @@ impl Stand {
         ensures room { RoomFits room.new }
         ensures looks { Looks (D.state io.old.disk.now) io.old.space io.old.failed (D.state io.new.disk.now) io.new.space io.new.failed (stop_of result) }
         // Of a set whose slots are tight it reads no more than the items take that it puts.
-        ensures puts { (header : Header) (snap : DatedState) (put : List Item) (place : ℕ) → (D.state io.new.disk.now).honest → SetHolds (Has (D.state io.old.disk.now).seen io.old.space) subject.now.set snap
-            → HasPut (Has (D.state io.old.disk.now).seen io.old.space) snap (view_of header snap (choice_after subject.now.source)) put place self.old
-            → IfOk result (λ more. Puts (Has (D.state io.new.disk.now).seen io.new.space) snap (view_of header snap (choice_after subject.now.source)) (SetIsTight (Has (D.state io.old.disk.now).seen io.old.space) subject.now.set snap) put place
+        ensures puts { (header : Header) (snap : DatedState) (point : Point) (front : ℕ) (put : List Item) (place : ℕ) → (D.state io.new.disk.now).honest → SetHolds (Has (D.state io.old.disk.now).seen io.old.space) subject.now.set snap
+            → HasPut (Has (D.state io.old.disk.now).seen io.old.space) snap (view_of header snap (choice_after subject.now.source)) point front put place self.old
+            → IfOk result (λ more. Puts (Has (D.state io.new.disk.now).seen io.new.space) snap (view_of header snap (choice_after subject.now.source)) (SetIsTight (Has (D.state io.old.disk.now).seen io.old.space) subject.now.set snap) point front put place
             self.old self.new room.old.holds room.new.holds (D.state io.old.disk.now).calls (D.state io.new.disk.now).calls) }
         ensures rests { result ≡ Ok false → (self.new ≡ self.old) × ((D.state io.new.disk.now).calls ≡ (D.state io.old.disk.now).calls) }
         ensures kept { IsHeld room.old.holds self.old.work.payload → OnOk result (IsHeld room.new.holds self.new.work.payload) }
@@ -153,9 +149,9 @@ impl Stand {
         ensures room { RoomFits room.new }
         ensures looks { Looks (D.state io.old.disk.now) io.old.space io.old.failed (D.state io.new.disk.now) io.new.space io.new.failed (stop_of result) }
         // Of a set whose slots are tight it reads no more than the items take that it puts.
-        ensures puts { (header : Header) (snap : DatedState) (put : List Item) (place : ℕ) → (D.state io.new.disk.now).honest → SetHolds (Has (D.state io.old.disk.now).seen io.old.space) subject.now.set snap
-            → HasPut (Has (D.state io.old.disk.now).seen io.old.space) snap (view_of header snap (choice_after subject.now.source)) put place self.old
-            → IfOk result (λ more. Puts (Has (D.state io.new.disk.now).seen io.new.space) snap (view_of header snap (choice_after subject.now.source)) (SetIsTight (Has (D.state io.old.disk.now).seen io.old.space) subject.now.set snap) put place
+        ensures puts { (header : Header) (snap : DatedState) (point : Point) (front : ℕ) (put : List Item) (place : ℕ) → (D.state io.new.disk.now).honest → SetHolds (Has (D.state io.old.disk.now).seen io.old.space) subject.now.set snap
+            → HasPut (Has (D.state io.old.disk.now).seen io.old.space) snap (view_of header snap (choice_after subject.now.source)) point front put place self.old
+            → IfOk result (λ more. Puts (Has (D.state io.new.disk.now).seen io.new.space) snap (view_of header snap (choice_after subject.now.source)) (SetIsTight (Has (D.state io.old.disk.now).seen io.old.space) subject.now.set snap) point front put place
             self.old self.new room.old.holds room.new.holds (D.state io.old.disk.now).calls (D.state io.new.disk.now).calls) }
         ensures rests { result ≡ Ok false → (self.new ≡ self.old) × ((D.state io.new.disk.now).calls ≡ (D.state io.old.disk.now).calls) }
         ensures kept { IsHeld room.old.holds self.old.work.payload → OnOk result (IsHeld room.new.holds self.new.work.payload) }
@@ -194,9 +190,9 @@ impl Stand {
         ensures room { RoomFits room.new }
         ensures looks { Looks (D.state io.old.disk.now) io.old.space io.old.failed (D.state io.new.disk.now) io.new.space io.new.failed (stop_of result) }
         // Of a set whose slots are tight it reads no more than the items take that have a byte of what it gives.
-        ensures puts { (header : Header) (snap : DatedState) (put : List Item) (place : ℕ) → (D.state io.new.disk.now).honest → SetHolds (Has (D.state io.old.disk.now).seen io.old.space) subject.now.set snap
-            → HasPut (Has (D.state io.old.disk.now).seen io.old.space) snap (view_of header snap (choice_after subject.now.source)) put place self.old
-            → IfOk result (λ count. PutsIn (Has (D.state io.new.disk.now).seen io.new.space) snap (view_of header snap (choice_after subject.now.source)) (SetIsTight (Has (D.state io.old.disk.now).seen io.old.space) subject.now.set snap) put place count
+        ensures puts { (header : Header) (snap : DatedState) (point : Point) (front : ℕ) (put : List Item) (place : ℕ) → (D.state io.new.disk.now).honest → SetHolds (Has (D.state io.old.disk.now).seen io.old.space) subject.now.set snap
+            → HasPut (Has (D.state io.old.disk.now).seen io.old.space) snap (view_of header snap (choice_after subject.now.source)) point front put place self.old
+            → IfOk result (λ count. PutsIn (Has (D.state io.new.disk.now).seen io.new.space) snap (view_of header snap (choice_after subject.now.source)) (SetIsTight (Has (D.state io.old.disk.now).seen io.old.space) subject.now.set snap) point front put place count
             self.old self.new (D.state io.old.disk.now).calls (D.state io.new.disk.now).calls) }
         ensures kept_fit { FitsDisk (D.state io.new.disk.now).size io.new.space }
         ensures same { io.new.disk.ghost_name ≡ io.old.disk.ghost_name }

@@ -3,7 +3,6 @@ ghost use Rattle.zst_block.specs.Blocks.{FitsDisk, Has};
 ghost use Rattle.zst_block.specs.Working.{Looks, stop_of};
 ghost use Rattle.zst_model.specs.declared.sends.header.Header.{Header};
 ghost use Rattle.zst_model.specs.declared.states.item.Item.{Item};
-ghost use Rattle.zst_model.specs.sends.Items.{origin};
 ghost use Rattle.zst_model.specs.sends.View.{view_of};
 ghost use Rattle.zst_model.specs.states.Dated.{DatedState};
 ghost use Rattle.zst_objset.specs.Damage.{IfDamaged};
@@ -22,6 +21,7 @@ use crate::due::{Due, joined};
 use crate::place::Place;
 use zst_block::{BlockFault, Io};
 use zst_laws::held_goes_on;
+use zst_model::Point;
 use zst_outside::Disk;
 use zst_tree::ObjSet;
 
@@ -33,15 +33,15 @@ pub(crate) struct Walk {
 }
 
 impl Walk {
-    /// A walk that holds nothing and stands before all numbers.
-    pub(crate) fn start() -> Walk
+    /// A walk that holds nothing and stands before what is at or after a point.
+    pub(crate) fn start(point: Point) -> Walk
         ensures held { result.held ≡ None }
-        ensures point { result.place.point ≡ origin }
+        ensures point { result.place.point ≡ point }
         ensures slot { result.place.slot ≡ true }
         ensures fits { WalkFits result }
     {
         Walk {
-            place: Place::start(),
+            place: Place::start(point),
             held: None,
         }
     }

@@ -7,6 +7,7 @@ ghost use Rattle.zst_model.specs.declared.states.item.Item.{Item};
 ghost use Rattle.zst_model.specs.declared.states.item.Item.TheVariants.{At};
 ghost use Rattle.zst_record.specs.Formats.{record_len};
 ghost use Rattle.zst_record.specs.Heads.{payload_len};
+ghost use Rattle.zst_record.specs.Payload.{begin_payload};
 ghost use Rattle.zst_objset.specs.Damage.{IfDamaged};
 ghost use Rattle.zst_send.specs.Costs.{IsHeld, reads_due};
 ghost use Rattle.zst_send.specs.Damage.{IsDamagedDue, IsDamagedPayload};
@@ -14,7 +15,7 @@ ghost use Rattle.zst_send.specs.Due.{DueFits, IsFirst, head_in};
 ghost use Rattle.zst_send.specs.Records.{IsOfItem, blocks_behind};
 ghost use Rattle.zst_send.specs.Working.{HasBlockOf, IsLoaded, IsPut, IsWork, RoomFits, WorkFits, payload_size};
 ghost use Rattle.zst_stream.specs.Found.{HasBonus, found_item};
-ghost use Rattle.zst_stream.specs.Image.{piece_after};
+ghost use Rattle.zst_stream.specs.Image.{front_of, piece_after};
 ghost use Rattle.zst_stream.specs.Records.{item_head, item_payload, padded_bonus, piece_for};
 ghost use Rattle.zst_tree.specs.Damage.{IsSeen};
 ghost use Rattle.zst_tree.specs.Indices.{Delivers};
@@ -24,9 +25,9 @@ use crate::due::Due;
 use crate::room::Room;
 use zst_block::{BlockFault, Io, Ptr};
 use zst_dnode::Dnode;
-use zst_model::ObjectHead;
+use zst_model::{Header, ObjectHead};
 use zst_outside::Disk;
-use zst_record::{Head, RECORD_LEN};
+use zst_record::{Head, LONGEST_BEGIN_PAYLOAD, RECORD_LEN, put_begin_payload};
 use zst_stream::{ItemRef, head_of, pad_bonus};
 use zst_writer::Writer;
 
@@ -34,7 +35,7 @@ use zst_writer::Writer;
 #[derive(Clone, Copy, Debug)]
 pub(crate) enum Payload {
     Nothing,
-    /// A bonus: so many bytes of a field, zeros that pad it among them.
+    /// A bonus, zeros that pad it among its bytes, or the payload of BEGIN: so many bytes of a field.
     Bonus { field: [u8; 320], count: u32 },
     /// The block that a pointer names.
     Block { ptr: Ptr },
@@ -76,6 +77,36 @@ impl Work {
         Work {
             head: bytes,
             payload: Payload::Nothing,
+            given: 0,
+        }
+    }
+
+    /// BEGIN of a header, with its payload, where nothing was put before.
+    pub(crate) fn begin(writer: &mut Writer, header: Header) -> Work
+        requires { HasWritten writer.old [] }
+        ensures written { HasWritten writer.new (front_of header) }
+        ensures head { result.head ++ begin_payload header ≡ front_of header }
+        ensures payload { (field : List ℕ) × (result.payload ≡ Payload.Bonus field (length (begin_payload header))) × (take (length (begin_payload header)) field ≡ begin_payload header) }
+        ensures long { length result.head ≡ record_len }
+        ensures given { result.given ≡ 0 }
+        ensures fits { WorkFits result }
+    {
+        let mut room = [0; LONGEST_BEGIN_PAYLOAD];
+        let count = put_begin_payload(&header, &mut room);
+        let mut field = [0; 320];
+        field[..count].copy_from_slice(&room[..count]);
+        let begin = Head::Begin {
+            header,
+            payload_len: count as u32,
+        };
+        let mut head = [0; RECORD_LEN];
+        writer.put(&begin, &room[..count], &mut head);
+        Work {
+            head,
+            payload: Payload::Bonus {
+                field,
+                count: count as u32,
+            },
             given: 0,
         }
     }

@@ -11,6 +11,6 @@ returns c = λ send sent given left old new space less keeps sends. record {
   to = sends.to;
   stands = stand_stays (Has old space) (Has new less) keeps sent.snapshot.objects (sent_view sent) send.subject.to send.stand left sends.stands;
   put = sends.put;
-  has_put = put_stays (Has old space) (Has new less) keeps sent.snapshot.objects (sent_view sent) sends.put _ send.stand sends.has_put;
+  has_put = put_stays (Has old space) (Has new less) keeps sent.snapshot.objects (sent_view sent) _ _ sends.put _ send.stand sends.has_put;
   loaded = block_stays (Has old space) (Has new less) keeps send.room.bytes.items send.room.holds sends.loaded;
 }

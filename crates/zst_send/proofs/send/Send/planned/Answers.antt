@@ -1,18 +1,19 @@
-use Rattle.std.proofs.Common.{List, Option, Some, get_or, refl, sym, ap, ◌∙◌, subst, []}
+use Rattle.std.proofs.Common.{length, List, Option, Some, get_or, refl, sym, ap, ◌∙◌, subst, []}
 use Rattle.zst_block.specs.declared.ptr.Ptr.{Ptr}
 use Rattle.zst_block.specs.Blocks.{Has}
 use Rattle.zst_dir.specs.declared.rows.Snapshot.{Snapshot}
 use Rattle.zst_model.specs.declared.sends.header.Header.{Header}
 use Rattle.zst_model.specs.sends.Headers.{sent_view}
 use Rattle.zst_model.specs.sends.Items.{origin}
-use Rattle.zst_record.specs.Payload.{begin_payload}
+use Rattle.zst_stream.specs.Image.{front_of}
 use Rattle.zst_stream.specs.Records.{view_text}
+use Rattle.zst_send.specs.Records.{HasPut}
 use Rattle.zst_send.specs.Standing.{StandsAt}
 use Rattle.zst_send.specs.Working.{HasBlock}
 use Rattle.zst_objset.specs.Sets.{SetHolds}
 use Rattle.zst_objset.specs.Tight.{SetIsTight}
 use Rattle.zst_pool.proofs.Naming.{rows_named}
-use Rattle.zst_send.proofs.Planning.{plain_begins, plan_choice, plan_holds, set_at}
+use Rattle.zst_send.proofs.Planning.{plan_choice, plan_holds, set_at}
 use Rattle.zst_send.proofs.send.Send.planned.Goals as goal
 
 pub returns-clause-sends : goal.returns-clause-sends
@@ -29,9 +30,10 @@ returns-clause-sends c = λ image space running sent runs is plain.
       choice = plan_choice has rows running runs plan sent is plain;
       to = ap (λ (h : Header). h.to) header;
       stands = subst (λ (h : Header). StandsAt has sent.snapshot.objects (sent_view sent) c.header-header.result.to c.start.result (view_text h (sent_view sent) origin)) header
-          (c.start.ensures.stands image space sent.snapshot.objects (sent_view sent) (ap begin_payload header ∙ plain_begins sent plain));
+          (c.start.ensures.stands image space sent.snapshot.objects (sent_view sent));
       put = [];
-      has_put = c.start.ensures.puts image space sent.snapshot.objects (sent_view sent);
+      has_put = subst (λ (h : Header). HasPut has sent.snapshot.objects (sent_view sent) origin (length (front_of h)) [] 0 c.start.result) header
+          (c.start.ensures.puts image space sent.snapshot.objects (sent_view sent));
       loaded = subst (λ (holds : Option Ptr). HasBlock has c.args.room.bytes.items holds) (sym c.requires.empty) tt;
     }
 

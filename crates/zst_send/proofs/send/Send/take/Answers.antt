@@ -17,7 +17,7 @@ use Rattle.std.proofs.lemmas.Result.{err_from_is_err_and}
 use Rattle.zst_pool.proofs.Telling.{set_told}
 use Rattle.zst_objset.specs.declared.fault.ObjFault.TheVariants as set_faults
 use Rattle.zst_model.specs.sends.Items.{items, origin}
-use Rattle.zst_record.specs.Formats.{record_len}
+use Rattle.zst_stream.specs.Image.{front_of}
 use Rattle.zst_traverse.specs.Cells.{choice_after}
 use Rattle.zst_send.specs.Costs.{Pays, blocks_in, cells_in}
 use Rattle.zst_send.specs.Records.{AreLeft, HasPut, touched}
@@ -34,8 +34,8 @@ returns-clause-takes g c = λ sent given left honest sends.
     let to : ℕ = c.args.self.now.subject.to in
     let at = subst (λ (choice : Choice). StandsAt (Has (g.D.Disk.state c.args.pool.now.io.disk.now).seen c.args.pool.now.io.space) snap (view_of (header_of sent) snap choice) to c.args.self.now.stand left) sends.choice sends.stands in
     let fills = c.in_ok-count.ensures.fills (header_of sent) snap left honest sends.holds sends.loaded at in
-    let had = subst (λ (choice : Choice). HasPut (Has (g.D.Disk.state c.args.pool.now.io.disk.now).seen c.args.pool.now.io.space) snap (view_of (header_of sent) snap choice) sends.put (length given) c.args.self.now.stand) sends.choice sends.has_put in
-    let puts = c.in_ok-count.ensures.puts (header_of sent) snap sends.put (length given) honest sends.holds had in
+    let had = subst (λ (choice : Choice). HasPut (Has (g.D.Disk.state c.args.pool.now.io.disk.now).seen c.args.pool.now.io.space) snap (view_of (header_of sent) snap choice) origin (length (front_of (header_of sent))) sends.put (length given) c.args.self.now.stand) sends.choice sends.has_put in
+    let puts = c.in_ok-count.ensures.puts (header_of sent) snap origin (length (front_of (header_of sent))) sends.put (length given) honest sends.holds had in
     let less : c.in_ok-count.count ≤ length left = omega (arith, fills.count_is) in
     let long : length (given ++ take c.in_ok-count.count left) ≡ length given + c.in_ok-count.count = length-append given (take c.in_ok-count.count left) ∙ ap (λ (n : ℕ). length given + n) (length-take-le c.in_ok-count.count left less) in (
       fills.count_is,
@@ -47,8 +47,8 @@ returns-clause-takes g c = λ sent given left honest sends.
         to = sends.to;
         stands = subst (λ (choice : Choice). StandsAt (Has (g.D.Disk.state c.fill.new.io.disk.now).seen c.fill.new.io.space) snap (view_of (header_of sent) snap choice) to c.fill.new.self (drop c.in_ok-count.count left)) (sym sends.choice) fills.stands;
         put = sends.put ++ puts.more;
-        has_put = subst (λ (n : ℕ). HasPut (Has (g.D.Disk.state c.fill.new.io.disk.now).seen c.fill.new.io.space) snap (sent_view sent) (sends.put ++ puts.more) n c.fill.new.self) (sym long)
-            (subst (λ (choice : Choice). HasPut (Has (g.D.Disk.state c.fill.new.io.disk.now).seen c.fill.new.io.space) snap (view_of (header_of sent) snap choice) (sends.put ++ puts.more) (length given + c.in_ok-count.count) c.fill.new.self) (sym sends.choice) puts.now);
+        has_put = subst (λ (n : ℕ). HasPut (Has (g.D.Disk.state c.fill.new.io.disk.now).seen c.fill.new.io.space) snap (sent_view sent) origin (length (front_of (header_of sent))) (sends.put ++ puts.more) n c.fill.new.self) (sym long)
+            (subst (λ (choice : Choice). HasPut (Has (g.D.Disk.state c.fill.new.io.disk.now).seen c.fill.new.io.space) snap (view_of (header_of sent) snap choice) origin (length (front_of (header_of sent))) (sends.put ++ puts.more) (length given + c.in_ok-count.count) c.fill.new.self) (sym sends.choice) puts.now);
         loaded = c.in_ok-count.ensures.loaded (header_of sent) snap left honest sends.holds sends.loaded at;
       },
     )
@@ -96,11 +96,11 @@ pub returns-clause-pays : goal.returns-clause-pays
 returns-clause-pays g c = λ sent given left honest sends tight.
     let snap = sent.snapshot.objects in
     let has = Has (g.D.Disk.state c.args.pool.now.io.disk.now).seen c.args.pool.now.io.space in
-    let had = subst (λ (choice : Choice). HasPut has snap (view_of (header_of sent) snap choice) sends.put (length given) c.args.self.now.stand) sends.choice sends.has_put in
-    let puts = c.in_ok-count.ensures.puts (header_of sent) snap sends.put (length given) honest sends.holds had in
-    let pays = take_pays _ snap (view_of (header_of sent) snap (choice_after c.args.self.now.subject.source)) _ sends.put (length given) c.in_ok-count.count c.args.self.now.stand c.fill.new.self _ _ tight puts in
+    let had = subst (λ (choice : Choice). HasPut has snap (view_of (header_of sent) snap choice) origin (length (front_of (header_of sent))) sends.put (length given) c.args.self.now.stand) sends.choice sends.has_put in
+    let puts = c.in_ok-count.ensures.puts (header_of sent) snap origin (length (front_of (header_of sent))) sends.put (length given) honest sends.holds had in
+    let pays = take_pays _ snap (view_of (header_of sent) snap (choice_after c.args.self.now.subject.source)) _ origin (length (front_of (header_of sent))) sends.put (length given) c.in_ok-count.count c.args.self.now.stand c.fill.new.self _ _ tight puts in
     subst (λ (choice : Choice). (g.D.Disk.state c.fill.new.io.disk.now).calls ≤ (g.D.Disk.state c.args.pool.now.io.disk.now).calls
-    + (64 * (cells_in snap (touched (length given) c.in_ok-count.count record_len (items (view_of (header_of sent) snap choice) origin)) + 2) + blocks_in (touched (length given) c.in_ok-count.count record_len (items (view_of (header_of sent) snap choice) origin)))) (sym sends.choice) pays
+    + (64 * (cells_in snap (touched (length given) c.in_ok-count.count (length (front_of (header_of sent))) (items (view_of (header_of sent) snap choice) origin)) + 2) + blocks_in (touched (length given) c.in_ok-count.count (length (front_of (header_of sent))) (items (view_of (header_of sent) snap choice) origin)))) (sym sends.choice) pays
 
 pub returns-then-pool-clause-ahead : goal.returns-then-pool-clause-ahead
 returns-then-pool-clause-ahead g c = λ sent given left honest sends tight. (sends.has_put.later, sends.has_put.are_left, tt)
@@ -114,9 +114,9 @@ pub returns-clause-ahead : goal.returns-clause-ahead
 returns-clause-ahead g c = λ sent given left honest sends tight.
     let snap = sent.snapshot.objects in
     let has = Has (g.D.Disk.state c.args.pool.now.io.disk.now).seen c.args.pool.now.io.space in
-    let had = subst (λ (choice : Choice). HasPut has snap (view_of (header_of sent) snap choice) sends.put (length given) c.args.self.now.stand) sends.choice sends.has_put in
-    let puts = c.in_ok-count.ensures.puts (header_of sent) snap sends.put (length given) honest sends.holds had in
-    let pays = take_puts has _ snap (view_of (header_of sent) snap (choice_after c.args.self.now.subject.source)) _ sends.put (length given) c.in_ok-count.count c.args.self.now.stand c.fill.new.self _ _ tight had puts in (
+    let had = subst (λ (choice : Choice). HasPut has snap (view_of (header_of sent) snap choice) origin (length (front_of (header_of sent))) sends.put (length given) c.args.self.now.stand) sends.choice sends.has_put in
+    let puts = c.in_ok-count.ensures.puts (header_of sent) snap origin (length (front_of (header_of sent))) sends.put (length given) honest sends.holds had in
+    let pays = take_puts has _ snap (view_of (header_of sent) snap (choice_after c.args.self.now.subject.source)) _ origin (length (front_of (header_of sent))) sends.put (length given) c.in_ok-count.count c.args.self.now.stand c.fill.new.self _ _ tight had puts in (
       had.later,
       subst (λ (choice : Choice). AreLeft has snap (view_of (header_of sent) snap choice) c.args.self.now.stand.walk c.args.self.now.stand.ended had.later) (sym sends.choice) had.are_left,
       subst (λ (choice : Choice). Pays (Has (g.D.Disk.state c.fill.new.io.disk.now).seen c.fill.new.io.space) snap (view_of (header_of sent) snap choice) had.later c.args.self.now.stand c.fill.new.self

@@ -110,30 +110,30 @@ returns-in_err-self-in-Some-clause-damaged g c = λ images among honest was.
     rw (p.1, p.2) (put_told images c.args.subject.now.set _ _ _ c.in_ok-due.ensures.looks.reads.size on c.in-Some.due due _ (c.in_err-self-in-Some.ensures.damaged honest))
 
 pub returns-then-self-clause-puts : goal.returns-then-self-clause-puts
-returns-then-self-clause-puts g c = λ header snap put place honest holds had. puts_none _ snap (view_of header snap (choice_after c.args.subject.now.source)) _ put place c.args.self.now _ _ had
+returns-then-self-clause-puts g c = λ header snap point front put place honest holds had. puts_none _ snap (view_of header snap (choice_after c.args.subject.now.source)) _ point front put place c.args.self.now _ _ had
 
 pub returns-in_err-due-clause-puts : goal.returns-in_err-due-clause-puts
-returns-in_err-due-clause-puts g c = λ header snap put place honest holds had.
+returns-in_err-due-clause-puts g c = λ header snap point front put place honest holds had.
     let p = err_from_is_err_and c.from_residual.result c.from_residual.ensures.1 in
     rw p.1 tt
 
 pub returns-in_err-self-in-Some-clause-puts : goal.returns-in_err-self-in-Some-clause-puts
-returns-in_err-self-in-Some-clause-puts g c = λ header snap put place honest holds had.
+returns-in_err-self-in-Some-clause-puts g c = λ header snap point front put place honest holds had.
     let p = err_from_is_err_and c.from_residual-in_err-self-in-Some.result c.from_residual-in_err-self-in-Some.ensures.1 in
     rw p.1 tt
 
 pub returns-in_ok-self-in-Some-clause-puts : goal.returns-in_ok-self-in-Some-clause-puts
-returns-in_ok-self-in-Some-clause-puts g c = λ header snap put place honest holds had.
+returns-in_ok-self-in-Some-clause-puts g c = λ header snap point front put place honest holds had.
     let view : View = view_of header snap (choice_after c.args.subject.now.source) in
     let was = c.in_ok-self-in-Some.ensures.looks.reads.honest honest in
     let on = subst (λ (e : Bool). AreLeft (Has (g.D.Disk.state c.args.io.now.disk.now).seen c.args.io.now.space) snap view c.args.self.now.walk e had.later) c.if-self.false had.are_left in
     let gives = subst (λ (d : Option Due). Gives (Has (g.D.Disk.state c.next.new.io.disk.now).seen c.next.new.io.space) snap view (items_left view c.args.self.now.walk on.0) c.next.new.self d) c.in-Some.is (c.in_ok-due.ensures.gives header snap on.0 was holds on.1) in
     let walk = look_on (λ (seen : List ℕ) (space : FreeSectors). IsWalk (Has seen space) snap c.next.new.self gives.1) _ _ _ _ _ _ _ c.in_ok-self-in-Some.ensures.looks gives.3 in
-    let at = put_ends _ snap view put place c.args.self.now had c.if-self.false c.requires.given in
+    let at = put_ends _ snap view point front put place c.args.self.now had c.if-self.false c.requires.given in
     let new : Stand = record { walk = c.next.new.self; writer = c.put.new.writer; work = c.in_ok-self-in-Some.field-0; ended = c.args.self.now.ended } in
     record {
       next = Some gives.0;
-      now = put_one _ snap view put place had.later gives.0 gives.1 new had.are (on.2 ∙ gives.4) at walk (c.in_ok-self-in-Some.ensures.size gives.0 gives.2) c.in_ok-self-in-Some.ensures.fresh c.if-self.false;
+      now = put_one _ snap view point front put place had.later gives.0 gives.1 new had.are (on.2 ∙ gives.4) at walk (c.in_ok-self-in-Some.ensures.size gives.0 gives.2) c.in_ok-self-in-Some.ensures.fresh c.if-self.false;
       begins = at;
       room = inr c.in_ok-self-in-Some.ensures.held;
       few = λ tight.
@@ -144,15 +144,15 @@ returns-in_ok-self-in-Some-clause-puts g c = λ header snap put place honest hol
     }
 
 pub returns-in-None-clause-puts : goal.returns-in-None-clause-puts
-returns-in-None-clause-puts g c = λ header snap put place honest holds had.
+returns-in-None-clause-puts g c = λ header snap point front put place honest holds had.
     let view : View = view_of header snap (choice_after c.args.subject.now.source) in
     let on = subst (λ (e : Bool). AreLeft (Has (g.D.Disk.state c.args.io.now.disk.now).seen c.args.io.now.space) snap view c.args.self.now.walk e had.later) c.if-self.false had.are_left in
     let gives = subst (λ (d : Option Due). Gives (Has (g.D.Disk.state c.next.new.io.disk.now).seen c.next.new.io.space) snap view (items_left view c.args.self.now.walk on.0) c.next.new.self d) c.in-None.is (c.in_ok-due.ensures.gives header snap on.0 honest holds on.1) in
-    let at = put_ends _ snap view put place c.args.self.now had c.if-self.false c.requires.given in
+    let at = put_ends _ snap view point front put place c.args.self.now had c.if-self.false c.requires.given in
     let new : Stand = record { walk = c.next.new.self; writer = c.alone-self.new.writer; work = c.alone-self.result; ended = true } in
     record {
       next = None;
-      now = put_end _ snap view put place had.later new had.are (on.2 ∙ gives.0) at c.alone-self.ensures.payload c.alone-self.ensures.given refl;
+      now = put_end _ snap view point front put place had.later new had.are (on.2 ∙ gives.0) at c.alone-self.ensures.payload c.alone-self.ensures.given refl;
       begins = tt;
       room = inr (subst (λ (p : Payload). IsHeld c.args.room.now.holds p) (sym c.alone-self.ensures.payload) tt);
       few = λ tight.

@@ -76,7 +76,7 @@ returns-in_err-count-clause-loaded g c = λ header snap left honest holds loaded
 pub loop-count-init : goal.loop-count-init
 loop-count-init g c = record {
   stands = search rules;
-  paid = λ header snap put place honest holds had. paid_none _ snap (view_of header snap (choice_after c.args.subject.now.source)) _ put place c.args.self.now _ _ had;
+  paid = λ header snap point front put place honest holds had. paid_none _ snap (view_of header snap (choice_after c.args.subject.now.source)) _ point front put place c.args.self.now _ _ had;
   knows = search rules;
   stand = search rules;
   room = search rules;
@@ -105,18 +105,18 @@ loop-count-preserved g c = record {
       look_on (λ (seen : List ℕ) (space : FreeSectors). HasGiven (Has seen space) snap (view_of header snap (choice_after c.args.subject.now.source)) c.args.subject.now.to left
       (put_mid c.loop-count.count (length c.loop-count.into - c.loop-count.count) c.loop-count.into c.give.new.into) (c.loop-count.count + c.in_ok-count.field-0)
       (record c.has_more.new.self { work = c.give.new.self }) c.give.new.room) _ _ _ _ _ _ _ c.in_ok-count.ensures.looks more;
-  paid = λ header snap put place honest holds had.
+  paid = λ header snap point front put place honest holds had.
       let view : View = view_of header snap (choice_after c.args.subject.now.source) in
       let mid = c.in_ok-count.ensures.looks.reads.honest honest in
       let was = c.in_ok-has_more.ensures.looks.reads.honest mid in
       let on = look_on (λ (seen : List ℕ) (space : FreeSectors). SetHolds (Has seen space) c.args.subject.now.set snap) _ _ _ _ _ _ _ c.loop-count.invariant.looks holds in
-      let had_paid = c.loop-count.invariant.paid header snap put place was holds had in
-      let puts = c.in_ok-has_more.ensures.puts header snap (put ++ had_paid.on.more) (place + c.loop-count.count) mid on had_paid.on.now in
-      let paid = paid_on _ _ snap view _ _ put place c.loop-count.count c.in_ok-count.field-0 c.args.self.now c.loop-count.self c.has_more.new.self c.give.new.self c.loop-count.room.holds c.has_more.new.room.holds c.give.new.room.holds _ _ _ _
+      let had_paid = c.loop-count.invariant.paid header snap point front put place was holds had in
+      let puts = c.in_ok-has_more.ensures.puts header snap point front (put ++ had_paid.on.more) (place + c.loop-count.count) mid on had_paid.on.now in
+      let paid = paid_on _ _ snap view _ _ point front put place c.loop-count.count c.in_ok-count.field-0 c.args.self.now c.loop-count.self c.has_more.new.self c.give.new.self c.loop-count.room.holds c.has_more.new.room.holds c.give.new.room.holds _ _ _ _
       (λ tight. look_on (λ (seen : List ℕ) (space : FreeSectors). SetIsTight (Has seen space) c.args.subject.now.set snap) _ _ _ _ _ _ _ c.loop-count.invariant.looks tight)
       had_paid puts c.in_ok-count.ensures.payload c.in_ok-count.ensures.moved c.in_ok-count.ensures.count.0 (c.in_ok-has_more.ensures.more (ap (λ (b : Bool). Ok b) c.if-not-branch.false))
       c.in_ok-count.ensures.calls c.in_ok-count.ensures.once c.in_ok-count.ensures.kept in
-      look_on (λ (seen : List ℕ) (space : FreeSectors). Paid (Has seen space) snap view (SetIsTight (Has (g.D.Disk.state c.args.io.now.disk.now).seen c.args.io.now.space) c.args.subject.now.set snap) put place (c.loop-count.count + c.in_ok-count.field-0)
+      look_on (λ (seen : List ℕ) (space : FreeSectors). Paid (Has seen space) snap view (SetIsTight (Has (g.D.Disk.state c.args.io.now.disk.now).seen c.args.io.now.space) c.args.subject.now.set snap) point front put place (c.loop-count.count + c.in_ok-count.field-0)
       c.args.self.now (record c.has_more.new.self { work = c.give.new.self }) c.give.new.room.holds (g.D.Disk.state c.args.io.now.disk.now).calls (g.D.Disk.state c.give.new.io.disk.now).calls) _ _ _ _ _ _ _ c.in_ok-count.ensures.looks paid;
   knows = λ images among honest was.
       let mid = c.in_ok-count.ensures.looks.reads.honest honest in
@@ -176,26 +176,26 @@ returns-in_err-count-clause-damaged g c = λ images among honest was.
     rw (p.1, p.2) (give_told images c.args.subject.now.set _ _ _ (c.in_ok-has_more.ensures.looks.reads.size ∙ c.loop-count.invariant.looks.reads.size) on c.has_more.new.self.work.payload next.work _ (c.in_err-count.ensures.damaged honest))
 
 pub returns-in_err-has_more-clause-puts : goal.returns-in_err-has_more-clause-puts
-returns-in_err-has_more-clause-puts g c = λ header snap put place honest holds had.
+returns-in_err-has_more-clause-puts g c = λ header snap point front put place honest holds had.
     let p = err_from_is_err_and c.from_residual.result c.from_residual.ensures.1 in
     rw p.1 tt
 
 pub returns-then-not-branch-clause-puts : goal.returns-then-not-branch-clause-puts
-returns-then-not-branch-clause-puts g c = λ header snap put place honest holds had.
+returns-then-not-branch-clause-puts g c = λ header snap point front put place honest holds had.
     let view : View = view_of header snap (choice_after c.args.subject.now.source) in
     let was = c.in_ok-has_more.ensures.looks.reads.honest honest in
     let tight = SetIsTight (Has (g.D.Disk.state c.args.io.now.disk.now).seen c.args.io.now.space) c.args.subject.now.set snap in
     let before : ℕ = (g.D.Disk.state c.args.io.now.disk.now).calls in
-    let on = (c.loop-count.invariant.paid header snap put place was holds had).on in
+    let on = (c.loop-count.invariant.paid header snap point front put place was holds had).on in
     let rests = c.in_ok-has_more.ensures.rests (ap (λ (b : Bool). Ok b) c.if-not-branch.true) in
-    look_on (λ (seen : List ℕ) (space : FreeSectors). PutsIn (Has seen space) snap view tight put place c.loop-count.count c.args.self.now c.has_more.new.self before (g.D.Disk.state c.has_more.new.io.disk.now).calls) _ _ _ _ _ _ _ c.in_ok-has_more.ensures.looks
-    (subst (λ (calls : ℕ). PutsIn (Has (g.D.Disk.state c.loop-count.io.disk.now).seen c.loop-count.io.space) snap view tight put place c.loop-count.count c.args.self.now c.has_more.new.self before calls) (sym rests.1)
-    (subst (λ (stand : Stand). PutsIn (Has (g.D.Disk.state c.loop-count.io.disk.now).seen c.loop-count.io.space) snap view tight put place c.loop-count.count c.args.self.now stand before (g.D.Disk.state c.loop-count.io.disk.now).calls) (sym rests.0) on))
+    look_on (λ (seen : List ℕ) (space : FreeSectors). PutsIn (Has seen space) snap view tight point front put place c.loop-count.count c.args.self.now c.has_more.new.self before (g.D.Disk.state c.has_more.new.io.disk.now).calls) _ _ _ _ _ _ _ c.in_ok-has_more.ensures.looks
+    (subst (λ (calls : ℕ). PutsIn (Has (g.D.Disk.state c.loop-count.io.disk.now).seen c.loop-count.io.space) snap view tight point front put place c.loop-count.count c.args.self.now c.has_more.new.self before calls) (sym rests.1)
+    (subst (λ (stand : Stand). PutsIn (Has (g.D.Disk.state c.loop-count.io.disk.now).seen c.loop-count.io.space) snap view tight point front put place c.loop-count.count c.args.self.now stand before (g.D.Disk.state c.loop-count.io.disk.now).calls) (sym rests.0) on))
 
 pub returns-in_err-count-clause-puts : goal.returns-in_err-count-clause-puts
-returns-in_err-count-clause-puts g c = λ header snap put place honest holds had.
+returns-in_err-count-clause-puts g c = λ header snap point front put place honest holds had.
     let p = err_from_is_err_and c.from_residual-in_err-count.result c.from_residual-in_err-count.ensures.1 in
     rw p.1 tt
 
 pub returns-clause-puts : goal.returns-clause-puts
-returns-clause-puts g c = λ header snap put place honest holds had. (c.loop-count.invariant.paid header snap put place honest holds had).on
+returns-clause-puts g c = λ header snap point front put place honest holds had. (c.loop-count.invariant.paid header snap point front put place honest holds had).on

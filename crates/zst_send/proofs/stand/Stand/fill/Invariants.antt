@@ -3,6 +3,7 @@ use Rattle.std.specs.Prelude.{Contains, None}
 use Rattle.zst_block.specs.Blocks.{FitsDisk, Has}
 use Rattle.zst_block.specs.Working.{Looks}
 use Rattle.zst_model.specs.declared.sends.header.Header.{Header}
+use Rattle.zst_model.specs.declared.sends.header.Point.{Point}
 use Rattle.zst_model.specs.sends.View.{view_of}
 use Rattle.zst_model.specs.states.Dated.{DatedState}
 use Rattle.zst_objset.specs.Sets.{SetHolds}
@@ -22,9 +23,9 @@ invariant-loop-count g l = record {
   stands : (header : Header) (snap : DatedState) (left : List ℕ) → (g.D.Disk.state l.io.disk.now).honest → SetHolds (Has (g.D.Disk.state l.fn.io.disk.now).seen l.fn.io.space) l.subject.set snap
       → IsLoaded (Has (g.D.Disk.state l.fn.io.disk.now).seen l.fn.io.space) l.fn.room → StandsAt (Has (g.D.Disk.state l.fn.io.disk.now).seen l.fn.io.space) snap (view_of header snap (choice_after l.subject.source)) l.subject.to l.fn.self left
       → HasGiven (Has (g.D.Disk.state l.io.disk.now).seen l.io.space) snap (view_of header snap (choice_after l.subject.source)) l.subject.to left l.into l.count l.self l.room;
-  paid : (header : Header) (snap : DatedState) (put : List Item) (place : ℕ) → (g.D.Disk.state l.io.disk.now).honest → SetHolds (Has (g.D.Disk.state l.fn.io.disk.now).seen l.fn.io.space) l.subject.set snap
-      → HasPut (Has (g.D.Disk.state l.fn.io.disk.now).seen l.fn.io.space) snap (view_of header snap (choice_after l.subject.source)) put place l.fn.self
-      → Paid (Has (g.D.Disk.state l.io.disk.now).seen l.io.space) snap (view_of header snap (choice_after l.subject.source)) (SetIsTight (Has (g.D.Disk.state l.fn.io.disk.now).seen l.fn.io.space) l.subject.set snap) put place l.count
+  paid : (header : Header) (snap : DatedState) (point : Point) (front : ℕ) (put : List Item) (place : ℕ) → (g.D.Disk.state l.io.disk.now).honest → SetHolds (Has (g.D.Disk.state l.fn.io.disk.now).seen l.fn.io.space) l.subject.set snap
+      → HasPut (Has (g.D.Disk.state l.fn.io.disk.now).seen l.fn.io.space) snap (view_of header snap (choice_after l.subject.source)) point front put place l.fn.self
+      → Paid (Has (g.D.Disk.state l.io.disk.now).seen l.io.space) snap (view_of header snap (choice_after l.subject.source)) (SetIsTight (Has (g.D.Disk.state l.fn.io.disk.now).seen l.fn.io.space) l.subject.set snap) point front put place l.count
       l.fn.self l.self l.room.holds (g.D.Disk.state l.fn.io.disk.now).calls (g.D.Disk.state l.io.disk.now).calls;
   knows : (images : List (List ℕ)) → Contains images (g.D.Disk.state l.fn.io.disk.now).seen → (g.D.Disk.state l.io.disk.now).honest → IsOfSet (IsAmong images) l.subject.set l.fn.self → IsOfSet (IsAmong images) l.subject.set l.self;
   stand : StandFits l.self;
