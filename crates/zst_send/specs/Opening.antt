@@ -1,9 +1,10 @@
 -- What opening a send answers.
-use Rattle.std.specs.Prelude.{◌≡◌, ◌&&◌, Bool, not, [], is_some, Result, Ok, Err}
+use Rattle.std.specs.Prelude.{◌≡◌, ◌&&◌, Bool, not, [], is_some, Some, Result, Ok, Err}
 use Rattle.zst_model.specs.declared.refusals.faults.Lack.TheVariants as lacks
 use Rattle.zst_model.specs.declared.refusals.plan_fault.PlanFault.{PlanFault}
 use Rattle.zst_model.specs.declared.refusals.plan_fault.PlanFault.TheVariants as plans
 use Rattle.zst_model.specs.declared.sends.ask.SendAsk.{SendAsk}
+use Rattle.zst_model.specs.declared.sends.header.Point.{Point}
 use Rattle.zst_model.specs.pools.Pool.{Pool}
 use Rattle.zst_model.specs.sends.Headers.{Sent, source_guids}
 use Rattle.zst_model.specs.sends.SendPlan.{has_guids, send_plan}
@@ -11,7 +12,7 @@ use Rattle.zst_model.specs.states.Apply.{unless, ◌>>=◌}
 use Rattle.zst_pool.specs.declared.fault.PoolFault.{PoolFault}
 use Rattle.zst_pool.specs.declared.fault.PoolFault.TheVariants.{Plan, CannotApply, Redacted, Full, Damaged, DiskFault, Failed, OutOfMemory}
 use Rattle.zst_tree.specs.Indices.{Blocks}
-use Rattle.zst_send.specs.Sends.{Sends, sent_text}
+use Rattle.zst_send.specs.Sends.{Sends, SendsFrom, begun_text, sent_text}
 use Rattle.zst_send.specs.declared.send.Send.{Send}
 
 -- a send that needs no list of a redaction bookmark: the others aren't built yet
@@ -37,6 +38,18 @@ Opens has ask pool (Err (Damaged sector stated found)) = ⊥
 Opens has ask pool (Err DiskFault) = ⊥
 Opens has ask pool (Err Failed) = ⊥
 Opens has ask pool (Err OutOfMemory) = Unit {0}
+
+-- a send of a plan from a point on has given nothing; it is refused where it isn't built, unless no memory was left
+abbrev pub Resumes : Blocks → Sent → Point → Result Send PoolFault → Type 0
+Resumes has sent point (Ok send) = (built sent ≡ Ok sent) × SendsFrom has send sent (Some point) [] (begun_text sent (Some point))
+Resumes has sent point (Err (Plan fault)) = built sent ≡ Err fault
+Resumes has sent point (Err (CannotApply fault)) = ⊥
+Resumes has sent point (Err (Redacted object block)) = ⊥
+Resumes has sent point (Err (Full need largest)) = ⊥
+Resumes has sent point (Err (Damaged sector stated found)) = ⊥
+Resumes has sent point (Err DiskFault) = ⊥
+Resumes has sent point (Err Failed) = ⊥
+Resumes has sent point (Err OutOfMemory) = Unit {0}
 
 -- whether a send is opened is for its plan alone to say: it is opened where the plan passes, unless no memory was left then, and its refusals are the plan's
 abbrev pub IsPlanned : Result Sent PlanFault → Result Send PoolFault → Type 0

@@ -1,9 +1,13 @@
 -- What a send has given and what is left of it.
-use Rattle.std.specs.Prelude.{◌≡◌, ℕ, List, ◌++◌, length, take, drop, min, Result, Ok, Err}
+use Rattle.std.specs.Prelude.{◌≡◌, ℕ, List, ◌++◌, length, take, drop, min, Option, None, Result, Ok, Err}
 use Rattle.zst_block.specs.Blocks.{Has, KeepsBlocks}
+use Rattle.zst_model.specs.declared.sends.header.Header.{Header}
+use Rattle.zst_model.specs.declared.sends.header.Point.{Point}
 use Rattle.zst_model.specs.declared.states.item.Item.{Item}
 use Rattle.zst_model.specs.sends.Headers.{Sent, choice_of, header_of, sent_view}
 use Rattle.zst_model.specs.sends.Items.{origin}
+use Rattle.zst_model.specs.sends.View.{View, header_from, view_of}
+use Rattle.zst_record.specs.Payload.{stated_point}
 use Rattle.zst_objset.specs.Sets.{SetHolds}
 use Rattle.zst_pool.specs.declared.fault.PoolFault.{PoolFault}
 use Rattle.zst_pool.specs.declared.fault.PoolFault.TheVariants.{Plan, CannotApply, Redacted, Full, Damaged, DiskFault, Failed, OutOfMemory}
@@ -18,20 +22,36 @@ use Rattle.zst_send.specs.Standing.{StandFits, StandsAt}
 use Rattle.zst_send.specs.Working.{IsLoaded, RoomFits}
 use Rattle.zst_send.specs.declared.send.Send.{Send}
 
+-- what BEGIN says of a send, from its beginning or from a token's point
+abbrev pub begun : Sent → Option Point → Header
+begun sent start = header_from (header_of sent) start
+
+-- the view of what is sent, with that header
+abbrev pub begun_view : Sent → Option Point → View
+begun_view sent start = view_of (begun sent start) sent.snapshot.objects (choice_of sent)
+
+-- the bytes of a send from there on
+abbrev pub begun_text : Sent → Option Point → List ℕ
+begun_text sent start = view_text (begun sent start) (begun_view sent start) (stated_point start)
+
 -- the bytes of a send: nothing else of the pool is in them than its view and its header
 abbrev pub sent_text : Sent → List ℕ
 sent_text sent = view_text (header_of sent) (sent_view sent) origin
 
--- the send of what is sent has given these bytes, and these are left: over the blocks that are there its set holds the snapshot
-pub record Sends (has : Blocks) (send : Send) (sent : Sent) (given left : List ℕ) : Type 0 where
-  pub text : given ++ left ≡ sent_text sent
+-- the send of what is sent, from its beginning or from a point, has given these bytes, and these are left: over the blocks that are there its set holds the snapshot
+pub record SendsFrom (has : Blocks) (send : Send) (sent : Sent) (start : Option Point) (given left : List ℕ) : Type 0 where
+  pub text : given ++ left ≡ begun_text sent start
   pub holds : SetHolds has send.subject.set sent.snapshot.objects
   pub choice : choice_of sent ≡ choice_after send.subject.source
-  pub to : send.subject.to ≡ (header_of sent).to
-  pub stands : StandsAt has sent.snapshot.objects (sent_view sent) send.subject.to send.stand left
+  pub to : send.subject.to ≡ (begun sent start).to
+  pub stands : StandsAt has sent.snapshot.objects (begun_view sent start) send.subject.to send.stand left
   pub put : List Item
-  pub has_put : HasPut has sent.snapshot.objects (sent_view sent) origin (length (front_of (header_of sent))) put (length given) send.stand
+  pub has_put : HasPut has sent.snapshot.objects (begun_view sent start) (stated_point start) (length (front_of (begun sent start))) put (length given) send.stand
   pub loaded : IsLoaded has send.room
+
+-- so it is of a send from its beginning
+abbrev pub Sends : Blocks → Send → Sent → List ℕ → List ℕ → Type 0
+Sends has send sent given left = SendsFrom has send sent None given left
 
 -- the object set of the snapshot that is sent
 abbrev pub sent_set : Send → ObjSet
@@ -54,10 +74,14 @@ IsTakeFault Failed = Unit {0}
 IsTakeFault OutOfMemory = ⊥
 
 -- the next bytes were given, as many as were asked or are left, and those behind them are left; after a refusal the send stands where it stood
+abbrev pub TakesFrom : Blocks → Send → Sent → Option Point → List ℕ → List ℕ → List ℕ → Result ℕ PoolFault → Type 0
+TakesFrom has send sent start given left into (Ok count) =
+    (count ≡ min (length into) (length left)) × (take count into ≡ take count left) × SendsFrom has send sent start (given ++ take count left) (drop count left)
+TakesFrom has send sent start given left into (Err fault) = IsTakeFault fault × SendsFrom has send sent start given left
+
+-- so it is of a send from its beginning
 abbrev pub Takes : Blocks → Send → Sent → List ℕ → List ℕ → List ℕ → Result ℕ PoolFault → Type 0
-Takes has send sent given left into (Ok count) =
-    (count ≡ min (length into) (length left)) × (take count into ≡ take count left) × Sends has send sent (given ++ take count left) (drop count left)
-Takes has send sent given left into (Err fault) = IsTakeFault fault × Sends has send sent given left
+Takes has send sent given left into result = TakesFrom has send sent None given left into result
 
 -- ---- laws
 

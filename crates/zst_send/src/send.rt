@@ -1,9 +1,14 @@
+ghost use Rattle.std.specs.Prelude.{◌≡◌};
+ghost use Rattle.zst_model.specs.sends.View.{header_from};
+ghost use Rattle.zst_record.specs.Payload.{stated_point};
+
 use crate::built::check_built;
 use crate::room::Room;
 use crate::stand::{Stand, Subject};
 use std::alloc::Global;
 use zst_dir::Dir;
-use zst_model::{Point, SendAsk};
+use zst_model::features::RESUMING;
+use zst_model::{Header, Point, SendAsk};
 use zst_outside::Disk;
 use zst_plan::{SendPlan, send_plan};
 use zst_pool::{Pool, PoolFault};
@@ -17,7 +22,7 @@ pub struct Send {
 }
 
 impl Send {
-    ghost use Rattle.std.specs.Prelude.{◌≡◌, ◌≢◌, ◌+◌, ◌≤◌, false, true, Contains, List, [], ℕ, IfErr, IfOk, None, Some, Err, length, Ok};
+    ghost use Rattle.std.specs.Prelude.{Option, ◌≡◌, ◌≢◌, ◌+◌, ◌≤◌, false, true, Contains, List, [], ℕ, IfErr, IfOk, None, Some, Err, length, Ok};
     ghost use Rattle.std.specs.List.{position};
     ghost use Rattle.std.specs.Str.{bytes_eq};
     ghost use Rattle.zst_space.specs.FreeSectors.{FreeSectors};
@@ -29,6 +34,7 @@ impl Send {
     ghost use Rattle.zst_model.specs.declared.refusals.named.Name.TheVariants as names;
     ghost use Rattle.zst_model.specs.declared.refusals.plan_fault.PlanFault.{PlanFault};
     ghost use Rattle.zst_model.specs.declared.states.item.Item.{Item};
+    ghost use Rattle.zst_model.specs.declared.sends.header.Point.{Point};
     ghost use Rattle.zst_model.specs.sends.Headers.{Sent};
     ghost use Rattle.zst_objset.specs.Tight.{SetIsTight};
     ghost use Rattle.zst_plan.specs.Plans.{IsInside, IsPlanOf};
@@ -38,8 +44,8 @@ impl Send {
     ghost use Rattle.zst_send.specs.Costs.{AreToCome, PaysFor, most_calls};
     ghost use Rattle.zst_send.specs.Damage.{IsDamagedSend};
     ghost use Rattle.zst_send.specs.Knowing.{IsAmong, Knows};
-    ghost use Rattle.zst_send.specs.Opening.{IsPlanned, Opens, is_plain, opening};
-    ghost use Rattle.zst_send.specs.Sends.{SendFits, Sends, Takes, sent_set, sent_text};
+    ghost use Rattle.zst_send.specs.Opening.{IsPlanned, Opens, Resumes, is_plain, opening};
+    ghost use Rattle.zst_send.specs.Sends.{SendFits, Sends, SendsFrom, Takes, TakesFrom, begun_text, sent_set};
     ghost use Rattle.zst_send.specs.Records.{items_in};
     ghost use Rattle.zst_send.specs.Working.{RoomFits};
 
@@ -76,7 +82,44 @@ impl Send {
         let plan = send_plan(&pool.kept.dir, ask)?;
         check_built(&pool.kept.dir, &plan)?;
         let room = Room::new(alloc)?;
-        Ok(Send::planned(&pool.kept.dir, &plan, room))
+        Ok(Send::planned(&pool.kept.dir, &plan, None, room))
+    }
+
+    /// A send by this plan from a point on, which takes all of its memory: its BEGIN has RESUMING and
+    /// that point besides. Nothing is read.
+    pub fn resume<D: Disk>(
+        pool: &mut Pool<'_, D>,
+        alloc: Global,
+        plan: &SendPlan,
+        point: Point,
+    ) -> Result<Send, PoolFault>
+        requires inside { IsInside pool.old.kept.dir plan.now }
+
+        // By its plan it has given nothing, and all of its text from the point on is left. It is refused where it isn't built.
+        ensures resumes { (image : List ℕ) (space : FreeSectors) (running : Plain) (sent : Sent) → pool.old.io.failed ≡ false → RunsBy None (Has image space) pool.old.kept.dir running → IsPlanOf pool.old.kept.dir running plan.now sent
+            → Resumes (Has image space) sent point result }
+        // Of a pool of tight sets its set is tight.
+        ensures tight { (image : List ℕ) (space : FreeSectors) (running : Plain) (sent : Sent) (number : ℕ) → RunsBy (Some number) (Has image space) pool.old.kept.dir running → IsPlanOf pool.old.kept.dir running plan.now sent
+            → IfOk result (λ send. SetIsTight (Has image space) send.subject.set sent.snapshot.objects) }
+        // It keeps no pointer yet.
+        ensures knows { (images : List (List ℕ)) → IfOk result (Knows (IsAmong images)) }
+        ensures fits { IfOk result SendFits }
+        // A pool that has failed answers nothing else.
+        ensures failed_pool { pool.old.io.failed ≡ true → result ≡ Err PoolFault.Failed }
+        ensures open_still { pool.old.io.failed ≡ false → ¬ (result ≡ Err PoolFault.Failed) }
+        // The pool stays as it was.
+        ensures disk { pool.new.io.disk.now ≡ pool.old.io.disk.now }
+        ensures space { pool.new.io.space ≡ pool.old.io.space }
+        ensures failed { pool.new.io.failed ≡ pool.old.io.failed }
+        ensures kept { pool.new.kept ≡ pool.old.kept }
+        ensures same { pool.new.io.disk.ghost_name ≡ pool.old.io.disk.ghost_name }
+    {
+        if pool.io.failed {
+            return Err(PoolFault::Failed);
+        }
+        check_built(&pool.kept.dir, plan)?;
+        let room = Room::new(alloc)?;
+        Ok(Send::planned(&pool.kept.dir, plan, Some(point), room))
     }
 
     /// Fills `into` with the next bytes, and counts them: fewer are given exactly at the end. After
@@ -92,6 +135,9 @@ impl Send {
         // The next bytes of the text are given, and those behind them are left.
         ensures takes { (sent : Sent) (given left : List ℕ) → (D.state pool.new.io.disk.now).honest → Sends (Has (D.state pool.old.io.disk.now).seen pool.old.io.space) self.old sent given left
             → Takes (Has (D.state pool.new.io.disk.now).seen pool.new.io.space) self.new sent given left into.new result }
+        // So they are of a send from a point.
+        ensures takes_from { (sent : Sent) (start : Option Point) (given left : List ℕ) → (D.state pool.new.io.disk.now).honest → SendsFrom (Has (D.state pool.old.io.disk.now).seen pool.old.io.space) self.old sent start given left
+            → TakesFrom (Has (D.state pool.new.io.disk.now).seen pool.new.io.space) self.new sent start given left into.new result }
         // Whatever the image, only as many as were asked are given.
         ensures count { IfOk result (λ count. count ≤ length into.old) }
         // Its subject stays, and the plan isn't asked again.
@@ -132,8 +178,8 @@ impl Send {
         Ok(count)
     }
 
-    // A send by this plan that has given nothing.
-    fn planned(dir: &Dir, plan: &SendPlan, room: Room) -> Send
+    // A send by this plan that has given nothing, from its beginning or from a point.
+    fn planned(dir: &Dir, plan: &SendPlan, start: Option<Point>, room: Room) -> Send
         requires inside { IsInside dir.now plan.now }
         requires room { RoomFits room }
         requires empty { room.holds ≡ None }
@@ -141,15 +187,12 @@ impl Send {
         ensures knows { (images : List (List ℕ)) → Knows (IsAmong images) result }
         ensures fits { SendFits result }
         ensures sends { (image : List ℕ) (space : FreeSectors) (running : Plain) (sent : Sent) → RunsBy None (Has image space) dir.now running → IsPlanOf dir.now running plan.now sent → is_plain sent ≡ true
-            → Sends (Has image space) result sent [] (sent_text sent) }
+            → SendsFrom (Has image space) result sent start [] (begun_text sent start) }
         ensures tight { (image : List ℕ) (space : FreeSectors) (running : Plain) (sent : Sent) (number : ℕ) → RunsBy (Some number) (Has image space) dir.now running → IsPlanOf dir.now running plan.now sent
             → SetIsTight (Has image space) result.subject.set sent.snapshot.objects }
     {
-        let header = plan.header(dir);
-        let point = Point {
-            object: 0,
-            offset: 0,
-        };
+        let header = header_from(plan.header(dir), start);
+        let point = stated_point(start);
         let subject = Subject {
             set: dir.snapshots()[plan.snap].objects,
             source: plan.from_number,
@@ -161,4 +204,29 @@ impl Send {
             room,
         }
     }
+}
+
+/// The header of a stream that begins at a point: it has RESUMING and the point besides.
+#[tactic(auto, unfolding(zst_model::specs::sends::Features::resuming))]
+fn header_from(header: Header, start: Option<Point>) -> Header
+    ensures { result ≡ header_from header start }
+{
+    match start {
+        None => header,
+        Some(point) => Header {
+            features: header.features | RESUMING,
+            resume: Some(point),
+            ..header
+        },
+    }
+}
+
+/// Where a stream begins: before all numbers, where no point is given.
+fn stated_point(start: Option<Point>) -> Point
+    ensures { result ≡ stated_point start }
+{
+    start.unwrap_or(Point {
+        object: 0,
+        offset: 0,
+    })
 }

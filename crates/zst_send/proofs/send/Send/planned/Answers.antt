@@ -3,8 +3,10 @@ use Rattle.zst_block.specs.declared.ptr.Ptr.{Ptr}
 use Rattle.zst_block.specs.Blocks.{Has}
 use Rattle.zst_dir.specs.declared.rows.Snapshot.{Snapshot}
 use Rattle.zst_model.specs.declared.sends.header.Header.{Header}
-use Rattle.zst_model.specs.sends.Headers.{sent_view}
-use Rattle.zst_model.specs.sends.Items.{origin}
+use Rattle.zst_model.specs.declared.sends.header.Point.{Point}
+use Rattle.zst_model.specs.sends.View.{header_from}
+use Rattle.zst_record.specs.Payload.{stated_point}
+use Rattle.zst_send.specs.Sends.{begun_view}
 use Rattle.zst_stream.specs.Image.{front_of}
 use Rattle.zst_stream.specs.Records.{view_text}
 use Rattle.zst_send.specs.Records.{HasPut}
@@ -22,18 +24,20 @@ returns-clause-sends c = λ image space running sent runs is plain.
     let rows = c.args.dir.now in
     let plan = c.args.plan.now in
     let row = c.index-snapshots-plan.result in
-    let header = c.header-header.ensures running sent (rows_named has rows running runs) is in
+    let header = c.header_from-header.ensures ∙ ap (λ (h : Header). header_from h c.args.start) (c.header.ensures running sent (rows_named has rows running runs) is) in
     let here = c.index-snapshots-plan.is ∙ ap (λ (xs : List Snapshot). get_or xs plan.snap row) c.snapshots.ensures in
     record {
       text = refl;
       holds = subst (λ (r : Snapshot). SetHolds has r.objects sent.snapshot.objects) c.index-snapshots-plan.is (plan_holds has rows running runs plan sent is row here);
       choice = plan_choice has rows running runs plan sent is plain;
       to = ap (λ (h : Header). h.to) header;
-      stands = subst (λ (h : Header). StandsAt has sent.snapshot.objects (sent_view sent) c.header-header.result.to c.start.result (view_text h (sent_view sent) origin)) header
-          (c.start.ensures.stands image space sent.snapshot.objects (sent_view sent));
+      stands = subst (λ (h : Header). StandsAt has sent.snapshot.objects (begun_view sent c.args.start) c.header_from-header.result.to c.start.result (view_text h (begun_view sent c.args.start) (stated_point c.args.start))) header
+          (subst (λ (p : Point). StandsAt has sent.snapshot.objects (begun_view sent c.args.start) c.header_from-header.result.to c.start.result (view_text c.header_from-header.result (begun_view sent c.args.start) p)) c.stated_point-point.ensures
+          (c.start.ensures.stands image space sent.snapshot.objects (begun_view sent c.args.start)));
       put = [];
-      has_put = subst (λ (h : Header). HasPut has sent.snapshot.objects (sent_view sent) origin (length (front_of h)) [] 0 c.start.result) header
-          (c.start.ensures.puts image space sent.snapshot.objects (sent_view sent));
+      has_put = subst (λ (h : Header). HasPut has sent.snapshot.objects (begun_view sent c.args.start) (stated_point c.args.start) (length (front_of h)) [] 0 c.start.result) header
+          (subst (λ (p : Point). HasPut has sent.snapshot.objects (begun_view sent c.args.start) p (length (front_of c.header_from-header.result)) [] 0 c.start.result) c.stated_point-point.ensures
+          (c.start.ensures.puts image space sent.snapshot.objects (begun_view sent c.args.start)));
       loaded = subst (λ (holds : Option Ptr). HasBlock has c.args.room.bytes.items holds) (sym c.requires.empty) tt;
     }
 

@@ -1,8 +1,8 @@
-use Rattle.std.proofs.Common.{◌≡◌, ℕ, ◌+◌, List, ◌++◌, take, drop, sym, ap, ◌∙◌, subst, append_assoc, Some, refl, ◌*◌, ◌≤◌, length, arith, length-append}
+use Rattle.std.proofs.Common.{◌≡◌, ℕ, ◌+◌, List, ◌++◌, take, drop, sym, ap, ◌∙◌, subst, append_assoc, Some, None, refl, ◌*◌, ◌≤◌, length, arith, length-append}
 use Rattle.std.proofs.lemmas.List.{take-append-drop, length-take-le}
 use Rattle.zst_space.specs.FreeSectors.{FreeSectors}
 use Rattle.zst_block.specs.Blocks.{Has}
-use Rattle.zst_model.specs.sends.Headers.{header_of, sent_view}
+use Rattle.zst_model.specs.sends.Headers.{header_of}
 use Rattle.zst_model.specs.sends.Included.{Choice}
 use Rattle.zst_model.specs.sends.View.{view_of}
 use Rattle.zst_objset.proofs.LeafLaws.{look_on}
@@ -11,7 +11,8 @@ use Rattle.zst_block.specs.declared.fault.BlockFault.{BlockFault}
 use Rattle.zst_block.specs.declared.fault.BlockFault.TheVariants as blocks
 use Rattle.zst_pool.specs.Faults.{of_block}
 use Rattle.zst_tree.specs.Indices.{IsNoDamage}
-use Rattle.zst_send.specs.Sends.{IsTakeFault, Sends}
+use Rattle.zst_send.specs.Sends.{IsTakeFault, SendsFrom, begun, begun_view}
+use Rattle.zst_record.specs.Payload.{stated_point}
 use Rattle.zst_send.specs.Standing.{StandsAt}
 use Rattle.std.proofs.lemmas.Result.{err_from_is_err_and}
 use Rattle.zst_pool.proofs.Telling.{set_told}
@@ -28,14 +29,14 @@ use Rattle.zst_send.proofs.Planning.{never_planned}
 use Rattle.zst_pool.specs.declared.fault.PoolFault.TheVariants.{Plan}
 use Rattle.zst_send.proofs.send.Send.take.Goals as goal
 
-pub returns-clause-takes : goal.returns-clause-takes
-returns-clause-takes g c = λ sent given left honest sends.
+pub returns-clause-takes_from : goal.returns-clause-takes_from
+returns-clause-takes_from g c = λ sent start given left honest sends.
     let snap = sent.snapshot.objects in
     let to : ℕ = c.args.self.now.subject.to in
-    let at = subst (λ (choice : Choice). StandsAt (Has (g.D.Disk.state c.args.pool.now.io.disk.now).seen c.args.pool.now.io.space) snap (view_of (header_of sent) snap choice) to c.args.self.now.stand left) sends.choice sends.stands in
-    let fills = c.in_ok-count.ensures.fills (header_of sent) snap left honest sends.holds sends.loaded at in
-    let had = subst (λ (choice : Choice). HasPut (Has (g.D.Disk.state c.args.pool.now.io.disk.now).seen c.args.pool.now.io.space) snap (view_of (header_of sent) snap choice) origin (length (front_of (header_of sent))) sends.put (length given) c.args.self.now.stand) sends.choice sends.has_put in
-    let puts = c.in_ok-count.ensures.puts (header_of sent) snap origin (length (front_of (header_of sent))) sends.put (length given) honest sends.holds had in
+    let at = subst (λ (choice : Choice). StandsAt (Has (g.D.Disk.state c.args.pool.now.io.disk.now).seen c.args.pool.now.io.space) snap (view_of (begun sent start) snap choice) to c.args.self.now.stand left) sends.choice sends.stands in
+    let fills = c.in_ok-count.ensures.fills (begun sent start) snap left honest sends.holds sends.loaded at in
+    let had = subst (λ (choice : Choice). HasPut (Has (g.D.Disk.state c.args.pool.now.io.disk.now).seen c.args.pool.now.io.space) snap (view_of (begun sent start) snap choice) (stated_point start) (length (front_of (begun sent start))) sends.put (length given) c.args.self.now.stand) sends.choice sends.has_put in
+    let puts = c.in_ok-count.ensures.puts (begun sent start) snap (stated_point start) (length (front_of (begun sent start))) sends.put (length given) honest sends.holds had in
     let less : c.in_ok-count.count ≤ length left = omega (arith, fills.count_is) in
     let long : length (given ++ take c.in_ok-count.count left) ≡ length given + c.in_ok-count.count = length-append given (take c.in_ok-count.count left) ∙ ap (λ (n : ℕ). length given + n) (length-take-le c.in_ok-count.count left less) in (
       fills.count_is,
@@ -45,13 +46,16 @@ returns-clause-takes g c = λ sent given left honest sends.
         holds = look_on (λ (seen : List ℕ) (space : FreeSectors). SetHolds (Has seen space) c.args.self.now.subject.set snap) _ _ _ _ _ _ _ c.in_ok-count.ensures.looks sends.holds;
         choice = sends.choice;
         to = sends.to;
-        stands = subst (λ (choice : Choice). StandsAt (Has (g.D.Disk.state c.fill.new.io.disk.now).seen c.fill.new.io.space) snap (view_of (header_of sent) snap choice) to c.fill.new.self (drop c.in_ok-count.count left)) (sym sends.choice) fills.stands;
+        stands = subst (λ (choice : Choice). StandsAt (Has (g.D.Disk.state c.fill.new.io.disk.now).seen c.fill.new.io.space) snap (view_of (begun sent start) snap choice) to c.fill.new.self (drop c.in_ok-count.count left)) (sym sends.choice) fills.stands;
         put = sends.put ++ puts.more;
-        has_put = subst (λ (n : ℕ). HasPut (Has (g.D.Disk.state c.fill.new.io.disk.now).seen c.fill.new.io.space) snap (sent_view sent) origin (length (front_of (header_of sent))) (sends.put ++ puts.more) n c.fill.new.self) (sym long)
-            (subst (λ (choice : Choice). HasPut (Has (g.D.Disk.state c.fill.new.io.disk.now).seen c.fill.new.io.space) snap (view_of (header_of sent) snap choice) origin (length (front_of (header_of sent))) (sends.put ++ puts.more) (length given + c.in_ok-count.count) c.fill.new.self) (sym sends.choice) puts.now);
-        loaded = c.in_ok-count.ensures.loaded (header_of sent) snap left honest sends.holds sends.loaded at;
+        has_put = subst (λ (n : ℕ). HasPut (Has (g.D.Disk.state c.fill.new.io.disk.now).seen c.fill.new.io.space) snap (begun_view sent start) (stated_point start) (length (front_of (begun sent start))) (sends.put ++ puts.more) n c.fill.new.self) (sym long)
+            (subst (λ (choice : Choice). HasPut (Has (g.D.Disk.state c.fill.new.io.disk.now).seen c.fill.new.io.space) snap (view_of (begun sent start) snap choice) (stated_point start) (length (front_of (begun sent start))) (sends.put ++ puts.more) (length given + c.in_ok-count.count) c.fill.new.self) (sym sends.choice) puts.now);
+        loaded = c.in_ok-count.ensures.loaded (begun sent start) snap left honest sends.holds sends.loaded at;
       },
     )
+
+pub returns-clause-takes : goal.returns-clause-takes
+returns-clause-takes g c = λ sent given left honest sends. returns-clause-takes_from g c sent None given left honest sends
 
 -- a call that reads refuses for its disk alone, where no damage is told
 take_refused : (fault : BlockFault) → IsNoDamage fault → ((need largest : ℕ) → ¬ (Some fault ≡ Some (blocks.Full need largest))) → IsTakeFault (of_block fault)
@@ -59,17 +63,20 @@ take_refused (blocks.Full need largest) none never = absurd (never need largest 
 take_refused (blocks.Damaged sector stated found) none never = absurd none
 take_refused blocks.DiskFault none never = tt
 
-pub returns-in_err-count-clause-takes : goal.returns-in_err-count-clause-takes
-returns-in_err-count-clause-takes g c = λ sent given left honest sends.
+pub returns-in_err-count-clause-takes_from : goal.returns-in_err-count-clause-takes_from
+returns-in_err-count-clause-takes_from g c = λ sent start given left honest sends.
     let snap = sent.snapshot.objects in
-    let at = subst (λ (choice : Choice). StandsAt (Has (g.D.Disk.state c.args.pool.now.io.disk.now).seen c.args.pool.now.io.space) snap (view_of (header_of sent) snap choice) c.args.self.now.subject.to c.args.self.now.stand left) sends.choice sends.stands in
-    let same = look_on (λ (seen : List ℕ) (space : FreeSectors). Sends (Has seen space) c.args.self.now sent given left) _ _ _ _ _ _ _ c.in_err-count.ensures.looks sends in
-    let loaded = c.in_err-count.ensures.loaded (header_of sent) snap left honest sends.holds sends.loaded at in
-    let still : Sends (Has (g.D.Disk.state c.fill.new.io.disk.now).seen c.fill.new.io.space) (record c.args.self.now { room = c.fill.new.room }) sent given left =
+    let at = subst (λ (choice : Choice). StandsAt (Has (g.D.Disk.state c.args.pool.now.io.disk.now).seen c.args.pool.now.io.space) snap (view_of (begun sent start) snap choice) c.args.self.now.subject.to c.args.self.now.stand left) sends.choice sends.stands in
+    let same = look_on (λ (seen : List ℕ) (space : FreeSectors). SendsFrom (Has seen space) c.args.self.now sent start given left) _ _ _ _ _ _ _ c.in_err-count.ensures.looks sends in
+    let loaded = c.in_err-count.ensures.loaded (begun sent start) snap left honest sends.holds sends.loaded at in
+    let still : SendsFrom (Has (g.D.Disk.state c.fill.new.io.disk.now).seen c.fill.new.io.space) (record c.args.self.now { room = c.fill.new.room }) sent start given left =
     record { text = same.text; holds = same.holds; choice = same.choice; to = same.to; stands = same.stands; put = same.put; has_put = same.has_put; loaded = loaded } in
-    let fills = c.in_err-count.ensures.fills (header_of sent) snap left honest sends.holds sends.loaded at in
+    let fills = c.in_err-count.ensures.fills (begun sent start) snap left honest sends.holds sends.loaded at in
     let p = err_from_is_err_and c.from_residual.result c.from_residual.ensures.1 in
     rw (p.1, p.2) (take_refused _ fills c.in_err-count.ensures.looks.never_full, still)
+
+pub returns-in_err-count-clause-takes : goal.returns-in_err-count-clause-takes
+returns-in_err-count-clause-takes g c = λ sent given left honest sends. returns-in_err-count-clause-takes_from g c sent None given left honest sends
 
 pub returns-in_err-count-clause-damaged : goal.returns-in_err-count-clause-damaged
 returns-in_err-count-clause-damaged g c = λ images among honest was.

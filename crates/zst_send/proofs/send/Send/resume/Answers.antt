@@ -1,0 +1,23 @@
+use Rattle.std.proofs.Common.{sym, subst, Result}
+use Rattle.zst_block.specs.Blocks.{Has}
+use Rattle.zst_pool.specs.declared.fault.PoolFault.{PoolFault}
+use Rattle.zst_pool.specs.declared.fault.PoolFault.TheVariants.{Plan}
+use Rattle.zst_pool.proofs.Naming.{rows_named}
+use Rattle.zst_send.specs.Opening.{Resumes}
+use Rattle.zst_send.specs.declared.send.Send.{Send}
+use Rattle.zst_send.proofs.Planning.{err_is, passed}
+use Rattle.zst_send.proofs.send.Send.resume.Goals as goal
+
+pub returns-in_err-check_built-clause-resumes : goal.returns-in_err-check_built-clause-resumes
+returns-in_err-check_built-clause-resumes g c = λ image space running sent live runs is.
+    let has = Has image space in
+    let named = rows_named has c.args.pool.now.kept.dir running runs in
+    let fault = c.in_err-check_built.field-0.0 in
+    subst (λ (r : Result Send PoolFault). Resumes has sent c.args.point r) (sym (err_is c.from_residual.result (Plan fault) c.from_residual.ensures.1))
+    (c.in_err-check_built.ensures.judges running sent named is)
+
+pub returns-clause-resumes : goal.returns-clause-resumes
+returns-clause-resumes g c = λ image space running sent live runs is.
+    let named = rows_named (Has image space) c.args.pool.now.kept.dir running runs in
+    let judged = c.in_ok-check_built.ensures.judges running sent named is in
+    (judged, c.planned.ensures.sends image space running sent runs is (passed sent judged))
