@@ -9,6 +9,7 @@ mod expected;
 mod faults;
 mod reads;
 mod refusals;
+mod resumed;
 mod streams;
 
 use crate::{FromName, Send, SendAsk};

@@ -66,6 +66,34 @@ fn set(bytes: &mut [u8], (place, width, value): Field) {
 }
 
 impl Stream {
+    // BEGIN of a stream from a point on has the payload of the project, with no guid behind it.
+    fn resumed(alloc: Global, begin: &Begin, point: (u64, u64)) -> Result<Stream, AllocError> {
+        let mut stream = Stream {
+            bytes: Vec::new(alloc),
+            sums: [0; 4],
+            to: begin.to,
+        };
+        let mut record = [0; 352];
+        for field in [
+            (4, 4, 40),
+            (8, 8, 0x2_F5ba_cbac),
+            (16, 8, 4_194_321),
+            (24, 8, 1_700_000_000),
+            (32, 4, 2),
+            (36, 4, begin.flags),
+            (40, 8, begin.to),
+            (48, 8, begin.from),
+            (56, 8, u64::from_le_bytes(begin.name)),
+            (312, 8, u64::from_le_bytes(*b"ZSTBEG01")),
+            (320, 8, point.0),
+            (328, 8, point.1),
+        ] {
+            set(&mut record, field);
+        }
+        stream.add(&record)?;
+        Ok(stream)
+    }
+
     fn begin(alloc: Global, begin: &Begin) -> Result<Stream, AllocError> {
         let mut stream = Stream {
             bytes: Vec::new(alloc),
@@ -201,6 +229,21 @@ pub(super) fn stream_of(
     records: &[Wanted],
 ) -> Result<Vec<u8>, AllocError> {
     let mut stream = Stream::begin(alloc, begin)?;
+    for wanted in records {
+        stream.put_wanted(*wanted)?;
+    }
+    stream.end()?;
+    Ok(stream.bytes)
+}
+
+/// The stream of these records from a point on.
+pub(super) fn resumed_stream_of(
+    alloc: Global,
+    begin: &Begin,
+    point: (u64, u64),
+    records: &[Wanted],
+) -> Result<Vec<u8>, AllocError> {
+    let mut stream = Stream::resumed(alloc, begin, point)?;
     for wanted in records {
         stream.put_wanted(*wanted)?;
     }
