@@ -1,5 +1,7 @@
 -- What opening a send answers.
-use Rattle.std.specs.Prelude.{◌≡◌, ◌&&◌, Bool, not, [], is_some, Some, Result, Ok, Err}
+use Rattle.std.specs.Prelude.{◌≡◌, ◌&&◌, Bool, not, Contains, [], is_some, Some, Result, Ok, Err}
+use Rattle.zst_dir.specs.Rows.{Rows}
+use Rattle.zst_dir.specs.declared.rows.Snapshot.{Snapshot}
 use Rattle.zst_model.specs.declared.refusals.faults.Lack.TheVariants as lacks
 use Rattle.zst_model.specs.declared.refusals.plan_fault.PlanFault.{PlanFault}
 use Rattle.zst_model.specs.declared.refusals.plan_fault.PlanFault.TheVariants as plans
@@ -12,6 +14,7 @@ use Rattle.zst_model.specs.states.Apply.{unless, ◌>>=◌}
 use Rattle.zst_pool.specs.declared.fault.PoolFault.{PoolFault}
 use Rattle.zst_pool.specs.declared.fault.PoolFault.TheVariants.{Plan, CannotApply, Redacted, Full, Damaged, DiskFault, Failed, OutOfMemory}
 use Rattle.zst_tree.specs.Indices.{Blocks}
+use Rattle.zst_tree.specs.declared.tree.ObjSet.{ObjSet}
 use Rattle.zst_send.specs.Sends.{Sends, SendsFrom, begun_text, sent_text}
 use Rattle.zst_send.specs.declared.send.Send.{Send}
 
@@ -62,3 +65,7 @@ IsPlanned plan (Err (Damaged sector stated found)) = ⊥
 IsPlanned plan (Err DiskFault) = ⊥
 IsPlanned plan (Err Failed) = ⊥
 IsPlanned plan (Err OutOfMemory) = (sent : Sent) × (plan ≡ Ok sent)
+
+-- the object set is that of a snapshot that the directory has
+abbrev pub IsOfRow : Rows → ObjSet → Type 0
+IsOfRow rows set = (row : Snapshot) × Contains rows.snapshots row × (row.objects ≡ set)

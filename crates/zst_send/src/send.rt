@@ -44,7 +44,7 @@ impl Send {
     ghost use Rattle.zst_send.specs.Costs.{AreToCome, PaysFor, most_calls};
     ghost use Rattle.zst_send.specs.Damage.{IsDamagedSend};
     ghost use Rattle.zst_send.specs.Knowing.{IsAmong, Knows};
-    ghost use Rattle.zst_send.specs.Opening.{IsPlanned, Opens, Resumes, is_plain, opening};
+    ghost use Rattle.zst_send.specs.Opening.{IsOfRow, IsPlanned, Opens, Resumes, built, is_plain, opening};
     ghost use Rattle.zst_send.specs.Sends.{SendFits, Sends, SendsFrom, Takes, TakesFrom, begun_text, sent_set};
     ghost use Rattle.zst_send.specs.Records.{items_in};
     ghost use Rattle.zst_send.specs.Working.{RoomFits};
@@ -101,7 +101,10 @@ impl Send {
         // Of a pool of tight sets its set is tight.
         ensures tight { (image : List ℕ) (space : FreeSectors) (running : Plain) (sent : Sent) (number : ℕ) → RunsBy (Some number) (Has image space) pool.old.kept.dir running → IsPlanOf pool.old.kept.dir running plan.now sent
             → IfOk result (λ send. SetIsTight (Has image space) send.subject.set sent.snapshot.objects) }
-        // It keeps no pointer yet.
+        // Its refusals are those of the rows alone, whatever the object sets and the lists hold.
+        ensures planned { (running : Plain) (sent : Sent) → pool.old.io.failed ≡ false → AreNamed pool.old.kept.dir running → IsPlanOf pool.old.kept.dir running plan.now sent → IsPlanned (built sent) result }
+        // It is of the object set of a snapshot's row, and keeps no pointer yet.
+        ensures set { IfOk result (λ send. IsOfRow pool.old.kept.dir (sent_set send)) }
         ensures knows { (images : List (List ℕ)) → IfOk result (Knows (IsAmong images)) }
         ensures fits { IfOk result SendFits }
         // A pool that has failed answers nothing else.
@@ -184,6 +187,7 @@ impl Send {
         requires room { RoomFits room }
         requires empty { room.holds ≡ None }
         ensures set { (name : List ℕ) → position (λ snapshot. bytes_eq snapshot.name name) dir.now.snapshots ≡ Some plan.now.snap → set_named (names.Snapshot name) dir.now ≡ Some (sent_set result) }
+        ensures row { IsOfRow dir.now (sent_set result) }
         ensures knows { (images : List (List ℕ)) → Knows (IsAmong images) result }
         ensures fits { SendFits result }
         ensures sends { (image : List ℕ) (space : FreeSectors) (running : Plain) (sent : Sent) → RunsBy None (Has image space) dir.now running → IsPlanOf dir.now running plan.now sent → is_plain sent ≡ true

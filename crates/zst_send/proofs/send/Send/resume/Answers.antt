@@ -1,11 +1,11 @@
 use Rattle.std.proofs.Common.{sym, subst, Result}
 use Rattle.zst_block.specs.Blocks.{Has}
 use Rattle.zst_pool.specs.declared.fault.PoolFault.{PoolFault}
-use Rattle.zst_pool.specs.declared.fault.PoolFault.TheVariants.{Plan}
+use Rattle.zst_pool.specs.declared.fault.PoolFault.TheVariants.{OutOfMemory, Plan}
 use Rattle.zst_pool.proofs.Naming.{rows_named}
-use Rattle.zst_send.specs.Opening.{Resumes}
+use Rattle.zst_send.specs.Opening.{Resumes, built}
 use Rattle.zst_send.specs.declared.send.Send.{Send}
-use Rattle.zst_send.proofs.Planning.{err_is, passed}
+use Rattle.zst_send.proofs.Planning.{err_is, passed, plan_lacks, plan_refuses}
 use Rattle.zst_send.proofs.send.Send.resume.Goals as goal
 
 pub returns-in_err-check_built-clause-resumes : goal.returns-in_err-check_built-clause-resumes
@@ -21,3 +21,16 @@ returns-clause-resumes g c = λ image space running sent live runs is.
     let named = rows_named (Has image space) c.args.pool.now.kept.dir running runs in
     let judged = c.in_ok-check_built.ensures.judges running sent named is in
     (judged, c.planned.ensures.sends image space running sent runs is (passed sent judged))
+
+pub returns-in_err-check_built-clause-planned : goal.returns-in_err-check_built-clause-planned
+returns-in_err-check_built-clause-planned g c = λ running sent live named is.
+    let fault = c.in_err-check_built.field-0.0 in
+    plan_refuses (built sent) c.from_residual.result fault (err_is c.from_residual.result (Plan fault) c.from_residual.ensures.1) (c.in_err-check_built.ensures.judges running sent named is)
+
+pub returns-in_err-room-clause-planned : goal.returns-in_err-room-clause-planned
+returns-in_err-room-clause-planned g c = λ running sent live named is.
+    plan_lacks (built sent) c.from_residual-in_err-room.result sent (err_is c.from_residual-in_err-room.result OutOfMemory c.from_residual-in_err-room.ensures.1)
+    (c.in_ok-check_built.ensures.judges running sent named is)
+
+pub returns-clause-planned : goal.returns-clause-planned
+returns-clause-planned g c = λ running sent live named is. (sent, c.in_ok-check_built.ensures.judges running sent named is)
