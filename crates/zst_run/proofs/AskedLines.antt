@@ -2,26 +2,29 @@
 use Rattle.std.proofs.Common.{◌≡◌, ℕ, List, Some, Result, sym, subst}
 use Rattle.zst_outside.specs.Images.{DiskState}
 use Rattle.zst_model.specs.declared.refusals.refusal.Refusal.{Refusal}
-use Rattle.zst_model.specs.declared.sends.ask.SendAsk.{SendAsk}
 use Rattle.zst_line.specs.declared.line.Line.{Line}
 use Rattle.zst_line.specs.declared.line.Line.TheVariants.{Dump, Create, Step, Redact, Send, Resume, Receive, Abort, Token, Check, Gen, Reclaim, Replay}
 use Rattle.zst_run.specs.Devices.{Devices}
 use Rattle.zst_plan.specs.declared.receive.RecvAsk.{RecvAsk}
 use Rattle.zst_run.specs.Lines.{DoesLine, asked, told_of, wanted}
 use Rattle.zst_run.specs.Receives.{Receives, receipt_of}
+use Rattle.zst_run.specs.declared.send.Asked.{Asked}
+use Rattle.zst_run.specs.declared.send.Asked.TheVariants.{Named, Rest}
 use Rattle.zst_run.specs.Sends.{Sends, ask_of}
 use Rattle.zst_run.specs.Tokens.{Tokens}
 
-pub does_send : {D : Type 0} → (state : D → DiskState) (now : ℕ) (line : Line) (ask : SendAsk) (old new : Devices D) (result : Result (Unit {0}) Refusal) → asked line ≡ Some ask
+pub does_send : {D : Type 0} → (state : D → DiskState) (now : ℕ) (line : Line) (ask : Asked) (old new : Devices D) (result : Result (Unit {0}) Refusal) → asked line ≡ Some ask
     → Sends ask (state old.here) (state new.here) old.out new.out result → new.input ≡ old.input → DoesLine state now line old new result
 does_send state now (Send image from redacts snapshot) ask old new result is sends input =
-    let same : ask_of from redacts snapshot ≡ ask = cc is in
-    (subst (λ (a : SendAsk). Sends a (state old.here) (state new.here) old.out new.out result) (sym same) sends, input)
+    let same : Named (ask_of from redacts snapshot) ≡ ask = cc is in
+    (subst (λ (a : Asked). Sends a (state old.here) (state new.here) old.out new.out result) (sym same) sends, input)
 does_send state now Dump ask old new result is sends input = absurd (cc is)
 does_send state now (Create image sectors id) ask old new result is sends input = absurd (cc is)
 does_send state now (Step image command) ask old new result is sends input = absurd (cc is)
 does_send state now (Redact image snapshot bookmark kept) ask old new result is sends input = absurd (cc is)
-does_send state now (Resume image token) ask old new result is sends input = absurd (cc is)
+does_send state now (Resume image token) ask old new result is sends input =
+    let same : Rest token ≡ ask = cc is in
+    (subst (λ (a : Asked). Sends a (state old.here) (state new.here) old.out new.out result) (sym same) sends, input)
 does_send state now (Receive image keeps forces origin target) ask old new result is sends input = absurd (cc is)
 does_send state now (Abort image dataset) ask old new result is sends input = absurd (cc is)
 does_send state now (Token image dataset) ask old new result is sends input = absurd (cc is)

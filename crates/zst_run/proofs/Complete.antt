@@ -55,7 +55,7 @@ text_done text before after out out' (Err other) within disk sink ends = absurd 
 pub sends_complete : (here here' : DiskState) → SendsComplete here here'
 sends_complete here here' ask pool sent out out' result honest reads is within disk sink sends =
     text_done (sent_text sent) here.faults here'.faults out out' result within disk sink
-    (subst (λ (planned : Result Sent PlanFault). SendEnds planned here.faults here'.faults out out' result) is (sends.sends pool honest reads).ends)
+    (subst (λ (planned : Result Sent PlanFault). SendEnds None planned here.faults here'.faults out out' result) is (sends.sends pool honest reads).ends)
 
 -- ---- receives
 

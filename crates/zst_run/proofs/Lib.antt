@@ -23,3 +23,4 @@ pub mod Piped
 pub mod Complete
 pub mod TurnEnds
 pub mod TokenTold
+pub mod RestLemmas

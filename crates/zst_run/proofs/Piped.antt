@@ -38,6 +38,7 @@ use Rattle.zst_replication.specs.Soundness.{ReceivesKeepSound}
 use Rattle.zst_run.specs.Receives.{IsOnTheWay, Keeps, ReceiveEnds, Received, Receives, Refused, Stopped, Waited}
 use Rattle.zst_run.specs.Replicated.{IsOnItsWay, IsReadOf, IsReceiver, IsSender, RefusedLeavesNothing, SentSnapshotStands, SoundStaysSound, SourcesStillRemember, StopsAreProgress}
 use Rattle.zst_run.specs.Replies.{Replied}
+use Rattle.zst_run.specs.declared.send.Asked.TheVariants.{Named}
 use Rattle.zst_run.specs.Sends.{SendEnds, Sends}
 use Rattle.zst_run.proofs.FedPieces.{open_live}
 
@@ -57,9 +58,9 @@ whole laws tight uber rows pool image reads = laws.0.0 pool (laws.1 tight uber r
 
 -- a run that sends with status 0 writes the whole text
 text_sent : (ask : SendAsk) (from : Pool) (sent : Sent) (here here' : DiskState) (out out' : SinkState) (text : List ℕ)
-    → IsSender ask from sent here → here'.honest → Sends ask here here' out out' (Ok tt) → out'.written ≡ out.written ++ text → text ≡ sent_text sent
+    → IsSender ask from sent here → here'.honest → Sends (Named ask) here here' out out' (Ok tt) → out'.written ≡ out.written ++ text → text ≡ sent_text sent
 text_sent ask from sent here here' out out' text sender honest sends is =
-    let ends = subst (λ (planned : Result Sent PlanFault). SendEnds planned here.faults here'.faults out out' (Ok tt)) sender.is (sends.sends from honest sender.reads).ends in
+    let ends = subst (λ (planned : Result Sent PlanFault). SendEnds None planned here.faults here'.faults out out' (Ok tt)) sender.is (sends.sends from honest sender.reads).ends in
     let wrote = ends.printed.wrote in
     append_cancel_left out.written text wrote.printed (sym is ∙ wrote.appended) ∙ sym (append-nil wrote.printed) ∙ sym wrote.is
 

@@ -10,15 +10,14 @@ use Rattle.zst_model.specs.declared.refusals.faults.Quantity.TheVariants.{Stream
 use Rattle.zst_model.specs.declared.refusals.plan_fault.PlanFault.{PlanFault}
 use Rattle.zst_model.specs.declared.refusals.refusal.Refusal.{Refusal}
 use Rattle.zst_model.specs.declared.refusals.refusal.Refusal.TheVariants as refusals
+use Rattle.zst_model.specs.declared.sends.header.Point.{Point}
 use Rattle.zst_model.specs.refusals.Refusal.{refusal_of}
 use Rattle.zst_model.specs.sends.Headers.{Sent}
 use Rattle.zst_dir.specs.Rows.{Rows}
-use Rattle.zst_model.specs.declared.refusals.named.Name.{Name}
 use Rattle.zst_tree.specs.Damage.{IsSeen}
 use Rattle.zst_tree.specs.declared.tree.ObjSet.{ObjSet}
 use Rattle.zst_objset.specs.Damage.{DamageFact}
-use Rattle.zst_pool.specs.Damage.{IsOf, OfSet}
-use Rattle.zst_pool.specs.Finding.{set_named}
+use Rattle.zst_pool.specs.Damage.{IsOf}
 use Rattle.zst_pool.specs.Faults.{pool_refusal}
 use Rattle.zst_pool.specs.Telling.{stop_of}
 use Rattle.zst_block.specs.declared.fault.BlockFault.TheVariants as blocks
@@ -29,11 +28,12 @@ use Rattle.zst_send.proofs.Knowing.{send_more}
 use Rattle.zst_send.specs.Damage.{IsDamagedSend}
 use Rattle.zst_send.specs.Knowing.{IsAmong}
 use Rattle.zst_send.specs.Sends as given
-use Rattle.zst_send.specs.Sends.{sent_text}
+use Rattle.zst_send.specs.Sends.{begun_text}
 use Rattle.zst_send.specs.declared.send.Send.{Send}
 use Rattle.zst_tree.specs.Indices.{Blocks}
 use Rattle.zst_run.specs.Replies.{HandsOn}
-use Rattle.zst_run.specs.Sends.{IsSendRefusal, OfGiving, RefusalEnds, SendsBy, TellsOf, TextEnds, send_damage}
+use Rattle.zst_run.specs.declared.send.Asked.{Asked}
+use Rattle.zst_run.specs.Sends.{HasSet, IsSendRefusal, OfAsked, OfGiving, RefusalEnds, SendsBy, TellsOf, TextEnds, send_damage}
 use Rattle.zst_run.specs.Sending.{IfUnplanned, IsOpenRefusal, OpensBy, Passed, PieceWritten, PlansOpen, Sending, WritesPiece}
 use Rattle.zst_run.proofs.Commanded.{damaged_only, disk_fault, failed_before, full_only, of_plan, plan_named}
 
@@ -111,8 +111,8 @@ front_of : (out out' : SinkState) (text left whole : List ℕ) → text ++ left 
 front_of out out' text left whole is wrote = (left, subst (λ (t : List ℕ). Wrote out out' t left) is (Wrote-longer out out' text [] left wrote))
 
 -- a piece was taken behind a text of which so much was left
-module _ (has : Blocks) (sent : Sent) (send : Send) (before after : ℕ) (begun out out' : SinkState) (into text left : List ℕ) (taken old new : ℕ) (is_last : Bool)
-    (takes : given.Takes has send sent text left into (Ok taken)) (whole : text ++ left ≡ sent_text sent) (counted : old ≡ length text) (printed : Printed begun out text) where
+module _ (has : Blocks) (start : Option Point) (sent : Sent) (send : Send) (before after : ℕ) (begun out out' : SinkState) (into text left : List ℕ) (taken old new : ℕ) (is_last : Bool)
+    (takes : given.TakesFrom has send sent start text left into (Ok taken)) (whole : text ++ left ≡ begun_text sent start) (counted : old ≡ length text) (printed : Printed begun out text) where
   longer : length (text ++ take taken left) ≡ old + length (take taken into)
   longer = omega (arith, length-append text (take taken left), ap length takes.1, counted)
 
@@ -120,13 +120,13 @@ module _ (has : Blocks) (sent : Sent) (send : Send) (before after : ℕ) (begun 
   all count w = Printed-then begun out out' text (take taken left) printed (subst (λ (t : List ℕ). Printed out out' t) takes.1 w.printed)
 
   -- what a piece that wasn't filled leaves
-  last_is : taken < length into → text ++ take taken left ≡ sent_text sent
+  last_is : taken < length into → text ++ take taken left ≡ begun_text sent start
   last_is short =
       let none = drop_all taken left (omega (arith, takes.0, short)) in
       sym (append-nil (text ++ take taken left)) ∙ ap (λ (rest : List ℕ). (text ++ take taken left) ++ rest) (sym none) ∙ takes.2.text
 
   pub passed : (result : Option (Result (Unit {0}) Refusal)) → (is_last ≡ true → taken < length into) → WritesPiece (take taken into) is_last old new out out' result
-      → Passed has sent send before after begun out' new result
+      → Passed has start sent send before after begun out' new result
   passed None last w = record { text = text ++ take taken left; left = drop taken left; stands = takes.2; counted = w.1.counted ∙ sym longer; printed = all new w.1 }
   passed (Some (Ok done)) last w =
       let is = last_is (last w.0) in
@@ -136,7 +136,7 @@ module _ (has : Blocks) (sent : Sent) (send : Send) (before after : ℕ) (begun 
         ends = record { within = omega (arith, w.1.within, longer, ap length is); printed = printed_all; handed_on = w.2 };
       }
   passed (Some (Err (refusals.Limit which number))) last w = record {
-    front = front_of begun out' text left (sent_text sent) whole (Wrote-kept begun out out' text [] printed.wrote w.2.kept w.2.later);
+    front = front_of begun out' text left (begun_text sent start) whole (Wrote-kept begun out out' text [] printed.wrote w.2.kept w.2.later);
     ends = (
       w.0,
       w.1,
@@ -159,11 +159,11 @@ module _ (has : Blocks) (sent : Sent) (send : Send) (before after : ℕ) (begun 
   passed (Some (Err other)) last w = absurd w
 
 -- a take that fails leaves a front of the text written, as far as it was, and hands that on
-module _ (sent : Sent) (before after : ℕ) (begun out out' : SinkState) (text left : List ℕ) (whole : text ++ left ≡ sent_text sent) (printed : Printed begun out text) where
+module _ (start : Option Point) (sent : Sent) (before after : ℕ) (begun out out' : SinkState) (text left : List ℕ) (whole : text ++ left ≡ begun_text sent start) (printed : Printed begun out text) where
   pub take_failed : (fault : PoolFault) (result : Result (Unit {0}) Refusal) → given.IsTakeFault fault → (stop_of {T = ℕ} (Err fault) ≡ Some blocks.DiskFault → Rose before after) → ¬ (fault ≡ faults.Failed)
-      → HandsOn out out' (Err (pool_refusal fault)) result → SendsBy (Ok sent) before after begun out' result
+      → HandsOn out out' (Err (pool_refusal fault)) result → SendsBy start (Ok sent) before after begun out' result
   take_failed faults.DiskFault result is rose alive hands =
-      let front = front_of begun out' text left (sent_text sent) whole (Wrote-kept begun out out' text [] printed.wrote hands.written hands.later) in
+      let front = front_of begun out' text left (begun_text sent start) whole (Wrote-kept begun out out' text [] printed.wrote hands.written hands.later) in
       ⊎_elim (λ done. rw done.0 (record { front = front; ends = (rose refl, inr (done.1 ∙ printed.stays, done.2)) }))
       (λ lost. rw lost.0 (record { front = front; ends = Rose-earlier begun.faults out.faults out'.faults printed.wrote.later lost.1 }))
       hands.outcome
@@ -187,32 +187,32 @@ text_earlier text before mid after out out' (Err refusals.OutOfMemory) later e =
 text_earlier text before mid after out out' (Err other) later e = absurd e
 
 -- how a later part of a send ends, the whole does
-pub sent_earlier : (sent : Sent) (before mid after : ℕ) (out out' : SinkState) (result : Result (Unit {0}) Refusal) → before ≤ mid → SendsBy (Ok sent) mid after out out' result
-    → SendsBy (Ok sent) before after out out' result
-sent_earlier sent before mid after out out' result later s = record { front = s.front; ends = text_earlier (sent_text sent) before mid after out out' result later s.ends }
+pub sent_earlier : (start : Option Point) (sent : Sent) (before mid after : ℕ) (out out' : SinkState) (result : Result (Unit {0}) Refusal) → before ≤ mid → SendsBy start (Ok sent) mid after out out' result
+    → SendsBy start (Ok sent) before after out out' result
+sent_earlier start sent before mid after out out' result later s = record { front = s.front; ends = text_earlier (begun_text sent start) before mid after out out' result later s.ends }
 
 -- ---- opening
 
 -- a send that was opened has all of its text left
-pub sends_from : (has : Blocks) (planned : Result Sent PlanFault) (send : Send) (before after : ℕ) (out out' : SinkState) (result : Result (Unit {0}) Refusal) → OpensBy has planned (Ok send)
-    → ((sent : Sent) → Sending has sent send out out 0 → SendsBy (Ok sent) before after out out' result) → SendsBy planned before after out out' result
-sends_from has (Ok sent) send before after out out' result opens gives =
-    gives sent (record { text = []; left = sent_text sent; stands = opens; counted = refl; printed = Printed-start out })
-sends_from has (Err fault) send before after out out' result opens gives = absurd opens
+pub sends_from : (has : Blocks) (start : Option Point) (planned : Result Sent PlanFault) (send : Send) (before after : ℕ) (out out' : SinkState) (result : Result (Unit {0}) Refusal) → OpensBy has start planned (Ok send)
+    → ((sent : Sent) → Sending has start sent send out out 0 → SendsBy start (Ok sent) before after out out' result) → SendsBy start planned before after out out' result
+sends_from has start (Ok sent) send before after out out' result opens gives =
+    gives sent (record { text = []; left = begun_text sent start; stands = opens; counted = refl; printed = Printed-start out })
+sends_from has start (Err fault) send before after out out' result opens gives = absurd opens
 
-pub wants_memory : (has : Blocks) (planned : Result Sent PlanFault) → OpensBy has planned (Err refusals.OutOfMemory)
-wants_memory has (Ok sent) = refl
-wants_memory has (Err fault) = inr refl
+pub wants_memory : (has : Blocks) (start : Option Point) (planned : Result Sent PlanFault) → OpensBy has start planned (Err refusals.OutOfMemory)
+wants_memory has start (Ok sent) = refl
+wants_memory has start (Err fault) = inr refl
 
 -- a plan's refusal is how its send ends
 by_plan : (fault : PlanFault) (before after : ℕ) → RefusalEnds fault before after (Err (refusal_of fault))
 by_plan fault before after = of_plan (λ r. r ≡ refusal_of fault → RefusalEnds fault before after (Err r)) (λ f is. is) (λ which number is. is) fault refl
 
 -- a send that isn't opened writes nothing
-pub unopened_by : (has : Blocks) (planned : Result Sent PlanFault) (before after : ℕ) (out : SinkState) (refusal : Refusal) → OpensBy has planned (Err refusal)
-    → SendsBy planned before after out out (Err refusal)
-unopened_by has (Ok sent) before after out refusal is = rw is (record { front = (sent_text sent, Wrote-start out (sent_text sent)); ends = refl })
-unopened_by has (Err fault) before after out refusal is =
+pub unopened_by : (has : Blocks) (start : Option Point) (planned : Result Sent PlanFault) (before after : ℕ) (out : SinkState) (refusal : Refusal) → OpensBy has start planned (Err refusal)
+    → SendsBy start planned before after out out (Err refusal)
+unopened_by has start (Ok sent) before after out refusal is = rw is (record { front = (begun_text sent start, Wrote-start out (begun_text sent start)); ends = refl })
+unopened_by has start (Err fault) before after out refusal is =
     ⊎_elim (λ plan. rw plan (record { front = ([], Wrote-start out []); ends = (by_plan fault before after, refl) }))
     (λ memory. rw memory (record { front = ([], Wrote-start out []); ends = (tt, refl) }))
     is
@@ -280,8 +280,8 @@ is_one seen image among = go among.0 among.1 among.2
     go zero below is = sym is
     go (suc k) below is = absurd (omega (arith, below))
 
--- the damage of the set of a name is told of that name
-pub set_damage : (rows : Rows) (name : Name) (disk : DiskState) (set : ObjSet) (result : Result (Unit {0}) Refusal) → set_named name rows ≡ Some set
-    → TellsOf (IsDamagedSend (IsAmong (disk.seen ∷ [])) disk.size set) result → TellsOf (OfSet rows name (send_damage disk)) result
-set_damage rows name disk set result named told = λ sector stated found is.
+-- the damage of the set of what is asked is told of that
+pub set_damage : (rows : Rows) (asked : Asked) (disk : DiskState) (set : ObjSet) (result : Result (Unit {0}) Refusal) → HasSet asked rows set
+    → TellsOf (IsDamagedSend (IsAmong (disk.seen ∷ [])) disk.size set) result → TellsOf (OfAsked asked rows (send_damage disk)) result
+set_damage rows asked disk set result named told = λ sector stated found is.
     (set, named, send_more (IsAmong (disk.seen ∷ [])) (IsSeen disk.seen) (is_one disk.seen) disk.size set sector stated found (told sector stated found is))

@@ -1,5 +1,5 @@
 -- Sends of one header and one view write alike.
-use Rattle.std.proofs.Common.{◌≡◌, ◌⊎◌, inl, inr, ⊎_elim, ℕ, Result, List, [], ◌∷◌, ◌++◌, Ok, refl, sym, ap, ◌∙◌, subst}
+use Rattle.std.proofs.Common.{◌≡◌, ◌⊎◌, inl, inr, ⊎_elim, ℕ, None, Result, List, [], ◌∷◌, ◌++◌, Ok, refl, sym, ap, ◌∙◌, subst}
 use Rattle.std.proofs.lemmas.List.{append-nil}
 use Rattle.zst_outside.specs.Images.{DiskState}
 use Rattle.zst_outside.specs.States.{SinkState}
@@ -33,11 +33,11 @@ fronts (byte ∷ one) left (first ∷ other) behind same =
 -- what a send wrote is a front of its text, and at Ok all of it
 wrote : (sent : Sent) (here here' : DiskState) (out out' : SinkState) (result : Result (Unit {0}) Refusal) → SendsOf sent here here' out out' result → (rest : List ℕ) × Wrote out out' (sent_text sent) rest
 wrote sent here here' out out' result s =
-    subst (λ (planned : Result Sent PlanFault). (rest : List ℕ) × Wrote out out' (text_for planned) rest) s.is (s.sends.sends s.pool s.honest s.reads).front
+    subst (λ (planned : Result Sent PlanFault). (rest : List ℕ) × Wrote out out' (text_for None planned) rest) s.is (s.sends.sends s.pool s.honest s.reads).front
 
 printed : (sent : Sent) (here here' : DiskState) (out out' : SinkState) → SendsOf sent here here' out out' (Ok tt) → Printed out out' (sent_text sent)
 printed sent here here' out out' s =
-    let ends = subst (λ (planned : Result Sent PlanFault). SendEnds planned here.faults here'.faults out out' (Ok tt)) s.is (s.sends.sends s.pool s.honest s.reads).ends in
+    let ends = subst (λ (planned : Result Sent PlanFault). SendEnds None planned here.faults here'.faults out out' (Ok tt)) s.is (s.sends.sends s.pool s.honest s.reads).ends in
     ends.printed
 
 all_of : (out out' : SinkState) (text : List ℕ) → Printed out out' text → out'.written ≡ out.written ++ text

@@ -29,6 +29,7 @@ use Rattle.zst_run.specs.Commands.{Creates, Opens, Steps, most_of}
 use Rattle.zst_run.specs.Dumps.{Dumps}
 use Rattle.zst_run.specs.Receives.{ArePieces, CostMore, Receives}
 use Rattle.zst_run.specs.Runs.{Told}
+use Rattle.zst_run.specs.declared.send.Asked.TheVariants.{Named}
 use Rattle.zst_run.specs.Sends.{Sends}
 use Rattle.zst_run.specs.Tokens.{Tokens}
 
@@ -53,7 +54,7 @@ SendsComplete here here' =
     (ask : SendAsk) (pool : Pool) (sent : Sent) (out out' : SinkState) (result : Result (Unit {0}) Refusal)
     → here'.honest → Reads false pool here.seen → opening ask pool ≡ Ok sent → length (sent_text sent) ≤ stream_limit
     → NoneCounted here.faults here'.faults → NoneCounted out.faults out'.faults
-    → Sends ask here here' out out' result → DoneOrNoMemory result
+    → Sends (Named ask) here here' out out' result → DoneOrNoMemory result
 
 -- ---- receives
 

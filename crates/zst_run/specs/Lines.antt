@@ -6,16 +6,17 @@ use Rattle.zst_model.specs.declared.refusals.faults.Lack.TheVariants as lacks
 use Rattle.zst_model.specs.declared.refusals.plan_fault.PlanFault.TheVariants as plans
 use Rattle.zst_model.specs.declared.refusals.refusal.Refusal.{Refusal}
 use Rattle.zst_model.specs.declared.refusals.refusal.Refusal.TheVariants as refusals
-use Rattle.zst_model.specs.declared.sends.ask.SendAsk.{SendAsk}
 use Rattle.zst_line.specs.Lines.{IsCreate, refusal_of}
 use Rattle.zst_line.specs.declared.line.Line.{Line}
-use Rattle.zst_line.specs.declared.line.Line.TheVariants.{Dump, Create, Step, Send, Receive, Token}
+use Rattle.zst_line.specs.declared.line.Line.TheVariants.{Dump, Create, Step, Send, Resume, Receive, Token}
 use Rattle.zst_line.specs.declared.line.LineFault.{LineFault}
 use Rattle.zst_plan.specs.declared.receive.RecvAsk.{RecvAsk}
 use Rattle.zst_run.specs.Commands.{Creates, Steps}
 use Rattle.zst_run.specs.Devices.{Devices}
 use Rattle.zst_run.specs.Dumps.{Dumps}
 use Rattle.zst_run.specs.Receives.{IsTarget, Receives, receipt_of}
+use Rattle.zst_run.specs.declared.send.Asked.{Asked}
+use Rattle.zst_run.specs.declared.send.Asked.TheVariants.{Named, Rest}
 use Rattle.zst_run.specs.Sends.{IsSource, Sends, ask_of}
 use Rattle.zst_run.specs.Tokens.{Tokens}
 
@@ -28,8 +29,9 @@ IsInRange (Receive image keeps forces origin target) = IsTarget target
 IsInRange line = Unit {0}
 
 -- what a line asks to be sent
-abbrev pub asked : Line → Option SendAsk
-asked (Send image from redacts snapshot) = Some (ask_of from redacts snapshot)
+abbrev pub asked : Line → Option Asked
+asked (Send image from redacts snapshot) = Some (Named (ask_of from redacts snapshot))
+asked (Resume image token) = Some (Rest token)
 asked line = None
 
 -- what a line asks to be received
@@ -47,7 +49,7 @@ abbrev pub not_built : Refusal
 not_built = refusals.Plan (plans.Unsupported lacks.NotBuilt)
 
 -- What a line does: `dump` reads the input and leaves the image alone, `receive` reads the input, and all others leave it alone. Those
--- that resume, redact, abort, check, make room or run scripts aren't built yet: they are refused, and nothing is done.
+-- that redact, abort, check, make room or run scripts aren't built yet: they are refused, and nothing is done.
 abbrev pub DoesLine : {D : Type 0} → (D → DiskState) → ℕ → Line → Devices D → Devices D → Result (Unit {0}) Refusal → Type 0
 DoesLine state now Dump old new result = Dumps old.input new.input old.out new.out result × (new.here ≡ old.here)
 DoesLine state now (Create image sectors id) old new result =
@@ -55,7 +57,9 @@ DoesLine state now (Create image sectors id) old new result =
 DoesLine state now (Step image command) old new result =
     Steps now command (state old.here) (state new.here) old.out new.out result × (new.input ≡ old.input)
 DoesLine state now (Send image from redacts snapshot) old new result =
-    Sends (ask_of from redacts snapshot) (state old.here) (state new.here) old.out new.out result × (new.input ≡ old.input)
+    Sends (Named (ask_of from redacts snapshot)) (state old.here) (state new.here) old.out new.out result × (new.input ≡ old.input)
+DoesLine state now (Resume image token) old new result =
+    Sends (Rest token) (state old.here) (state new.here) old.out new.out result × (new.input ≡ old.input)
 DoesLine state now (Receive image keeps forces origin target) old new result =
     Receives (receipt_of keeps forces origin target) (state old.here) (state new.here) old.input new.input old.out new.out result
 DoesLine state now (Token image dataset) old new result =

@@ -2,7 +2,7 @@
 use Rattle.std.specs.Prelude.{◌≡◌, ◌≢◌, ℕ, ◌*◌, if◌then◌else◌, List, Option, Some, None, Result, Ok, Err}
 use Rattle.zst_line.specs.Lines.{LineAnswers}
 use Rattle.zst_line.specs.declared.line.Line.{Line}
-use Rattle.zst_line.specs.declared.line.Line.TheVariants.{Create, Step, Send, Receive, Token}
+use Rattle.zst_line.specs.declared.line.Line.TheVariants.{Create, Step, Send, Resume, Receive, Token}
 use Rattle.zst_line.specs.declared.line.LineFault.{LineFault}
 use Rattle.zst_line.specs.declared.line.LineFault.TheVariants.{Memory}
 use Rattle.zst_model.specs.pools.Step.{commits}
@@ -14,6 +14,7 @@ abbrev pub image_in : Line → Option (List ℕ)
 image_in (Create image sectors id) = Some image
 image_in (Step image command) = Some image
 image_in (Send image from redacts snapshot) = Some image
+image_in (Resume image token) = Some image
 image_in (Receive image keeps forces origin target) = Some image
 image_in (Token image dataset) = Some image
 image_in line = None
@@ -23,6 +24,7 @@ abbrev pub way_of : Line → Option Opening
 way_of (Create image sectors id) = Some (Made (sectors * 512))
 way_of (Step image command) = Some (if commits command then Alone else Shared)
 way_of (Send image from redacts snapshot) = Some Shared
+way_of (Resume image token) = Some Shared
 way_of (Receive image keeps forces origin target) = Some Alone
 way_of (Token image dataset) = Some Shared
 way_of line = None

@@ -25,6 +25,7 @@ use Rattle.zst_replication.specs.Histories.{StillRemembers}
 use Rattle.zst_replication.specs.Matching.{KnowsSource}
 use Rattle.zst_replication.specs.Outcomes.{HasNothing, HasOneMore, Progress, base_name}
 use Rattle.zst_run.specs.Receives.{Keeps, Receives}
+use Rattle.zst_run.specs.declared.send.Asked.TheVariants.{Named}
 use Rattle.zst_run.specs.Sends.{Sends}
 
 -- an image is read as this pool, and this is what an asked send of it is to give; no block of the snapshot is redacted
@@ -71,7 +72,7 @@ abbrev pub SentSnapshotStands : (here here' there there' : DiskState) → Type 0
 SentSnapshotStands here here' there there' =
     (tight : Bool) (ask : SendAsk) (receive : RecvAsk) (from into : Pool) (sent : Sent) (out out' other other' : SinkState) (input input' : SourceState)
     → IsSender ask from sent here → here'.honest → IsReceiver tight receive into from sent there there'
-    → Sends ask here here' out out' (Ok tt) → Receives receive there there' input input' other other' (Ok tt) → IsPiped out out' input input'
+    → Sends (Named ask) here here' out out' (Ok tt) → Receives receive there there' input input' other other' (Ok tt) → IsPiped out out' input input'
     → IsReplicated tight receive into sent there'
 
 -- Whatever is read: a run of `receive` without -s that is refused, but for a fault of the disk or of the output, leaves nothing of the receive.

@@ -7,11 +7,12 @@ use Rattle.zst_model.specs.declared.refusals.faults.Quantity.TheVariants.{Stream
 use Rattle.zst_model.specs.declared.refusals.plan_fault.PlanFault.{PlanFault}
 use Rattle.zst_model.specs.declared.refusals.refusal.Refusal.{Refusal}
 use Rattle.zst_model.specs.declared.refusals.refusal.Refusal.TheVariants as refusals
+use Rattle.zst_model.specs.declared.sends.header.Point.{Point}
 use Rattle.zst_model.specs.refusals.Refusal.{refusal_of}
 use Rattle.zst_model.specs.sends.Headers.{Sent}
 use Rattle.zst_reader.specs.Filling.{stream_limit}
 use Rattle.zst_send.specs.Sends as given
-use Rattle.zst_send.specs.Sends.{sent_text}
+use Rattle.zst_send.specs.Sends.{begun_text}
 use Rattle.zst_send.specs.declared.send.Send.{Send}
 use Rattle.zst_tree.specs.Indices.{Blocks}
 use Rattle.zst_run.specs.Sends.{IsOut, SendsBy}
@@ -23,11 +24,11 @@ abbrev pub IsOpenRefusal : Refusal → Type 0
 IsOpenRefusal refusal = ((fault : PlanFault) × (refusal ≡ refusal_of fault)) ⊎ (refusal ≡ refusals.OutOfMemory)
 
 -- a send is opened by its plan, and all of its text is left; it is refused by its plan, unless no memory is left
-abbrev pub OpensBy : Blocks → Result Sent PlanFault → Result Send Refusal → Type 0
-OpensBy has (Ok sent) (Ok send) = given.Sends has send sent [] (sent_text sent)
-OpensBy has (Ok sent) (Err refusal) = refusal ≡ refusals.OutOfMemory
-OpensBy has (Err fault) (Ok send) = ⊥
-OpensBy has (Err fault) (Err refusal) = (refusal ≡ refusal_of fault) ⊎ (refusal ≡ refusals.OutOfMemory)
+abbrev pub OpensBy : Blocks → Option Point → Result Sent PlanFault → Result Send Refusal → Type 0
+OpensBy has start (Ok sent) (Ok send) = given.SendsFrom has send sent start [] (begun_text sent start)
+OpensBy has start (Ok sent) (Err refusal) = refusal ≡ refusals.OutOfMemory
+OpensBy has start (Err fault) (Ok send) = ⊥
+OpensBy has start (Err fault) (Err refusal) = (refusal ≡ refusal_of fault) ⊎ (refusal ≡ refusals.OutOfMemory)
 
 -- whatever the image, it is refused by its plan, or that passes: then it is opened, unless no memory is left
 abbrev pub PlansOpen : Result Sent PlanFault → Result Send Refusal → Type 0
@@ -44,17 +45,17 @@ IfUnplanned (Err fault) out out' result = (result ≡ Err (refusal_of fault)) ×
 -- ---- pieces
 
 -- so many bytes were given, all of them are written, and no fault of the output was counted
-pub record Sending (has : Blocks) (sent : Sent) (send : Send) (out out' : SinkState) (count : ℕ) : Type 0 where
+pub record Sending (has : Blocks) (start : Option Point) (sent : Sent) (send : Send) (out out' : SinkState) (count : ℕ) : Type 0 where
   pub text : List ℕ
   pub left : List ℕ
-  pub stands : given.Sends has send sent text left
+  pub stands : given.SendsFrom has send sent start text left
   pub counted : count ≡ length text
   pub printed : Printed out out' text
 
 -- the send goes on, or it ended
-abbrev pub Passed : Blocks → Sent → Send → (before after : ℕ) → SinkState → SinkState → ℕ → Option (Result (Unit {0}) Refusal) → Type 0
-Passed has sent send before after out out' count None = Sending has sent send out out' count
-Passed has sent send before after out out' count (Some result) = SendsBy (Ok sent) before after out out' result
+abbrev pub Passed : Blocks → Option Point → Sent → Send → (before after : ℕ) → SinkState → SinkState → ℕ → Option (Result (Unit {0}) Refusal) → Type 0
+Passed has start sent send before after out out' count None = Sending has start sent send out out' count
+Passed has start sent send before after out out' count (Some result) = SendsBy start (Ok sent) before after out out' result
 
 -- where it goes on, bytes were given, and no more than a stream may have
 abbrev pub Advances : (old new : ℕ) → Option (Result (Unit {0}) Refusal) → Type 0

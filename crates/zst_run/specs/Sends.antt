@@ -1,4 +1,4 @@
--- What a send writes, and why it ends.
+-- What a send writes, from its beginning or from a token's point, and why it ends.
 use Rattle.std.specs.Prelude.{ℕ, ◌≡◌, ◌≢◌, ◌⊎◌, ◌<◌, ◌≤◌, IfErr, List, [], ◌++◌, length, Option, None, Some, Result, Ok, Err, false}
 use Rattle.zst_outside.specs.Causes.{Rose}
 use Rattle.zst_outside.specs.Images.{DiskState, OnlyReads}
@@ -6,18 +6,22 @@ use Rattle.zst_outside.specs.Printing.{Printed, Wrote}
 use Rattle.zst_outside.specs.States.{SinkState, HandedOn}
 use Rattle.zst_uber.specs.Slots.{latest}
 use Rattle.zst_uber.specs.declared.uber.Uber.{Uber}
+use Rattle.zst_model.specs.declared.refusals.faults.Lack.TheVariants as lacks
 use Rattle.zst_model.specs.declared.refusals.faults.Quantity.TheVariants.{Stream}
 use Rattle.zst_model.specs.declared.refusals.named.Name.{Name}
 use Rattle.zst_model.specs.declared.refusals.named.Name.TheVariants as names
 use Rattle.zst_model.specs.declared.refusals.plan_fault.PlanFault.{PlanFault}
+use Rattle.zst_model.specs.declared.refusals.plan_fault.PlanFault.TheVariants as plans
 use Rattle.zst_model.specs.declared.refusals.refusal.Refusal.{Refusal}
 use Rattle.zst_model.specs.declared.refusals.refusal.Refusal.TheVariants as refusals
 use Rattle.zst_model.specs.declared.sends.ask.FromName.{FromName}
 use Rattle.zst_model.specs.declared.sends.ask.FromName.TheVariants.{Snap, Book}
 use Rattle.zst_model.specs.declared.sends.ask.SendAsk.{SendAsk}
+use Rattle.zst_model.specs.declared.sends.header.Point.{Point}
 use Rattle.zst_model.specs.pools.Pool.{Pool}
 use Rattle.zst_model.specs.refusals.Refusal.{refusal_of}
 use Rattle.zst_model.specs.sends.Headers.{Sent, header_of, sent_view}
+use Rattle.zst_model.specs.states.Apply.{unless, ◌>>=◌}
 use Rattle.zst_tree.specs.Damage.{IsSeen}
 use Rattle.zst_tree.specs.declared.tree.ObjSet.{ObjSet}
 use Rattle.zst_objset.specs.Damage.{DamageFact}
@@ -26,13 +30,17 @@ use Rattle.zst_image.specs.Faults.{open_refusal}
 use Rattle.zst_image.specs.Opening.{TellsBody, TellsDir}
 use Rattle.zst_image.specs.Reads.{IsNamedBy, Reads, kept_rows}
 use Rattle.zst_image.specs.declared.open_fault.OpenFault.{OpenFault}
-use Rattle.zst_pool.specs.Damage.{OfSet}
+use Rattle.zst_plan.specs.ResumePlan.{resumed_send}
+use Rattle.zst_pool.specs.Finding.{set_named}
 use Rattle.zst_pool.specs.Faults.{pool_refusal}
 use Rattle.zst_pool.specs.declared.fault.PoolFault.{PoolFault}
 use Rattle.zst_reader.specs.Filling.{stream_limit}
 use Rattle.zst_send.specs.Damage.{IsDamagedSend}
-use Rattle.zst_send.specs.Opening.{opening}
-use Rattle.zst_send.specs.Sends.{sent_text}
+use Rattle.zst_send.specs.Opening.{IsOfRow, built, opening}
+use Rattle.zst_send.specs.Sends.{begun_text}
+use Rattle.zst_token.specs.declared.token.Token.{Token}
+use Rattle.zst_run.specs.declared.send.Asked.{Asked}
+use Rattle.zst_run.specs.declared.send.Asked.TheVariants.{Named, Rest}
 use Rattle.zst_run.specs.Commands.{HasVersion, IsPoolRefusal, Opens}
 
 -- ---- what is asked
@@ -53,12 +61,35 @@ source_of (Some (names.Dataset name)) = None
 abbrev pub ask_of : Option Name → Option (List ℕ) → List ℕ → SendAsk
 ask_of from redacts snapshot = record { snap = snapshot; from = source_of from; redact = redacts }
 
+-- what a token asks for: E19 of one of a stream with large blocks comes before all look-ups
+abbrev pub rest_of : Token → Pool → Result Sent PlanFault
+rest_of token pool = unless token.large (plans.Unsupported lacks.LargeBlocks) (resumed_send token pool)
+
+-- what is to be sent, or why it can't: the refusals of its plan, and then that it isn't built
+abbrev pub to_send : Asked → Pool → Result Sent PlanFault
+to_send (Named ask) pool = opening ask pool
+to_send (Rest token) pool = rest_of token pool >>= built
+
+-- the point that a send begins at: a token's, and none of a send from the beginning
+abbrev pub start_of : Asked → Option Point
+start_of (Named ask) = None
+start_of (Rest token) = Some token.point
+
+-- the object set is that of the asked name; a token's is that of one of the snapshots
+abbrev pub HasSet : Asked → Rows → ObjSet → Type 0
+HasSet (Named ask) rows set = set_named (names.Snapshot ask.snap) rows ≡ Some set
+HasSet (Rest token) rows set = IsOfRow rows set
+
+-- a damage of such an object set
+abbrev pub OfAsked : Asked → Rows → (ObjSet → DamageFact) → DamageFact
+OfAsked asked rows Is sector stated found = (set : ObjSet) × HasSet asked rows set × Is set sector stated found
+
 -- ---- how a send of a pool ends
 
--- the text of what is to be sent, and none where it is refused
-abbrev pub text_for : Result Sent PlanFault → List ℕ
-text_for (Ok sent) = sent_text sent
-text_for (Err fault) = []
+-- the text of what is to be sent, from its beginning or from a point, and none where it is refused
+abbrev pub text_for : Option Point → Result Sent PlanFault → List ℕ
+text_for start (Ok sent) = begun_text sent start
+text_for start (Err fault) = []
 
 -- all that was written was handed on, and no fault of the output was counted
 abbrev pub IsOut : SinkState → SinkState → Type 0
@@ -93,14 +124,14 @@ RefusalEnds fault before after (Err refusals.OutOfMemory) = Unit {0}
 RefusalEnds fault before after (Err refusal) = refusal ≡ refusal_of fault
 
 -- how a send ends by its plan; where that refuses, nothing is written
-abbrev pub SendEnds : Result Sent PlanFault → (before after : ℕ) → SinkState → SinkState → Result (Unit {0}) Refusal → Type 0
-SendEnds (Ok sent) before after out out' result = TextEnds (sent_text sent) before after out out' result
-SendEnds (Err fault) before after out out' result = RefusalEnds fault before after result × (out' ≡ out)
+abbrev pub SendEnds : Option Point → Result Sent PlanFault → (before after : ℕ) → SinkState → SinkState → Result (Unit {0}) Refusal → Type 0
+SendEnds start (Ok sent) before after out out' result = TextEnds (begun_text sent start) before after out out' result
+SendEnds start (Err fault) before after out out' result = RefusalEnds fault before after result × (out' ≡ out)
 
 -- a front of the text of the plan was written, whatever the answer, and the send ended as its plan says
-pub record SendsBy (planned : Result Sent PlanFault) (before after : ℕ) (out out' : SinkState) (result : Result (Unit {0}) Refusal) : Type 0 where
-  pub front : (rest : List ℕ) × Wrote out out' (text_for planned) rest
-  pub ends : SendEnds planned before after out out' result
+pub record SendsBy (start : Option Point) (planned : Result Sent PlanFault) (before after : ℕ) (out out' : SinkState) (result : Result (Unit {0}) Refusal) : Type 0 where
+  pub front : (rest : List ℕ) × Wrote out out' (text_for start planned) rest
+  pub ends : SendEnds start planned before after out out' result
 
 -- ---- sending from an image
 
@@ -114,27 +145,28 @@ TellsOf Is result = (sector : ℕ) (stated found : List ℕ) → result ≡ Err 
 
 -- A send from a pool that was opened by this body and these rows, whether or not the image reads as a pool. What the directory
 -- tells alone: E3, E6, E7 and E19 come exactly where the definition refuses the plan of a pool that the body and the rows name,
--- whatever its object sets hold, and then nothing is written. E25 comes only of a block of the asked snapshot's own object set.
-pub record SendRan (ask : SendAsk) (here : DiskState) (out out' : SinkState) (result : Result (Unit {0}) Refusal) (uber : Uber) (rows : Rows) : Type 0 where
+-- whatever its object sets hold, and then nothing is written. E25 comes only of a block of the asked snapshot's own object set, or,
+-- where a token asks, of that of one of the snapshots.
+pub record SendRan (asked : Asked) (here : DiskState) (out out' : SinkState) (result : Result (Unit {0}) Refusal) (uber : Uber) (rows : Rows) : Type 0 where
   pub opens : Opens here uber rows
-  pub planned : (pool : Pool) (fault : PlanFault) → IsNamedBy uber (kept_rows rows) pool → opening ask pool ≡ Err fault
+  pub planned : (pool : Pool) (fault : PlanFault) → IsNamedBy uber (kept_rows rows) pool → to_send asked pool ≡ Err fault
       → (result ≡ Err (refusal_of fault)) × (out' ≡ out)
   pub because : (pool : Pool) (fault : PlanFault) → IsNamedBy uber (kept_rows rows) pool → result ≡ Err (refusals.Plan fault)
-      → opening ask pool ≡ Err fault
-  pub damaged : TellsOf (OfSet (kept_rows rows) (names.Snapshot ask.snap) (send_damage here)) result
+      → to_send asked pool ≡ Err fault
+  pub damaged : TellsOf (OfAsked asked (kept_rows rows) (send_damage here)) result
 
 -- What an answer says of any image. E26 comes where there is no latest body, E27 where it has another version, E25 where it
 -- or its directory isn't of the layout: then nothing is written. Any other answer comes where both are, but for E28 and E32
 -- before anything is written.
-abbrev pub SendOpened : SendAsk → DiskState → SinkState → SinkState → Result (Unit {0}) Refusal → Type 0
-SendOpened ask here out out' (Err refusals.NoPool) = (latest here.seen ≡ None) × (out' ≡ out)
-SendOpened ask here out out' (Err (refusals.BadVersion number)) = HasVersion here number × (out' ≡ out)
-SendOpened ask here out out' (Err (refusals.Damaged sector stated found)) =
+abbrev pub SendOpened : Asked → DiskState → SinkState → SinkState → Result (Unit {0}) Refusal → Type 0
+SendOpened asked here out out' (Err refusals.NoPool) = (latest here.seen ≡ None) × (out' ≡ out)
+SendOpened asked here out out' (Err (refusals.BadVersion number)) = HasVersion here number × (out' ≡ out)
+SendOpened asked here out out' (Err (refusals.Damaged sector stated found)) =
     ((TellsBody here sector stated found ⊎ TellsDir here sector stated found) × (out' ≡ out))
-    ⊎ ((uber : Uber) × (rows : Rows) × SendRan ask here out out' (Err (refusals.Damaged sector stated found)) uber rows)
-SendOpened ask here out out' (Err refusals.DiskFault) = (out' ≡ out) ⊎ ((uber : Uber) × (rows : Rows) × SendRan ask here out out' (Err refusals.DiskFault) uber rows)
-SendOpened ask here out out' (Err refusals.OutOfMemory) = (out' ≡ out) ⊎ ((uber : Uber) × (rows : Rows) × SendRan ask here out out' (Err refusals.OutOfMemory) uber rows)
-SendOpened ask here out out' answer = (uber : Uber) × (rows : Rows) × SendRan ask here out out' answer uber rows
+    ⊎ ((uber : Uber) × (rows : Rows) × SendRan asked here out out' (Err (refusals.Damaged sector stated found)) uber rows)
+SendOpened asked here out out' (Err refusals.DiskFault) = (out' ≡ out) ⊎ ((uber : Uber) × (rows : Rows) × SendRan asked here out out' (Err refusals.DiskFault) uber rows)
+SendOpened asked here out out' (Err refusals.OutOfMemory) = (out' ≡ out) ⊎ ((uber : Uber) × (rows : Rows) × SendRan asked here out out' (Err refusals.OutOfMemory) uber rows)
+SendOpened asked here out out' answer = (uber : Uber) × (rows : Rows) × SendRan asked here out out' answer uber rows
 
 -- a refusal of a pool that was opened, E30, or E23 of a stream; and one of opening the pool
 abbrev pub OfGiving : Refusal → Type 0
@@ -150,10 +182,10 @@ pub record IsSendRefusal (Is : Refusal → Type 0) (here here' : DiskState) (out
   pub cause : refusal ≡ refusals.SinkFault → Rose out.faults out'.faults
 
 -- A send of what is asked, from an image, which is only read. Of a pool a front of the text of its plan is written.
-pub record Sends (ask : SendAsk) (here here' : DiskState) (out out' : SinkState) (result : Result (Unit {0}) Refusal) : Type 0 where
+pub record Sends (asked : Asked) (here here' : DiskState) (out out' : SinkState) (result : Result (Unit {0}) Refusal) : Type 0 where
   pub reads : OnlyReads here here'
-  pub sends : (pool : Pool) → here'.honest → Reads false pool here.seen → SendsBy (opening ask pool) here.faults here'.faults out out' result
-  pub opened : here'.honest → SendOpened ask here out out' result
+  pub sends : (pool : Pool) → here'.honest → Reads false pool here.seen → SendsBy (start_of asked) (to_send asked pool) here.faults here'.faults out out' result
+  pub opened : here'.honest → SendOpened asked here out out' result
   pub refused : IfErr result (IsSendRefusal OfSending here here' out out')
   pub later : here.faults ≤ here'.faults
 
@@ -166,7 +198,7 @@ pub record SendsOf (sent : Sent) (here here' : DiskState) (out out' : SinkState)
   pub honest : here'.honest
   pub reads : Reads false pool here.seen
   pub is : opening ask pool ≡ Ok sent
-  pub sends : Sends ask here here' out out' result
+  pub sends : Sends (Named ask) here here' out out' result
 
 -- two outputs got bytes of which those of one are a front of those of the other
 pub record WroteAlike (out out' into into' : SinkState) : Type 0 where

@@ -38,7 +38,9 @@ fn opening_for(line: &Line) -> Option<Opening>
         }
         Line::Step { command, .. } if command.commits() => Some(Opening::Alone),
         Line::Receive { .. } => Some(Opening::Alone),
-        Line::Step { .. } | Line::Send { .. } | Line::Token { .. } => Some(Opening::Shared),
+        Line::Step { .. } | Line::Send { .. } | Line::Resume { .. } | Line::Token { .. } => {
+            Some(Opening::Shared)
+        }
         _ => None,
     }
 }
@@ -51,6 +53,7 @@ fn image_of(line: Line) -> Option<Text>
         Line::Create { image, .. } => Some(image),
         Line::Step { image, .. } => Some(image),
         Line::Send { image, .. } => Some(image),
+        Line::Resume { image, .. } => Some(image),
         Line::Receive { image, .. } => Some(image),
         Line::Token { image, .. } => Some(image),
         _ => None,

@@ -7,7 +7,7 @@ use crate::dump::dump;
 use crate::note::{note_refusal, status_of};
 use crate::pools::{create_pool, step_pool};
 use crate::receive::{receipt_of, receive};
-use crate::send::{ask_of, send};
+use crate::send::{Asked, ask_of, ask_rest, send};
 use crate::telling::tell_token;
 use std::alloc::Global;
 use zst_line::{Line, parse};
@@ -15,7 +15,6 @@ use zst_model::{Lack, PlanFault, Refusal};
 use zst_names::DatasetName;
 use zst_outside::{Disk, Sink, Source};
 use zst_recv::RecvAsk;
-use zst_send::SendAsk;
 
 /// Does what the words after the program's name ask for, and answers the program's status. A refusal goes to `note`.
 ///
@@ -58,7 +57,7 @@ fn run_words<D: Disk, S: Source, K: Sink>(
 {
     let line = parse(alloc, words)?;
     match asked(&line) {
-        Some(ask) => send(alloc, here, &ask, out),
+        Some(asked) => send(alloc, here, &asked, out),
         None => run_unsent(alloc, line, now, here, input, out),
     }
 }
@@ -105,7 +104,7 @@ fn run_here<D: Disk, S: Source, K: Sink>(
 }
 
 /// What a line asks to be sent.
-fn asked(line: &Line) -> Option<SendAsk>
+fn asked(line: &Line) -> Option<Asked>
     requires { IsInRange line.now }
     ensures { result ≡ asked line.now }
 {
@@ -116,6 +115,7 @@ fn asked(line: &Line) -> Option<SendAsk>
             snapshot,
             ..
         } => Some(ask_of(from, redacts, snapshot)),
+        Line::Resume { token, .. } => Some(ask_rest(token)),
         _ => None,
     }
 }

@@ -1,5 +1,5 @@
-// The line that sends a snapshot: its stream is written piece by piece, as it is read of the image.
-ghost use Rattle.std.specs.Prelude.{◌≡◌, ◌≢◌, ◌≤◌, ◌<◌, ℕ, Contains, List, false, length, IfErr, IfOk, IfSome, None, Some, Ok, Err};
+// The lines that send a snapshot, or the rest of it that a token tells: the stream is written piece by piece, as it is read of the image.
+ghost use Rattle.std.specs.Prelude.{Option, ◌≡◌, ◌≢◌, ◌≤◌, ◌<◌, ℕ, Contains, List, false, length, IfErr, IfOk, IfSome, None, Some, Ok, Err};
 ghost use Rattle.zst_outside.specs.Images.{OnlyReads};
 ghost use Rattle.zst_outside.specs.States.{SinkState};
 ghost use Rattle.zst_space.specs.FreeSectors.{FreeSectors};
@@ -8,29 +8,43 @@ ghost use Rattle.zst_dir.specs.Named.{AreNamed};
 ghost use Rattle.zst_image.specs.Reads.{RunsBy};
 ghost use Rattle.zst_model.specs.pools.Pool.{Pool as Plain};
 ghost use Rattle.zst_model.specs.declared.refusals.plan_fault.PlanFault.{PlanFault};
+ghost use Rattle.zst_model.specs.declared.sends.header.Point.{Point};
 ghost use Rattle.zst_model.specs.sends.Headers.{Sent};
-ghost use Rattle.zst_pool.specs.Damage.{OfSet};
-ghost use Rattle.zst_pool.specs.Finding.{set_named};
+ghost use Rattle.zst_plan.specs.Places.{AnswerAlike};
+ghost use Rattle.zst_plan.specs.Plans.{IsInside, IsPlanOf};
 ghost use Rattle.zst_reader.specs.Filling.{stream_limit};
 ghost use Rattle.zst_send.specs.Damage.{IsDamagedSend};
 ghost use Rattle.zst_send.specs.Knowing.{IsAmong, Knows};
-ghost use Rattle.zst_send.specs.Opening.{opening};
+ghost use Rattle.zst_send.specs.Opening.{IsOfRow, opening};
 ghost use Rattle.zst_send.specs.Sends.{SendFits, sent_set};
-ghost use Rattle.zst_run.specs.Sends.{IsSendRefusal, IsSource, OfGiving, Sends, SendsBy, SentAlike, TellsOf, ask_of, send_damage, source_of};
+ghost use Rattle.zst_run.specs.declared.send.Asked.TheVariants.{Named, Rest};
+ghost use Rattle.zst_run.specs.Sends.{HasSet, IsSendRefusal, IsSource, OfAsked, OfGiving, Sends, SendsBy, SentAlike, TellsOf, ask_of, rest_of, send_damage, source_of, start_of, to_send};
 ghost use Rattle.zst_run.specs.Sending.{Advances, IfUnplanned, IsOpenRefusal, OpensBy, Passed, PlansOpen, Sending, WritesPiece};
 
 use crate::reply::hand_on;
 use std::alloc::Global;
+use zst_dir::Dir;
 use zst_image::Kept;
-use zst_model::{Name, Quantity, Refusal};
+use zst_model::{Lack, Name, PlanFault, Quantity, Refusal};
 use zst_names::{BookName, SnapName};
 use zst_outside::{Disk, Sink, write_all};
+use zst_plan::{SendPlan, resume_plan};
 use zst_pool::{Pool, PoolFault};
 use zst_reader::STREAM_LIMIT;
 use zst_send::{FromName, Send, SendAsk};
+use zst_token::Token;
 
 /// The bytes of a piece, which stay in a processor's cache from where they are read to where they are written.
 const PIECE: usize = 262_144;
+
+/// What is asked to be sent.
+#[derive(Drop)]
+pub(crate) enum Asked {
+    /// A snapshot, by the names of the line.
+    Named(SendAsk),
+    /// The rest of what a token is of.
+    Rest(Token),
+}
 
 /// What an increment is asked to be sent from.
 fn source_of(from: &Option<Name>) -> Option<FromName>
@@ -46,22 +60,32 @@ fn source_of(from: &Option<Name>) -> Option<FromName>
 }
 
 /// What the names of a line ask for.
-pub(crate) fn ask_of(
-    from: &Option<Name>,
-    redacts: &Option<BookName>,
-    snapshot: &SnapName,
-) -> SendAsk
+pub(crate) fn ask_of(from: &Option<Name>, redacts: &Option<BookName>, snapshot: &SnapName) -> Asked
     requires { IfSome from.now IsSource }
-    ensures { result ≡ ask_of from.now redacts.now snapshot.now }
+    ensures { result ≡ Named (ask_of from.now redacts.now snapshot.now) }
 {
-    SendAsk {
+    Asked::Named(SendAsk {
         snap: snapshot.duplicate(),
         from: source_of(from),
         redact: match redacts {
             Some(name) => Some(name.duplicate()),
             None => None,
         },
-    }
+    })
+}
+
+/// What a token asks for.
+pub(crate) fn ask_rest(token: &Token) -> Asked
+    ensures { result ≡ Rest token.now }
+{
+    Asked::Rest(Token {
+        large: token.large,
+        to: token.to,
+        from: token.from,
+        point: token.point,
+        redact: token.redact.duplicate(),
+        from_redact: token.from_redact.duplicate(),
+    })
 }
 
 // Writes a piece behind so many bytes, which it makes more. After the last one all is handed on.
@@ -104,8 +128,8 @@ fn pass_piece<D: Disk, K: Sink>(
     requires fits { FitsDisk (D.state pool.old.io.disk.now).size pool.old.io.space }
     requires works { pool.old.io.failed ≡ false }
     requires within { count.old ≤ stream_limit }
-    ensures passed { (sent : Sent) (begun : SinkState) → (D.state pool.new.io.disk.now).honest → Sending (Has (D.state pool.old.io.disk.now).seen pool.old.io.space) sent send.old begun (K.state out.old) count.old
-        → Passed (Has (D.state pool.new.io.disk.now).seen pool.new.io.space) sent send.new (D.state pool.old.io.disk.now).faults (D.state pool.new.io.disk.now).faults begun (K.state out.new) count.new result }
+    ensures passed { (start : Option Point) (sent : Sent) (begun : SinkState) → (D.state pool.new.io.disk.now).honest → Sending (Has (D.state pool.old.io.disk.now).seen pool.old.io.space) start sent send.old begun (K.state out.old) count.old
+        → Passed (Has (D.state pool.new.io.disk.now).seen pool.new.io.space) start sent send.new (D.state pool.old.io.disk.now).faults (D.state pool.new.io.disk.now).faults begun (K.state out.new) count.new result }
     ensures advances { Advances count.old count.new result }
     ensures refused { IfSome result (λ answer. IfErr answer (IsSendRefusal OfGiving (D.state pool.old.io.disk.now) (D.state pool.new.io.disk.now) (K.state out.old) (K.state out.new))) }
     ensures unplanned { (fault : PlanFault) → result ≢ Some (Err (Refusal.Plan fault)) }
@@ -142,8 +166,8 @@ fn pass_all<D: Disk, K: Sink>(
     requires send { SendFits send }
     requires fits { FitsDisk (D.state pool.old.io.disk.now).size pool.old.io.space }
     requires works { pool.old.io.failed ≡ false }
-    ensures sends { (sent : Sent) → (D.state pool.new.io.disk.now).honest → Sending (Has (D.state pool.old.io.disk.now).seen pool.old.io.space) sent send (K.state out.old) (K.state out.old) 0
-        → SendsBy (Ok sent) (D.state pool.old.io.disk.now).faults (D.state pool.new.io.disk.now).faults (K.state out.old) (K.state out.new) result }
+    ensures sends { (start : Option Point) (sent : Sent) → (D.state pool.new.io.disk.now).honest → Sending (Has (D.state pool.old.io.disk.now).seen pool.old.io.space) start sent send (K.state out.old) (K.state out.old) 0
+        → SendsBy start (Ok sent) (D.state pool.old.io.disk.now).faults (D.state pool.new.io.disk.now).faults (K.state out.old) (K.state out.new) result }
     ensures unplanned { (fault : PlanFault) → result ≢ Err (Refusal.Plan fault) }
     ensures damaged { (images : List (List ℕ)) → Contains images (D.state pool.old.io.disk.now).seen → (D.state pool.new.io.disk.now).honest → Knows (IsAmong images) send
         → TellsOf (IsDamagedSend (IsAmong images) (D.state pool.old.io.disk.now).size (sent_set send)) result }
@@ -161,12 +185,16 @@ fn pass_all<D: Disk, K: Sink>(
     }
 }
 
-// Opens a send. That reads nothing, so that it is refused by its plan or for want of memory alone.
-fn open<D: Disk>(alloc: Global, pool: &mut Pool<'_, D>, ask: &SendAsk) -> Result<Send, Refusal>
+// Opens a send of a snapshot by names.
+fn open_named<D: Disk>(
+    alloc: Global,
+    pool: &mut Pool<'_, D>,
+    ask: &SendAsk,
+) -> Result<Send, Refusal>
     requires { pool.old.io.failed ≡ false }
-    ensures opens { (image : List ℕ) (space : FreeSectors) (running : Plain) → RunsBy None (Has image space) pool.old.kept.dir running → OpensBy (Has image space) (opening ask.now running) result }
+    ensures opens { (image : List ℕ) (space : FreeSectors) (running : Plain) → RunsBy None (Has image space) pool.old.kept.dir running → OpensBy (Has image space) None (opening ask.now running) result }
     ensures planned { (running : Plain) → AreNamed pool.old.kept.dir running → PlansOpen (opening ask.now running) result }
-    ensures set { IfOk result (λ send. set_named (Name.Snapshot ask.now.snap) pool.old.kept.dir ≡ Some (sent_set send)) }
+    ensures set { IfOk result (λ send. HasSet (Named ask.now) pool.old.kept.dir (sent_set send)) }
     ensures knows { (images : List (List ℕ)) → IfOk result (Knows (IsAmong images)) }
     ensures fits { IfOk result SendFits }
     ensures refused { IfErr result IsOpenRefusal }
@@ -182,26 +210,81 @@ fn open<D: Disk>(alloc: Global, pool: &mut Pool<'_, D>, ask: &SendAsk) -> Result
     }
 }
 
+// What a token asks for, by the rows. Large blocks aren't supported, so that nothing is looked up then.
+fn rest_plan(dir: &Dir, token: &Token) -> Result<SendPlan, PlanFault>
+    ensures inside { IfOk result (IsInside dir.now) }
+    ensures exact { (pool : Plain) → AreNamed dir.now pool → AnswerAlike (IsPlanOf dir.now pool) result (rest_of token.now pool) }
+{
+    if token.large {
+        return Err(PlanFault::Unsupported(Lack::LargeBlocks));
+    }
+    resume_plan(dir, token)
+}
+
+// Opens a send of the rest that a token tells.
+fn open_rest<D: Disk>(alloc: Global, pool: &mut Pool<'_, D>, token: &Token) -> Result<Send, Refusal>
+    requires { pool.old.io.failed ≡ false }
+    ensures opens { (image : List ℕ) (space : FreeSectors) (running : Plain) → RunsBy None (Has image space) pool.old.kept.dir running
+        → OpensBy (Has image space) (Some token.now.point) (to_send (Rest token.now) running) result }
+    ensures planned { (running : Plain) → AreNamed pool.old.kept.dir running → PlansOpen (to_send (Rest token.now) running) result }
+    ensures set { IfOk result (λ send. HasSet (Rest token.now) pool.old.kept.dir (sent_set send)) }
+    ensures knows { (images : List (List ℕ)) → IfOk result (Knows (IsAmong images)) }
+    ensures fits { IfOk result SendFits }
+    ensures refused { IfErr result IsOpenRefusal }
+    ensures disk { pool.new.io.disk.now ≡ pool.old.io.disk.now }
+    ensures space { pool.new.io.space ≡ pool.old.io.space }
+    ensures failed { pool.new.io.failed ≡ pool.old.io.failed }
+    ensures same { pool.new.io.disk.ghost_name ≡ pool.old.io.disk.ghost_name }
+{
+    let plan = rest_plan(&pool.kept.dir, token)?;
+    match Send::resume(pool, alloc, &plan, token.point) {
+        Ok(send) => Ok(send),
+        Err(PoolFault::Plan(fault)) => Err(Refusal::from(fault)),
+        Err(_) => Err(Refusal::OutOfMemory),
+    }
+}
+
+// Opens a send. That reads nothing, so that it is refused by its plan or for want of memory alone.
+fn open<D: Disk>(alloc: Global, pool: &mut Pool<'_, D>, asked: &Asked) -> Result<Send, Refusal>
+    requires { pool.old.io.failed ≡ false }
+    ensures opens { (image : List ℕ) (space : FreeSectors) (running : Plain) → RunsBy None (Has image space) pool.old.kept.dir running
+        → OpensBy (Has image space) (start_of asked.now) (to_send asked.now running) result }
+    ensures planned { (running : Plain) → AreNamed pool.old.kept.dir running → PlansOpen (to_send asked.now running) result }
+    ensures set { IfOk result (λ send. HasSet asked.now pool.old.kept.dir (sent_set send)) }
+    ensures knows { (images : List (List ℕ)) → IfOk result (Knows (IsAmong images)) }
+    ensures fits { IfOk result SendFits }
+    ensures refused { IfErr result IsOpenRefusal }
+    ensures disk { pool.new.io.disk.now ≡ pool.old.io.disk.now }
+    ensures space { pool.new.io.space ≡ pool.old.io.space }
+    ensures failed { pool.new.io.failed ≡ pool.old.io.failed }
+    ensures same { pool.new.io.disk.ghost_name ≡ pool.old.io.disk.ghost_name }
+{
+    match asked {
+        Asked::Named(ask) => open_named(alloc, pool, ask),
+        Asked::Rest(token) => open_rest(alloc, pool, token),
+    }
+}
+
 // Sends what is asked from a pool that was opened.
 fn send_from<D: Disk, K: Sink>(
     alloc: Global,
     pool: &mut Pool<'_, D>,
-    ask: &SendAsk,
+    asked: &Asked,
     out: &mut K,
 ) -> Result<(), Refusal>
     requires fits { FitsDisk (D.state pool.old.io.disk.now).size pool.old.io.space }
     requires works { pool.old.io.failed ≡ false }
     ensures sends { (running : Plain) → (D.state pool.new.io.disk.now).honest → RunsBy None (Has (D.state pool.old.io.disk.now).seen pool.old.io.space) pool.old.kept.dir running
-        → SendsBy (opening ask.now running) (D.state pool.old.io.disk.now).faults (D.state pool.new.io.disk.now).faults (K.state out.old) (K.state out.new) result }
-    ensures planned { (running : Plain) → AreNamed pool.old.kept.dir running → IfUnplanned (opening ask.now running) (K.state out.old) (K.state out.new) result }
-    ensures because { (running : Plain) (fault : PlanFault) → AreNamed pool.old.kept.dir running → result ≡ Err (Refusal.Plan fault) → opening ask.now running ≡ Err fault }
-    ensures damaged { (D.state pool.new.io.disk.now).honest → TellsOf (OfSet pool.old.kept.dir (Name.Snapshot ask.now.snap) (send_damage (D.state pool.old.io.disk.now))) result }
+        → SendsBy (start_of asked.now) (to_send asked.now running) (D.state pool.old.io.disk.now).faults (D.state pool.new.io.disk.now).faults (K.state out.old) (K.state out.new) result }
+    ensures planned { (running : Plain) → AreNamed pool.old.kept.dir running → IfUnplanned (to_send asked.now running) (K.state out.old) (K.state out.new) result }
+    ensures because { (running : Plain) (fault : PlanFault) → AreNamed pool.old.kept.dir running → result ≡ Err (Refusal.Plan fault) → to_send asked.now running ≡ Err fault }
+    ensures damaged { (D.state pool.new.io.disk.now).honest → TellsOf (OfAsked asked.now pool.old.kept.dir (send_damage (D.state pool.old.io.disk.now))) result }
     ensures refused { IfErr result (IsSendRefusal OfGiving (D.state pool.old.io.disk.now) (D.state pool.new.io.disk.now) (K.state out.old) (K.state out.new)) }
     ensures reads { OnlyReads (D.state pool.old.io.disk.now) (D.state pool.new.io.disk.now) }
     ensures later { (D.state pool.old.io.disk.now).faults ≤ (D.state pool.new.io.disk.now).faults }
     ensures same { pool.new.io.disk.ghost_name ≡ pool.old.io.disk.ghost_name }
 {
-    let send = open(alloc, pool, ask)?;
+    let send = open(alloc, pool, asked)?;
     let Ok(mut room) = vec![in alloc; 0; PIECE] else {
         return Err(Refusal::OutOfMemory);
     };
@@ -212,14 +295,14 @@ fn send_from<D: Disk, K: Sink>(
 pub(crate) fn send<D: Disk, K: Sink>(
     alloc: Global,
     here: &mut D,
-    ask: &SendAsk,
+    asked: &Asked,
     out: &mut K,
 ) -> Result<(), Refusal>
-    ensures { Sends ask.now (D.state here.old) (D.state here.new) (K.state out.old) (K.state out.new) result }
+    ensures { Sends asked.now (D.state here.old) (D.state here.new) (K.state out.old) (K.state out.new) result }
 {
     let kept = Kept::open(alloc, here)?;
     let mut pool = Pool::new(alloc, here, kept);
-    let result = send_from(alloc, &mut pool, ask, out);
+    let result = send_from(alloc, &mut pool, asked, out);
     // Only of a disk that was given back is it known what stands on it.
     pool.into_disk();
     result

@@ -5,10 +5,10 @@ use Rattle.zst_run.proofs.SendLemmas.{refused_earlier, sent_earlier}
 use Rattle.zst_run.proofs.send.pass_all.Goals as goal
 
 pub returns-in-Some-clause-sends : goal.returns-in-Some-clause-sends
-returns-in-Some-clause-sends g c = λ sent told begun.
+returns-in-Some-clause-sends g c = λ start sent told begun.
     let i = c.pieces.invariant in
     let e = c.in-Some.ensures in
-    sent_earlier sent _ _ _ _ _ _ i.later (e.passed sent _ told (i.sending sent (e.reads.honest told) begun))
+    sent_earlier start sent _ _ _ _ _ _ i.later (e.passed start sent _ told (i.sending start sent (e.reads.honest told) begun))
 
 pub returns-in-Some-clause-refused : goal.returns-in-Some-clause-refused
 returns-in-Some-clause-refused g c = refused_earlier _ _ _ _ _ _ _ c.pieces.invariant.later c.pieces.invariant.out_later c.in-Some.ensures.refused
@@ -27,7 +27,7 @@ pieces-preserved g c =
     let i = c.pieces.invariant in
     let e = c.in-None.ensures in
     record {
-      sending = λ sent told begun. e.passed sent _ told (i.sending sent (e.reads.honest told) begun);
+      sending = λ start sent told begun. e.passed start sent _ told (i.sending start sent (e.reads.honest told) begun);
       set = e.set ∙ i.set;
       knows = λ images told among knows. e.knows images (among_on images _ _ i.reads.seen among) told (i.knows images (e.reads.honest told) among knows);
       send = e.send;

@@ -1,7 +1,8 @@
-use Rattle.std.proofs.Common.{◌≡◌, ◌≤◌, ◌-◌, ℕ, List, false}
+use Rattle.std.proofs.Common.{◌≡◌, ◌≤◌, ◌-◌, ℕ, List, Option, false}
 use Rattle.std.specs.Prelude.{Contains}
 use Rattle.zst_outside.specs.Images.{OnlyReads}
 use Rattle.zst_block.specs.Blocks.{FitsDisk, Has}
+use Rattle.zst_model.specs.declared.sends.header.Point.{Point}
 use Rattle.zst_model.specs.sends.Headers.{Sent}
 use Rattle.zst_reader.specs.Filling.{stream_limit}
 use Rattle.zst_send.specs.Knowing.{IsAmong, Knows}
@@ -15,8 +16,8 @@ invariant-pieces g l =
     let disk = g.D.Disk in
     let sink = g.K.Sink in
     record {
-      sending : (sent : Sent) → (disk.state l.pool.io.disk.now).honest → Sending (Has (disk.state l.fn.pool.io.disk.now).seen l.fn.pool.io.space) sent l.fn.send (sink.state l.fn.out) (sink.state l.fn.out) 0
-          → Sending (Has (disk.state l.pool.io.disk.now).seen l.pool.io.space) sent l.send (sink.state l.fn.out) (sink.state l.out) l.count;
+      sending : (start : Option Point) (sent : Sent) → (disk.state l.pool.io.disk.now).honest → Sending (Has (disk.state l.fn.pool.io.disk.now).seen l.fn.pool.io.space) start sent l.fn.send (sink.state l.fn.out) (sink.state l.fn.out) 0
+          → Sending (Has (disk.state l.pool.io.disk.now).seen l.pool.io.space) start sent l.send (sink.state l.fn.out) (sink.state l.out) l.count;
       set : sent_set l.send ≡ sent_set l.fn.send;
       knows : (images : List (List ℕ)) → (disk.state l.pool.io.disk.now).honest → Contains images (disk.state l.fn.pool.io.disk.now).seen → Knows (IsAmong images) l.fn.send
           → Knows (IsAmong images) l.send;

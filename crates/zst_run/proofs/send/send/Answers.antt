@@ -15,7 +15,7 @@ returns g c =
     let e = c.in_ok-kept.ensures in
     let n = c.new-pool.ensures in
     let s = c.send_from-result.ensures in
-    let sends = opened c.args.ask.now (g.D.Disk.state c.args.here.now) (g.D.Disk.state c.open.new.disk) (g.D.Disk.state c.send_from-result.new.pool.io.disk.now)
+    let sends = opened c.args.asked.now (g.D.Disk.state c.args.here.now) (g.D.Disk.state c.open.new.disk) (g.D.Disk.state c.send_from-result.new.pool.io.disk.now)
     (g.K.Sink.state c.args.out.now) (g.K.Sink.state c.send_from-result.new.out) c.in_ok-kept.kept c.send_from-result.result e.there e.answer e.reads e.cause.later
     (rw (n.disk) at s.reads) (rw (n.disk) at s.later) (λ pool told runs. rw (n.disk) at (s.sends pool told (rw (n.disk, n.space, n.kept) runs))) (rw (n.disk) at s.refused)
     (record {
@@ -23,5 +23,5 @@ returns g c =
       because = λ pool fault named is. s.because pool fault (rw (n.kept) named) is;
       damaged = λ told. rw (n.disk, n.kept) at (s.damaged told);
     }) in
-    subst (λ d. Sends c.args.ask.now (g.D.Disk.state c.args.here.now) (g.D.Disk.state d) (g.K.Sink.state c.args.out.now) (g.K.Sink.state c.send_from-result.new.out) c.send_from-result.result)
+    subst (λ d. Sends c.args.asked.now (g.D.Disk.state c.args.here.now) (g.D.Disk.state d) (g.K.Sink.state c.args.out.now) (g.K.Sink.state c.send_from-result.new.out) c.send_from-result.result)
     (search rules) sends

@@ -1,6 +1,6 @@
 use Rattle.std.proofs.Common.{inl, refl}
 use Rattle.zst_run.proofs.SendLemmas.{wants_memory}
-use Rattle.zst_run.proofs.send.open.Goals as goal
+use Rattle.zst_run.proofs.send.open_named.Goals as goal
 
 pub returns-in-Ok-clause-opens : goal.returns-in-Ok-clause-opens
 returns-in-Ok-clause-opens g c = λ image space running runs.
@@ -13,7 +13,7 @@ returns-in-Err-Plan-clause-opens g c = λ image space running runs.
     rw (o, c.from.ensures) (inl refl)
 
 pub returns-in-Err-clause-opens : goal.returns-in-Err-clause-opens
-returns-in-Err-clause-opens g c = λ image space running runs. wants_memory _ _
+returns-in-Err-clause-opens g c = λ image space running runs. wants_memory _ _ _
 
 pub returns-in-Ok-clause-planned : goal.returns-in-Ok-clause-planned
 returns-in-Ok-clause-planned g c = λ running named. c.in-Ok.ensures.planned running c.requires named
