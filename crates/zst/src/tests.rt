@@ -9,6 +9,7 @@ mod lost;
 mod plans;
 mod pools;
 mod receives;
+mod rests;
 mod runs;
 mod sends;
 mod sessions;

@@ -111,7 +111,7 @@ pub(super) const EACH_KIND: [Accepted; 12] = [
 ];
 
 /// Lines that this pool refuses.
-const REFUSED: [Refused; 22] = [
+const REFUSED: [Refused; 20] = [
     ("clone I tank/a@x tank/y", 3, "E3 no such tank/a@x"),
     ("clone I tank/a@z tank/ab", 3, "E4 exists: tank/ab"),
     ("bookmark I tank/a@x tank/a#x", 3, "E3 no such tank/a@x"),
@@ -130,12 +130,6 @@ const REFUSED: [Refused; 22] = [
     ("destroy I tank/a@z", 3, "E5 busy: clone tank/ab"),
     ("destroy I tank/v", 3, "E5 busy: clone tank/a/w"),
     // What isn't built yet is told once the words are a line, and no input has no stream.
-    (
-        "send -t zst1-0000000000000000010000000100000000000000000000000000000000000000000000000000000000000000000000000000000000000000-0000000000000017 I",
-        3,
-        "E19 unsupported: not built",
-    ),
-    ("send -t zst1 I", 2, "E16 bad token at 4"),
     ("receive -s -F I tank/y", 4, "E20 truncated at 0"),
     (
         "redact I tank/a@z tank/a#r tank/ab@s",
