@@ -23,7 +23,7 @@ use Rattle.zst_model.specs.states.State.{Block, Hole, Redacted, Data, number_bou
 use Rattle.zst_model.specs.states.Apply.{unless, ◌>>=◌}
 use Rattle.zst_model.specs.sends.Items.{spill_change}
 use Rattle.zst_model.specs.states.Dated.{DatedState, size_at, apply_all_dated}
-use Rattle.zst_model.specs.pools.Held.{Held, has_named, least_id, session_with, unless_busy}
+use Rattle.zst_model.specs.pools.Held.{Held, has_named, least_id, session_with, session_into, unless_busy}
 use Rattle.zst_model.specs.pools.Pool.{Pool, Dataset, Snapshot, Bookmark, Partial, dataset_of_snapshot, dataset_of_bookmark, dataset_named, snapshot_named, bookmark_named, partial_of, is_before, snapshot_is_before, inserted, untouched}
 unfoldable pub use Rattle.zst_model.specs.pools.Limits.{last_number, last_guid, most_datasets, most_snapshots, most_bookmarks}
 use Rattle.zst_model.specs.pools.Limits.{largest_write}
@@ -55,6 +55,7 @@ IsCommand (commands.Clone origin dataset) = IsSnapshot origin × IsDataset datas
 IsCommand (commands.Bookmark snapshot bookmark) = IsSnapshot snapshot × IsBookmark bookmark
 IsCommand (commands.Rollback destroys snapshot) = IsSnapshot snapshot
 IsCommand (commands.Destroy name) = IsName name
+IsCommand (commands.Abort dataset) = IsDataset dataset
 IsCommand (commands.Read name k i) = HasObjects name × (0 < k)
 IsCommand commands.List = Unit {0}
 IsCommand (commands.ListObjects name) = HasObjects name
@@ -75,6 +76,10 @@ exists_already name = refusals.Plan (plans.Exists (present.Named name))
 -- E5: the dataset has a partial state
 abbrev pub busy_partial : List ℕ → Refusal
 busy_partial dataset = refusals.Plan (plans.Busy (holders.Partial dataset))
+
+-- E14: the dataset has no partial state
+abbrev pub no_partial : List ℕ → Refusal
+no_partial dataset = refusals.Plan (plans.NoPartial dataset)
 
 -- E5: it is the origin of this clone, or this bookmark or snapshot is newer
 abbrev pub busy_clone : List ℕ → Refusal
@@ -330,6 +335,17 @@ with_destroyed held (names.Bookmark name) pool =
     or_else (no_such (names.Bookmark name)) (bookmark_named name pool) (λ bookmark.
     committed (without_bookmark name pool))
 
+-- a pool without the partial state of this target; all else, the target with it, stays
+abbrev pub without_partial : List ℕ → Pool → Pool
+without_partial target pool = record pool { partials = filter (λ partial. not (bytes_eq partial.target target)) pool.partials }
+
+-- abort: a partial state is given up (zfs-receive(8), -A). Of what sessions have, a receive into it alone counts: a send from its target doesn't.
+abbrev pub with_aborted : List Held → List ℕ → Pool → Result Stepped Refusal
+with_aborted held target pool =
+    or_else (no_partial target) (partial_of target pool) (λ partial.
+    unless_busy (session_into target held)
+    (committed (without_partial target pool)))
+
 -- the state of a dataset's head, or of a snapshot; a bookmark has none
 abbrev pub state_named : Name → Pool → Option DatedState
 state_named (names.Dataset name) pool = option_map (λ dataset. dataset.head) (dataset_named name pool)
@@ -346,8 +362,8 @@ block_read pool k i Redacted = Err (refusals.Redacted k i)
 block_read pool k i Hole = in_indices (i + 1) (answered pool (codes "hole" ∷ []))
 block_read pool k i (Data bytes) = in_indices (i + 1) (answered pool (data_line bytes ∷ []))
 
--- What a command makes of a pool at this time, while sessions hold and claim this. Rollback and destroy alone look at what is held:
--- E5 of a session is for those that drop a dataset or a snapshot.
+-- What a command makes of a pool at this time, while sessions hold and claim this. Rollback, destroy and abort alone look at what is held:
+-- E5 of a session is for those that drop a dataset, a snapshot or a partial state.
 unfoldable pub stepped : (held : List Held) → (now : ℕ) → Command → Pool → Result Stepped Refusal
 stepped held now (commands.Fs dataset) pool = with_dataset (new_dataset 2 dataset) pool
 stepped held now (commands.Volume dataset) pool = with_dataset (new_dataset 3 dataset) pool
@@ -362,6 +378,7 @@ stepped held now (commands.Clone origin dataset) pool = with_clone origin datase
 stepped held now (commands.Bookmark snapshot bookmark) pool = with_bookmark snapshot bookmark pool
 stepped held now (commands.Rollback destroys snapshot) pool = with_rollback held destroys snapshot pool
 stepped held now (commands.Destroy name) pool = with_destroyed held name pool
+stepped held now (commands.Abort dataset) pool = with_aborted held dataset pool
 stepped held now (commands.Read name k i) pool =
     or_else (no_such name) (state_named name pool) (λ snap.
     or_else (cannot_apply NoObject) (snap.state k) (λ object.
@@ -382,6 +399,7 @@ commits (commands.Clone origin dataset) = true
 commits (commands.Bookmark snapshot bookmark) = true
 commits (commands.Rollback destroys snapshot) = true
 commits (commands.Destroy name) = true
+commits (commands.Abort dataset) = true
 commits (commands.Read name k i) = false
 commits commands.List = false
 commits (commands.ListObjects name) = false

@@ -67,6 +67,10 @@ pub enum Command {
     Destroy {
         name: Name,
     },
+    /// Gives up what a receive into this dataset has so far (`-A` of zfs-receive(8)).
+    Abort {
+        dataset: DatasetName,
+    },
     /// Reads one block of a dataset's head or of a snapshot.
     Read {
         name: Name,
