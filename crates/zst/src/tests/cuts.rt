@@ -126,7 +126,7 @@ fn what_is_kept_of_a_cut_stream_is_listed(rt: HostRuntime) -> Result<(), Fail> {
 }
 
 /// How many bytes came to a receive that keeps what it has, and the token then.
-const TOKENS: [(usize, &str); 3] = [
+pub(super) const TOKENS: [(usize, &str); 3] = [
     (
         700,
         "zst1-0000000000000000010000000100000000000000000000000000000000000000000000000000000000000000000000000000000000000000-0000000000000017\n",

@@ -137,7 +137,7 @@ const REFUSED: [Refused; 20] = [
         "E19 unsupported: not built",
     ),
     ("token I tank/a", 3, "E14 no partial: tank/a"),
-    ("abort I tank/a", 3, "E19 unsupported: not built"),
+    ("abort I tank/a", 3, "E14 no partial: tank/a"),
     ("check I", 3, "E19 unsupported: not built"),
     ("reclaim I", 3, "E19 unsupported: not built"),
     ("gen I 64", 3, "E19 unsupported: not built"),
