@@ -1,6 +1,7 @@
 pub mod Standing
 pub mod Rows
 pub mod SourceBases
+pub mod Aborted
 pub mod Accepted
 pub mod Departed
 pub mod Filters

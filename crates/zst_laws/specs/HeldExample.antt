@@ -5,7 +5,7 @@ use Rattle.zst_model.specs.declared.pools.command.Command.TheVariants as command
 use Rattle.zst_model.specs.declared.refusals.named.Name.TheVariants as names
 use Rattle.zst_model.specs.declared.refusals.refusal.Refusal.{Refusal}
 use Rattle.zst_model.specs.pools.Held.{Held, Holds, Claims, id_of, least_id, session_with, session_into, busy_session, unless_busy}
-use Rattle.zst_model.specs.pools.Pool.{Pool, Dataset, Snapshot, dataset_named, snapshot_named}
+use Rattle.zst_model.specs.pools.Pool.{Pool, Dataset, Snapshot, Partial, dataset_named, snapshot_named, partial_of}
 use Rattle.zst_model.specs.pools.Step.{Stepped, stepped}
 use Rattle.zst_model.specs.refusals.Refusal.{number_of, text_of}
 use Rattle.zst_laws.specs.Lineage.{IsNewer}
@@ -54,11 +54,12 @@ BusySessions =
     × (number_of (busy_session id) ≡ 5)
     × (text_of (busy_session 7) ≡ codes "busy: session 7")
 
--- a command that looks at what sessions hold: one that destroys a dataset or snapshots
+-- a command that looks at what sessions have: one that destroys a dataset or snapshots, or gives up a partial state
 abbrev pub asks_sessions : Command → Bool
 asks_sessions (commands.Rollback destroys snapshot) = destroys
 asks_sessions (commands.Destroy (names.Dataset name)) = true
 asks_sessions (commands.Destroy (names.Snapshot name)) = true
+asks_sessions (commands.Abort dataset) = true
 asks_sessions _ = false
 
 -- no other command depends on what is held: so neither does a rollback without -r, nor a destroy of a bookmark
@@ -76,6 +77,11 @@ HasOf name (Claims id dataset) = dataset ≡ name
 abbrev pub HasThis : List ℕ → Held → Type 0
 HasThis name (Holds id snapshot) = snapshot ≡ name
 HasThis name (Claims id dataset) = ⊥
+
+-- one that receives into a dataset claims it
+abbrev pub HasClaim : List ℕ → Held → Type 0
+HasClaim name (Holds id snapshot) = ⊥
+HasClaim name (Claims id dataset) = dataset ≡ name
 
 -- a session holds a snapshot of the pool that is newer than this one
 abbrev pub HasNewer : Snapshot → Pool → Held → Type 0
@@ -109,11 +115,19 @@ HeldNewerStays =
     → snapshot_named name pool ≡ Some snapshot → IsLeastWith (HasNewer snapshot pool) held one
     → stepped held now (commands.Rollback true name) pool ≡ Err (busy_session (id_of one))
 
--- a session has nothing that a command is to destroy
+-- nor is a partial state given up that a session receives into; a send from its target holds nothing back
+abbrev pub HeldTargetStays : Type 0
+HeldTargetStays =
+    (pool : Pool) (target : List ℕ) (partial : Partial) (held : List Held) (one : Held) (now : ℕ)
+    → partial_of target pool ≡ Some partial → IsLeastWith (HasClaim target) held one
+    → stepped held now (commands.Abort target) pool ≡ Err (busy_session (id_of one))
+
+-- a session has nothing that a command is to destroy or to give up
 abbrev pub LeavesFree : Pool → Command → Held → Type 0
 LeavesFree pool (commands.Rollback true name) one = (snapshot : Snapshot) → snapshot_named name pool ≡ Some snapshot → HasNewer snapshot pool one → ⊥
 LeavesFree pool (commands.Destroy (names.Dataset name)) one = HasOf name one → ⊥
 LeavesFree pool (commands.Destroy (names.Snapshot name)) one = HasThis name one → ⊥
+LeavesFree pool (commands.Abort target) one = HasClaim target one → ⊥
 LeavesFree pool _ one = Unit {0}
 
 -- where no session has such a thing, each command is as without sessions

@@ -1,3 +1,4 @@
+pub mod Aborting
 pub mod CloneExample
 pub mod CommandExample
 pub mod Commits

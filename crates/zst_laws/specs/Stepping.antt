@@ -1,9 +1,10 @@
 -- What commands keep of a pool.
-use Rattle.std.specs.Prelude.{◌≡◌, ℕ, ◌^◌, ◌<◌, Ok, List}
+use Rattle.std.specs.Prelude.{◌≡◌, ℕ, ◌^◌, ◌<◌, not, Ok, List, filter, bytes_eq}
 use Rattle.zst_model.specs.declared.pools.command.Command.{Command}
+use Rattle.zst_model.specs.declared.pools.command.Command.TheVariants as commands
 use Rattle.zst_model.specs.pools.Held.{Held}
 use Rattle.zst_model.specs.pools.Kept.{KeepsAll}
-use Rattle.zst_model.specs.pools.Pool.{Pool, IsPool}
+use Rattle.zst_model.specs.pools.Pool.{Pool, Partial, IsPool}
 use Rattle.zst_model.specs.pools.Sound.{Sound}
 use Rattle.zst_model.specs.pools.Step.{Stepped, stepped, IsCommand}
 
@@ -19,12 +20,18 @@ StepsKeepSound =
     (held : List Held) (now : ℕ) (command : Command) (pool : Pool) (after : Stepped)
     → IsCommand command → IsPool pool → Sound pool → stepped held now command pool ≡ Ok after → Sound after.pool
 
--- a command leaves each partial state as it is, so that a pool that keeps all of them keeps all of them
+-- what a command leaves of the partial states: an abort all but that of its target, and each other command all
+abbrev pub partials_after : Command → List Partial → List Partial
+partials_after (commands.Abort target) partials = filter (λ partial. not (bytes_eq partial.target target)) partials
+partials_after _ partials = partials
+
+-- each of these stays as it is
 abbrev pub StepsKeepPartials : Type 0
 StepsKeepPartials =
     (held : List Held) (now : ℕ) (command : Command) (pool : Pool) (after : Stepped)
-    → stepped held now command pool ≡ Ok after → after.pool.partials ≡ pool.partials
+    → stepped held now command pool ≡ Ok after → after.pool.partials ≡ partials_after command pool.partials
 
+-- so a pool that keeps all of them keeps all of them
 abbrev pub StepsKeepKept : Type 0
 StepsKeepKept =
     (held : List Held) (now : ℕ) (command : Command) (pool : Pool) (after : Stepped)

@@ -9,6 +9,7 @@ ghost use Rattle.zst_laws.specs.Resuming.{ResumeIsExact, StartStands, CutStands}
 ghost use Rattle.zst_laws.specs.Sending.{SnapshotHasView, SendIsExact, FullIsExact, RedactedIsState, StreamsAgree, ViewsAgree};
 ghost use Rattle.zst_laws.specs.Walk.{WalkBegins, WalkEnds, ObjectIsNext, GoneIsNext, GoneRunIsNext, BlockIsNext, BlockRunIsNext};
 
+mod aborting;
 mod clone_example;
 mod command_examples;
 mod commits;
@@ -32,6 +33,7 @@ mod step_examples;
 mod step_refusals;
 mod stepping;
 
+pub use aborting::{aborted_go_alone, aborts_are_refused};
 pub use clone_example::{bookmarks_are_of_one, clones_stand};
 pub use command_examples::{object_is_replaced, range_is_punched};
 pub use commits::{history_remembers, increment_is_exact};

@@ -15,8 +15,8 @@ pub fn steps_keep_sound()
     ensures { StepsKeepSound }
 {}
 
-/// No command touches a partial state: what is kept of a pool that keeps all of them is the pool that
-/// the command makes of it.
+/// An abort drops the partial state of its target, and no other command touches one: what is kept of a pool that keeps all of them is
+/// the pool that the command makes of it.
 pub fn steps_keep_partials()
     ensures partials { StepsKeepPartials }
     ensures kept { StepsKeepKept }

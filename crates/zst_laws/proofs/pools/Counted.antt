@@ -1,16 +1,18 @@
 -- Each command that commits counts, and each other one keeps the pool.
-use Rattle.std.proofs.Common.{◌≡◌, ℕ, List, Result, Ok, All, subst, sym, ap, true}
+use Rattle.std.proofs.Common.{◌≡◌, ℕ, List, not, bytes_eq, Result, Ok, All, subst, sym, ap, true}
+use Rattle.std.proofs.lemmas.List.Elements.{All-filter}
 use Rattle.zst_model.specs.declared.refusals.refusal.Refusal.{Refusal}
 use Rattle.zst_model.specs.states.Dated.{DatedState}
 use Rattle.zst_model.specs.pools.Pool.{Pool, Partial}
+use Rattle.zst_model.specs.declared.pools.command.Command.{Command}
 use Rattle.zst_model.specs.declared.pools.command.Command.TheVariants as commands
 use Rattle.zst_model.specs.declared.refusals.named.Name.TheVariants as names
 use Rattle.zst_model.specs.pools.Step.{Stepped, committed, new_dataset, on_head, stepped}
 use Rattle.zst_laws.specs.Counting.{CommitsCount, AnswersKeep}
 use Rattle.zst_laws.proofs.pools.Accepted.{with_dataset_ok, with_snapshot_ok, with_clone_ok, with_bookmark_ok, read_keeps, list_keeps, list_objects_keeps, commit_counts, head_counts}
-use Rattle.zst_laws.specs.Stepping.{StepsKeepPartials, StepsKeepKept}
+use Rattle.zst_laws.specs.Stepping.{partials_after, StepsKeepPartials, StepsKeepKept}
 use Rattle.zst_laws.proofs.pools.Rows.{committed_ok, on_head_ok}
-use Rattle.zst_laws.proofs.pools.Departed.{with_rollback_ok, dataset_destroyed_ok, snapshot_destroyed_ok, bookmark_destroyed_ok}
+use Rattle.zst_laws.proofs.pools.Departed.{with_rollback_ok, dataset_destroyed_ok, snapshot_destroyed_ok, bookmark_destroyed_ok, with_aborted_ok}
 
 pub commits_count : CommitsCount
 unfolding stepped
@@ -27,6 +29,7 @@ commits_count held now (commands.Rollback destroys name) pool after h c = commit
 commits_count held now (commands.Destroy (names.Dataset name)) pool after h c = commit_counts _ after (dataset_destroyed_ok held name pool after h).made
 commits_count held now (commands.Destroy (names.Snapshot name)) pool after h c = commit_counts _ after (snapshot_destroyed_ok held name pool after h).made
 commits_count held now (commands.Destroy (names.Bookmark name)) pool after h c = commit_counts _ after (bookmark_destroyed_ok held name pool after h).made
+commits_count held now (commands.Abort target) pool after h c = commit_counts _ after (with_aborted_ok held target pool after h).made
 commits_count held now (commands.Read name k i) pool after h c = absurd (cc)
 commits_count held now commands.List pool after h c = absurd (cc)
 commits_count held now (commands.ListObjects name) pool after h c = absurd (cc)
@@ -43,6 +46,7 @@ answers_keep held now (commands.Clone origin name) pool after h c = absurd (cc)
 answers_keep held now (commands.Bookmark of name) pool after h c = absurd (cc)
 answers_keep held now (commands.Rollback destroys name) pool after h c = absurd (cc)
 answers_keep held now (commands.Destroy name) pool after h c = absurd (cc)
+answers_keep held now (commands.Abort target) pool after h c = absurd (cc)
 answers_keep held now (commands.Read name k i) pool after h c = read_keeps held now name k i pool after h
 answers_keep held now commands.List pool after h c = list_keeps held now pool after h
 answers_keep held now (commands.ListObjects name) pool after h c = list_objects_keeps held now name pool after h
@@ -72,9 +76,16 @@ partials_stay held now (commands.Rollback destroys name) pool after h = commit_l
 partials_stay held now (commands.Destroy (names.Dataset name)) pool after h = commit_leaves _ after (dataset_destroyed_ok held name pool after h).made
 partials_stay held now (commands.Destroy (names.Snapshot name)) pool after h = commit_leaves _ after (snapshot_destroyed_ok held name pool after h).made
 partials_stay held now (commands.Destroy (names.Bookmark name)) pool after h = commit_leaves _ after (bookmark_destroyed_ok held name pool after h).made
+partials_stay held now (commands.Abort target) pool after h = commit_leaves _ after (with_aborted_ok held target pool after h).made
 partials_stay held now (commands.Read name k i) pool after h = left pool after (read_keeps held now name k i pool after h)
 partials_stay held now commands.List pool after h = left pool after (list_keeps held now pool after h)
 partials_stay held now (commands.ListObjects name) pool after h = left pool after (list_objects_keeps held now name pool after h)
 
+-- what a command leaves of partial states that are kept is kept
+left_kept : (command : Command) (partials : List Partial) → All (λ partial. partial.keep ≡ true) partials → All (λ partial. partial.keep ≡ true) (partials_after command partials)
+left_kept (commands.Abort target) partials all = All-filter (λ partial. not (bytes_eq partial.target target)) (λ partial. partial.keep ≡ true) partials all
+left_kept command partials all = all
+
 pub kept_stay : StepsKeepKept
-kept_stay held now command pool after h all = subst (λ (partials : List Partial). All (λ partial. partial.keep ≡ true) partials) (sym (partials_stay held now command pool after h)) all
+kept_stay held now command pool after h all =
+    subst (λ (partials : List Partial). All (λ partial. partial.keep ≡ true) partials) (sym (partials_stay held now command pool after h)) (left_kept command pool.partials all)

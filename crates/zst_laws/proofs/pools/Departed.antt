@@ -1,11 +1,11 @@
--- What an accepted rollback or destroy found, and what it made of the pool.
+-- What an accepted rollback, destroy or abort found, and what it made of the pool.
 use Rattle.std.proofs.Common.{◌≡◌, inl, inr, ◌⊎◌, ℕ, Bool, true, false, ◌||◌, List, [], ◌∷◌, map, filter, find, Option, Some, None, Result, Ok, Contains, bytes_eq, refl, sym, subst}
 use Rattle.std.proofs.lemmas.Bool.{or_parts}
 use Rattle.zst_model.specs.declared.refusals.named.Name.TheVariants as names
 use Rattle.zst_model.specs.declared.refusals.refusal.Refusal.{Refusal}
-use Rattle.zst_model.specs.pools.Held.{Held, session_with, unless_busy}
-use Rattle.zst_model.specs.pools.Pool.{Pool, Dataset, Snapshot, Bookmark, Partial, dataset_named, snapshot_named, bookmark_named, dataset_of_snapshot}
-use Rattle.zst_model.specs.pools.Step.{Stepped, no_such, busy_partial, busy_clone, busy_bookmark, busy_snapshot, committed, unless_there, is_one_of, session_of_one, unless_used, is_newer_bookmark, newer_snapshots, least_name, destroyed_by, unless_newer, rolled_back, with_rollback, is_of, without_dataset, without_snapshot, without_bookmark, with_destroyed}
+use Rattle.zst_model.specs.pools.Held.{Held, session_with, session_into, unless_busy}
+use Rattle.zst_model.specs.pools.Pool.{Pool, Dataset, Snapshot, Bookmark, Partial, dataset_named, snapshot_named, bookmark_named, partial_of, dataset_of_snapshot}
+use Rattle.zst_model.specs.pools.Step.{Stepped, no_such, no_partial, busy_partial, busy_clone, busy_bookmark, busy_snapshot, committed, unless_there, is_one_of, session_of_one, unless_used, is_newer_bookmark, newer_snapshots, least_name, destroyed_by, unless_newer, rolled_back, with_rollback, is_of, without_dataset, without_snapshot, without_bookmark, with_destroyed, without_partial, with_aborted}
 use Rattle.zst_laws.proofs.pools.Rows.{none_passes, or_else_ok}
 
 -- a chain that ends well passed no holder
@@ -147,3 +147,16 @@ pub bookmark_destroyed_ok : (held : List Held) (name : List ℕ) (pool : Pool) (
 bookmark_destroyed_ok held name pool after h =
     let found = or_else_ok (no_such (names.Bookmark name)) (bookmark_named name pool) _ after h in
     record { bookmark = found.0; there = found.1; made = found.2 }
+
+-- a partial state that is given up: it is there, and no session receives into it
+pub record IsAborted (held : List Held) (target : List ℕ) (pool : Pool) (after : Stepped) : Type 0 where
+  pub partial : Partial
+  pub there : partial_of target pool ≡ Some partial
+  pub unclaimed : session_into target held ≡ None
+  pub made : committed (without_partial target pool) ≡ Ok after
+
+pub with_aborted_ok : (held : List Held) (target : List ℕ) (pool : Pool) (after : Stepped) → with_aborted held target pool ≡ Ok after → IsAborted held target pool after
+with_aborted_ok held target pool after h =
+    let found = or_else_ok (no_partial target) (partial_of target pool) _ after h in
+    let unclaimed = unless_busy_ok (session_into target held) _ after found.2 in
+    record { partial = found.0; there = found.1; unclaimed = unclaimed.0; made = unclaimed.1 }

@@ -9,14 +9,14 @@ use Rattle.zst_model.specs.declared.pools.command.Command.TheVariants as command
 use Rattle.zst_names.specs.Names.{dataset_of}
 use Rattle.zst_model.specs.declared.refusals.named.Name.TheVariants as names
 use Rattle.zst_model.specs.declared.refusals.refusal.Refusal.{Refusal}
-use Rattle.zst_model.specs.pools.Held.{Held, Holds, Claims, id_of, lesser, has_named, least_id, session_with, unless_busy}
-use Rattle.zst_model.specs.pools.Pool.{Pool, Dataset, Snapshot, dataset_named, snapshot_named, dataset_of_snapshot}
-use Rattle.zst_model.specs.pools.Step.{Stepped, stepped, no_such, or_else, committed, unless_used, unless_newer, is_newer, newer_snapshots, session_of_one, rolled_back, is_of, without_dataset, without_snapshot, with_destroyed}
+use Rattle.zst_model.specs.pools.Held.{Held, Holds, Claims, id_of, lesser, has_named, has_claimed, least_id, session_with, session_into, unless_busy}
+use Rattle.zst_model.specs.pools.Pool.{Pool, Dataset, Snapshot, Partial, dataset_named, snapshot_named, partial_of, dataset_of_snapshot}
+use Rattle.zst_model.specs.pools.Step.{Stepped, stepped, no_such, no_partial, or_else, committed, unless_used, unless_newer, is_newer, newer_snapshots, session_of_one, rolled_back, is_of, without_dataset, without_snapshot, with_destroyed, without_partial, with_aborted}
 use Rattle.zst_model.specs.refusals.PlanFault.{plan_text}
 use Rattle.zst_model.specs.refusals.Refusal.{text_of}
 use Rattle.zst_model.proofs.InsertedLaws.{contains_cases, contains_first, contains_later, contains_nothing}
 use Rattle.zst_model.proofs.OrderLaws.{same_bytes, bytes_same}
-use Rattle.zst_laws.specs.HeldExample.{SessionsHave, ClaimsCountAlone, LeastIsNamed, BusySessions, StepsAskNoSession, HasOf, HasThis, HasNewer, IsLeastWith, HeldDatasetStays, HeldSnapshotStays, HeldNewerStays, FreeOnesGo}
+use Rattle.zst_laws.specs.HeldExample.{SessionsHave, ClaimsCountAlone, LeastIsNamed, BusySessions, StepsAskNoSession, HasOf, HasThis, HasClaim, HasNewer, IsLeastWith, HeldDatasetStays, HeldSnapshotStays, HeldNewerStays, HeldTargetStays, FreeOnesGo}
 use Rattle.zst_laws.proofs.pools.Lineages.{newer_had, newer_passes}
 use Rattle.zst_laws.proofs.pools.Filters.{filter_contains, contains-filter, passed_by_some, some_passes}
 
@@ -142,6 +142,7 @@ steps_ask_none held other now (commands.Rollback false name) pool asks =
 steps_ask_none held other now (commands.Destroy (names.Dataset name)) pool asks = absurd (true≢false asks)
 steps_ask_none held other now (commands.Destroy (names.Snapshot name)) pool asks = absurd (true≢false asks)
 steps_ask_none held other now (commands.Destroy (names.Bookmark name)) pool asks = refl
+steps_ask_none held other now (commands.Abort target) pool asks = absurd (true≢false asks)
 steps_ask_none held other now (commands.Read name k i) pool asks = refl
 steps_ask_none held other now commands.List pool asks = refl
 steps_ask_none held other now (commands.ListObjects name) pool asks = refl
@@ -175,6 +176,14 @@ this_passes name (Claims id dataset) h = absurd h
 this_had : (name : List ℕ) (one : Held) → has_named (names.Snapshot name) one ≡ true → HasThis name one
 this_had name (Holds id snapshot) h = same_bytes snapshot name h
 this_had name (Claims id dataset) h = absurd (true≢false (sym h))
+
+claim_passes : (name : List ℕ) (one : Held) → HasClaim name one → has_claimed name one ≡ true
+claim_passes name (Holds id snapshot) h = absurd h
+claim_passes name (Claims id dataset) h = bytes_same dataset name h
+
+claim_had : (name : List ℕ) (one : Held) → has_claimed name one ≡ true → HasClaim name one
+claim_had name (Holds id snapshot) h = absurd (true≢false (sym h))
+claim_had name (Claims id dataset) h = same_bytes dataset name h
 
 module _ (snapshot : Snapshot) (pool : Pool) where
   abbrev has_newer : Held → Bool
@@ -213,6 +222,12 @@ held_newer pool name snapshot held one now there least =
     ap (λ o. or_else (no_such (names.Snapshot name)) o (λ s. unless_busy (session_of_one (newer_snapshots s pool) held) (rest_of_rollback pool s))) there
     ∙ ap (λ o. unless_busy o (rest_of_rollback pool snapshot)) (least_is (has_newer snapshot pool) (HasNewer snapshot pool) held one (holder_passes snapshot pool) (holder_had snapshot pool) least)
 
+pub held_target : HeldTargetStays
+unfolding stepped
+held_target pool target partial held one now there least =
+    ap (λ o. or_else (no_partial target) o (λ (p : Partial). unless_busy (session_into target held) (committed (without_partial target pool)))) there
+    ∙ ap (λ o. unless_busy o (committed (without_partial target pool))) (least_is (has_claimed target) (HasClaim target) held one (claim_passes target) (claim_had target) least)
+
 -- and where none has it, each command is as without sessions
 fails : (test : Held → Bool) (has : Held → Type 0) (one : Held) → (test one ≡ true → has one) → (has one → ⊥) → test one ≡ false
 fails test has one had free = false_from_ne_true (test one) (λ passes. free (had passes))
@@ -228,6 +243,12 @@ free_snapshot : (pool : Pool) (name : List ℕ) (held : List Held) → ((one : H
 free_snapshot pool name held free =
     ap (λ o. or_else (no_such (names.Snapshot name)) (snapshot_named name pool) (λ s. unless_busy o (rest_of_snapshot name pool s)))
     (least_none (has_named (names.Snapshot name)) held (λ one there. fails (has_named (names.Snapshot name)) (HasThis name) one (this_had name one) (free one there)))
+
+free_target : (pool : Pool) (target : List ℕ) (held : List Held) → ((one : Held) → Contains held one → HasClaim target one → ⊥)
+    → with_aborted held target pool ≡ with_aborted [] target pool
+free_target pool target held free =
+    ap (λ o. or_else (no_partial target) (partial_of target pool) (λ (p : Partial). unless_busy o (committed (without_partial target pool))))
+    (least_none (has_claimed target) held (λ one there. fails (has_claimed target) (HasClaim target) one (claim_had target one) (free one there)))
 
 free_rollback : (pool : Pool) (name : List ℕ) (held : List Held) (found : Option Snapshot)
     → ((one : Held) → Contains held one → (snapshot : Snapshot) → found ≡ Some snapshot → HasNewer snapshot pool one → ⊥)
@@ -245,6 +266,7 @@ free_ones pool (commands.Rollback false name) held now free = steps_ask_none hel
 free_ones pool (commands.Destroy (names.Dataset name)) held now free = free_dataset pool name held free
 free_ones pool (commands.Destroy (names.Snapshot name)) held now free = free_snapshot pool name held free
 free_ones pool (commands.Destroy (names.Bookmark name)) held now free = refl
+free_ones pool (commands.Abort target) held now free = free_target pool target held free
 free_ones pool (commands.Fs dataset) held now free = refl
 free_ones pool (commands.Volume dataset) held now free = refl
 free_ones pool (commands.Object dataset k head bonus spill) held now free = refl

@@ -1,16 +1,14 @@
 -- What an image keeps of a pool that runs.
-use Rattle.std.proofs.Common.{◌≡◌, Bool, true, ◌∷◌, ◌++◌, Some, None, IfSome, Contains, refl, ap}
-use Rattle.std.proofs.lemmas.List.Elements.{All-contains, All-filter, filter_passes}
-use Rattle.std.proofs.lemmas.List.Kept.{AllPairs-filter}
-use Rattle.zst_names.specs.Names.{IsDataset, IsComponent}
-use Rattle.zst_model.specs.states.State.{IsState}
-use Rattle.zst_model.specs.pools.Pool.{Pool, Bookmark, Partial, HasSnapshot, IsStated, dataset_of_snapshot, dataset_of_bookmark, is_before}
+use Rattle.std.proofs.Common.{◌≡◌, Bool, true, Some, None, Contains, refl, ap}
+use Rattle.std.proofs.lemmas.List.Elements.{All-contains, filter_passes}
+use Rattle.zst_model.specs.pools.Pool.{Pool, Bookmark, Partial, dataset_of_snapshot, dataset_of_bookmark}
 use Rattle.zst_model.specs.pools.Before.{Source, OfSnapshot, Place, InDataset, InPartial, IsBefore}
 use Rattle.zst_model.specs.pools.Kept.{KeepsAll, kept_of}
 use Rattle.zst_model.specs.pools.Rows.{Row, rows}
 use Rattle.zst_model.specs.pools.Sound.{DatedUpTo, IsBookmarkOf, Sound}
 use Rattle.zst_model.proofs.InsertedLaws.{All-from_contains}
 use Rattle.zst_laws.specs.KeptExample.{TwoAreKept, KeptAreKept, KeepingIsDone, KeptIsLawful, KeptIsSound}
+use Rattle.zst_laws.proofs.pools.LawfulRest.{fewer_partials_are_lawful}
 use Rattle.zst_laws.proofs.pools.Filters.{filter_contains, contains-filter, filter_all}
 use Rattle.zst_laws.proofs.pools.Descent.{IsRow, SnapshotRow, HeadRow, PartialRow, snapshot_has_row, head_has_row, partial_has_row, row_cases}
 use Rattle.zst_laws.proofs.pools.Standing.{HasOrigins, stands_on, before_partial_on}
@@ -39,32 +37,7 @@ pub keeping_done : KeepingIsDone
 keeping_done = (all_stay, λ pool. all_stay (kept_of pool) (filter_passes is_kept pool.partials))
 
 pub kept_lawful : KeptIsLawful
-kept_lawful pool is = record {
-  id = is.id;
-  number = is.number;
-  guids = is.guids;
-  named = record {
-    dataset_names = is.named.dataset_names;
-    datasets = is.named.datasets;
-    snapshot_names = is.named.snapshot_names;
-    snapshots = is.named.snapshots;
-    snapshots_differ = is.named.snapshots_differ;
-    bookmark_names = is.named.bookmark_names;
-    bookmarks = is.named.bookmarks;
-    targets = All-filter is_kept (λ p. IsDataset p.target × IsComponent p.component) pool.partials is.named.targets;
-    partials = AllPairs-filter (λ a b. is_before a.target b.target ≡ true) is_kept pool.partials is.named.partials;
-  };
-  linked = record {
-    snapshots = is.linked.snapshots;
-    origins = is.linked.origins;
-    bases = All-filter is_kept (λ p. IfSome p.base (HasSnapshot pool)) pool.partials is.linked.bases;
-    components = All-filter is_kept (λ p. HasSnapshot pool (p.target ++ 64 ∷ p.component) → ⊥) pool.partials is.linked.components;
-  };
-  datasets = is.datasets;
-  snapshots = is.snapshots;
-  bookmarks = is.bookmarks;
-  partials = All-filter is_kept (λ p. IsStated p.header × IsState p.objects.state) pool.partials is.partials;
-}
+kept_lawful pool is = fewer_partials_are_lawful is_kept pool is
 
 module _ (pool : Pool) where
   -- origins are those of the pool that runs

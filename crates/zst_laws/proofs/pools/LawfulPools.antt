@@ -19,8 +19,8 @@ use Rattle.zst_model.proofs.OrderLaws.{names_differ-inserted, names_rise-inserte
 use Rattle.zst_laws.specs.Stepping.{StepsKeepPools}
 use Rattle.zst_laws.proofs.pools.Rows.{All-with_head, committed_ok, on_head_ok, named_found, none_named, name_under_head}
 use Rattle.zst_laws.proofs.pools.Accepted.{with_dataset_ok, with_snapshot_ok, with_clone_ok, with_bookmark_ok, read_keeps, list_keeps, list_objects_keeps}
-use Rattle.zst_laws.proofs.pools.Departed.{with_rollback_ok, dataset_destroyed_ok, snapshot_destroyed_ok, bookmark_destroyed_ok}
-use Rattle.zst_laws.proofs.pools.LawfulRest.{rolled_is_lawful, lawful_without_dataset, lawful_without_snapshot, lawful_without_bookmark}
+use Rattle.zst_laws.proofs.pools.Departed.{with_rollback_ok, dataset_destroyed_ok, snapshot_destroyed_ok, bookmark_destroyed_ok, with_aborted_ok}
+use Rattle.zst_laws.proofs.pools.LawfulRest.{rolled_is_lawful, lawful_without_dataset, lawful_without_snapshot, lawful_without_bookmark, lawful_without_partial}
 use Rattle.zst_laws.proofs.pools.LawfulHeads.{object_is_lawful, write_is_lawful, punch_is_lawful, free_is_lawful}
 
 -- a lawful pool with another number
@@ -312,6 +312,8 @@ steps_keep_lawful held now (commands.Destroy (names.Snapshot name)) pool after c
     let gone = snapshot_destroyed_ok held name pool after h in committed_pool _ after (lawful_without_snapshot name pool gone.snapshot p gone.there gone.unused) gone.made
 steps_keep_lawful held now (commands.Destroy (names.Bookmark name)) pool after c fits p h =
     committed_pool _ after (lawful_without_bookmark name pool p) (bookmark_destroyed_ok held name pool after h).made
+steps_keep_lawful held now (commands.Abort target) pool after c fits p h =
+    committed_pool _ after (lawful_without_partial target pool p) (with_aborted_ok held target pool after h).made
 steps_keep_lawful held now (commands.Read name k i) pool after c fits p h = subst IsPool (sym (read_keeps held now name k i pool after h)) p
 steps_keep_lawful held now commands.List pool after c fits p h = subst IsPool (sym (list_keeps held now pool after h)) p
 steps_keep_lawful held now (commands.ListObjects name) pool after c fits p h = subst IsPool (sym (list_objects_keeps held now name pool after h)) p

@@ -1,15 +1,15 @@
--- What a rollback or a destroy leaves of a lawful pool is lawful.
+-- What a rollback, a destroy or an abort leaves of a lawful pool is lawful.
 use Rattle.std.proofs.Common.{subst, ◌≡◌, ◌≢◌, ℕ, ◌^◌, ◌<◌, Bool, true, false, not, List, [], ◌∷◌, ◌++◌, map, filter, Option, Some, None, IfSome, bytes_eq, if◌then◌else◌, refl, sym, ap, ◌∙◌}
 use Rattle.std.specs.List.{All, AllPairs, Contains}
 use Rattle.std.proofs.lemmas.Bool.{true≢false, not-false}
 use Rattle.std.proofs.lemmas.List.Elements.{All-contains, All-filter, filter_passes}
 use Rattle.std.proofs.lemmas.List.Kept.{AllPairs-filter}
-use Rattle.zst_names.specs.Names.{IsDataset, IsSnapshot, IsBookmark}
+use Rattle.zst_names.specs.Names.{IsDataset, IsSnapshot, IsBookmark, IsComponent}
 use Rattle.zst_model.specs.fields.Guids.{IsGuidSet}
 use Rattle.zst_model.specs.fields.Lists.{IsRunList}
 use Rattle.zst_model.specs.states.State.{IsState}
-use Rattle.zst_model.specs.pools.Pool.{Pool, Dataset, Snapshot, Bookmark, Partial, IsPool, IsKind, IsGuid, HasDataset, HasSnapshot, snapshot_named, dataset_of_snapshot, is_before, snapshot_is_before}
-use Rattle.zst_model.specs.pools.Step.{is_one_of, is_newer, newer_snapshots, rolled_to, rolled_back, is_of, without_dataset, without_snapshot, without_bookmark}
+use Rattle.zst_model.specs.pools.Pool.{Pool, Dataset, Snapshot, Bookmark, Partial, IsPool, IsKind, IsGuid, IsStated, HasDataset, HasSnapshot, snapshot_named, dataset_of_snapshot, is_before, snapshot_is_before}
+use Rattle.zst_model.specs.pools.Step.{is_one_of, is_newer, newer_snapshots, rolled_to, rolled_back, is_of, without_dataset, without_snapshot, without_bookmark, without_partial}
 use Rattle.zst_model.proofs.InsertedLaws.{All-from_contains, contains_first, contains-map, map_contains, AllPairs-map}
 use Rattle.zst_model.proofs.OrderLaws.{same_bytes, bytes_same}
 use Rattle.zst_laws.proofs.pools.Rows.{named_found}
@@ -115,6 +115,39 @@ fewer_bookmarks_are_lawful keep pool p = record {
 -- without a bookmark
 pub lawful_without_bookmark : (name : List ℕ) (pool : Pool) → IsPool pool → IsPool (without_bookmark name pool)
 lawful_without_bookmark name pool p = fewer_bookmarks_are_lawful (λ b. not (bytes_eq b.name name)) pool p
+
+-- a lawful pool with the partial states that pass a test
+pub fewer_partials_are_lawful : (keep : Partial → Bool) (pool : Pool) → IsPool pool → IsPool (record pool { partials = filter keep pool.partials })
+fewer_partials_are_lawful keep pool is = record {
+  id = is.id;
+  number = is.number;
+  guids = is.guids;
+  named = record {
+    dataset_names = is.named.dataset_names;
+    datasets = is.named.datasets;
+    snapshot_names = is.named.snapshot_names;
+    snapshots = is.named.snapshots;
+    snapshots_differ = is.named.snapshots_differ;
+    bookmark_names = is.named.bookmark_names;
+    bookmarks = is.named.bookmarks;
+    targets = All-filter keep (λ p. IsDataset p.target × IsComponent p.component) pool.partials is.named.targets;
+    partials = AllPairs-filter (λ a b. is_before a.target b.target ≡ true) keep pool.partials is.named.partials;
+  };
+  linked = record {
+    snapshots = is.linked.snapshots;
+    origins = is.linked.origins;
+    bases = All-filter keep (λ p. IfSome p.base (HasSnapshot pool)) pool.partials is.linked.bases;
+    components = All-filter keep (λ p. HasSnapshot pool (p.target ++ 64 ∷ p.component) → ⊥) pool.partials is.linked.components;
+  };
+  datasets = is.datasets;
+  snapshots = is.snapshots;
+  bookmarks = is.bookmarks;
+  partials = All-filter keep (λ p. IsStated p.header × IsState p.objects.state) pool.partials is.partials;
+}
+
+-- without a partial state
+pub lawful_without_partial : (target : List ℕ) (pool : Pool) → IsPool pool → IsPool (without_partial target pool)
+lawful_without_partial target pool is = fewer_partials_are_lawful (λ partial. not (bytes_eq partial.target target)) pool is
 
 -- without a snapshot
 pub lawful_without_snapshot : (name : List ℕ) (pool : Pool) (snapshot : Snapshot) → IsPool pool → snapshot_named name pool ≡ Some snapshot

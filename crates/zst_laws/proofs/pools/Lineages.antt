@@ -17,7 +17,7 @@ use Rattle.zst_laws.proofs.pools.Accepted.{with_clone_ok, with_bookmark_ok}
 use Rattle.zst_laws.proofs.pools.Departed.{IsNewest, with_rollback_ok, dataset_destroyed_ok, snapshot_destroyed_ok, bookmark_destroyed_ok}
 
 -- names that differ test as different
-differ : (a b : List ℕ) → a ≢ b → bytes_eq a b ≡ false
+pub differ : (a b : List ℕ) → a ≢ b → bytes_eq a b ≡ false
 differ a b h = false_from_ne_true (bytes_eq a b) (λ e. h (same_bytes a b e))
 
 -- what a filter leaves is what was there but for what goes

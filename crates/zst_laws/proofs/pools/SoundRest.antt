@@ -1,4 +1,4 @@
--- What a rollback or a destroy leaves of a sound pool is sound.
+-- What a rollback, a destroy or an abort leaves of a sound pool is sound.
 use Rattle.std.proofs.Common.{◌≡◌, inl, inr, ℕ, ◌+◌, ◌≤◌, Bool, true, false, not, ◌&&◌, List, map, filter, Some, None, AllPairs, Contains, bytes_eq, nat_lt, if◌then◌else◌, refl, sym, ap, subst, ◌∙◌, arith}
 use Rattle.std.proofs.lemmas.Bool.{true≢false, not-true, not_from_false, and_from, lt-ltb, cases_lt}
 use Rattle.std.proofs.lemmas.List.Elements.{All-contains, filter_passes}
@@ -255,3 +255,33 @@ module _ (pool : Pool) (snapshot : Snapshot) (linked : IsLinked pool) (sound : S
 
   pub rolled_sound : Sound rolled_pool
   rolled_sound = rest_sound pool (map roll pool.datasets) older_snapshots older_bookmarks linked rolled_rest rolled_head sound
+
+-- what an abort leaves: the partial states that pass a test
+module _ (pool : Pool) (keep : Partial → Bool) (linked : IsLinked pool) (sound : Sound pool) where
+  abbrev aborted_pool : Pool
+  aborted_pool = record pool { partials = filter keep pool.partials; number = pool.number + 1 }
+
+  aborted_origins : HasOldOrigins pool aborted_pool
+  aborted_origins origin name has is = record { dataset = is.dataset; there = is.there; named = is.named; snapshot_there = is.snapshot_there; is_origin = is.is_origin }
+
+  aborted_row : (row : Row) → IsRow aborted_pool row → Descends pool aborted_pool row
+  aborted_row row (SnapshotRow snapshot there) = inl (snapshot_stays pool aborted_pool linked aborted_origins refl snapshot there)
+  aborted_row row (HeadRow dataset there) = inl (head_stays pool aborted_pool linked aborted_origins refl dataset there)
+  aborted_row row (PartialRow partial there) =
+      inl (partial_stays pool aborted_pool linked aborted_origins refl partial (filter_contains keep pool.partials partial there)
+      (λ base is. record { there = is.there; is_base = is.is_base }) (λ has. has) (λ has. has))
+
+  pub aborted_next : IsNext pool aborted_pool
+  aborted_next = record {
+    number = refl;
+    origins = aborted_origins;
+    bookmarks = λ bookmark there. inl (there, λ has. has);
+    snapshots = λ snapshot there. inl there;
+    rows = λ row there. aborted_row row (row_cases aborted_pool row there);
+  }
+
+  pub aborted_sound : Sound aborted_pool
+  aborted_sound = next_sound pool aborted_pool linked sound aborted_next sound.dated.rise
+      (λ earlier row here e there before.
+      let l : earlier.number ≤ pool.number = All-contains (λ s. s.number ≤ pool.number) pool.snapshots earlier sound.dated.numbers here in
+      absurd (omega arith))

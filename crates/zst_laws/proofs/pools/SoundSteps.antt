@@ -20,7 +20,7 @@ use Rattle.zst_model.specs.states.Dated.{DatedState, size_at, apply_all_dated}
 use Rattle.zst_model.specs.pools.Held.{Held}
 use Rattle.zst_model.specs.pools.Pool.{Pool, Dataset, Snapshot, Bookmark, Partial, HasDataset, IsKind, IsPool}
 use Rattle.zst_model.specs.pools.Sound.{Sound}
-use Rattle.zst_model.specs.pools.Step.{Stepped, stepped, IsCommand, committed, with_head, in_numbers, in_indices, applied, filled, written, punched, on_head, new_dataset, with_dataset, with_snapshot, snapshot_of, clone_of, with_clone, with_bookmark, with_rollback, with_destroyed}
+use Rattle.zst_model.specs.pools.Step.{Stepped, stepped, IsCommand, committed, with_head, in_numbers, in_indices, applied, filled, written, punched, on_head, new_dataset, with_dataset, with_snapshot, snapshot_of, clone_of, with_clone, with_bookmark, with_rollback, with_destroyed, with_aborted}
 use Rattle.zst_laws.specs.Stepping.{StepsKeepSound}
 use Rattle.zst_laws.specs.Remembering.{SourceRemembers, StepsRemember}
 use Rattle.zst_laws.proofs.sends.Runs.{bind_ok, ok_inj}
@@ -33,9 +33,9 @@ use Rattle.zst_laws.proofs.pools.OtherDatasets.{KeepsDatasets, datasets_next, da
 use Rattle.zst_laws.proofs.pools.SoundHeads.{head_keeps}
 use Rattle.zst_laws.proofs.pools.SoundDatasets.{with_new, dataset_keeps, new_is_first, clone_comes}
 use Rattle.zst_laws.proofs.pools.SoundBookmarks.{bookmark_next, bookmark_sound}
-use Rattle.zst_laws.proofs.pools.SoundRest.{fewer_next, fewer_sound, left_next, left_sound, rolled_next, rolled_sound}
+use Rattle.zst_laws.proofs.pools.SoundRest.{fewer_next, fewer_sound, left_next, left_sound, rolled_next, rolled_sound, aborted_next, aborted_sound}
 use Rattle.zst_laws.proofs.pools.Filters.{filter_contains}
-use Rattle.zst_laws.proofs.pools.Departed.{with_rollback_ok, dataset_destroyed_ok, snapshot_destroyed_ok, bookmark_destroyed_ok}
+use Rattle.zst_laws.proofs.pools.Departed.{with_rollback_ok, dataset_destroyed_ok, snapshot_destroyed_ok, bookmark_destroyed_ok, with_aborted_ok}
 use Rattle.zst_laws.proofs.pools.SoundSnapshots.{IsNew, snapshot_next, snapshot_sound}
 
 -- a pool of the next commit that is sound
@@ -114,6 +114,14 @@ destroyed_follows held (names.Bookmark name) pool after is sound h =
       next = fewer_next pool pool.snapshots (filter stays pool.bookmarks) is.linked sound (λ s there. there) sound.dated.rise some;
       sound = fewer_sound pool pool.snapshots (filter stays pool.bookmarks) is.linked sound (λ s there. there) sound.dated.rise some;
     })
+
+-- an abort
+aborted_follows : (held : List Held) (target : List ℕ) (pool : Pool) (after : Stepped) → IsPool pool → Sound pool
+    → with_aborted held target pool ≡ Ok after → IsSoundNext pool after.pool
+aborted_follows held target pool after is sound h =
+    let stays = λ (p : Partial). not (bytes_eq p.target target) in
+    subst (λ s. IsSoundNext pool s.pool) (committed_ok _ after (with_aborted_ok held target pool after h).made).1
+    (record { next = aborted_next pool stays is.linked sound; sound = aborted_sound pool stays is.linked sound })
 
 -- a snapshot
 taken_follows : (now : ℕ) (name : List ℕ) (pool : Pool) (after : Stepped) → IsPool pool → Sound pool → with_snapshot now name pool ≡ Ok after → IsSoundNext pool after.pool
@@ -202,6 +210,7 @@ steps_follow held now (commands.Clone origin name) pool after command is sound h
 steps_follow held now (commands.Bookmark of name) pool after command is sound h = inr (marked_follows of name pool after is sound h)
 steps_follow held now (commands.Rollback destroys name) pool after command is sound h = inr (rolled_follows held destroys name pool after is sound h)
 steps_follow held now (commands.Destroy name) pool after command is sound h = inr (destroyed_follows held name pool after is sound h)
+steps_follow held now (commands.Abort target) pool after command is sound h = inr (aborted_follows held target pool after is sound h)
 steps_follow held now (commands.Read name k i) pool after command is sound h = inl (read_keeps held now name k i pool after h)
 steps_follow held now commands.List pool after command is sound h = inl (list_keeps held now pool after h)
 steps_follow held now (commands.ListObjects name) pool after command is sound h = inl (list_objects_keeps held now name pool after h)
