@@ -15,7 +15,7 @@ use Rattle.zst_line.specs.Grammar.{stands_in, word_at}
 use Rattle.zst_line.specs.Judged.{UsageAt, MisreadAs, IsLine}
 use Rattle.zst_line.specs.Named.{kind_of_name}
 use Rattle.zst_line.specs.declared.line.Line.{Line}
-use Rattle.zst_line.specs.declared.line.Line.TheVariants.{Dump, Create, Step, Redact, Send, Resume, Receive, Abort, Token, Check, Gen, Reclaim, Replay}
+use Rattle.zst_line.specs.declared.line.Line.TheVariants.{Dump, Create, Step, Redact, Send, Resume, Receive, Token, Check, Gen, Reclaim, Replay}
 use Rattle.zst_line.specs.declared.line.LineFault.{LineFault}
 use Rattle.zst_line.specs.declared.line.LineFault.TheVariants as faults
 use Rattle.zst_line.specs.declared.named.NameKind.{NameKind}
@@ -77,6 +77,7 @@ Says (commands.Bookmark snapshot bookmark) image words = words ≡ codes "bookma
 Says (commands.Rollback destroys snapshot) image words =
     EndsIn (codes "rollback") (image ∷ snapshot ∷ []) words × (destroys ≡ stands_in words (codes "-r"))
 Says (commands.Destroy name) image words = (word : List ℕ) × ((name ≡ name_of word) × (words ≡ codes "destroy" ∷ image ∷ word ∷ []))
+Says (commands.Abort dataset) image words = words ≡ codes "abort" ∷ image ∷ dataset ∷ []
 Says (commands.Read name k i) image words = (word : List ℕ) × ((name ≡ name_of word) × (words ≡ codes "read" ∷ image ∷ word ∷ decimal k ∷ decimal i ∷ []))
 Says commands.List image words = words ≡ codes "list" ∷ image ∷ []
 Says (commands.ListObjects name) image words = (word : List ℕ) × ((name ≡ name_of word) × (words ≡ codes "list" ∷ image ∷ word ∷ []))
@@ -111,7 +112,6 @@ LineIs (Resume image token) words =
 LineIs (Receive image keeps forces origin target) words =
     (word : List ℕ) × (target ≡ name_of word) × EndsIn (codes "receive") (image ∷ word ∷ []) words
     × (keeps ≡ stands_in words (codes "-s")) × (forces ≡ stands_in words (codes "-F")) × (origin ≡ value_behind (codes "--origin") words)
-LineIs (Abort image dataset) words = words ≡ codes "abort" ∷ image ∷ dataset ∷ []
 LineIs (Token image dataset) words = words ≡ codes "token" ∷ image ∷ dataset ∷ []
 LineIs (Check image) words = words ≡ codes "check" ∷ image ∷ []
 LineIs (Gen image steps) words = (words ≡ codes "gen" ∷ image ∷ decimal steps ∷ []) × (1 ≤ steps) × (steps ≤ 64)

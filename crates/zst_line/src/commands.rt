@@ -239,3 +239,16 @@ pub fn destroy(alloc: Global, words: &[String]) -> Result<Line, AllocError>
         },
     })
 }
+
+pub fn abort(alloc: Global, words: &[String]) -> Result<Line, AllocError>
+    requires { AllZip Takes (front Kind.Abort 0) (map string_bytes words.now) }
+    ensures { IfOk result (λ line. LineIs line (codes "abort" ∷ map string_bytes words.now)) }
+{
+    let [image, name] = words else { unreachable!() };
+    Ok(Line::Step {
+        image: text(alloc, image.as_str())?,
+        command: Command::Abort {
+            dataset: dataset(name.as_str()),
+        },
+    })
+}

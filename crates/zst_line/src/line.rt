@@ -50,11 +50,6 @@ pub enum Line {
         origin: Option<SnapName>,
         target: Name,
     },
-    /// Drops the partial state of a dataset.
-    Abort {
-        image: Text,
-        dataset: DatasetName,
-    },
     /// Tells the token of a dataset's partial state.
     Token {
         image: Text,

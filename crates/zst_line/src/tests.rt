@@ -92,6 +92,7 @@ fn lines_on_names_are_read(rt: HostRuntime) -> Result<(), Fail> {
         "destroy a.img tank",
         "destroy a.img tank@s",
         "destroy a.img tank#b",
+        "abort a.img tank/b",
     ] {
         assert!(rt; parsed(alloc, text)?.is_ok(), "{text}");
     }
@@ -137,7 +138,6 @@ fn lines_that_receive_are_read(rt: HostRuntime) -> Result<(), Fail> {
 fn other_lines_are_read(rt: HostRuntime) -> Result<(), Fail> {
     let alloc = rt.alloc();
     for text in [
-        "abort a.img tank",
         "token a.img tank",
         "check a.img",
         "gen a.img 1",
@@ -213,6 +213,20 @@ fn a_destroy_says_its_words(rt: HostRuntime) -> Result<(), Fail> {
     )
     );
     Ok(())
+}
+
+#[test]
+fn an_abort_says_its_words(rt: HostRuntime) -> Result<(), Fail> {
+    let alloc = rt.alloc();
+    assert!(rt;
+        matches!(
+        &parsed(alloc, "abort a.img tank/b")?,
+        Ok(Line::Step { image, command: Command::Abort { dataset } })
+            if image.as_str() == "a.img" && dataset.text() == "tank/b"
+    )
+    );
+    usage(&rt, alloc, "abort a.img tank/b@s", 2)?;
+    bad_name(&rt, alloc, "abort a.img tank//b", 5)
 }
 
 #[test]

@@ -10,17 +10,6 @@ use crate::line::Line;
 use crate::said::{dataset, number, text};
 use std::alloc::{AllocError, Global};
 
-pub fn abort(alloc: Global, words: &[String]) -> Result<Line, AllocError>
-    requires { AllZip Takes (front Kind.Abort 0) (map string_bytes words.now) }
-    ensures { IfOk result (λ line. LineIs line (codes "abort" ∷ map string_bytes words.now)) }
-{
-    let [image, name] = words else { unreachable!() };
-    Ok(Line::Abort {
-        image: text(alloc, image.as_str())?,
-        dataset: dataset(name.as_str()),
-    })
-}
-
 pub fn token(alloc: Global, words: &[String]) -> Result<Line, AllocError>
     requires { AllZip Takes (front Kind.Token 0) (map string_bytes words.now) }
     ensures { IfOk result (λ line. LineIs line (codes "token" ∷ map string_bytes words.now)) }
