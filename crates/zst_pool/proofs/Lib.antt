@@ -10,6 +10,7 @@ pub mod Doing
 pub mod Finding
 pub mod FinishedRows
 pub mod Found
+pub mod GivenUp
 pub mod Judged
 pub mod Judging
 pub mod Known

@@ -15,7 +15,7 @@ use Rattle.zst_names.specs.Names.{dataset_of}
 use Rattle.zst_model.specs.declared.refusals.named.Name.{Name}
 use Rattle.zst_model.specs.declared.refusals.named.Name.TheVariants as names
 use Rattle.zst_model.specs.pools.Pool.{Pool, Bookmark, Dataset, Partial, Snapshot, bookmark_named, dataset_named, partial_of, snapshot_named}
-use Rattle.zst_model.specs.pools.Step.{Stepped, bookmark_of, busy_bookmark, busy_clone, busy_partial, busy_snapshot, clone_of, commits, committed, count_datasets, destroyed_by, exists_already, is_newer_bookmark, is_of, is_one_of, last_guid, last_number, least_name, limited, most_bookmarks, most_datasets, most_snapshots, new_dataset, newer_snapshots, no_such, not_ancestor, on_head, or_else, punched, rolled_back, stepped, unless_newer, unless_there, unless_used, with_bookmark, with_clone, with_dataset, with_destroyed, with_rollback, with_snapshot, without_bookmark, without_dataset, without_snapshot, written}
+use Rattle.zst_model.specs.pools.Step.{Stepped, bookmark_of, busy_bookmark, busy_clone, busy_partial, busy_snapshot, clone_of, commits, committed, count_datasets, destroyed_by, exists_already, is_newer_bookmark, is_of, is_one_of, last_guid, last_number, least_name, limited, most_bookmarks, most_datasets, most_snapshots, new_dataset, newer_snapshots, no_partial, no_such, not_ancestor, on_head, or_else, punched, rolled_back, stepped, unless_newer, unless_there, unless_used, with_aborted, with_bookmark, with_clone, with_dataset, with_destroyed, with_rollback, with_snapshot, without_bookmark, without_dataset, without_partial, without_snapshot, written}
 use Rattle.zst_pool.specs.Checks.{freed, put_in, if_guid_left, if_new_snapshot, next_of, with_head_of, with_new, with_taken}
 use Rattle.zst_pool.specs.Lineage.{if_new_bookmark, with_marked}
 
@@ -139,6 +139,11 @@ of_rollback destroys name pool =
     (λ snapshot. of_unused (held snapshot) (destroyed_by destroys snapshot pool) pool (rest snapshot)
     (of_newer destroys snapshot pool (committed (rolled_back snapshot pool)) (on_committed pool.number (rolled_back snapshot pool) refl)))
 
+of_aborted : (target : List ℕ) (pool : Pool) → IfOk (with_aborted [] target pool) (IsReply pool.number)
+of_aborted target pool =
+    on_or_else pool.number (no_partial target) (partial_of target pool) (λ partial. committed (without_partial target pool))
+    (λ partial. on_committed pool.number (without_partial target pool) refl)
+
 of_step : (now : ℕ) (command : Command) (pool : Pool) → commits command ≡ true → IfOk (stepped [] now command pool) (IsReply pool.number)
 unfolding stepped
 of_step now (commands.Fs dataset) pool commit = of_dataset (new_dataset 2 dataset) pool
@@ -152,6 +157,7 @@ of_step now (commands.Clone origin dataset) pool commit = of_clone origin datase
 of_step now (commands.Bookmark snapshot bookmark) pool commit = of_bookmark snapshot bookmark pool
 of_step now (commands.Rollback destroys snapshot) pool commit = of_rollback destroys snapshot pool
 of_step now (commands.Destroy name) pool commit = of_destroyed name pool
+of_step now (commands.Abort dataset) pool commit = of_aborted dataset pool
 of_step now (commands.Read name k i) pool commit = absurd (cc)
 of_step now commands.List pool commit = absurd (cc)
 of_step now (commands.ListObjects name) pool commit = absurd (cc)

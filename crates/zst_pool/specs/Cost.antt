@@ -59,6 +59,7 @@ cost_of (commands.Clone origin dataset) = cells_only 0
 cost_of (commands.Bookmark snapshot bookmark) = cells_only 0
 cost_of (commands.Rollback destroys snapshot) = cells_only 0
 cost_of (commands.Destroy name) = cells_only 0
+cost_of (commands.Abort dataset) = cells_only 0
 cost_of (commands.Read name k i) = cells_only 0
 cost_of commands.List = cells_only 0
 cost_of (commands.ListObjects name) = cells_only 0

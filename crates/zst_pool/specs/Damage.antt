@@ -77,6 +77,7 @@ TellsDamage (commands.Clone origin dataset) rows disk space = NoDamage
 TellsDamage (commands.Bookmark snapshot bookmark) rows disk space = NoDamage
 TellsDamage (commands.Rollback destroys snapshot) rows disk space = NoDamage
 TellsDamage (commands.Destroy name) rows disk space = NoDamage
+TellsDamage (commands.Abort dataset) rows disk space = NoDamage
 TellsDamage (commands.Read name k i) rows disk space = OfSet rows name (read_damage disk)
 TellsDamage commands.List rows disk space = NoDamage
 TellsDamage (commands.ListObjects name) rows disk space = OfSet rows name (look_damage disk)

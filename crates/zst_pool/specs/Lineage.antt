@@ -1,4 +1,4 @@
--- What the plans of clone, bookmark, rollback and destroy say of their definitions.
+-- What the plans of clone, bookmark, rollback, destroy and abort say of their definitions.
 use Rattle.std.specs.Prelude.{◌≡◌, ◌+◌, ◌&&◌, ℕ, Bool, false, List, [], filter, length, is_some, not, bytes_eq, nat_lt, position, Option, Some, None, Result, Ok, Err}
 use Rattle.std.specs.Borrow.{Bor}
 use Rattle.zst_names.specs.Names.{dataset_of}
@@ -10,9 +10,9 @@ use Rattle.zst_model.specs.declared.refusals.refusal.Refusal.{Refusal}
 use Rattle.zst_model.specs.refusals.Refusal.{refusal_of}
 use Rattle.zst_model.specs.declared.refusals.faults.Quantity.TheVariants as quantities
 use Rattle.zst_model.specs.states.Apply.{unless}
-use Rattle.zst_model.specs.pools.Pool.{Pool, bookmark_named, dataset_named, dataset_of_bookmark, dataset_of_snapshot, inserted, is_before, snapshot_named}
+use Rattle.zst_model.specs.pools.Pool.{Pool, bookmark_named, dataset_named, dataset_of_bookmark, dataset_of_snapshot, inserted, is_before, partial_of, snapshot_named}
 use Rattle.zst_model.specs.pools.Pool as plain
-use Rattle.zst_model.specs.pools.Step.{Stepped, bookmark_of, clone_of, committed, exists_already, is_one_of, limited, most_bookmarks, no_such, not_ancestor, unless_used, with_bookmark, with_clone, with_destroyed, with_rollback, destroyed_by, rolled_back, unless_newer, without_bookmark, without_dataset, without_snapshot}
+use Rattle.zst_model.specs.pools.Step.{Stepped, bookmark_of, clone_of, committed, exists_already, is_one_of, limited, most_bookmarks, no_partial, no_such, not_ancestor, or_else, unless_used, with_bookmark, with_clone, with_destroyed, with_rollback, destroyed_by, rolled_back, unless_newer, without_bookmark, without_dataset, without_snapshot}
 use Rattle.zst_dir.specs.Going.{names_going, without}
 use Rattle.zst_dir.specs.Rows.{Rows, with_objects}
 use Rattle.zst_dir.specs.declared.going.Going.{Going}
@@ -147,3 +147,11 @@ abbrev pub rows_rolled_back : Snapshot → Rows → Rows
 rows_rolled_back snapshot rows =
     let left = without (newer_than snapshot) rows in
     record left { datasets = with_objects (dataset_of 64 snapshot.name) snapshot.objects snapshot.redact left.datasets }
+
+-- what comes next, where a dataset has a partial state
+abbrev pub if_partial : List ℕ → Pool → Result Stepped Refusal → Result Stepped Refusal
+if_partial target pool rest = or_else (no_partial target) (partial_of target pool) (λ partial. rest)
+
+-- the rows without the partial state of a target
+abbrev pub rows_without_partial : List ℕ → Rows → Rows
+rows_without_partial target rows = record rows { partials = filter (λ partial. not (bytes_eq partial.target target)) rows.partials }

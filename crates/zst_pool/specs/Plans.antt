@@ -30,12 +30,13 @@ is_counted quantities.Guids = true
 is_counted quantities.Bookmarks = true
 is_counted which = false
 
--- whether the directory and the latest body alone tell a refusal: E3 to E6, and E23 of what is counted there
+-- whether the directory and the latest body alone tell a refusal: E3 to E6, E14, and E23 of what is counted there
 abbrev pub is_by_rows : PlanFault → Bool
 is_by_rows (plans.NoSuch missing) = true
 is_by_rows (plans.Exists present) = true
 is_by_rows (plans.Busy holder) = true
 is_by_rows (plans.NotAncestor to from) = true
+is_by_rows (plans.NoPartial dataset) = true
 is_by_rows (plans.Limit which number) = is_counted which
 is_by_rows fault = false
 

@@ -1,6 +1,7 @@
 //! The commands on the pool of an image: each is checked, carried out and committed.
 #![tactic(auto)]
 
+mod aborting;
 mod branching;
 mod calls;
 mod changes;

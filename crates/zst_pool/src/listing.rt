@@ -66,6 +66,7 @@ pub fn tell<D: Disk>(
         | Command::Clone { .. }
         | Command::Bookmark { .. }
         | Command::Rollback { .. }
-        | Command::Destroy { .. } => unreachable!(),
+        | Command::Destroy { .. }
+        | Command::Abort { .. } => unreachable!(),
     }
 }

@@ -15,6 +15,7 @@ ghost use Rattle.zst_pool.specs.Damage.{IsOf, TellsDamage};
 ghost use Rattle.zst_pool.specs.Runs.{Runs};
 ghost use Rattle.zst_image.specs.Committing.{Ready};
 
+use crate::aborting::abort;
 use crate::branching::{destroy, make_bookmark, make_clone, roll_back};
 use crate::commands::{make_dataset, take_snapshot};
 use crate::fault::PoolFault;
@@ -82,7 +83,7 @@ impl<'d, D: Disk> Pool<'d, D> {
         ensures answer { (tight : Bool) (running : Plain) → (D.state self.new.io.disk.now).honest → self.old.io.failed ≡ false
             → IsAtRest tight (D.state self.old.io.disk.now) self.old.kept running
             → StepAnswer tight (D.state self.new.io.disk.now) self.new.kept running (stepped [] now command running) result }
-        // E3, E4, E5 and E23 of datasets, snapshots and guids come exactly where the directory says so, whatever the object sets hold, unless no memory is left before; E23 of numbers only past them.
+        // E3 to E6, E14 and E23 of datasets, snapshots, bookmarks and guids come exactly where the directory says so, whatever the object sets hold, unless no memory is left before; E23 of numbers only past them.
         ensures planned { self.old.io.failed ≡ false → ¬ (result ≡ Err PoolFault.OutOfMemory)
             → Plans (λ pool. stepped [] now command pool) (numbers_end command) (indices_end command) self.old.kept result }
         ensures open_still { self.old.io.failed ≡ false → ¬ (result ≡ Err PoolFault.Failed) }
@@ -225,6 +226,7 @@ fn run<D: Disk>(
             roll_back(io, alloc, kept, destroys, &snapshot)
         }
         Command::Destroy { name } => destroy(io, alloc, kept, name),
+        Command::Abort { dataset } => abort(io, alloc, kept, &dataset),
         Command::Read { .. } | Command::List | Command::ListObjects { .. } => unreachable!(),
     }
 }

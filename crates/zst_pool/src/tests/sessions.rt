@@ -2,17 +2,22 @@
 ghost use Rattle.std.specs.Prelude.{◌≡◌, None, IfOk};
 ghost use Rattle.zst_dir.specs.Rows.{IsPartialRow};
 ghost use Rattle.zst_model.specs.pools.Pool.{IsStated};
+ghost use Rattle.zst_model.specs.pools.Step.{IsCommand};
 
-use super::answers::check_line;
+use super::answers::{check_line, check_refused};
 use super::lineage::rows_of;
-use super::{NOW, Refused, file_system, with_small};
+use super::looks::{bytes_of, disk_of};
+use super::stops::check_command;
+use super::{NOW, Refused, dataset, file_system, step_on, with_small};
 use crate::Pool;
 use crate::checks::check_new_snapshot;
+use std::alloc::Global;
 use std::process::Abort;
 use zst_dir::{Dir, Partial};
 use zst_image::Kept;
-use zst_model::{GuidSet, Header, NameText, PlanFault, Point};
+use zst_model::{Command, GuidSet, Header, NameText, PlanFault, Point};
 use zst_names::{DatasetName, SnapName};
+use zst_outside::MemDisk;
 use zst_tree::ObjSet;
 
 // The header of a full stream of a file system, without a name.
@@ -86,5 +91,68 @@ fn a_session_that_is_not_kept_runs_beside_commands(rt: HostRuntime) -> Result<()
     let reply = pool.step(alloc, NOW, file_system("tank/b")?)?;
     check_line(&rt, &reply, "ok 5");
     assert_eq!(rt; rows_of(alloc, pool.into_disk())?, (3, 0, 0));
+    Ok(())
+}
+
+fn abort_of(text: &str) -> Result<Command, Refused>
+    ensures { IfOk result IsCommand }
+{
+    let dataset = dataset(text)?;
+    let _ = dataset.text();
+    Ok(Command::Abort { dataset })
+}
+
+// Commits what a receive of this snapshot has when it begins.
+fn begin_on(alloc: Global, disk: &mut MemDisk, text: &str) -> Result<(), Refused> {
+    let kept = Kept::open(alloc, disk)?;
+    let mut pool = Pool::new(alloc, disk, kept);
+    let partial = begun(text, true)?;
+    check_new_snapshot(&pool.kept.dir, &partial.snapshot_name())?;
+    pool.put_partial(alloc, partial, false)?;
+    Ok(())
+}
+
+// A disk whose pool has a snapshot of tank/a, and partial states of tank/a and of tank/b.
+fn with_two(alloc: Global) -> Result<MemDisk, Refused> {
+    let mut disk = with_small(alloc, 4)?;
+    begin_on(alloc, &mut disk, "tank/a@t")?;
+    begin_on(alloc, &mut disk, "tank/b@t")?;
+    Ok(disk)
+}
+
+// How many lines a list of the pool of a disk has.
+fn lines_of(alloc: Global, disk: &mut MemDisk) -> Result<usize, Refused> {
+    Ok(step_on(alloc, disk, Command::List)?.lines().len())
+}
+
+#[test]
+fn an_abort_leaves_all_else(rt: HostRuntime) -> Result<(), Refused> {
+    let alloc = rt.alloc();
+    let mut disk = with_two(alloc)?;
+    let disk = &mut disk;
+    assert_eq!(rt; lines_of(alloc, disk)?, 4);
+
+    let reply = step_on(alloc, disk, abort_of("tank/a")?)?;
+    check_line(&rt, &reply, "ok 8");
+    assert_eq!(rt; lines_of(alloc, disk)?, 3);
+    assert_eq!(rt; rows_of(alloc, disk)?, (1, 1, 0));
+    for partial in Kept::open(alloc, disk)?.dir.partials() {
+        assert_eq!(rt; partial.target.text(), "tank/b");
+    }
+
+    let again = abort_of("tank/a")?;
+    check_refused(&rt, alloc, disk, again, "no partial: tank/a")?;
+    step_on(alloc, disk, abort_of("tank/b")?)?;
+    assert_eq!(rt; lines_of(alloc, disk)?, 2);
+    Ok(())
+}
+
+#[test]
+fn a_stop_of_an_abort_leaves_the_pool_before_or_after(rt: HostRuntime) -> Result<(), Refused> {
+    let alloc = rt.alloc();
+    let bytes = bytes_of(alloc, &mut with_two(alloc)?)?;
+    let bytes = check_command(&rt, alloc, bytes, abort_of("tank/a")?, 0)?;
+    let mut disk = disk_of(alloc, bytes);
+    assert_eq!(rt; Kept::open(alloc, &mut disk)?.dir.partials().len(), 1);
     Ok(())
 }

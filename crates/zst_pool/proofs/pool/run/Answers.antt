@@ -128,3 +128,14 @@ pub returns-in-Bookmark-clause-plans : goal.returns-in-Bookmark-clause-plans
 unfolding stepped
 returns-in-Bookmark-clause-plans g c =
     subst (λ (command : Command). Plans (λ pool. stepped [] c.args.now command pool) (numbers_end command) (indices_end command) c.args.kept.now c.make_bookmark.result) (sym c.in-Bookmark.is) c.make_bookmark.ensures.plans
+
+pub returns-in-Abort-clause-runs : goal.returns-in-Abort-clause-runs
+unfolding stepped
+returns-in-Abort-clause-runs g c =
+    subst (λ (command : Command). Runs (λ pool. stepped [] c.args.now command pool) (cost_of command) (TellsDamage command c.args.kept.now.dir (g.D.Disk.state c.args.io.now.disk.now) (free_by c.args.kept.now.body)) c.args.kept.now (g.D.Disk.state c.args.io.now.disk.now) c.args.io.now.failed (g.D.Disk.state c.abort.new.io.disk.now) c.abort.new.io.space c.abort.new.io.failed c.abort.result)
+    (sym c.in-Abort.is) c.abort.ensures.runs
+
+pub returns-in-Abort-clause-plans : goal.returns-in-Abort-clause-plans
+unfolding stepped
+returns-in-Abort-clause-plans g c =
+    subst (λ (command : Command). Plans (λ pool. stepped [] c.args.now command pool) (numbers_end command) (indices_end command) c.args.kept.now c.abort.result) (sym c.in-Abort.is) c.abort.ensures.plans
