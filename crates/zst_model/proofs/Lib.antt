@@ -4,3 +4,4 @@ pub mod Sizes
 mod Rising
 pub mod OrderLaws
 pub mod InsertedLaws
+mod Fronts

@@ -8,6 +8,5 @@ pub mod FitsLaws
 pub mod StatedLaws
 pub mod PayloadNumbers
 pub mod PayloadFields
-pub mod PayloadSets
 pub mod PayloadWrites
 pub mod PayloadLaws

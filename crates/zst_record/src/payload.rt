@@ -1,8 +1,7 @@
 //! BEGIN's payload: where a resumed stream begins, and the guids of redactions.
-ghost use Rattle.std.specs.Prelude.{◌≡◌, ◌+◌, ◌*◌, ◌/◌, ◌≤◌, ◌↔◌, ◌++◌, ◌&&◌, Err, length, drop, flat_map, IfSome, IsSome, IsTrue};
+ghost use Rattle.std.specs.Prelude.{◌≡◌, ◌+◌, ◌*◌, ◌/◌, ◌≤◌, ◌++◌, ◌&&◌, Err, length, drop, flat_map, IsTrue};
 ghost use Rattle.zst_bytes.specs.Bytes.{written};
 ghost use Rattle.zst_bytes.specs.Words.{word};
-ghost use Rattle.zst_model.specs.fields.Guids.{IsGuidSet};
 ghost use Rattle.zst_record.specs.Payload.{begin_payload, behind_magic, content_of, foreign, goes_with_redacted, goes_with_resuming, goes_with_source, has_magic, has_payload, numbers_in, opened, said_beside, stated_point, wrong};
 
 use crate::decoding::wants_payload;
@@ -46,20 +45,6 @@ fn has_magic(bytes: &[u8]) -> bool
     ensures long { IsTrue result → 8 ≤ length bytes.now }
 {
     bytes.starts_with(MAGIC)
-}
-
-/// The set of guids that rise, where they are no more than a set takes.
-fn set_of(guids: &[u64]) -> Option<GuidSet>
-    ensures found { IfSome result (λ set. set ≡ guids.now) }
-    ensures exact { IsSome result ↔ IsGuidSet guids.now }
-{
-    let mut set = GuidSet::empty();
-    for guid in guids {
-        if !set.insert_last(*guid) {
-            return None;
-        }
-    }
-    Some(set)
 }
 
 /// Whether a stream that BEGIN says so may have this resume point and these guids.
@@ -113,10 +98,10 @@ fn content_of(numbers: &[u64], header: Header) -> Result<Header, StreamFault>
     if second.len() as u64 != *others || !goes_with(&header, point, first, second) {
         return wrong();
     }
-    let Some(redact) = set_of(first) else {
+    let Some(redact) = GuidSet::from_slice(first) else {
         return wrong();
     };
-    let Some(from_redact) = set_of(second) else {
+    let Some(from_redact) = GuidSet::from_slice(second) else {
         return wrong();
     };
     Ok(said_beside(header, point, redact, from_redact))

@@ -8,7 +8,7 @@ ghost use Rattle.zst_model.specs.refusals.Texts.{guid_text};
 ghost use Rattle.zst_token.specs.Reading.{number_of};
 
 use arrayvec::ArrayString;
-use hex::{FromHex, encode_to_slice};
+use hex::FromHex;
 use zst_fletcher::Sum;
 use zst_model::guid_text;
 
@@ -25,14 +25,11 @@ pub(crate) fn checksum_of(numbers: &[u64]) -> ArrayString<16>
 }
 
 /// A number in sixteen digits, its lowest byte first.
-#[tactic(auto, unfolding(zst_bytes::specs::Bytes::number_bytes))]
 fn digits_of(number: u64) -> ArrayString<16>
     ensures digits { result.bytes ≡ encode_lower (word number) }
     ensures sixteen { array_string_len result ≡ 16 }
 {
-    let mut digits = [0; 16];
-    encode_to_slice(number.to_le_bytes().as_slice(), &mut digits).unwrap();
-    ArrayString::from_byte_string(&digits).unwrap()
+    guid_text(number.swap_bytes())
 }
 
 /// Appends numbers, each in sixteen digits.

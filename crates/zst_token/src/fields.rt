@@ -1,6 +1,5 @@
 //! The fields of a token, from the digits of its numbers.
-ghost use Rattle.std.specs.Prelude.{◌≡◌, ◌*◌, ◌<◌, ◌≤◌, ◌↔◌, ◌++◌, true, length, take, drop, IfSome, IsSome, IsTrue};
-ghost use Rattle.zst_model.specs.fields.Guids.{IsGuidSet};
+ghost use Rattle.std.specs.Prelude.{◌≡◌, ◌*◌, ◌<◌, ◌≤◌, ◌↔◌, length, IsTrue};
 ghost use Rattle.zst_model.specs.states.State.{number_bound};
 ghost use Rattle.zst_token.specs.Reading.{token_of_numbers, numbers_in, token_of_digits};
 
@@ -12,20 +11,6 @@ use zst_model::{GuidSet, Point};
 
 /// The digits of a number.
 const DIGITS: usize = 16;
-
-/// The set of guids that rise, where they are no more than a set takes.
-fn set_of(guids: &[u64]) -> Option<GuidSet>
-    ensures found { IfSome result (λ set. set ≡ guids.now) }
-    ensures exact { IsSome result ↔ IsGuidSet guids.now }
-{
-    let mut set = GuidSet::empty();
-    for guid in guids {
-        if !set.insert_last(*guid) {
-            return None;
-        }
-    }
-    Some(set)
-}
 
 /// Whether a token may have these flags, this to guid and a point in this object.
 #[tactic(auto, unfolding(zst_model::specs::states::State::number_bound))]
@@ -51,10 +36,10 @@ fn token_of_numbers(numbers: &[u64]) -> Option<Token>
     if second.len() as u64 != *others {
         return None;
     }
-    let Some(redact) = set_of(first) else {
+    let Some(redact) = GuidSet::from_slice(first) else {
         return None;
     };
-    let Some(from_redact) = set_of(second) else {
+    let Some(from_redact) = GuidSet::from_slice(second) else {
         return None;
     };
     Some(Token {

@@ -1,4 +1,4 @@
-ghost use Rattle.std.specs.Prelude.{◌≡◌, ◌∷◌, ◌++◌, ◌↔◌, ℕ, List, [], true, IsTrue};
+ghost use Rattle.std.specs.Prelude.{◌≡◌, ◌∷◌, ◌++◌, ◌↔◌, ℕ, List, [], true, IfSome, IsSome, IsTrue};
 ghost use Rattle.zst_model.specs.fields.Guids.{is_rising, IsGuidSet};
 
 use arrayvec::ArrayVec;
@@ -26,6 +26,20 @@ impl GuidSet {
         GuidSet {
             guids: ArrayVec::new(),
         }
+    }
+
+    /// The set of these guids, where they rise and are no more than a set takes.
+    pub fn from_slice(guids: &[u64]) -> Option<GuidSet>
+        ensures found { IfSome result (λ set. set ≡ guids.now) }
+        ensures exact { IsSome result ↔ IsGuidSet guids.now }
+    {
+        let mut set = GuidSet::empty();
+        for guid in guids {
+            if !set.insert_last(*guid) {
+                return None;
+            }
+        }
+        Some(set)
     }
 
     /// The guids, rising.

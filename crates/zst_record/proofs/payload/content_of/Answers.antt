@@ -67,27 +67,27 @@ returns-then-second-others c =
           false≢true (sym w.if-not-goes_with.true ∙ w.goes_with.ensures ∙ goes_together numbers header c.in-Some.first.now c.in-Some.second.now first second right)
     ]))
 
-pub returns-in_default-set_of : goal.returns-in_default-set_of
-returns-in_default-set_of c =
+pub returns-in_default-from_slice : goal.returns-in_default-from_slice
+returns-in_default-from_slice c =
     let numbers = c.args.numbers.now in
     let count = get_or numbers 2 0 in
     let first = cut numbers c.in-Some.first.now (take count) c.in-Some.ensures.cases.1 in
     let fit : All (λ n. n < 2 ^ 64) numbers = All-from_get_or (λ n. n < 2 ^ 64) numbers 0 (λ i below. omega (arith, c.type_inv.numbers i)) in
     let fits : All (λ n. n < 2 ^ 64) (redact_in numbers) = All-take (λ n. n < 2 ^ 64) count (drop 4 numbers) (All-drop (λ n. n < 2 ^ 64) 4 numbers fit) in
-    c.wrong-in_default-set_of.ensures
+    c.wrong-in_default-from_slice.ensures
     ∙ sym (numbers_wrong c.args.header numbers c.in-len4-up.len_at_least
-    (λ right. false≢true (c.in_default-set_of.ensures.exact.1 (subst IsGuidSet (sym first) (guid_set (redact_in numbers) fits right.redact_set)))))
+    (λ right. false≢true (c.in_default-from_slice.ensures.exact.1 (subst IsGuidSet (sym first) (guid_set (redact_in numbers) fits right.redact_set)))))
 
-pub returns-in_default-set_of-2 : goal.returns-in_default-set_of-2
-returns-in_default-set_of-2 c =
+pub returns-in_default-from_slice-2 : goal.returns-in_default-from_slice-2
+returns-in_default-from_slice-2 c =
     let numbers = c.args.numbers.now in
     let count = get_or numbers 2 0 in
     let second = cut numbers c.in-Some.second.now (drop count) c.in-Some.ensures.cases.2 in
     let fit : All (λ n. n < 2 ^ 64) numbers = All-from_get_or (λ n. n < 2 ^ 64) numbers 0 (λ i below. omega (arith, c.type_inv.numbers i)) in
     let fits : All (λ n. n < 2 ^ 64) (from_redact_in numbers) = All-drop (λ n. n < 2 ^ 64) count (drop 4 numbers) (All-drop (λ n. n < 2 ^ 64) 4 numbers fit) in
-    c.wrong-in_default-set_of-2.ensures
+    c.wrong-in_default-from_slice-2.ensures
     ∙ sym (numbers_wrong c.args.header numbers c.in-len4-up.len_at_least
-    (λ right. false≢true (c.in_default-set_of-2.ensures.exact.1 (subst IsGuidSet (sym second) (guid_set (from_redact_in numbers) fits right.from_set)))))
+    (λ right. false≢true (c.in_default-from_slice-2.ensures.exact.1 (subst IsGuidSet (sym second) (guid_set (from_redact_in numbers) fits right.from_set)))))
 
 pub returns : goal.returns
 returns c =
@@ -97,15 +97,15 @@ returns c =
     let cases = c.in-Some.ensures.cases in
     let first = cut numbers c.in-Some.first.now (take count) cases.1 in
     let second = cut numbers c.in-Some.second.now (drop count) cases.2 in
-    let redact = c.in-Some-set_of.ensures.found ∙ first in
-    let from_redact = c.in-Some-set_of-2.ensures.found ∙ second in
-    let set = subst IsGuidSet first (c.in-Some-set_of.ensures.exact.0 refl) in
-    let from_set = subst IsGuidSet second (c.in-Some-set_of-2.ensures.exact.0 refl) in
+    let redact = c.in-Some-from_slice.ensures.found ∙ first in
+    let from_redact = c.in-Some-from_slice-2.ensures.found ∙ second in
+    let set = subst IsGuidSet first (c.in-Some-from_slice.ensures.exact.0 refl) in
+    let from_set = subst IsGuidSet second (c.in-Some-from_slice-2.ensures.exact.0 refl) in
     let goes = sym c.goes_with.ensures ∙ c.if-not-goes_with.false in
     let right : AreRight header numbers =
     goes_apart numbers header c.in-Some.first.now c.in-Some.second.now first second
     (omega (arith, cases.0, ap length (take_rest numbers 4), length-take (get_or numbers 2 0) (drop 4 numbers))) (sym (ap length second) ∙ c.if-second-others.false) set from_set goes in
     ap (λ (h : Header). Ok h)
-    (c.said_beside.ensures ∙ ap (λ (l : List ℕ). said_beside header (point_in numbers) l c.in-Some-set_of-2.from_redact) redact
+    (c.said_beside.ensures ∙ ap (λ (l : List ℕ). said_beside header (point_in numbers) l c.in-Some-from_slice-2.from_redact) redact
     ∙ ap (λ (l : List ℕ). said_beside header (point_in numbers) (redact_in numbers) l) from_redact)
     ∙ sym (numbers_right header numbers c.in-len4-up.len_at_least right)

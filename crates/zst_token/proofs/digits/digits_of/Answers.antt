@@ -1,22 +1,15 @@
-use Rattle.std.proofs.Common.{◌≡◌, ℕ, true, nat_lt, List, [], ◌∷◌, refl, sym, subst}
-use Rattle.std.specs.List.{list_all}
-use Rattle.std.specs.Str.{IsAscii, IsUtf8}
-use Rattle.std.proofs.lemmas.Bool.{and_parts, ltb-true}
-use Rattle.std.proofs.lemmas.Str.{IsUtf8-from_ascii}
-use Rattle.std.proofs.lemmas.Str.Ascii.{IsAscii-nil, IsAscii-cons}
-use Rattle.hex.proofs.HexLemmas.{IsAscii-encode_with}
-use Rattle.hex.specs.Hex.{lower_digits}
+use Rattle.std.proofs.Common.{◌≡◌, ap, refl, ◌∙◌}
+use Rattle.std.proofs.lemmas.Nat.{be_bytes_8}
+use Rattle.std.specs.Int.{w64, to_be_bytes, to_le_bytes}
+use Rattle.hex.specs.Hex.{encode_lower}
+use Rattle.zst_model.specs.refusals.Texts.{guid_text}
+use Rattle.zst_token.proofs.Numbers.{word-to_le_bytes}
+use Rattle.zst_token.proofs.Sixteen.{IsBytes-word}
 use Rattle.zst_token.proofs.digits.digits_of.Goals as goal
 
--- bytes that pass the test one by one are ASCII
-IsAscii-from_list_all : (bytes : List ℕ) → list_all (λ b. nat_lt b 128) bytes ≡ true → IsAscii bytes
-IsAscii-from_list_all [] passed = IsAscii-nil
-IsAscii-from_list_all (b ∷ rest) passed =
-    let parts = and_parts _ _ passed in
-    IsAscii-cons b rest (ltb-true b 128 parts.0) (IsAscii-from_list_all rest parts.1)
-
-pub unwrap-requires-2 : goal.unwrap-requires-2
-unwrap-requires-2 c =
-    let written = rw c.unwrap.ensures at c.encode_to_slice.ensures.written in
-    let ascii = IsAscii-encode_with lower_digits _ (IsAscii-from_list_all lower_digits refl) in
-    c.from_byte_string.ensures.variant.1 (subst IsUtf8 (sym written) (IsUtf8-from_ascii _ ascii))
+pub returns-clause-digits : goal.returns-clause-digits
+unfolding guid_text
+returns-clause-digits c =
+    let number = c.args.number in
+    let turned : to_be_bytes w64 c.swap_bytes.result ≡ to_le_bytes w64 number = be_bytes_8 (to_le_bytes w64 number) c.swap_bytes.result refl (IsBytes-word number) c.swap_bytes.ensures in
+    c.guid_text.ensures.digits ∙ ap encode_lower (turned ∙ word-to_le_bytes number)

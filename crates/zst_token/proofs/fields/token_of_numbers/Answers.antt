@@ -32,23 +32,23 @@ returns-then-second-others c =
     let second = cut numbers c.in-Some.second.now (drop count) c.in-Some.ensures.cases.2 in
     fields_none numbers c.in-len7-up.len_at_least (λ right. omega (arith, c.if-second-others.true, ap length second, right.from_count))
 
-pub returns-in_default-set_of : goal.returns-in_default-set_of
-returns-in_default-set_of c =
+pub returns-in_default-from_slice : goal.returns-in_default-from_slice
+returns-in_default-from_slice c =
     let numbers = c.args.numbers.now in
     let count = get_or numbers 5 0 in
     let first = cut numbers c.in-Some.first.now (take count) c.in-Some.ensures.cases.1 in
     let fit : All (λ n. n < 2 ^ 64) numbers = All-from_get_or (λ n. n < 2 ^ 64) numbers 0 (λ i below. omega (arith, c.type_inv.numbers i)) in
     fields_none numbers c.in-len7-up.len_at_least
-    (λ right. false≢true (c.in_default-set_of.ensures.exact.1 (subst IsGuidSet (sym first) (redact_set numbers fit right.redact))))
+    (λ right. false≢true (c.in_default-from_slice.ensures.exact.1 (subst IsGuidSet (sym first) (redact_set numbers fit right.redact))))
 
-pub returns-in_default-set_of-2 : goal.returns-in_default-set_of-2
-returns-in_default-set_of-2 c =
+pub returns-in_default-from_slice-2 : goal.returns-in_default-from_slice-2
+returns-in_default-from_slice-2 c =
     let numbers = c.args.numbers.now in
     let count = get_or numbers 5 0 in
     let second = cut numbers c.in-Some.second.now (drop count) c.in-Some.ensures.cases.2 in
     let fit : All (λ n. n < 2 ^ 64) numbers = All-from_get_or (λ n. n < 2 ^ 64) numbers 0 (λ i below. omega (arith, c.type_inv.numbers i)) in
     fields_none numbers c.in-len7-up.len_at_least
-    (λ right. false≢true (c.in_default-set_of-2.ensures.exact.1 (subst IsGuidSet (sym second) (from_redact_set numbers fit right.from_redact))))
+    (λ right. false≢true (c.in_default-from_slice-2.ensures.exact.1 (subst IsGuidSet (sym second) (from_redact_set numbers fit right.from_redact))))
 
 pub returns : goal.returns
 returns c =
@@ -57,10 +57,10 @@ returns c =
     let cases = c.in-Some.ensures.cases in
     let first = cut numbers c.in-Some.first.now (take count) cases.1 in
     let second = cut numbers c.in-Some.second.now (drop count) cases.2 in
-    let redact = c.in-Some-set_of.ensures.found in
-    let from_redact = c.in-Some-set_of-2.ensures.found in
+    let redact = c.in-Some-from_slice.ensures.found in
+    let from_redact = c.in-Some-from_slice-2.ensures.found in
     let fits = c.fits_token.ensures.0 c.if-not-fits_token.false in
-    fields_some numbers c.in-Some-set_of.redact c.in-Some-set_of-2.from_redact c.in-len7-up.len_at_least
+    fields_some numbers c.in-Some-from_slice.redact c.in-Some-from_slice-2.from_redact c.in-len7-up.len_at_least
     fits.0 fits.1 fits.2
     (redact ∙ first) (from_redact ∙ second) (omega (arith, cases.0, ap length (take_rest numbers 7))) (ap length from_redact ∙ c.if-second-others.false)
-    (subst IsGuidSet (sym redact) (c.in-Some-set_of.ensures.exact.0 refl)) (subst IsGuidSet (sym from_redact) (c.in-Some-set_of-2.ensures.exact.0 refl))
+    (subst IsGuidSet (sym redact) (c.in-Some-from_slice.ensures.exact.0 refl)) (subst IsGuidSet (sym from_redact) (c.in-Some-from_slice-2.ensures.exact.0 refl))

@@ -1,6 +1,6 @@
 use Rattle.std.proofs.Common.{◌≡◌, take}
 use Rattle.zst_model.specs.fields.Guids.{IsGuidSet}
-use Rattle.zst_record.proofs.payload.set_of.Given as goal
+use Rattle.zst_model.proofs.fields.guids.GuidSet.from_slice.Given as goal
 
 abbrev pub invariant-loop-guid : goal.invariant-loop-guid
 invariant-loop-guid l = record {

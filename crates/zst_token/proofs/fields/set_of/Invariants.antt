@@ -1,9 +1,0 @@
-use Rattle.std.proofs.Common.{◌≡◌, take}
-use Rattle.zst_model.specs.fields.Guids.{IsGuidSet}
-use Rattle.zst_token.proofs.fields.set_of.Given as goal
-
-abbrev pub invariant-loop-guid : goal.invariant-loop-guid
-invariant-loop-guid l = record {
-  front : l.set ≡ take l.guid-index l.guids;
-  lawful : IsGuidSet l.set;
-}
