@@ -3,7 +3,7 @@ use Rattle.std.proofs.Common.{◌≡◌, ℕ, List, Some, Result, sym, subst}
 use Rattle.zst_outside.specs.Images.{DiskState}
 use Rattle.zst_model.specs.declared.refusals.refusal.Refusal.{Refusal}
 use Rattle.zst_line.specs.declared.line.Line.{Line}
-use Rattle.zst_line.specs.declared.line.Line.TheVariants.{Dump, Create, Step, Redact, Send, Resume, Receive, Abort, Token, Check, Gen, Reclaim, Replay}
+use Rattle.zst_line.specs.declared.line.Line.TheVariants.{Dump, Create, Step, Redact, Send, Resume, Receive, Token, Check, Gen, Reclaim, Replay}
 use Rattle.zst_run.specs.Devices.{Devices}
 use Rattle.zst_plan.specs.declared.receive.RecvAsk.{RecvAsk}
 use Rattle.zst_run.specs.Lines.{DoesLine, asked, told_of, wanted}
@@ -26,7 +26,6 @@ does_send state now (Resume image token) ask old new result is sends input =
     let same : Rest token ≡ ask = cc is in
     (subst (λ (a : Asked). Sends a (state old.here) (state new.here) old.out new.out result) (sym same) sends, input)
 does_send state now (Receive image keeps forces origin target) ask old new result is sends input = absurd (cc is)
-does_send state now (Abort image dataset) ask old new result is sends input = absurd (cc is)
 does_send state now (Token image dataset) ask old new result is sends input = absurd (cc is)
 does_send state now (Check image) ask old new result is sends input = absurd (cc is)
 does_send state now (Gen image steps) ask old new result is sends input = absurd (cc is)
@@ -44,7 +43,6 @@ does_receive state now (Step image command) ask old new result is receives = abs
 does_receive state now (Redact image snapshot bookmark kept) ask old new result is receives = absurd (cc is)
 does_receive state now (Send image from redacts snapshot) ask old new result is receives = absurd (cc is)
 does_receive state now (Resume image token) ask old new result is receives = absurd (cc is)
-does_receive state now (Abort image dataset) ask old new result is receives = absurd (cc is)
 does_receive state now (Token image dataset) ask old new result is receives = absurd (cc is)
 does_receive state now (Check image) ask old new result is receives = absurd (cc is)
 does_receive state now (Gen image steps) ask old new result is receives = absurd (cc is)
@@ -63,7 +61,6 @@ does_tell state now (Redact image snapshot bookmark kept) dataset old new result
 does_tell state now (Send image from redacts snapshot) dataset old new result is tells input = absurd (cc is)
 does_tell state now (Resume image token) dataset old new result is tells input = absurd (cc is)
 does_tell state now (Receive image keeps forces origin target) dataset old new result is tells input = absurd (cc is)
-does_tell state now (Abort image name) dataset old new result is tells input = absurd (cc is)
 does_tell state now (Check image) dataset old new result is tells input = absurd (cc is)
 does_tell state now (Gen image steps) dataset old new result is tells input = absurd (cc is)
 does_tell state now (Reclaim image) dataset old new result is tells input = absurd (cc is)

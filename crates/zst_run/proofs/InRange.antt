@@ -12,7 +12,7 @@ use Rattle.zst_line.specs.Judged.{IsLine, Takes}
 use Rattle.zst_line.specs.Lines.{LineIs, as_name, name_of, value_behind}
 use Rattle.zst_line.specs.Named.{kind_of_name, takes}
 use Rattle.zst_line.specs.declared.line.Line.{Line}
-use Rattle.zst_line.specs.declared.line.Line.TheVariants.{Dump, Create, Step, Redact, Send, Resume, Receive, Abort, Token, Check, Gen, Reclaim, Replay}
+use Rattle.zst_line.specs.declared.line.Line.TheVariants.{Dump, Create, Step, Redact, Send, Resume, Receive, Token, Check, Gen, Reclaim, Replay}
 use Rattle.zst_line.proofs.FirstWords.{same_kind}
 use Rattle.zst_line.proofs.OptionPlaces.{last_takes, value_fits}
 use Rattle.zst_line.proofs.Texts.{differ}
@@ -80,7 +80,6 @@ in_range (Send image from redacts snapshot) words said is = from_source words sa
 in_range (Resume image token) words said is = tt
 in_range (Receive image keeps forces origin target) words said is =
     subst IsTarget (sym is.1) (into_target words said.rest is.2.0 image is.0 said.kind said.spelled is.2.1 said.fact)
-in_range (Abort image dataset) words said is = tt
 in_range (Token image dataset) words said is = tt
 in_range (Check image) words said is = tt
 in_range (Gen image steps) words said is = tt
