@@ -1,5 +1,5 @@
 -- What a cut leaves, and how a resumed send completes it.
-use Rattle.std.specs.Prelude.{◌≡◌, List, ◌++◌, Ok}
+use Rattle.std.specs.Prelude.{◌≡◌, ◌<◌, ◌≤◌, ◌⊎◌, List, ◌++◌, Ok}
 use Rattle.zst_model.specs.declared.sends.header.Point.{Point}
 use Rattle.zst_model.specs.declared.states.item.Item.{Item}
 use Rattle.zst_model.specs.states.State.{State}
@@ -27,3 +27,11 @@ CutStands =
     (view : View) (base : State) (point : Point) (x : State) (done rest : List Item) (y : State)
     → IsView view → StandsFor view base point x → done ++ rest ≡ items view point → apply_all done x ≡ Ok y
     → StandsFor view base (point_of point done) y
+
+-- a point that is another one or stands after it: by object, and then by offset
+abbrev pub IsAtOrAfter : (point later : Point) → Type 0
+IsAtOrAfter point later = (point.object < later.object) ⊎ ((point.object ≡ later.object) × (point.offset ≤ later.offset))
+
+-- the items of a send from a point never lead back
+abbrev pub PointsRise : Type 0
+PointsRise = (view : View) (point : Point) (done rest : List Item) → IsView view → done ++ rest ≡ items view point → IsAtOrAfter point (point_of point done)
