@@ -9,7 +9,7 @@ use Rattle.zst_model.specs.pools.Pool.{Pool, Partial, IsPool, partial_of}
 use Rattle.zst_model.specs.sends.Headers.{Sent, header_of, choice_of, sent_view}
 use Rattle.zst_model.specs.sends.PartWay.{IsPartWay}
 use Rattle.zst_model.specs.sends.Points.{point_of}
-use Rattle.zst_model.specs.sends.Target.{BaseOk}
+use Rattle.zst_model.specs.sends.Target.{BaseOk, target}
 use Rattle.zst_model.specs.states.Apply.{apply_all}
 use Rattle.zst_model.specs.states.State.{State, IsState}
 use Rattle.zst_plan.specs.RecvPlan.{Base, RecvPlan, Begins, Resumes, component_for, recv_plan}
@@ -30,22 +30,34 @@ pub record IsUnderway (sent : Sent) (target : List ℕ) (state : State) (pool : 
   pub kept : partial.keep ≡ true
   pub way : IsPartWay (sent_view sent) state partial.point partial
 
+-- a send that gives the same view as another, and whose rest from this point a stream can state
+pub record GivesRest (sent also : Sent) (point : Point) : Type 0 where
+  pub same_view : sent_view also ≡ sent_view sent
+  pub sendable : IsSendable also (Some point)
+
 -- Every stop of a receive that goes on, wherever the rest of its stream is cut off and however it is cut into pieces: what the image keeps is in
--- its progress, from the partial state that it went on with.
+-- its progress, from the partial state that it went on with. The rest may come of another send that gives the same view.
 abbrev pub ResumedStopsAreProgress : Type 0
 ResumedStopsAreProgress =
-    (sent : Sent) (state : State) (ask : RecvAsk) (pool : Pool) (partial : Partial) (pieces : List (List ℕ))
-    → IsSendable sent (Some partial.point) → IsUnderway sent ask.target state pool partial → AreOfStream pieces sent (Some partial.point)
+    (sent also : Sent) (state : State) (ask : RecvAsk) (pool : Pool) (partial : Partial) (pieces : List (List ℕ))
+    → IsPool pool → IsUnderway sent ask.target state pool partial → GivesRest sent also partial.point → AreOfStream pieces also (Some partial.point)
     → Progress ask (sent_view sent) (course_on partial state) (kept_of pool) (kept_of (pool_of (receives ask pool pieces)))
 
--- However it is cut into pieces, the rest of a stream that is received to its end makes one snapshot more: the one that was sent, of the
--- partial state's component and over its base, where that was fit for it.
+-- However it is cut into pieces, the rest of a stream that is received to its end makes one snapshot more: what the view makes of the base, of
+-- the partial state's component and over its base.
 abbrev pub RestIsReceived : Type 0
 RestIsReceived =
-    (sent : Sent) (state : State) (ask : RecvAsk) (pool after : Pool) (partial last : Partial) (pieces : List (List ℕ))
-    → IsSendable sent (Some partial.point) → IsUnderway sent ask.target state pool partial
-    → IsState state → BaseOk state sent.snapshot.objects (choice_of sent)
-    → AreOfStream pieces sent (Some partial.point) → receives ask pool pieces ≡ Goes after (Ends last)
+    (sent also : Sent) (state : State) (ask : RecvAsk) (pool after : Pool) (partial last : Partial) (pieces : List (List ℕ))
+    → IsPool pool → IsUnderway sent ask.target state pool partial → GivesRest sent also partial.point → AreOfStream pieces also (Some partial.point)
+    → receives ask pool pieces ≡ Goes after (Ends last)
+    → (whole : State) × (target (sent_view sent) state ≡ Ok whole) × HasOneMore pool after ask.target partial.component partial.base (header_of sent) whole
+
+-- So it makes the snapshot that was sent, where the base was fit for it.
+abbrev pub FitRestIsReceived : Type 0
+FitRestIsReceived =
+    (sent also : Sent) (state : State) (ask : RecvAsk) (pool after : Pool) (partial last : Partial) (pieces : List (List ℕ))
+    → IsPool pool → IsUnderway sent ask.target state pool partial → GivesRest sent also partial.point → AreOfStream pieces also (Some partial.point)
+    → IsSendable sent None → IsState state → BaseOk state sent.snapshot.objects (choice_of sent) → receives ask pool pieces ≡ Goes after (Ends last)
     → HasOneMore pool after ask.target partial.component partial.base (header_of sent) sent.snapshot.objects.state
 
 -- a partial state is what these items make of that with which a plan begins, at the point to which they lead
@@ -76,16 +88,16 @@ TokensGoOn =
     × (recv_plan ask (begun sent (Some partial.point)) pool ≡ Ok (Resumes partial))
 
 -- A receive in sessions, of a snapshot of this component over this base: the first begins in a pool without a partial state of the target, and each
--- later one goes on from the point at which the partial state stands that the image keeps. Between two of them anything may
--- happen that leaves that partial state.
+-- later one goes on from the point at which the partial state stands that the image keeps, with the rest of a send that gives the same view. Between
+-- two of them anything may happen that leaves that partial state.
 pub data Chain (sent : Sent) (target component : List ℕ) (base : Base) : Pool → Type 0 where
   Begun : (ask : RecvAsk) (pool : Pool) (pieces : List (List ℕ))
       → ask.target ≡ target → IsPool pool → partial_of target pool ≡ None → MatchesBase sent ask pool → recv_plan ask (header_of sent) pool ≡ Ok (Begins component base)
       → IsSendable sent None → AreOfStream pieces sent None
       → Chain sent target component base (kept_of (pool_of (receives ask pool pieces)))
-  GoneOn : (ask : RecvAsk) (pool : Pool) (partial : Partial) (pieces : List (List ℕ))
-      → Chain sent target component base pool → ask.target ≡ target → partial_of target pool ≡ Some partial
-      → IsSendable sent (Some partial.point) → AreOfStream pieces sent (Some partial.point)
+  GoneOn : (also : Sent) (ask : RecvAsk) (pool : Pool) (partial : Partial) (pieces : List (List ℕ))
+      → Chain sent target component base pool → ask.target ≡ target → IsPool pool → partial_of target pool ≡ Some partial
+      → GivesRest sent also partial.point → AreOfStream pieces also (Some partial.point)
       → Chain sent target component base (kept_of (pool_of (receives ask pool pieces)))
   Between : (pool other : Pool) → Chain sent target component base pool → partial_of target other ≡ partial_of target pool → Chain sent target component base other
 
@@ -100,9 +112,9 @@ ChainsAreUnderway =
 -- holes, of the first one's component and over its base.
 abbrev pub ChainsComplete : Type 0
 ChainsComplete =
-    (sent : Sent) (target component : List ℕ) (base : Base) (ask : RecvAsk) (pool after : Pool) (partial last : Partial) (pieces : List (List ℕ))
-    → Chain sent target component base pool → ask.target ≡ target → partial_of target pool ≡ Some partial
-    → IsSendable sent (Some partial.point) → AreOfStream pieces sent (Some partial.point) → receives ask pool pieces ≡ Goes after (Ends last)
+    (sent also : Sent) (target component : List ℕ) (base : Base) (ask : RecvAsk) (pool after : Pool) (partial last : Partial) (pieces : List (List ℕ))
+    → Chain sent target component base pool → ask.target ≡ target → IsPool pool → partial_of target pool ≡ Some partial
+    → GivesRest sent also partial.point → AreOfStream pieces also (Some partial.point) → receives ask pool pieces ≡ Goes after (Ends last)
     → HasOneMore pool after target component (base_name base) (header_of sent) sent.snapshot.objects.state
 
 -- Two sends that give the same view give the same rest, from each point.
