@@ -1,4 +1,4 @@
-use Rattle.zst_replication.proofs.Replicated.{sent_received}
+use Rattle.zst_replication.proofs.Fresh.{sent_received}
 use Rattle.zst_replication.proofs.laws.sent_is_received.Goals as goal
 
 pub returns : goal.returns
@@ -7,6 +7,7 @@ returns c = sent_received (record {
   views = c.snapshot_has_view.ensures;
   starts = c.start_stands.ensures;
   cuts = c.cut_stands.ensures;
+  resumes = c.resume_is_exact.ensures;
   applied = c.received_is_state.ensures.applied;
   fronts = c.fronts_agree.ensures;
   streams = c.view_is_a_stream.ensures;
