@@ -3,7 +3,6 @@ use Rattle.std.proofs.Common.{◌≡◌, ℕ, ◌+◌, ◌==◌, ◌&&◌, Bool,
 use Rattle.std.specs.Prelude.{bit_and, bit_or, bytes_eq, if◌then◌else◌}
 use Rattle.std.specs.Option.{option_map_or}
 use Rattle.std.proofs.lemmas.List.Elements.{All-contains}
-use Rattle.zst_laws.specs.Resuming.{PointsRise}
 use Rattle.zst_model.proofs.OrderLaws.{bytes_same, same_bytes}
 use Rattle.zst_model.specs.declared.refusals.plan_fault.PlanFault.{PlanFault}
 use Rattle.zst_model.specs.declared.refusals.plan_fault.PlanFault.TheVariants as plans
@@ -27,10 +26,11 @@ use Rattle.zst_send.specs.Sends.{begun}
 use Rattle.zst_recv.specs.Feeds.{receives}
 use Rattle.zst_recv.specs.Receiving.{pool_of}
 use Rattle.zst_recv.specs.Tokens.{token_of_partial}
+use Rattle.zst_replication.specs.Grounds.{Grounds}
 use Rattle.zst_replication.specs.Outcomes.{HasOneMore, Progress, course_on}
 use Rattle.zst_replication.specs.Resumption.{FitRestIsReceived, IsUnderway, RestIsReceived, ResumedStopsAreProgress, SameViewsSameRest, TokensGoOn}
 use Rattle.zst_replication.proofs.Planned.{found_there, own_target, resumes}
-use Rattle.zst_replication.proofs.Replicated.{Grounds, Sets, made, progressed, received}
+use Rattle.zst_replication.proofs.Replicated.{BeginsWith, made, progressed, received}
 use Rattle.zst_replication.proofs.Results.{ok_parts}
 use Rattle.zst_replication.proofs.Running.{keep_by}
 
@@ -56,8 +56,8 @@ module _ (sent : Sent) (state : State) (ask : RecvAsk) (pool : Pool) (partial : 
   is_kept : keep_by ask pool ≡ true
   is_kept = ap (λ (o : Option Partial). option_map_or (λ old. old.keep) o ask.keep) underway.there ∙ underway.kept
 
-  sets : Sets sent (Some partial.point) ask pool state partial
-  sets = record {
+  begins_with : BeginsWith sent (Some partial.point) ask pool state partial
+  begins_with = record {
     plan = Resumes partial;
     only = λ other e. resumes ask (begun sent (Some partial.point)) pool partial other underway.there e;
     opens = refl;
@@ -74,15 +74,15 @@ also_underway : (sent also : Sent) (target : List ℕ) (state : State) (pool : P
 also_underway sent also target state pool partial same underway =
     record { there = underway.there; kept = underway.kept; way = subst (λ (v : View). IsPartWay v state partial.point partial) (sym same) underway.way }
 
-pub resumed_progress : Grounds → PointsRise → ResumedStopsAreProgress
-resumed_progress laws rises sent also state ask pool partial pieces lawful underway rest of =
+pub resumed_progress : Grounds → ResumedStopsAreProgress
+resumed_progress laws sent also state ask pool partial pieces lawful underway rest of =
     subst (λ (v : View). Progress ask v (course_on partial state) (kept_of pool) (kept_of (pool_of (receives ask pool pieces)))) rest.same_view
     (progressed laws also (Some partial.point) rest.sendable ask pool state partial
-    (sets also state ask pool partial lawful (also_underway sent also ask.target state pool partial rest.same_view underway)) rises pieces of)
+    (begins_with also state ask pool partial lawful (also_underway sent also ask.target state pool partial rest.same_view underway)) pieces of)
 
 pub rest_received : Grounds → RestIsReceived
 rest_received laws sent also state ask pool after partial last pieces lawful underway rest of e =
-    let start = sets also state ask pool partial lawful (also_underway sent also ask.target state pool partial rest.same_view underway) in
+    let start = begins_with also state ask pool partial lawful (also_underway sent also ask.target state pool partial rest.same_view underway) in
     let end = received laws also (Some partial.point) rest.sendable ask pool state partial start after last pieces of e in (
       start.stands.whole,
       subst (λ (v : View). target v state ≡ Ok start.stands.whole) rest.same_view start.stands.is_target,

@@ -1,6 +1,5 @@
 -- A receive of a send from its beginning.
 use Rattle.std.proofs.Common.{◌≡◌, List, ℕ, None, Ok, refl, sym, ap, ◌∙◌, subst}
-use Rattle.zst_laws.specs.Resuming.{PointsRise}
 use Rattle.zst_model.specs.declared.sends.header.Header.{Header}
 use Rattle.zst_model.specs.pools.Pool.{Pool, IsPool, partial_of, snapshot_named}
 use Rattle.zst_model.specs.sends.Headers.{Sent, header_of, sent_view}
@@ -9,10 +8,11 @@ use Rattle.zst_model.specs.states.State.{IsState, State}
 use Rattle.zst_plan.specs.RecvPlan.{Base, RecvPlan, Begins, recv_plan, snapshot_name}
 use Rattle.zst_plan.specs.declared.receive.RecvAsk.{RecvAsk}
 use Rattle.zst_recv.specs.Receiving.{begun}
+use Rattle.zst_replication.specs.Grounds.{Grounds}
 use Rattle.zst_replication.specs.Outcomes.{HasOneMore, base_name, base_objects}
 use Rattle.zst_replication.specs.Replicas.{IsSendable, MatchesBase, SentIsReceived, StopsAreProgress}
 use Rattle.zst_replication.proofs.Planned.{begins_anew, lawful_base}
-use Rattle.zst_replication.proofs.Replicated.{Grounds, Sets, ended_plan, is_view, made, progressed, received}
+use Rattle.zst_replication.proofs.Replicated.{BeginsWith, ended_plan, is_view, made, progressed, received}
 use Rattle.zst_replication.proofs.Results.{ok_parts}
 
 -- the base of a plan is lawful, and no snapshot has the component
@@ -41,8 +41,8 @@ module _ (laws : Grounds) (sent : Sent) (can : IsSendable sent None) (ask : Recv
     base_made : target (sent_view sent) (base_objects base).state ≡ Ok sent.snapshot.objects.state
     base_made = made laws sent None can (base_objects base).state began.lawful (matches component base begins)
 
-    sets : Sets sent None ask start (base_objects base).state (begun ask (header_of sent) component base)
-    sets = record {
+    begins_with : BeginsWith sent None ask start (base_objects base).state (begun ask (header_of sent) component base)
+    begins_with = record {
       plan = Begins component base;
       only = λ other e. ok_parts other (Begins component base) (sym e ∙ begins);
       opens = refl;
@@ -53,9 +53,9 @@ module _ (laws : Grounds) (sent : Sent) (can : IsSendable sent None) (ask : Recv
       kept = λ fleeting. none;
     }
 
-pub stops_progress : Grounds → PointsRise → StopsAreProgress
-stops_progress laws rises sent ask pool component base pieces can lawful none matches begins of =
-    progressed laws sent None can ask pool (base_objects base).state (begun ask (header_of sent) component base) (sets laws sent can ask pool lawful none matches component base begins) rises pieces of
+pub stops_progress : Grounds → StopsAreProgress
+stops_progress laws sent ask pool component base pieces can lawful none matches begins of =
+    progressed laws sent None can ask pool (base_objects base).state (begun ask (header_of sent) component base) (begins_with laws sent can ask pool lawful none matches component base begins) pieces of
 
 pub sent_received : Grounds → SentIsReceived
 sent_received laws sent ask pool after partial pieces can lawful none matches of e =
@@ -65,9 +65,9 @@ sent_received laws sent ask pool after partial pieces can lawful none matches of
     let base = fresh.base in
     let begins : recv_plan ask (header_of sent) pool ≡ Ok (Begins component base) = plan.1 ∙ ap (λ (p : RecvPlan). Ok p) fresh.plan_is in
     let first = begun ask (header_of sent) component base in
-    let sets = sets laws sent can ask pool lawful none matches component base begins in
-    let end = received laws sent None can ask pool (base_objects base).state first sets after partial pieces of e in
-    let whole : sets.stands.whole ≡ sent.snapshot.objects.state = ok_parts _ _ (sym sets.stands.is_target ∙ base_made laws sent can ask pool lawful none matches component base begins) in
+    let from = begins_with laws sent can ask pool lawful none matches component base begins in
+    let end = received laws sent None can ask pool (base_objects base).state first from after partial pieces of e in
+    let whole : from.stands.whole ≡ sent.snapshot.objects.state = ok_parts _ _ (sym from.stands.is_target ∙ base_made laws sent can ask pool lawful none matches component base begins) in
     let both =
     subst (λ (c : List ℕ). (recv_plan ask (header_of sent) pool ≡ Ok (Begins c base)) × HasOneMore pool after ask.target c (base_name base) (header_of sent) sent.snapshot.objects.state) (sym end.named)
     (begins, subst (λ (s : State). HasOneMore pool after ask.target component (base_name base) (header_of sent) s) whole end.more) in

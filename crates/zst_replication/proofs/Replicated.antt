@@ -2,9 +2,7 @@
 use Rattle.std.proofs.Common.{◌≡◌, ◌⊎◌, inl, inr, ℕ, Bool, true, false, List, [], ◌∷◌, ◌++◌, Option, Some, None, option_map, Ok, refl, sym, ap, ◌∙◌, subst, append_assoc, append-nil}
 use Rattle.std.specs.List.{concat}
 use Rattle.std.proofs.Math.Path.{fun_ext}
-use Rattle.zst_laws.specs.Receiving.{ReceivedIsApplied}
-use Rattle.zst_laws.specs.Resuming.{CutStands, IsAtOrAfter, PointsRise, ResumeIsExact, StartStands}
-use Rattle.zst_laws.specs.Sending.{SendIsExact, SnapshotHasView}
+use Rattle.zst_laws.specs.Resuming.{IsAtOrAfter}
 use Rattle.zst_model.specs.declared.sends.header.Header.{Header}
 use Rattle.zst_model.specs.declared.sends.header.Point.{Point}
 use Rattle.zst_model.specs.declared.states.item.Item.{Item}
@@ -22,12 +20,12 @@ use Rattle.zst_plan.specs.RecvPlan.{RecvPlan, recv_plan, snapshot_name}
 use Rattle.zst_plan.specs.declared.receive.RecvAsk.{RecvAsk}
 use Rattle.zst_record.specs.Heads.{Covered}
 use Rattle.zst_record.specs.Payload.{stated_point}
-use Rattle.zst_stream.specs.Items.{ViewIsRead, ViewIsStream, items_of}
-use Rattle.zst_stream.specs.Laws.{CoversArePieces, FrontsAgree, ImageIsRead}
+use Rattle.zst_stream.specs.Items.{items_of}
 use Rattle.zst_stream.specs.Reading.{Outcome, complete, reading, waiting}
 use Rattle.zst_send.specs.Sends.{begun, begun_text, begun_view}
 use Rattle.zst_recv.specs.Feeds.{receives}
 use Rattle.zst_recv.specs.Receiving.{Stage, Waits, Lives, Ends, Fed, Goes, Stops, opened, pool_of}
+use Rattle.zst_replication.specs.Grounds.{Grounds}
 use Rattle.zst_replication.specs.Outcomes.{HasOneMore, Progress, course_on}
 use Rattle.zst_replication.specs.Replicas.{AreOfStream, IsSendable}
 use Rattle.zst_replication.proofs.Applied.{Applied, Behind, BehindEnd}
@@ -38,27 +36,13 @@ use Rattle.zst_replication.proofs.Running.{keep_by}
 use Rattle.zst_replication.proofs.Stopped.{living_nothing, living_partial, start_untouched}
 use Rattle.zst_replication.proofs.Streamed.{Stream, all_said, begin_is, items_on, stream_of}
 
--- the laws that these rest on
-pub record Grounds : Type 0 where
-  pub exact : SendIsExact
-  pub views : SnapshotHasView
-  pub starts : StartStands
-  pub cuts : CutStands
-  pub resumes : ResumeIsExact
-  pub applied : ReceivedIsApplied
-  pub fronts : FrontsAgree
-  pub streams : ViewIsStream
-  pub reads : ViewIsRead
-  pub images : ImageIsRead
-  pub covered : CoversArePieces
-
 -- the items of a send are the same whatever BEGIN says of a token
 same_items : (sent : Sent) (at : Option Point) (point : Point) → items (begun_view sent at) point ≡ items (sent_view sent) point
 unfolding single_items
 same_items sent at point = refl
 
 -- a receive of this stream begins with this partial state, which is on its way from this state, and with no other
-pub record Sets (sent : Sent) (at : Option Point) (ask : RecvAsk) (start : Pool) (state : State) (first : Partial) : Type 0 where
+pub record BeginsWith (sent : Sent) (at : Option Point) (ask : RecvAsk) (start : Pool) (state : State) (first : Partial) : Type 0 where
   pub plan : RecvPlan
   pub only : (other : RecvPlan) → recv_plan ask (begun sent at) start ≡ Ok other → other ≡ plan
   pub opens : (opened ask (begun sent at) plan).stage ≡ Lives (begun sent at).flags first
@@ -144,7 +128,7 @@ module _ (laws : Grounds) (sent : Sent) (at : Option Point) (can : IsSendable se
         ended_split records left partial ended split =
             sym (append_assoc ended.front (ended.last ∷ ended.more) left) ∙ sym (ap (λ (cs : List Covered). cs ++ left) ended.records_are) ∙ split
 
-    module _ (state : State) (first : Partial) (sets : Sets sent at ask start state first) where
+    module _ (state : State) (first : Partial) (begins : BeginsWith sent at ask start state first) where
       -- it is the first partial state, further on by what these records say
       record Further (front : List Covered) (partial : Partial) : Type 0 where
         objects : apply_all (items_of (begun sent at).flags front) first.objects.state ≡ Ok partial.objects.state
@@ -158,16 +142,16 @@ module _ (laws : Grounds) (sent : Sent) (at : Option Point) (can : IsSendable se
       further front left flags partial behind split =
           let is = behind.is in
           let header = begun_by front left flags partial behind split in
-          let plan : is.plan ≡ sets.plan = sets.only is.plan (subst (λ (h : Header). recv_plan ask h start ≡ Ok is.plan) header is.planned) in
+          let plan : is.plan ≡ begins.plan = begins.only is.plan (subst (λ (h : Header). recv_plan ask h start ≡ Ok is.plan) header is.planned) in
           let opens = subst (λ (p : RecvPlan). (opened ask (begun sent at) p).stage ≡ Lives flags is.begun) plan (subst (λ (h : Header). (opened ask h is.plan).stage ≡ Lives flags is.begun) header is.begins) in
-          let parts = lives_parts flags (begun sent at).flags is.begun first (sym opens ∙ sets.opens) in
+          let parts = lives_parts flags (begun sent at).flags is.begun first (sym opens ∙ begins.opens) in
           let said : items_of (begun sent at).flags front ≡ items_of flags front = sym (ap (λ (f : ℕ). items_of f front) parts.0) in
           record {
             objects =
                 ap (λ (is : List Item). apply_all is first.objects.state) said
                 ∙ sym (ap (λ (p : Partial). apply_all (items_of flags front) p.objects.state) parts.1) ∙ is.objects;
             reached =
-                is.reached ∙ ap (λ (p : Partial). point_of p.point (items_of flags front)) parts.1 ∙ ap (λ (p : Point). point_of p (items_of flags front)) sets.point
+                is.reached ∙ ap (λ (p : Partial). point_of p.point (items_of flags front)) parts.1 ∙ ap (λ (p : Point). point_of p (items_of flags front)) begins.point
                 ∙ sym (ap (point_of (stated_point at)) said);
             stays = is.stays ∙ ap (λ (p : Partial). record p { objects = partial.objects; point = partial.point }) parts.1;
           }
@@ -177,7 +161,7 @@ module _ (laws : Grounds) (sent : Sent) (at : Option Point) (can : IsSendable se
       -- one snapshot more, which is what the view makes of the base
       pub record Ended (pool : Pool) (partial : Partial) : Type 0 where
         pub named : partial.component ≡ first.component
-        pub more : HasOneMore start pool ask.target first.component first.base (header_of sent) sets.stands.whole
+        pub more : HasOneMore start pool ask.target first.component first.base (header_of sent) begins.stands.whole
 
       ended : (front left : List Covered) (partial : Partial) (pool : Pool) → Stands ask start (Ends partial) pool → BehindEnd ask start front partial → front ++ left ≡ (reading text).covered → Ended pool partial
       ended front left partial pool stands end split =
@@ -189,19 +173,19 @@ module _ (laws : Grounds) (sent : Sent) (at : Option Point) (can : IsSendable se
           ap (items_of (begun sent at).flags) behind.records_are
           ∙ all_said (begun sent at) rest (reading text).covered streamed behind.first behind.rest (end.last ∷ (end.more ++ left))
           (sym (ap (λ (cs : List Covered). cs ++ (end.last ∷ (end.more ++ left))) behind.records_are) ∙ after) end.last (end.more ++ left) refl end.ends in
-          let is : partial.objects.state ≡ sets.stands.whole =
+          let is : partial.objects.state ≡ begins.stands.whole =
           ok_parts _ _
           (sym on.objects ∙ ap (λ (is : List Item). apply_all is first.objects.state) all
-          ∙ laws.resumes (sent_view sent) state (stated_point at) first.objects.state is_view sets.stands ∙ sets.stands.is_target) in
+          ∙ laws.resumes (sent_view sent) state (stated_point at) first.objects.state is_view begins.stands ∙ begins.stands.is_target) in
           let named : partial.component ≡ first.component = ap (λ (p : Partial). p.component) on.stays in
           let based : partial.base ≡ first.base = ap (λ (p : Partial). p.base) on.stays in
-          let more = one_more ask (header_of sent) start pool partial stands.asked.target (ap (λ (p : Partial). p.header) on.stays ∙ sets.header)
-          (ap (λ (c : List ℕ). snapshot_named (snapshot_name ask.target c) start) named ∙ sets.new) stands.runs in
+          let more = one_more ask (header_of sent) start pool partial stands.asked.target (ap (λ (p : Partial). p.header) on.stays ∙ begins.header)
+          (ap (λ (c : List ℕ). snapshot_named (snapshot_name ask.target c) start) named ∙ begins.new) stands.runs in
           record {
             named = named;
             more =
-                subst (λ (c : List ℕ). HasOneMore start pool ask.target c first.base (header_of sent) sets.stands.whole) named
-                (subst (λ (b : Option (List ℕ)). HasOneMore start pool ask.target partial.component b (header_of sent) sets.stands.whole) based
+                subst (λ (c : List ℕ). HasOneMore start pool ask.target c first.base (header_of sent) begins.stands.whole) named
+                (subst (λ (b : Option (List ℕ)). HasOneMore start pool ask.target partial.component b (header_of sent) begins.stands.whole) based
                 (subst (λ (s : State). HasOneMore start pool ask.target partial.component partial.base (header_of sent) s) is more));
           }
 
@@ -213,56 +197,55 @@ module _ (laws : Grounds) (sent : Sent) (at : Option Point) (can : IsSendable se
 
       -- ---- stops
 
-      module _ (rises : PointsRise) where
-        abbrev Progressed : Pool → Type 0
-        Progressed pool = Progress ask (sent_view sent) (course_on first state) (kept_of start) pool
+      abbrev Progressed : Pool → Type 0
+      Progressed pool = Progress ask (sent_view sent) (course_on first state) (kept_of start) pool
 
-        living : (front left : List Covered) (flags : ℕ) (partial : Partial) (pool : Pool) → Stands ask start (Lives flags partial) pool → Behind ask start front flags partial
-            → front ++ left ≡ (reading text).covered → Progressed (kept_of pool)
-        living front left flags partial pool stands behind split = go partial.keep refl
-          where
-            on : Further front partial
-            on = further front left flags partial behind split
+      living : (front left : List Covered) (flags : ℕ) (partial : Partial) (pool : Pool) → Stands ask start (Lives flags partial) pool → Behind ask start front flags partial
+          → front ++ left ≡ (reading text).covered → Progressed (kept_of pool)
+      living front left flags partial pool stands behind split = go partial.keep refl
+        where
+          on : Further front partial
+          on = further front left flags partial behind split
 
-            said : items_of (begun sent at).flags front ++ items_of (begun sent at).flags left ≡ rest
-            said = sym (items_on (begun sent at).flags front left) ∙ ap (items_of (begun sent at).flags) split ∙ streamed.said
+          said : items_of (begun sent at).flags front ++ items_of (begun sent at).flags left ≡ rest
+          said = sym (items_on (begun sent at).flags front left) ∙ ap (items_of (begun sent at).flags) split ∙ streamed.said
 
-            go : (t : Bool) → partial.keep ≡ t → Progressed (kept_of pool)
-            go false is = inl (living_nothing ask start pool partial stands.asked stands.runs (sets.kept (sym stands.asked.keep ∙ is)) is)
-            go true is = inr (inl (record {
-              partial = partial;
-              has = living_partial ask start pool partial stands.asked stands.runs is;
-              kept = is;
-              header = ap (λ (p : Partial). p.header) on.stays ∙ sets.header;
-              named = ap (λ (p : Partial). p.component) on.stays;
-              based = ap (λ (p : Partial). p.base) on.stays;
-              later =
-                  subst (λ (p : Point). IsAtOrAfter p partial.point) (sym sets.point)
-                  (subst (λ (p : Point). IsAtOrAfter (stated_point at) p) (sym on.reached)
-                  (rises (sent_view sent) (stated_point at) (items_of (begun sent at).flags front) (items_of (begun sent at).flags left) is_view said));
-              stands =
-                  subst (λ (p : Point). StandsFor (sent_view sent) state p partial.objects.state) (sym on.reached)
-                  (laws.cuts (sent_view sent) state (stated_point at) first.objects.state (items_of (begun sent at).flags front) (items_of (begun sent at).flags left) partial.objects.state is_view sets.stands said on.objects);
-            }))
+          go : (t : Bool) → partial.keep ≡ t → Progressed (kept_of pool)
+          go false is = inl (living_nothing ask start pool partial stands.asked stands.runs (begins.kept (sym stands.asked.keep ∙ is)) is)
+          go true is = inr (inl (record {
+            partial = partial;
+            has = living_partial ask start pool partial stands.asked stands.runs is;
+            kept = is;
+            header = ap (λ (p : Partial). p.header) on.stays ∙ begins.header;
+            named = ap (λ (p : Partial). p.component) on.stays;
+            based = ap (λ (p : Partial). p.base) on.stays;
+            later =
+                subst (λ (p : Point). IsAtOrAfter p partial.point) (sym begins.point)
+                (subst (λ (p : Point). IsAtOrAfter (stated_point at) p) (sym on.reached)
+                (laws.rises (sent_view sent) (stated_point at) (items_of (begun sent at).flags front) (items_of (begun sent at).flags left) is_view said));
+            stands =
+                subst (λ (p : Point). StandsFor (sent_view sent) state p partial.objects.state) (sym on.reached)
+                (laws.cuts (sent_view sent) state (stated_point at) first.objects.state (items_of (begun sent at).flags front) (items_of (begun sent at).flags left) partial.objects.state is_view begins.stands said on.objects);
+          }))
 
-        on_way : (front left : List Covered) (stage : Stage) (pool : Pool) → Stands ask start stage pool → Applied ask start pool stage front → front ++ left ≡ (reading text).covered → Progressed (kept_of pool)
-        on_way front left Waits pool stands applied split = inl (start_untouched ask start pool stands.runs)
-        on_way front left (Lives flags partial) pool stands behind split = living front left flags partial pool stands behind split
-        on_way front left (Ends partial) pool stands end split =
-            inr (inr (record {
-              whole = sets.stands.whole;
-              is_target = sets.stands.is_target;
-              more = one_more_kept start pool ask.target first.component first.base (header_of sent) sets.stands.whole (ended front left partial pool stands end split).more;
-            }))
+      on_way : (front left : List Covered) (stage : Stage) (pool : Pool) → Stands ask start stage pool → Applied ask start pool stage front → front ++ left ≡ (reading text).covered → Progressed (kept_of pool)
+      on_way front left Waits pool stands applied split = inl (start_untouched ask start pool stands.runs)
+      on_way front left (Lives flags partial) pool stands behind split = living front left flags partial pool stands behind split
+      on_way front left (Ends partial) pool stands end split =
+          inr (inr (record {
+            whole = begins.stands.whole;
+            is_target = begins.stands.is_target;
+            more = one_more_kept start pool ask.target first.component first.base (header_of sent) begins.stands.whole (ended front left partial pool stands end split).more;
+          }))
 
-        ways : (records left : List Covered) (f : Fed) → Way laws.applied ask start records f → records ++ left ≡ (reading text).covered → Progressed (kept_of (pool_of f))
-        ways records left (Goes next stage) way split = on_way records left stage next way.0 way.1 split
-        ways records left (Stops next refusal) way split =
-            subst Progressed (sym way.keeps)
-            (on_way way.front (way.left ++ left) way.stage way.standing way.stands way.applied
-            (sym (append_assoc way.front way.left left) ∙ ap (λ (cs : List Covered). cs ++ left) way.split ∙ split))
+      ways : (records left : List Covered) (f : Fed) → Way laws.applied ask start records f → records ++ left ≡ (reading text).covered → Progressed (kept_of (pool_of f))
+      ways records left (Goes next stage) way split = on_way records left stage next way.0 way.1 split
+      ways records left (Stops next refusal) way split =
+          subst Progressed (sym way.keeps)
+          (on_way way.front (way.left ++ left) way.stage way.standing way.stands way.applied
+          (sym (append_assoc way.front way.left left) ∙ ap (λ (cs : List Covered). cs ++ left) way.split ∙ split))
 
-        pub progressed : (pieces : List (List ℕ)) → AreOfStream pieces sent at → Progressed (kept_of (pool_of (receives ask start pieces)))
-        progressed pieces of =
-            let left = covered_of pieces of in
-            ways (reading (concat pieces)).covered left.0 (receives ask start pieces) (receives_way laws.applied ask start laws.fronts pieces) left.1
+      pub progressed : (pieces : List (List ℕ)) → AreOfStream pieces sent at → Progressed (kept_of (pool_of (receives ask start pieces)))
+      progressed pieces of =
+          let left = covered_of pieces of in
+          ways (reading (concat pieces)).covered left.0 (receives ask start pieces) (receives_way laws.applied ask start laws.fronts pieces) left.1

@@ -1,4 +1,5 @@
 pub mod Counting
+pub mod Grounds
 pub mod Histories
 pub mod Matching
 pub mod Outcomes

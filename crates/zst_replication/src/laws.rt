@@ -1,4 +1,5 @@
 ghost use Rattle.zst_replication.specs.Counting.{RecordsAreCounted};
+ghost use Rattle.zst_replication.specs.Grounds.{Grounds};
 ghost use Rattle.zst_replication.specs.Histories.{EventsAreHistory, ReceivedRemembers, ReceivesRemember};
 ghost use Rattle.zst_replication.specs.Matching.{BasesMatch, FullMatches, OneMoreIsKept, PlainCanBeSent, RestCanBeSent, SourceIsKnown};
 ghost use Rattle.zst_replication.specs.Replicas.{CutLeavesNothing, LeftIsKept, SentIsReceived, StopsAreProgress};
@@ -13,9 +14,9 @@ pub fn records_are_counted()
     zst_stream::fronts_agree();
 }
 
-/// However it is cut into pieces, a stream that was sent and is received to its end makes one snapshot more: the one that was sent.
-pub fn sent_is_received()
-    ensures { SentIsReceived }
+/// What the laws of a received send rest on.
+fn grounds_stand()
+    ensures { Grounds }
 {
     zst_laws::send_is_exact();
     zst_laws::snapshot_has_view();
@@ -28,6 +29,13 @@ pub fn sent_is_received()
     zst_stream::view_is_read();
     zst_stream::image_is_read();
     zst_stream::covers_are_pieces();
+}
+
+/// However it is cut into pieces, a stream that was sent and is received to its end makes one snapshot more: the one that was sent.
+pub fn sent_is_received()
+    ensures { SentIsReceived }
+{
+    grounds_stand();
 }
 
 /// Of a receive without `-s` that hasn't come to END the image keeps nothing, whatever was read.
@@ -39,34 +47,14 @@ pub fn cut_leaves_nothing()
 pub fn stops_are_progress()
     ensures { StopsAreProgress }
 {
-    zst_laws::send_is_exact();
-    zst_laws::snapshot_has_view();
-    zst_laws::start_stands();
-    zst_laws::cut_stands();
-    zst_laws::resume_is_exact();
-    zst_laws::received_is_state();
-    zst_stream::fronts_agree();
-    zst_stream::view_is_a_stream();
-    zst_stream::view_is_read();
-    zst_stream::image_is_read();
-    zst_stream::covers_are_pieces();
+    grounds_stand();
 }
 
 /// So it is of a receive that goes on with a partial state, wherever the rest of its stream is cut off.
 pub fn resumed_stops_are_progress()
     ensures { ResumedStopsAreProgress }
 {
-    zst_laws::send_is_exact();
-    zst_laws::snapshot_has_view();
-    zst_laws::start_stands();
-    zst_laws::cut_stands();
-    zst_laws::resume_is_exact();
-    zst_laws::received_is_state();
-    zst_stream::fronts_agree();
-    zst_stream::view_is_a_stream();
-    zst_stream::view_is_read();
-    zst_stream::image_is_read();
-    zst_stream::covers_are_pieces();
+    grounds_stand();
 }
 
 /// The rest of a stream that is received to its end makes one snapshot more: what the view makes of the base, which is what was
@@ -75,17 +63,7 @@ pub fn rest_is_received()
     ensures made { RestIsReceived }
     ensures sent { FitRestIsReceived }
 {
-    zst_laws::send_is_exact();
-    zst_laws::snapshot_has_view();
-    zst_laws::start_stands();
-    zst_laws::cut_stands();
-    zst_laws::resume_is_exact();
-    zst_laws::received_is_state();
-    zst_stream::fronts_agree();
-    zst_stream::view_is_a_stream();
-    zst_stream::view_is_read();
-    zst_stream::image_is_read();
-    zst_stream::covers_are_pieces();
+    grounds_stand();
 }
 
 /// Whatever is read, and however it is cut into pieces: while a receive is under way, its partial state is what all covered
@@ -102,8 +80,8 @@ pub fn tokens_go_on()
     ensures { TokensGoOn }
 {}
 
-/// A receive in sessions stays on its way whatever happens between them, and once it comes to END it has made one snapshot more:
-/// the one that was sent.
+/// A receive in sessions stays on its way as long as what happens between them leaves its partial state, and once it comes to
+/// END it has made one snapshot more: the one that was sent.
 pub fn chains_complete()
     ensures underway { ChainsAreUnderway }
     ensures complete { ChainsComplete }

@@ -1,20 +1,5 @@
 use Rattle.zst_replication.proofs.Continued.{fit_received, rest_received}
-use Rattle.zst_replication.proofs.Replicated.{Grounds}
 use Rattle.zst_replication.proofs.laws.rest_is_received.Goals as goal
 
 pub returns : goal.returns
-returns c =
-    let laws : Grounds = record {
-      exact = c.send_is_exact.ensures;
-      views = c.snapshot_has_view.ensures;
-      starts = c.start_stands.ensures;
-      cuts = c.cut_stands.ensures;
-      resumes = c.resume_is_exact.ensures;
-      applied = c.received_is_state.ensures.applied;
-      fronts = c.fronts_agree.ensures;
-      streams = c.view_is_a_stream.ensures;
-      reads = c.view_is_read.ensures;
-      images = c.image_is_read.ensures;
-      covered = c.covers_are_pieces.ensures;
-    } in
-    record { made = rest_received laws; sent = fit_received laws }
+returns c = record { made = rest_received c.grounds_stand.ensures; sent = fit_received c.grounds_stand.ensures }
