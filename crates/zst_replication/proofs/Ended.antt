@@ -1,19 +1,18 @@
 -- What a receive that has come to its end makes of the pool.
-use Rattle.std.proofs.Common.{◌≡◌, inl, inr, ℕ, ◌<◌, Bool, true, false, List, [], ◌∷◌, map, Option, Some, None, is_some, option_map, refl, sym, ap, ◌∙◌, subst, cond, find}
+use Rattle.std.proofs.Common.{◌≡◌, inl, inr, ℕ, ◌<◌, Bool, true, false, not, List, [], ◌∷◌, map, Option, Some, None, is_some, option_map, refl, sym, ap, ◌∙◌, subst, cond, find}
 use Rattle.std.specs.Prelude.{bytes_eq, filter}
 use Rattle.std.proofs.lemmas.Bool.{cond-true, cond-false}
 use Rattle.zst_model.proofs.OrderLaws.{same_bytes, bytes_same}
 use Rattle.zst_model.specs.declared.sends.header.Header.{Header}
 use Rattle.zst_model.specs.pools.Kept.{kept_of}
-use Rattle.zst_model.specs.pools.Pool.{Pool, Dataset, Snapshot, Partial, dataset_named, inserted, is_before, partial_of}
+use Rattle.zst_model.specs.pools.Pool.{Pool, Dataset, Snapshot, Partial, dataset_named, inserted, is_before, snapshot_named}
 use Rattle.zst_model.specs.states.State.{State}
-use Rattle.zst_plan.specs.RecvPlan.{Begins, snapshot_name}
+use Rattle.zst_plan.specs.RecvPlan.{snapshot_name}
 use Rattle.zst_plan.specs.declared.receive.RecvAsk.{RecvAsk}
 use Rattle.zst_pool.specs.Partials.{changed_at, dataset_from, head_from, latest_snapshot, rolled, rolled_to}
 use Rattle.zst_replication.specs.Outcomes.{HasOneMore}
-use Rattle.zst_replication.proofs.Leading.{Began}
-use Rattle.zst_replication.proofs.Planned.{begins_anew}
 use Rattle.zst_replication.proofs.Results.{some_parts}
+use Rattle.zst_replication.proofs.Rows.{filter_twice}
 use Rattle.zst_replication.proofs.Running.{Finished, Heads, finished_datasets, finished_snapshot}
 
 -- ---- look-ups by name
@@ -166,15 +165,10 @@ finished_there partial ds = go (find_named partial.target ds) refl
 
 -- ---- the whole
 
-pub one_more : (ask : RecvAsk) (header : Header) (start pool : Pool) (partial : Partial) → partial_of ask.target start ≡ None → (from : Began ask header start partial) → Finished ask start pool partial
+pub one_more : (ask : RecvAsk) (header : Header) (start pool : Pool) (partial : Partial) → partial.target ≡ ask.target → partial.header ≡ header
+    → snapshot_named (snapshot_name ask.target partial.component) start ≡ None → Finished ask start pool partial
     → HasOneMore start pool ask.target partial.component partial.base header partial.objects.state
-one_more ask header start pool partial none from finished =
-    let fresh = begins_anew ask header start (Begins from.component from.base) none from.begins in
-    let begins : Begins from.component from.base ≡ Begins fresh.component fresh.base = fresh.plan_is in
-    let same : fresh.component ≡ from.component = cc in
-    let target : partial.target ≡ ask.target = ap (λ (p : Partial). p.target) from.further in
-    let component : partial.component ≡ from.component = ap (λ (p : Partial). p.component) from.further in
-    let stated : partial.header ≡ header = ap (λ (p : Partial). p.header) from.further in
+one_more ask header start pool partial target stated new finished =
     let is = finished.pool_is in
     let began = heads_same ask start finished.datasets finished.heads in
     let headed = finished_there partial finished.datasets in
@@ -188,7 +182,7 @@ one_more ask header start pool partial none from finished =
       snapshot = finished_snapshot finished.number partial;
       added = ap (λ (p : Pool). p.snapshots) is;
       name = ap (λ (t : List ℕ). snapshot_name t partial.component) target;
-      name_is_new = ap (λ (c : List ℕ). find (λ (s : Snapshot). bytes_eq s.name (snapshot_name ask.target c)) start.snapshots) (component ∙ sym same) ∙ fresh.new;
+      name_is_new = new;
       guid = ap (λ (h : Header). h.to) stated;
       time = ap (λ (h : Header). h.time) stated;
       number = sym (ap (λ (p : Pool). p.number) is);
@@ -217,7 +211,7 @@ one_more_kept start pool target component base header state more = record {
   guids = more.guids;
   later = more.later;
   bookmarks = more.bookmarks;
-  partials = ap (λ (ps : List Partial). filter (λ p. p.keep) ps) more.partials;
+  partials = ap (λ (ps : List Partial). filter (λ p. p.keep) ps) more.partials ∙ sym (filter_twice (λ (p : Partial). not (bytes_eq p.target target)) (λ (p : Partial). p.keep) start.partials);
   snapshot = more.snapshot;
   added = more.added;
   name = more.name;

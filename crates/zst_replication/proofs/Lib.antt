@@ -6,11 +6,16 @@ mod Planned
 mod Moved
 mod Running
 mod Streamed
-mod Leading
+mod Opening
+mod Applied
 mod Ended
 mod Going
 mod Stopped
 mod Replicated
+mod Fresh
+mod Continued
+mod Chained
+mod Pieces
 mod Sendable
 mod Matched
 mod Agreeing
@@ -21,5 +26,4 @@ mod Finding
 mod SoundUnder
 mod SoundFinished
 mod Coming
-mod Resumed
 mod SoundFeeds

@@ -1,4 +1,4 @@
--- What a receive that begins afresh begins with.
+-- What a receive begins with.
 use Rattle.std.proofs.Common.{◌≡◌, ◌⊎◌, inl, inr, ℕ, ◌+◌, Bool, true, false, not, List, [], ◌∷◌, length, nat_lt, Option, Some, None, is_some, Result, Ok, Err, refl, sym, ap, ◌∙◌, subst, cond, ◌==◌, ◌&&◌, ◌||◌, ◌<◌, ◌^◌, find, arith}
 use Rattle.std.specs.Prelude.{Contains, bytes_eq, IfSome, bit_and, filter}
 use Rattle.std.specs.Option.{ok_or, option_map_or}
@@ -6,6 +6,7 @@ use Rattle.std.proofs.lemmas.List.Elements.{All-contains}
 use Rattle.std.proofs.lemmas.Bool.{true≢false}
 use Rattle.std.proofs.lemmas.Bool.Decides.{nat_tests}
 use Rattle.zst_model.proofs.InsertedLaws.{contains_first, contains_later, contains_cases}
+use Rattle.zst_model.proofs.OrderLaws.{same_bytes}
 use Rattle.zst_model.specs.declared.refusals.faults.Lack.TheVariants as lacks
 use Rattle.zst_model.specs.declared.refusals.faults.Quantity.TheVariants as quantities
 use Rattle.zst_model.specs.declared.refusals.named.Holder.TheVariants as holders
@@ -23,7 +24,7 @@ use Rattle.zst_model.specs.sends.SendPlan.{absent, find_snapshot, kind_of}
 use Rattle.zst_model.specs.states.Apply.{unless, ◌>>=◌}
 use Rattle.zst_model.specs.states.State.{IsState, no_objects}
 use Rattle.zst_plan.specs.RecvPlan as planning
-use Rattle.zst_plan.specs.RecvPlan.{Base, RecvPlan, Begins, Resumes, base_anew, base_by_guid, base_by_head, base_by_origin, base_for, base_onto, cloned_base, component_for, find_latest, fresh_plan, if_contained, if_frees, if_from_origin, if_increment, if_kind, if_new, if_plain, if_room, if_source, if_within, is_dated_after, is_full, last_of, latest_of, new_datasets, recv_plan, resumed_plan, rolled_back, snapshot_name}
+use Rattle.zst_plan.specs.RecvPlan.{Base, RecvPlan, Begins, Resumes, base_anew, base_by_guid, base_by_head, base_by_origin, base_for, base_onto, cloned_base, component_for, find_latest, fresh_plan, if_contained, if_frees, if_from_origin, if_increment, if_kind, if_new, if_plain, if_room, if_source, if_within, is_dated_after, is_full, is_resumed, last_of, latest_of, new_datasets, recv_plan, resumed_plan, rolled_back, snapshot_name, wrong_resume}
 use Rattle.zst_plan.specs.declared.receive.RecvAsk.{RecvAsk}
 use Rattle.zst_replication.specs.Outcomes.{base_objects}
 use Rattle.zst_replication.proofs.Results.{bound, ok_parts, some_parts, unless_ok}
@@ -211,3 +212,21 @@ lawful_base ask header pool base lawful based = go base.snapshot (base_there ask
     go None there = nothing_lawful
     go (Some snapshot) there =
         (All-contains (λ (s : Snapshot). IsGuid s.guid × IsGuidSet s.redact × IsState s.objects.state × (s.time < 2 ^ 64)) pool.snapshots snapshot lawful.snapshots there).2
+
+-- ---- a target with a partial state
+
+resumed_is : (header : Header) (old : Partial) (plan : RecvPlan) → resumed_plan header old ≡ Ok plan → plan ≡ Resumes old
+resumed_is header old plan e =
+    let going = unless_ok (not (is_resumed header)) (plans.PartialExists old.target) _ plan e in
+    let right = unless_ok (not (planning.goes_on old header)) (wrong_resume old header) (Ok (Resumes old)) plan going.1 in
+    sym (ok_parts (Resumes old) plan right.1)
+
+pub resumes : (ask : RecvAsk) (header : Header) (pool : Pool) (old : Partial) (plan : RecvPlan) → partial_of ask.target pool ≡ Some old → recv_plan ask header pool ≡ Ok plan → plan ≡ Resumes old
+unfolding recv_plan
+resumes ask header pool old plan found e =
+    let next : List ℕ → Result RecvPlan PlanFault = λ component. option_map_or (resumed_plan header) (partial_of ask.target pool) (fresh_plan ask header component pool) in
+    let named = bound (component_for ask header) next plan e in
+    resumed_is header old plan (subst (λ (o : Option Partial). option_map_or (resumed_plan header) o (fresh_plan ask header named.0 pool) ≡ Ok plan) found named.2)
+
+pub own_target : (target : List ℕ) (pool : Pool) (old : Partial) → partial_of target pool ≡ Some old → old.target ≡ target
+own_target target pool old found = same_bytes old.target target (found_there (λ (p : Partial). bytes_eq p.target target) pool.partials old found).1

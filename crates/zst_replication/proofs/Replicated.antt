@@ -1,77 +1,59 @@
--- A send that is received to its end, and every stop on its way.
-use Rattle.std.proofs.Common.{◌≡◌, ◌⊎◌, inl, inr, ℕ, Bool, true, false, List, [], ◌++◌, Option, Some, None, option_map, Ok, refl, sym, ap, ◌∙◌, subst, append-nil}
+-- A send that is received to its end, and every stop on its way, from its beginning or from the point of a partial state.
+use Rattle.std.proofs.Common.{◌≡◌, ◌⊎◌, inl, inr, ℕ, Bool, true, false, List, [], ◌∷◌, ◌++◌, Option, Some, None, option_map, Ok, refl, sym, ap, ◌∙◌, subst, append_assoc, append-nil}
+use Rattle.std.specs.List.{concat}
 use Rattle.std.proofs.Math.Path.{fun_ext}
-use Rattle.zst_laws.specs.Receiving.{ReceivedIsApplied}
-use Rattle.zst_laws.specs.Resuming.{CutStands, StartStands}
-use Rattle.zst_laws.specs.Sending.{SendIsExact, SnapshotHasView}
+use Rattle.zst_laws.specs.Resuming.{IsAtOrAfter}
+use Rattle.zst_model.specs.declared.sends.header.Header.{Header}
 use Rattle.zst_model.specs.declared.sends.header.Point.{Point}
+use Rattle.zst_model.specs.declared.states.item.Item.{Item}
 use Rattle.zst_model.specs.pools.Kept.{kept_of}
-use Rattle.zst_model.specs.pools.Pool.{Bookmark, Pool, IsPool, Partial, partial_of}
+use Rattle.zst_model.specs.pools.Pool.{Bookmark, Pool, Partial, partial_of, snapshot_named}
 use Rattle.zst_model.specs.sends.Headers.{Sent, choice_of, header_of, redaction_list, sent_view}
-use Rattle.zst_model.specs.sends.Included.{no_pairs}
-use Rattle.zst_model.specs.sends.Items.{items, origin}
+use Rattle.zst_model.specs.sends.Items.{items, single_items}
+use Rattle.zst_model.specs.sends.Points.{point_of}
 use Rattle.zst_model.specs.sends.StandsFor.{StandsFor}
-use Rattle.zst_model.specs.sends.Target.{CanRedact, redacted, redacted_object, target}
+use Rattle.zst_model.specs.sends.Target.{BaseOk, CanRedact, redacted, redacted_object, target}
 use Rattle.zst_model.specs.sends.View.{IsView}
 use Rattle.zst_model.specs.states.Apply.{apply_all}
 use Rattle.zst_model.specs.states.State.{IsState, Object, State}
-use Rattle.zst_plan.specs.RecvPlan.{Base, Begins, recv_plan}
+use Rattle.zst_plan.specs.RecvPlan.{RecvPlan, recv_plan, snapshot_name}
 use Rattle.zst_plan.specs.declared.receive.RecvAsk.{RecvAsk}
 use Rattle.zst_record.specs.Heads.{Covered}
-use Rattle.zst_stream.specs.Items.{ViewIsRead, ViewIsStream}
-use Rattle.zst_stream.specs.Laws.{CoversArePieces, FrontsAgree, ImageIsRead}
-use Rattle.zst_stream.specs.Reading.{Outcome, after, complete, reading, reading_from, ruling, waiting}
-use Rattle.zst_send.specs.Sends.{sent_text}
-use Rattle.zst_recv.specs.Feeds.{feeds}
-use Rattle.zst_recv.specs.Receiving.{Stage, Waits, Lives, Ends, Fed, Goes, Stops, pool_of}
-use Rattle.zst_replication.specs.Outcomes.{HasOneMore, Progress, base_name, base_objects}
-use Rattle.zst_replication.specs.Replicas.{AreOfStream, IsSendable, MatchesBase, SentIsReceived, StopsAreProgress}
+use Rattle.zst_record.specs.Payload.{stated_point}
+use Rattle.zst_stream.specs.Items.{items_of}
+use Rattle.zst_stream.specs.Reading.{Outcome, complete, reading, waiting}
+use Rattle.zst_send.specs.Sends.{begun, begun_text, begun_view}
+use Rattle.zst_recv.specs.Feeds.{receives}
+use Rattle.zst_recv.specs.Receiving.{Stage, Waits, Lives, Ends, Fed, Goes, Stops, opened, pool_of}
+use Rattle.zst_replication.specs.Grounds.{Grounds}
+use Rattle.zst_replication.specs.Outcomes.{HasOneMore, Progress, course_on}
+use Rattle.zst_replication.specs.Replicas.{AreOfStream, IsSendable}
+use Rattle.zst_replication.proofs.Applied.{Applied, Behind, BehindEnd}
 use Rattle.zst_replication.proofs.Ended.{one_more, one_more_kept}
-use Rattle.zst_replication.proofs.Going.{Stands, Way, feeds_way}
-use Rattle.zst_replication.proofs.Leading.{Began, Came, Leads, Lived}
-use Rattle.zst_replication.proofs.Planned.{begins_anew, lawful_base}
+use Rattle.zst_replication.proofs.Going.{Stands, Way, receives_way}
 use Rattle.zst_replication.proofs.Results.{ok_parts}
+use Rattle.zst_replication.proofs.Running.{keep_by}
 use Rattle.zst_replication.proofs.Stopped.{living_nothing, living_partial, start_untouched}
-use Rattle.zst_replication.proofs.Streamed.{stream_of}
+use Rattle.zst_replication.proofs.Streamed.{Stream, all_said, begin_is, items_on, stream_of}
 
--- ---- the stream, from its start
+-- the items of a send are the same whatever BEGIN says of a token
+same_items : (sent : Sent) (at : Option Point) (point : Point) → items (begun_view sent at) point ≡ items (sent_view sent) point
+unfolding single_items
+same_items sent at point = refl
 
-nothing_read : (reading []).covered ≡ []
-unfolding reading reading_from after ruling
-nothing_read = refl
+-- a receive of this stream begins with this partial state, which is on its way from this state, and with no other
+pub record BeginsWith (sent : Sent) (at : Option Point) (ask : RecvAsk) (start : Pool) (state : State) (first : Partial) : Type 0 where
+  pub plan : RecvPlan
+  pub only : (other : RecvPlan) → recv_plan ask (begun sent at) start ≡ Ok other → other ≡ plan
+  pub opens : (opened ask (begun sent at) plan).stage ≡ Lives (begun sent at).flags first
+  pub header : first.header ≡ header_of sent
+  pub point : first.point ≡ stated_point at
+  pub stands : StandsFor (sent_view sent) state (stated_point at) first.objects.state
+  pub new : snapshot_named (snapshot_name ask.target first.component) start ≡ None
+  pub kept : keep_by ask start ≡ false → partial_of ask.target start ≡ None
 
--- the laws that these rest on
-pub record Grounds : Type 0 where
-  pub exact : SendIsExact
-  pub views : SnapshotHasView
-  pub starts : StartStands
-  pub cuts : CutStands
-  pub applied : ReceivedIsApplied
-  pub fronts : FrontsAgree
-  pub streams : ViewIsStream
-  pub reads : ViewIsRead
-  pub images : ImageIsRead
-  pub covered : CoversArePieces
-
-module _ (laws : Grounds) (sent : Sent) (ask : RecvAsk) (start : Pool) (can : IsSendable sent) (lawful : IsPool start) (none : partial_of ask.target start ≡ None) (matches : MatchesBase sent ask start) where
-  -- what stands behind the stream isn't read
-  behind_none : (behind : List ℕ) → (reading (sent_text sent ++ behind)).covered ≡ (reading (sent_text sent)).covered
-  behind_none behind =
-      let front = laws.fronts (sent_text sent) behind in
-      front.covered ∙ ap (λ (cs : List Covered). (reading (sent_text sent)).covered ++ cs) (go front.outcome) ∙ append-nil (reading (sent_text sent)).covered
-    where
-      complete_is : (reading (sent_text sent)).outcome ≡ complete
-      complete_is = (laws.reads (header_of sent) sent.snapshot.objects (choice_of sent) origin can.stated).0
-
-      go : {others : List Covered} {o : Outcome} → ((reading (sent_text sent)).outcome ≡ waiting) ⊎ (((reading (sent_text sent)).outcome ≡ o) × (others ≡ [])) → others ≡ []
-      go (inl waits) = absurd (let both = sym waits ∙ complete_is in cc)
-      go (inr whole) = whole.1
-
-  way : (pieces : List (List ℕ)) → AreOfStream pieces sent → Way laws.applied ask (header_of sent) (items (sent_view sent) origin) start none (feeds ask [] pieces Waits start)
-  way pieces of =
-      feeds_way laws.applied ask (header_of sent) (items (sent_view sent) origin) start none laws.fronts (sent_text sent ++ of.1) [] of.0 pieces (reading (sent_text sent)).covered Waits start of.2
-      (behind_none of.1 ∙ ap (λ (cs : List Covered). cs ++ (reading (sent_text sent)).covered) (sym nothing_read)) (record { runs = refl; asked = tt })
-      (refl, stream_of laws.streams laws.reads laws.images laws.covered (header_of sent) sent.snapshot.objects (choice_of sent) origin can.stated)
+module _ (laws : Grounds) (sent : Sent) (at : Option Point) (can : IsSendable sent at) where
+  -- ---- what is sent
 
   can_redact : CanRedact sent.snapshot.objects.state (choice_of sent).redact
   can_redact = subst (λ (o : Option Bookmark). CanRedact sent.snapshot.objects.state (redaction_list o)) (sym can.whole) can.redacted
@@ -80,117 +62,190 @@ module _ (laws : Grounds) (sent : Sent) (ask : RecvAsk) (start : Pool) (can : Is
   none_redacted None = refl
   none_redacted (Some object) = refl
 
-  nothing_redacted : (state : State) → redacted state no_pairs ≡ state
-  nothing_redacted state = fun_ext (λ k. none_redacted (state k))
-
   is_whole : redacted sent.snapshot.objects.state (choice_of sent).redact ≡ sent.snapshot.objects.state
-  is_whole = ap (λ (o : Option Bookmark). redacted sent.snapshot.objects.state (redaction_list o)) can.whole ∙ nothing_redacted sent.snapshot.objects.state
+  is_whole =
+      ap (λ (o : Option Bookmark). redacted sent.snapshot.objects.state (redaction_list o)) can.whole
+      ∙ fun_ext (λ k. none_redacted (sent.snapshot.objects.state k))
 
-  -- what the send makes of the base
-  made : (component : List ℕ) (base : Base) → recv_plan ask (header_of sent) start ≡ Ok (Begins component base) → target (sent_view sent) (base_objects base).state ≡ Ok sent.snapshot.objects.state
-  made component base begins =
-      let fresh = begins_anew ask (header_of sent) start (Begins component base) none begins in
-      let same : Begins component base ≡ Begins fresh.component fresh.base = fresh.plan_is in
-      let is : fresh.base ≡ base = cc in
-      let fit = lawful_base ask (header_of sent) start fresh.base lawful fresh.based in
-      laws.exact (base_objects base).state (header_of sent) sent.snapshot.objects (choice_of sent) (subst (λ (b : Base). IsState (base_objects b).state) is fit) can.stated.lawful can_redact (matches component base begins)
-      ∙ ap (λ (s : State). Ok s) is_whole
-
-  state_is : (partial : Partial) → Came ask (header_of sent) (items (sent_view sent) origin) start partial → partial.objects.state ≡ sent.snapshot.objects.state
-  state_is partial came = ok_parts _ _ (sym came.whole ∙ made came.from.component came.from.base came.from.begins)
-
-  component_of : (partial : Partial) (from : Began ask (header_of sent) start partial) → partial.component ≡ from.component
-  component_of partial from = ap (λ (p : Partial). p.component) from.further
-
-  base_of : (partial : Partial) (from : Began ask (header_of sent) start partial) → partial.base ≡ base_name from.base
-  base_of partial from = ap (λ (p : Partial). p.base) from.further
-
-  pub received : (after : Pool) (partial : Partial) (pieces : List (List ℕ)) → AreOfStream pieces sent → feeds ask [] pieces Waits start ≡ Goes after (Ends partial)
-      → (base : Base) × (recv_plan ask (header_of sent) start ≡ Ok (Begins partial.component base))
-      × HasOneMore start after ask.target partial.component (base_name base) (header_of sent) sent.snapshot.objects.state
-  received after partial pieces of e =
-      let came = subst (λ (f : Fed). Way laws.applied ask (header_of sent) (items (sent_view sent) origin) start none f) e (way pieces of) in
-      let from = came.2.1.from in
-      let more = one_more ask (header_of sent) start after partial none from came.0.runs in (
-        from.base,
-        subst (λ (c : List ℕ). recv_plan ask (header_of sent) start ≡ Ok (Begins c from.base)) (sym (component_of partial from)) from.begins,
-        subst (λ (b : Option (List ℕ)). HasOneMore start after ask.target partial.component b (header_of sent) sent.snapshot.objects.state) (base_of partial from)
-            (subst (λ (s : State). HasOneMore start after ask.target partial.component partial.base (header_of sent) s) (state_is partial came.2.1) more),
-      )
-
-  -- ---- stops
-
-  is_view : IsView (sent_view sent)
+  pub is_view : IsView (sent_view sent)
   is_view = laws.views (header_of sent) sent.snapshot.objects (choice_of sent) can.stated.lawful can_redact
 
-  same_plan : (c d : List ℕ) (a b : Base) → recv_plan ask (header_of sent) start ≡ Ok (Begins c a) → recv_plan ask (header_of sent) start ≡ Ok (Begins d b) → (c ≡ d) × (a ≡ b)
-  same_plan c d a b x y =
-      let both : Begins c a ≡ Begins d b = ok_parts _ _ (sym x ∙ y) in
-      let named : c ≡ d = cc in
-      let based : a ≡ b = cc in
-      (named, based)
+  -- over a base that is fit for it, the send makes its snapshot's state
+  pub made : (state : State) → IsState state → BaseOk state sent.snapshot.objects (choice_of sent) → target (sent_view sent) state ≡ Ok sent.snapshot.objects.state
+  made state lawful fit =
+      laws.exact state (header_of sent) sent.snapshot.objects (choice_of sent) lawful can.stated.lawful can_redact fit ∙ ap (λ (s : State). Ok s) is_whole
 
-  module _ (component : List ℕ) (base : Base) (begins : recv_plan ask (header_of sent) start ≡ Ok (Begins component base)) where
-    plan_of : (partial : Partial) (from : Began ask (header_of sent) start partial) → (from.component ≡ component) × (from.base ≡ base)
-    plan_of partial from = same_plan from.component component from.base base from.begins begins
+  -- ---- its stream
 
-    named : (partial : Partial) (from : Began ask (header_of sent) start partial) → partial.component ≡ component
-    named partial from = component_of partial from ∙ (plan_of partial from).0
+  abbrev text : List ℕ
+  text = begun_text sent at
 
-    based : (partial : Partial) (from : Began ask (header_of sent) start partial) → partial.base ≡ base_name base
-    based partial from = base_of partial from ∙ ap base_name (plan_of partial from).1
+  abbrev rest : List Item
+  rest = items (sent_view sent) (stated_point at)
 
-    stands_for : (flags : ℕ) (partial : Partial) (left : List Covered) → Lived ask (header_of sent) (items (sent_view sent) origin) start flags partial left → StandsFor (sent_view sent) (base_objects base).state partial.point partial.objects.state
-    stands_for flags partial left lived =
-        let same = plan_of partial lived.from in
-        let state = (base_objects base).state in
-        subst (λ (point : Point). StandsFor (sent_view sent) state point partial.objects.state) (sym lived.point)
-        (laws.cuts (sent_view sent) state origin state lived.done _ partial.objects.state is_view
-        (laws.starts (sent_view sent) state sent.snapshot.objects.state is_view (made component base begins)) lived.split
-        (subst (λ (b : Base). apply_all lived.done (base_objects b).state ≡ Ok partial.objects.state) same.1 lived.applied))
+  streamed : Stream (begun sent at) rest (reading text).covered
+  streamed =
+      subst (λ (is : List Item). Stream (begun sent at) is (reading text).covered) (same_items sent at (stated_point at))
+      (stream_of laws.streams laws.reads laws.images laws.covered (begun sent at) sent.snapshot.objects (choice_of sent) (stated_point at) can.stated)
 
-    living : (flags : ℕ) (partial : Partial) (pool : Pool) (left : List Covered) → Stands ask start (Lives flags partial) pool → Lived ask (header_of sent) (items (sent_view sent) origin) start flags partial left
-        → Progress ask (sent_view sent) component base (kept_of start) (kept_of pool)
-    living flags partial pool left stands lived = go partial.keep refl
+  -- what stands behind the stream isn't read
+  behind_none : (behind : List ℕ) → (reading (text ++ behind)).covered ≡ (reading text).covered
+  behind_none behind =
+      let front = laws.fronts text behind in
+      front.covered ∙ ap (λ (cs : List Covered). (reading text).covered ++ cs) (go front.outcome) ∙ append-nil (reading text).covered
+    where
+      complete_is : (reading text).outcome ≡ complete
+      complete_is = (laws.reads (begun sent at) sent.snapshot.objects (choice_of sent) (stated_point at) can.stated).0
+
+      go : {others : List Covered} {o : Outcome} → ((reading text).outcome ≡ waiting) ⊎ (((reading text).outcome ≡ o) × (others ≡ [])) → others ≡ []
+      go (inl waits) = absurd (let both = sym waits ∙ complete_is in cc)
+      go (inr whole) = whole.1
+
+  -- what pieces of it cover is a front of what it covers
+  covered_of : (pieces : List (List ℕ)) → AreOfStream pieces sent at → (left : List Covered) × ((reading (concat pieces)).covered ++ left ≡ (reading text).covered)
+  covered_of pieces of =
+      let front = laws.fronts (concat pieces) of.0 in
+      (front.others, sym front.covered ∙ ap (λ (t : List ℕ). (reading t).covered) of.2 ∙ behind_none of.1)
+
+  module _ (ask : RecvAsk) (start : Pool) where
+    -- the header of what was begun is the stream's
+    begun_by : (front left : List Covered) (flags : ℕ) (partial : Partial) (behind : Behind ask start front flags partial) → front ++ left ≡ (reading text).covered → behind.is.header ≡ begun sent at
+    begun_by front left flags partial behind split =
+        begin_is (begun sent at) rest (reading text).covered streamed behind.first behind.rest left (sym (ap (λ (cs : List Covered). cs ++ left) behind.records_are) ∙ split) behind.is.header behind.len behind.head_is
+
+    -- so a receive that has come to its end was planned
+    pub ended_plan : (after : Pool) (partial : Partial) (pieces : List (List ℕ)) → AreOfStream pieces sent at → receives ask start pieces ≡ Goes after (Ends partial)
+        → (plan : RecvPlan) × (recv_plan ask (begun sent at) start ≡ Ok plan)
+    ended_plan after partial pieces of e =
+        let way = subst (λ (f : Fed). Way laws.applied ask start (reading (concat pieces)).covered f) e (receives_way laws.applied ask start laws.fronts pieces) in
+        let ended = way.1 in
+        let of = covered_of pieces of in
+        let header = begun_by ended.front ((ended.last ∷ ended.more) ++ of.0) ended.flags partial ended.behind (ended_split (reading (concat pieces)).covered of.0 partial ended of.1) in
+        (ended.behind.is.plan, subst (λ (h : Header). recv_plan ask h start ≡ Ok ended.behind.is.plan) header ended.behind.is.planned)
       where
-        go : (t : Bool) → partial.keep ≡ t → Progress ask (sent_view sent) component base (kept_of start) (kept_of pool)
-        go false is = inl (living_nothing ask start pool partial none stands.asked stands.runs is)
-        go true is = inr (inl (record {
-          partial = partial;
-          has = living_partial ask start pool partial none stands.asked stands.runs is;
-          kept = is;
-          header = ap (λ (p : Partial). p.header) lived.from.further;
-          named = named partial lived.from;
-          based = based partial lived.from;
-          stands = stands_for flags partial left lived;
-        }))
+        ended_split : (records left : List Covered) (partial : Partial) (ended : BehindEnd ask start records partial) → records ++ left ≡ (reading text).covered
+            → ended.front ++ ((ended.last ∷ ended.more) ++ left) ≡ (reading text).covered
+        ended_split records left partial ended split =
+            sym (append_assoc ended.front (ended.last ∷ ended.more) left) ∙ sym (ap (λ (cs : List Covered). cs ++ left) ended.records_are) ∙ split
 
-    on_way : (stage : Stage) (pool : Pool) (left : List Covered) → Stands ask start stage pool → Leads ask (header_of sent) (items (sent_view sent) origin) start pool stage left
-        → Progress ask (sent_view sent) component base (kept_of start) (kept_of pool)
-    on_way Waits pool left stands leads = inl (start_untouched ask start pool stands.runs)
-    on_way (Lives flags partial) pool left stands leads = living flags partial pool left stands leads
-    on_way (Ends partial) pool left stands leads =
-        let from = leads.1.from in
-        let more = one_more ask (header_of sent) start pool partial none from stands.runs in
-        let whole = subst (λ (s : State). HasOneMore start pool ask.target partial.component partial.base (header_of sent) s) (state_is partial leads.1) more in
-        inr (inr (record {
-          whole = sent.snapshot.objects.state;
-          is_target = made component base begins;
-          more = one_more_kept start pool ask.target component (base_name base) (header_of sent) sent.snapshot.objects.state
-              (subst (λ (c : List ℕ). HasOneMore start pool ask.target c (base_name base) (header_of sent) sent.snapshot.objects.state) (named partial from)
-              (subst (λ (b : Option (List ℕ)). HasOneMore start pool ask.target partial.component b (header_of sent) sent.snapshot.objects.state) (based partial from) whole));
-        }))
+    module _ (state : State) (first : Partial) (begins : BeginsWith sent at ask start state first) where
+      -- it is the first partial state, further on by what these records say
+      record Further (front : List Covered) (partial : Partial) : Type 0 where
+        objects : apply_all (items_of (begun sent at).flags front) first.objects.state ≡ Ok partial.objects.state
+        reached : partial.point ≡ point_of (stated_point at) (items_of (begun sent at).flags front)
+        stays : partial ≡ record first { objects = partial.objects; point = partial.point }
 
-    ways : (f : Fed) → Way laws.applied ask (header_of sent) (items (sent_view sent) origin) start none f → Progress ask (sent_view sent) component base (kept_of start) (kept_of (pool_of f))
-    ways (Goes next stage) w = on_way stage next w.1 w.0 w.2
-    ways (Stops next refusal) w =
-        subst (λ (p : Pool). Progress ask (sent_view sent) component base (kept_of start) p) (sym w.keeps) (on_way w.stage w.standing w.left w.stands w.leads)
+      lives_parts : (flags other : ℕ) (a b : Partial) → Lives flags a ≡ Lives other b → (flags ≡ other) × (a ≡ b)
+      lives_parts flags other a b e = (cc, cc)
 
-    pub progressed : (pieces : List (List ℕ)) → AreOfStream pieces sent → Progress ask (sent_view sent) component base (kept_of start) (kept_of (pool_of (feeds ask [] pieces Waits start)))
-    progressed pieces of = ways (feeds ask [] pieces Waits start) (way pieces of)
+      further : (front left : List Covered) (flags : ℕ) (partial : Partial) → Behind ask start front flags partial → front ++ left ≡ (reading text).covered → Further front partial
+      further front left flags partial behind split =
+          let is = behind.is in
+          let header = begun_by front left flags partial behind split in
+          let plan : is.plan ≡ begins.plan = begins.only is.plan (subst (λ (h : Header). recv_plan ask h start ≡ Ok is.plan) header is.planned) in
+          let opens = subst (λ (p : RecvPlan). (opened ask (begun sent at) p).stage ≡ Lives flags is.begun) plan (subst (λ (h : Header). (opened ask h is.plan).stage ≡ Lives flags is.begun) header is.begins) in
+          let parts = lives_parts flags (begun sent at).flags is.begun first (sym opens ∙ begins.opens) in
+          let said : items_of (begun sent at).flags front ≡ items_of flags front = sym (ap (λ (f : ℕ). items_of f front) parts.0) in
+          record {
+            objects =
+                ap (λ (is : List Item). apply_all is first.objects.state) said
+                ∙ sym (ap (λ (p : Partial). apply_all (items_of flags front) p.objects.state) parts.1) ∙ is.objects;
+            reached =
+                is.reached ∙ ap (λ (p : Partial). point_of p.point (items_of flags front)) parts.1 ∙ ap (λ (p : Point). point_of p (items_of flags front)) begins.point
+                ∙ sym (ap (point_of (stated_point at)) said);
+            stays = is.stays ∙ ap (λ (p : Partial). record p { objects = partial.objects; point = partial.point }) parts.1;
+          }
 
-pub sent_received : Grounds → SentIsReceived
-sent_received laws sent ask pool after partial pieces can lawful none matches of e = received laws sent ask pool can lawful none matches after partial pieces of e
+      -- ---- at its end
 
-pub stops_progress : Grounds → StopsAreProgress
-stops_progress laws sent ask pool component base pieces can lawful none matches begins of = progressed laws sent ask pool can lawful none matches component base begins pieces of
+      -- one snapshot more, which is what the view makes of the base
+      pub record Ended (pool : Pool) (partial : Partial) : Type 0 where
+        pub named : partial.component ≡ first.component
+        pub more : HasOneMore start pool ask.target first.component first.base (header_of sent) begins.stands.whole
+
+      ended : (front left : List Covered) (partial : Partial) (pool : Pool) → Stands ask start (Ends partial) pool → BehindEnd ask start front partial → front ++ left ≡ (reading text).covered → Ended pool partial
+      ended front left partial pool stands end split =
+          let after : end.front ++ (end.last ∷ (end.more ++ left)) ≡ (reading text).covered =
+          sym (append_assoc end.front (end.last ∷ end.more) left) ∙ sym (ap (λ (cs : List Covered). cs ++ left) end.records_are) ∙ split in
+          let behind = end.behind in
+          let on = further end.front (end.last ∷ (end.more ++ left)) end.flags partial behind after in
+          let all : items_of (begun sent at).flags end.front ≡ rest =
+          ap (items_of (begun sent at).flags) behind.records_are
+          ∙ all_said (begun sent at) rest (reading text).covered streamed behind.first behind.rest (end.last ∷ (end.more ++ left))
+          (sym (ap (λ (cs : List Covered). cs ++ (end.last ∷ (end.more ++ left))) behind.records_are) ∙ after) end.last (end.more ++ left) refl end.ends in
+          let is : partial.objects.state ≡ begins.stands.whole =
+          ok_parts _ _
+          (sym on.objects ∙ ap (λ (is : List Item). apply_all is first.objects.state) all
+          ∙ laws.resumes (sent_view sent) state (stated_point at) first.objects.state is_view begins.stands ∙ begins.stands.is_target) in
+          let named : partial.component ≡ first.component = ap (λ (p : Partial). p.component) on.stays in
+          let based : partial.base ≡ first.base = ap (λ (p : Partial). p.base) on.stays in
+          let more = one_more ask (header_of sent) start pool partial stands.asked.target (ap (λ (p : Partial). p.header) on.stays ∙ begins.header)
+          (ap (λ (c : List ℕ). snapshot_named (snapshot_name ask.target c) start) named ∙ begins.new) stands.runs in
+          record {
+            named = named;
+            more =
+                subst (λ (c : List ℕ). HasOneMore start pool ask.target c first.base (header_of sent) begins.stands.whole) named
+                (subst (λ (b : Option (List ℕ)). HasOneMore start pool ask.target partial.component b (header_of sent) begins.stands.whole) based
+                (subst (λ (s : State). HasOneMore start pool ask.target partial.component partial.base (header_of sent) s) is more));
+          }
+
+      pub received : (after : Pool) (partial : Partial) (pieces : List (List ℕ)) → AreOfStream pieces sent at → receives ask start pieces ≡ Goes after (Ends partial) → Ended after partial
+      received after partial pieces of e =
+          let way = subst (λ (f : Fed). Way laws.applied ask start (reading (concat pieces)).covered f) e (receives_way laws.applied ask start laws.fronts pieces) in
+          let left = covered_of pieces of in
+          ended (reading (concat pieces)).covered left.0 partial after way.0 way.1 left.1
+
+      -- ---- stops
+
+      abbrev Progressed : Pool → Type 0
+      Progressed pool = Progress ask (sent_view sent) (course_on first state) (kept_of start) pool
+
+      living : (front left : List Covered) (flags : ℕ) (partial : Partial) (pool : Pool) → Stands ask start (Lives flags partial) pool → Behind ask start front flags partial
+          → front ++ left ≡ (reading text).covered → Progressed (kept_of pool)
+      living front left flags partial pool stands behind split = go partial.keep refl
+        where
+          on : Further front partial
+          on = further front left flags partial behind split
+
+          said : items_of (begun sent at).flags front ++ items_of (begun sent at).flags left ≡ rest
+          said = sym (items_on (begun sent at).flags front left) ∙ ap (items_of (begun sent at).flags) split ∙ streamed.said
+
+          go : (t : Bool) → partial.keep ≡ t → Progressed (kept_of pool)
+          go false is = inl (living_nothing ask start pool partial stands.asked stands.runs (begins.kept (sym stands.asked.keep ∙ is)) is)
+          go true is = inr (inl (record {
+            partial = partial;
+            has = living_partial ask start pool partial stands.asked stands.runs is;
+            kept = is;
+            header = ap (λ (p : Partial). p.header) on.stays ∙ begins.header;
+            named = ap (λ (p : Partial). p.component) on.stays;
+            based = ap (λ (p : Partial). p.base) on.stays;
+            later =
+                subst (λ (p : Point). IsAtOrAfter p partial.point) (sym begins.point)
+                (subst (λ (p : Point). IsAtOrAfter (stated_point at) p) (sym on.reached)
+                (laws.rises (sent_view sent) (stated_point at) (items_of (begun sent at).flags front) (items_of (begun sent at).flags left) is_view said));
+            stands =
+                subst (λ (p : Point). StandsFor (sent_view sent) state p partial.objects.state) (sym on.reached)
+                (laws.cuts (sent_view sent) state (stated_point at) first.objects.state (items_of (begun sent at).flags front) (items_of (begun sent at).flags left) partial.objects.state is_view begins.stands said on.objects);
+          }))
+
+      on_way : (front left : List Covered) (stage : Stage) (pool : Pool) → Stands ask start stage pool → Applied ask start pool stage front → front ++ left ≡ (reading text).covered → Progressed (kept_of pool)
+      on_way front left Waits pool stands applied split = inl (start_untouched ask start pool stands.runs)
+      on_way front left (Lives flags partial) pool stands behind split = living front left flags partial pool stands behind split
+      on_way front left (Ends partial) pool stands end split =
+          inr (inr (record {
+            whole = begins.stands.whole;
+            is_target = begins.stands.is_target;
+            more = one_more_kept start pool ask.target first.component first.base (header_of sent) begins.stands.whole (ended front left partial pool stands end split).more;
+          }))
+
+      ways : (records left : List Covered) (f : Fed) → Way laws.applied ask start records f → records ++ left ≡ (reading text).covered → Progressed (kept_of (pool_of f))
+      ways records left (Goes next stage) way split = on_way records left stage next way.0 way.1 split
+      ways records left (Stops next refusal) way split =
+          subst Progressed (sym way.keeps)
+          (on_way way.front (way.left ++ left) way.stage way.standing way.stands way.applied
+          (sym (append_assoc way.front way.left left) ∙ ap (λ (cs : List Covered). cs ++ left) way.split ∙ split))
+
+      pub progressed : (pieces : List (List ℕ)) → AreOfStream pieces sent at → Progressed (kept_of (pool_of (receives ask start pieces)))
+      progressed pieces of =
+          let left = covered_of pieces of in
+          ways (reading (concat pieces)).covered left.0 (receives ask start pieces) (receives_way laws.applied ask start laws.fronts pieces) left.1

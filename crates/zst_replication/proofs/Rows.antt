@@ -83,3 +83,37 @@ filter_narrow {A = A} k t (x ∷ xs) = go (t x) (k x) refl (filter_narrow k t xs
     go true false is same = same
     go false true is same = ap (λ (c : Bool). cond c (x ∷ filter k rest) (filter k rest)) is ∙ ap (λ (ys : List A). x ∷ ys) same
     go false false is same = ap (λ (c : Bool). cond c (x ∷ filter k rest) (filter k rest)) is ∙ same
+
+-- where those that pass it are left out none does
+pub none_left : {A : Type 0} (t : A → Bool) (xs : List A) → find t (filter (λ x. not (t x)) xs) ≡ None
+none_left t [] = refl
+none_left {A = A} t (x ∷ xs) = go (t x) refl (none_left t xs)
+  where
+    go : (b : Bool) → t x ≡ b → find t (filter (λ y. not (t y)) xs) ≡ None → find t (cond (not b) (x ∷ filter (λ y. not (t y)) xs) (filter (λ y. not (t y)) xs)) ≡ None
+    go true is rest = rest
+    go false is rest = ap (λ (b : Bool). cond b (Some x) (find t (filter (λ y. not (t y)) xs))) is ∙ rest
+
+-- where none passes a test none of fewer does, and one that passes another too is found behind that
+pub none_kept : {A : Type 0} (t k : A → Bool) (xs : List A) → find t xs ≡ None → find t (filter k xs) ≡ None
+none_kept t k [] none = refl
+none_kept t k (x ∷ xs) none = go (t x) (k x) refl none (none_kept t k xs)
+  where
+    go : (a b : Bool) → t x ≡ a → cond a (Some x) (find t xs) ≡ None → (find t xs ≡ None → find t (filter k xs) ≡ None) → find t (cond b (x ∷ filter k xs) (filter k xs)) ≡ None
+    go true b is n rest = absurd cc
+    go false true is n rest = ap (λ (c : Bool). cond c (Some x) (find t (filter k xs))) is ∙ rest n
+    go false false is n rest = rest n
+
+pub found_kept : {A : Type 0} (t k : A → Bool) (xs : List A) (y : A) → find t xs ≡ Some y → k y ≡ true → find t (filter k xs) ≡ Some y
+found_kept t k [] y found kept = absurd cc
+found_kept {A = A} t k (x ∷ xs) y found kept = go (t x) refl found (λ more. found_kept t k xs y more kept)
+  where
+    later : (b : Bool) → t x ≡ false → find t (filter k xs) ≡ Some y → find t (cond b (x ∷ filter k xs) (filter k xs)) ≡ Some y
+    later true is more = ap (λ (c : Bool). cond c (Some x) (find t (filter k xs))) is ∙ more
+    later false is more = more
+
+    go : (a : Bool) → t x ≡ a → cond a (Some x) (find t xs) ≡ Some y → (find t xs ≡ Some y → find t (filter k xs) ≡ Some y) → find t (cond (k x) (x ∷ filter k xs) (filter k xs)) ≡ Some y
+    go true is f rest =
+        let same : Some x ≡ Some y = f in
+        let here : x ≡ y = cc in
+        ap (λ (b : Bool). find t (cond b (x ∷ filter k xs) (filter k xs))) (ap k here ∙ kept) ∙ ap (λ (c : Bool). cond c (Some x) (find t (filter k xs))) is ∙ f
+    go false is f rest = later (k x) is (rest f)

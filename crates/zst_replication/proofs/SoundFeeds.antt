@@ -1,29 +1,26 @@
 -- A receive of whatever is read leaves a sound pool sound, and what a source remembers in it.
-use Rattle.std.proofs.Common.{◌≡◌, ℕ, List, [], Contains, Option, Some, None, refl, sym, ap, subst}
+use Rattle.std.proofs.Common.{◌≡◌, ℕ, List, Contains, refl, sym, ap, subst}
 use Rattle.zst_names.specs.Names.{IsDataset}
 use Rattle.zst_laws.specs.Receiving.{ReceivedIsApplied}
 use Rattle.zst_laws.specs.Remembering.{OwnIsRemembered, RememberedIsBase, StepsRemember}
 use Rattle.zst_laws.specs.Stepping.{StepsKeepPools, StepsKeepSound}
-use Rattle.zst_model.proofs.InsertedLaws.{contains_nothing, inserted_has_rest, inserted_has_row}
+use Rattle.zst_model.proofs.InsertedLaws.{inserted_has_rest, inserted_has_row}
 use Rattle.zst_model.specs.pools.Before.{Source, OfSnapshot, OfBookmark, number_of_source, IsIn, IsBeforePartial}
 use Rattle.zst_model.specs.pools.Kept.{kept_of}
-use Rattle.zst_model.specs.pools.Pool.{Pool, IsPool, IsLinked, Snapshot, Bookmark, Partial, inserted, partial_of, snapshot_is_before}
+use Rattle.zst_model.specs.pools.Pool.{Pool, IsPool, IsLinked, Snapshot, Bookmark, Partial, inserted, snapshot_is_before}
 use Rattle.zst_model.specs.pools.Rows.{partial_row}
 use Rattle.zst_model.specs.pools.Sound.{Agrees, Sound}
 use Rattle.zst_model.specs.sends.Target.{Remembers}
 use Rattle.zst_model.specs.states.State.{State}
 use Rattle.zst_plan.specs.RecvPlan.{snapshot_name}
 use Rattle.zst_plan.specs.declared.receive.RecvAsk.{RecvAsk}
-use Rattle.zst_pool.specs.Partials.{partials_of_others}
 use Rattle.zst_recv.specs.Feeds.{receives}
 use Rattle.zst_recv.specs.Receiving.{Ends, Fed, Goes, Stops, pool_of}
 use Rattle.zst_replication.specs.Histories.{ByCommand, ByReceive, EventsAreHistory, Here, LeadsOn, ReceivedRemembers, ReceivesRemember, StillRemembers}
 use Rattle.zst_replication.specs.Soundness.{ReceivesKeepSound}
-use Rattle.zst_replication.proofs.Coming.{FedWell, HoldsAll, receive_well, well_holds}
-use Rattle.zst_replication.proofs.Going.{Stands}
+use Rattle.zst_replication.proofs.Coming.{FedWell, HoldsAll, cleared, receive_well, some, well_holds}
 use Rattle.zst_replication.proofs.Grown.{AreOrdered}
 use Rattle.zst_replication.proofs.Planned.{filtered_there}
-use Rattle.zst_replication.proofs.Resumed.{resumed_ends, resumed_holds, some}
 use Rattle.zst_replication.proofs.Running.{finished_snapshot}
 use Rattle.zst_replication.proofs.SoundFinished.{finished, finished_remembers, finished_sound}
 use Rattle.zst_replication.proofs.SoundUnder.{under, under_remembers, under_sound}
@@ -43,93 +40,74 @@ fewer_still pool partials some source state still = record {
   remembers = fewer_remembers pool partials some source state still.remembers;
 }
 
-module _ (start : Pool) (linked : IsLinked start) (named : AreOrdered start.snapshots) (sound : Sound start) (olds : List Partial) where
-  all_sound : ((earlier : Snapshot) → Contains start.snapshots earlier → (old : Partial) → Contains olds old → IsBeforePartial start (OfSnapshot earlier) old → Agrees earlier old.objects) → HoldsAll start olds Sound
-  all_sound held = record {
-    first = sound;
-    lives = λ number datasets partial later heads grown. under_sound start linked named sound olds number later datasets partial heads grown held;
-    ends = λ number datasets partial later heads grown is_name only. finished_sound start linked named sound olds number later datasets partial heads grown is_name only held;
-    fewer = λ pool partials some is. fewer_sound pool partials some is;
-  }
-
-  all_remember : (source : Source) (state : State) → StillRemembers start source state
-      → ((old : Partial) → Contains olds old → IsBeforePartial start source old → Remembers old.objects (number_of_source source) state) → HoldsAll start olds (λ pool. StillRemembers pool source state)
-  all_remember source state still held = record {
-    first = still;
-    lives = λ number datasets partial later heads grown. record {
-      here = some_in start (under start number datasets partial) source (λ s there. there) refl still.here;
-      remembers = under_remembers start linked named sound olds number later datasets partial heads grown source state still.here still.remembers held;
-    };
-    ends = λ number datasets partial later heads grown is_name only. record {
-      here = some_in start (finished start number datasets partial) source (λ s there. inserted_has_rest snapshot_is_before (finished_snapshot number partial) start.snapshots s there) refl still.here;
-      remembers = finished_remembers start linked named sound olds number later datasets partial heads grown is_name only source state still.here still.remembers held;
-    };
-    fewer = λ pool partials some is. fewer_still pool partials some source state is;
-  }
-
--- ---- a receive that begins afresh, and one that goes on with an old partial state
+-- ---- a receive
 
 module _ (law : ReceivedIsApplied) (ask : RecvAsk) (pool : Pool) (is_name : IsDataset ask.target) (lawful : IsPool pool) (sound : Sound pool) where
   named : AreOrdered pool.snapshots
   named = record { order = lawful.named.snapshots; differ = lawful.named.snapshots_differ }
 
-  module _ (none : partial_of ask.target pool ≡ None) where
-    fresh_sound : HoldsAll pool [] Sound
-    fresh_sound = all_sound pool lawful.linked named sound [] (λ earlier here old there before. absurd (contains_nothing old there))
+  abbrev start : Pool
+  start = cleared ask pool
 
-    fresh_remember : (source : Source) (state : State) → StillRemembers pool source state → HoldsAll pool [] (λ p. StillRemembers p source state)
-    fresh_remember source state still = all_remember pool lawful.linked named sound [] source state still (λ old there before. absurd (contains_nothing old there))
+  few : (partial : Partial) → Contains start.partials partial → Contains pool.partials partial
+  few partial there = some ask pool partial there
 
-    module _ (Holds : Pool → Type 0) (all : HoldsAll pool [] Holds) where
-      fresh_fed : (pieces : List (List ℕ)) → FedWell law ask pool none lawful.linked sound [] (λ f. refl) Holds all is_name (receives ask pool pieces)
-      fresh_fed pieces = receive_well law ask pool none lawful.linked sound [] (λ f. refl) Holds all is_name pieces
+  old_row : (source : Source) (other : Partial) → IsBeforePartial start source other → IsBeforePartial pool source other
+  old_row source other before = fewer_before_partial pool start.partials few source other before
 
-      fresh_holds : (pieces : List (List ℕ)) → Holds (pool_of (receives ask pool pieces))
-      fresh_holds pieces = go (receives ask pool pieces) (fresh_fed pieces)
-        where
-          go : (f : Fed) → FedWell law ask pool none lawful.linked sound [] (λ f. refl) Holds all is_name f → Holds (pool_of f)
-          go (Goes next after) well = well_holds law ask pool none lawful.linked sound [] (λ f. refl) Holds all is_name after next well
-          go (Stops next refusal) is = is
+  start_linked : IsLinked start
+  start_linked = fewer_linked pool start.partials few lawful.linked
 
-    fresh_ends : (pieces : List (List ℕ)) (after : Pool) (partial : Partial) → receives ask pool pieces ≡ Goes after (Ends partial) → Stands ask pool (Ends partial) after
-    fresh_ends pieces after partial e =
-        (subst (λ (f : Fed). FedWell law ask pool none lawful.linked sound [] (λ f. refl) Sound fresh_sound is_name f) e (fresh_fed Sound fresh_sound pieces)).stands
+  start_sound : Sound start
+  start_sound = fewer_sound pool start.partials few sound
 
-  module _ (old : Partial) (found : partial_of ask.target pool ≡ Some old) where
-    abbrev start : Pool
-    start = record pool { partials = partials_of_others ask.target pool }
+  all_sound : HoldsAll ask pool Sound
+  all_sound = record {
+    first = sound;
+    lives = λ number datasets partial later heads grown. under_sound start start_linked named start_sound pool.partials number later datasets partial heads grown held;
+    ends = λ number datasets partial later heads grown is_name only. finished_sound start start_linked named start_sound pool.partials number later datasets partial heads grown is_name only held;
+    fewer = λ pool partials some is. fewer_sound pool partials some is;
+  }
+    where
+      held : (earlier : Snapshot) → Contains start.snapshots earlier → (old : Partial) → Contains pool.partials old → IsBeforePartial start (OfSnapshot earlier) old → Agrees earlier old.objects
+      held earlier here other there before = sound_agrees pool sound earlier here (partial_row pool.number other) (PartialRow other there) (old_row (OfSnapshot earlier) other before)
 
-    few : (partial : Partial) → Contains start.partials partial → Contains pool.partials partial
-    few partial there = some law ask pool old found lawful.linked sound partial there
+  all_remember : (source : Source) (state : State) → StillRemembers pool source state → HoldsAll ask pool (λ p. StillRemembers p source state)
+  all_remember source state still = record {
+    first = still;
+    lives = λ number datasets partial later heads grown. record {
+      here = some_in start (under start number datasets partial) source (λ s there. there) refl now.here;
+      remembers = under_remembers start start_linked named start_sound pool.partials number later datasets partial heads grown source state now.here now.remembers held;
+    };
+    ends = λ number datasets partial later heads grown is_name only. record {
+      here = some_in start (finished start number datasets partial) source (λ s there. inserted_has_rest snapshot_is_before (finished_snapshot number partial) start.snapshots s there) refl now.here;
+      remembers = finished_remembers start start_linked named start_sound pool.partials number later datasets partial heads grown is_name only source state now.here now.remembers held;
+    };
+    fewer = λ pool partials some is. fewer_still pool partials some source state is;
+  }
+    where
+      now : StillRemembers start source state
+      now = fewer_still pool start.partials few source state still
 
-    old_row : (source : Source) (other : Partial) → IsBeforePartial start source other → IsBeforePartial pool source other
-    old_row source other before = fewer_before_partial pool start.partials few source other before
+      held : (old : Partial) → Contains pool.partials old → IsBeforePartial start source old → Remembers old.objects (number_of_source source) state
+      held other there before = still.remembers.later (partial_row pool.number other) (has_row pool (partial_row pool.number other) (PartialRow other there)) (old_row source other before)
 
-    resumed_sound : HoldsAll start pool.partials Sound
-    resumed_sound =
-        all_sound start (fewer_linked pool start.partials few lawful.linked) named (fewer_sound pool start.partials few sound) pool.partials
-        (λ earlier here other there before. sound_agrees pool sound earlier here (partial_row pool.number other) (PartialRow other there) (old_row (OfSnapshot earlier) other before))
+  module _ (Holds : Pool → Type 0) (all : HoldsAll ask pool Holds) where
+    fed_holds : (pieces : List (List ℕ)) → FedWell law ask pool lawful.linked sound Holds all is_name (receives ask pool pieces)
+    fed_holds pieces = receive_well law ask pool lawful.linked sound Holds all is_name pieces
 
-    resumed_remember : (source : Source) (state : State) → StillRemembers pool source state → HoldsAll start pool.partials (λ p. StillRemembers p source state)
-    resumed_remember source state still =
-        all_remember start (fewer_linked pool start.partials few lawful.linked) named (fewer_sound pool start.partials few sound) pool.partials source state
-        (fewer_still pool start.partials few source state still)
-        (λ other there before. still.remembers.later (partial_row pool.number other) (has_row pool (partial_row pool.number other) (PartialRow other there)) (old_row source other before))
+    holds_after : (pieces : List (List ℕ)) → Holds (pool_of (receives ask pool pieces))
+    holds_after pieces = go (receives ask pool pieces) (fed_holds pieces)
+      where
+        go : (f : Fed) → FedWell law ask pool lawful.linked sound Holds all is_name f → Holds (pool_of f)
+        go (Goes next after) well = well_holds law ask pool lawful.linked sound Holds all is_name after next well
+        go (Stops next refusal) is = is
 
   sound_after : (pieces : List (List ℕ)) → Sound (pool_of (receives ask pool pieces))
-  sound_after pieces = go (partial_of ask.target pool) refl
-    where
-      go : (o : Option Partial) → partial_of ask.target pool ≡ o → Sound (pool_of (receives ask pool pieces))
-      go None none = fresh_holds none Sound (fresh_sound none) pieces
-      go (Some old) found = resumed_holds law ask pool old found lawful.linked sound Sound (resumed_sound old found) is_name sound pieces
+  sound_after pieces = holds_after Sound all_sound pieces
 
   still_after : (pieces : List (List ℕ)) (source : Source) (state : State) → StillRemembers pool source state → StillRemembers (pool_of (receives ask pool pieces)) source state
-  still_after pieces source state still = go (partial_of ask.target pool) refl
-    where
-      go : (o : Option Partial) → partial_of ask.target pool ≡ o → StillRemembers (pool_of (receives ask pool pieces)) source state
-      go None none = fresh_holds none (λ p. StillRemembers p source state) (fresh_remember none source state still) pieces
-      go (Some old) found =
-          resumed_holds law ask pool old found lawful.linked sound (λ p. StillRemembers p source state) (resumed_remember old found source state still) is_name still pieces
+  still_after pieces source state still = holds_after (λ p. StillRemembers p source state) (all_remember source state still) pieces
 
   -- the snapshot that was received
   record IsEnded (after : Pool) (partial : Partial) : Type 0 where
@@ -142,17 +120,10 @@ module _ (law : ReceivedIsApplied) (ask : RecvAsk) (pool : Pool) (is_name : IsDa
   new_there snapshots after partial number e = subst (λ (ss : List Snapshot). Contains ss (finished_snapshot number partial)) (sym e) (inserted_has_row snapshot_is_before (finished_snapshot number partial) snapshots)
 
   ended : (pieces : List (List ℕ)) (after : Pool) (partial : Partial) → receives ask pool pieces ≡ Goes after (Ends partial) → IsEnded after partial
-  ended pieces after partial e = go (partial_of ask.target pool) refl
-    where
-      go : (o : Option Partial) → partial_of ask.target pool ≡ o → IsEnded after partial
-      go None none =
-          let stands = fresh_ends none pieces after partial e in
-          let is = stands.runs in
-          record { number = is.number; target = stands.asked.target; there = new_there pool.snapshots after partial is.number (ap (λ (p : Pool). p.snapshots) is.pool_is) }
-      go (Some old) found =
-          let stands = resumed_ends law ask pool old found lawful.linked sound Sound (resumed_sound old found) is_name sound pieces after partial e in
-          let is = stands.runs in
-          record { number = is.number; target = stands.asked.target; there = new_there pool.snapshots after partial is.number (ap (λ (p : Pool). p.snapshots) is.pool_is) }
+  ended pieces after partial e =
+      let stands = (subst (λ (f : Fed). FedWell law ask pool lawful.linked sound Sound all_sound is_name f) e (fed_holds Sound all_sound pieces)).stands in
+      let is = stands.runs in
+      record { number = is.number; target = stands.asked.target; there = new_there pool.snapshots after partial is.number (ap (λ (p : Pool). p.snapshots) is.pool_is) }
 
 kept : (pool : Pool) (partial : Partial) → Contains (kept_of pool).partials partial → Contains pool.partials partial
 kept pool partial there = filtered_there (λ (p : Partial). p.keep) pool.partials partial there

@@ -1,5 +1,5 @@
 -- The records of a send's stream.
-use Rattle.std.proofs.Common.{◌≡◌, ◌⊎◌, inl, inr, ℕ, List, [], ◌∷◌, ◌++◌, length, map, None, refl, sym, ap, ◌∙◌, subst}
+use Rattle.std.proofs.Common.{◌≡◌, ◌⊎◌, inl, inr, ℕ, List, [], ◌∷◌, ◌++◌, length, map, None, refl, sym, ap, ◌∙◌, subst, append_assoc, append-nil}
 use Rattle.zst_model.specs.declared.sends.header.Header.{Header}
 use Rattle.zst_model.specs.declared.sends.header.Point.{Point}
 use Rattle.zst_model.specs.declared.states.item.Item.{Item}
@@ -31,18 +31,72 @@ abbrev pub IsTail : List Covered → Type 0
 IsTail [] = ⊥
 IsTail (c ∷ rest) = (IsMiddle c.head × IsTail rest) ⊎ (IsEnd c.head × (rest ≡ []))
 
--- BEGIN with this header, records that say these items, and END
+-- BEGIN with this header and other records that say these items, with END as the last
 pub record Stream (header : Header) (sent : List Item) (records : List Covered) : Type 0 where
   pub first : Covered
   pub rest : List Covered
   pub len : ℕ
   pub records_are : records ≡ first ∷ rest
   pub head_is : first.head ≡ heads.Begin header len
-  pub said : items_of header.flags rest ≡ sent
+  pub said : items_of header.flags records ≡ sent
   pub tail : IsTail rest
 
 pub first_is : {A : Type 0} (x y : A) (xs ys : List A) → x ∷ xs ≡ y ∷ ys → (x ≡ y) × (xs ≡ ys)
 first_is x y xs ys e = (cc, cc)
+
+-- what records say one after another
+pub items_on : (flags : ℕ) (xs ys : List Covered) → items_of flags (xs ++ ys) ≡ items_of flags xs ++ items_of flags ys
+items_on flags [] ys = refl
+items_on flags (c ∷ xs) ys =
+    ap (λ (is : List Item). items_by flags c.payload c.head ++ is) (items_on flags xs ys)
+    ∙ sym (append_assoc (items_by flags c.payload c.head) (items_of flags xs) (items_of flags ys))
+
+middle_not_end : (head : Head) → IsMiddle head → IsEnd head → ⊥
+middle_not_end (heads.End sums to) middle end = let open_still = middle.1 in cc
+middle_not_end (heads.Begin header len) middle end = end
+middle_not_end (heads.Object object kind bonus_kind block_size bonus_len max_block to) middle end = end
+middle_not_end (heads.FreeObjects first count to) middle end = end
+middle_not_end (heads.Write object kind offset size to) middle end = end
+middle_not_end (heads.Free object offset size to) middle end = end
+middle_not_end (heads.Spill object size to) middle end = end
+middle_not_end (heads.Redact object offset size to) middle end = end
+
+-- nothing stands behind END
+ends_last : (front : List Covered) (c : Covered) (more : List Covered) → IsTail (front ++ c ∷ more) → IsEnd c.head → more ≡ []
+ends_last [] c more (inl middle) end = absurd (middle_not_end c.head middle.0 end)
+ends_last [] c more (inr last) end = last.1
+ends_last (x ∷ front) c more (inl middle) end = ends_last front c more middle.1 end
+ends_last (x ∷ front) c more (inr last) end = absurd (none_behind front c more last.1)
+  where
+    none_behind : (front : List Covered) (c : Covered) (more : List Covered) → front ++ c ∷ more ≡ [] → ⊥
+    none_behind [] c more e = cc
+    none_behind (x ∷ front) c more e = cc
+
+end_says : (flags : ℕ) (payload : List ℕ) (head : Head) → IsEnd head → items_by flags payload head ≡ []
+end_says flags payload (heads.End sums to) end = refl
+end_says flags payload (heads.Begin header len) end = absurd end
+end_says flags payload (heads.Object object kind bonus_kind block_size bonus_len max_block to) end = absurd end
+end_says flags payload (heads.FreeObjects first count to) end = absurd end
+end_says flags payload (heads.Write object kind offset size to) end = absurd end
+end_says flags payload (heads.Free object offset size to) end = absurd end
+end_says flags payload (heads.Spill object size to) end = absurd end
+end_says flags payload (heads.Redact object offset size to) end = absurd end
+
+-- a front of a stream's records that has BEGIN has the stream's, and with END behind it says all
+module _ (header : Header) (sent : List Item) (records : List Covered) (stream : Stream header sent records) (begin : Covered) (rest left : List Covered) (is : begin ∷ (rest ++ left) ≡ records) where
+  abbrev parts : (begin ≡ stream.first) × (rest ++ left ≡ stream.rest)
+  parts = first_is begin stream.first (rest ++ left) stream.rest (is ∙ stream.records_are)
+
+  pub begin_is : (other : Header) (len : ℕ) → begin.head ≡ heads.Begin other len → other ≡ header
+  begin_is other len e = let same : heads.Begin other len ≡ heads.Begin header stream.len = sym e ∙ ap (λ (c : Covered). c.head) parts.0 ∙ stream.head_is in cc
+
+  pub all_said : (last : Covered) (more : List Covered) → left ≡ last ∷ more → IsEnd last.head → items_of header.flags (begin ∷ rest) ≡ sent
+  all_said last more e end =
+      let none = ends_last rest last more (subst (λ (cs : List Covered). IsTail (rest ++ cs)) e (subst (λ (cs : List Covered). IsTail cs) (sym parts.1) stream.tail)) end in
+      let says : items_of header.flags left ≡ [] =
+      ap (items_of header.flags) e ∙ ap (λ (is : List Item). is ++ items_of header.flags more) (end_says header.flags last.payload last.head end) ∙ ap (items_of header.flags) none in
+      sym (append-nil (items_of header.flags (begin ∷ rest))) ∙ ap (λ (is : List Item). items_of header.flags (begin ∷ rest) ++ is) (sym says)
+      ∙ sym (items_on header.flags (begin ∷ rest) left) ∙ ap (items_of header.flags) is ∙ stream.said
 
 none_mapped : (cs : List Covered) → map piece_of cs ≡ [] → cs ≡ []
 none_mapped [] e = refl
@@ -72,7 +126,7 @@ streamed header pieces sent (c ∷ cs) sums fit are said =
       len = length (begin_payload header);
       records_are = refl;
       head_is = head;
-      said = sym (ap (λ (h : Head). items_by header.flags c.payload h ++ items_of header.flags cs) head) ∙ said;
+      said = said;
       tail = tail_of header.features pieces cs sums header.to fit parts.1;
     }
 

@@ -1,24 +1,38 @@
 -- What can be sent, and which bases match it.
-use Rattle.std.specs.Prelude.{ℕ, ◌≡◌, List, Option, Some, None, Ok, Contains}
+use Rattle.std.specs.Prelude.{ℕ, ◌≡◌, ◌<◌, ◌≤◌, ◌^◌, List, Option, Some, None, Ok, Contains}
 use Rattle.zst_model.specs.declared.sends.ask.SendAsk.{SendAsk}
 use Rattle.zst_model.specs.declared.sends.header.Header.{Header}
+use Rattle.zst_model.specs.declared.sends.header.Point.{Point}
 use Rattle.zst_model.specs.pools.Before.{Source}
 use Rattle.zst_model.specs.pools.Kept.{kept_of}
 use Rattle.zst_model.specs.pools.Pool.{Pool, Snapshot, IsPool, partial_of}
 use Rattle.zst_model.specs.pools.Sound.{Sound}
 use Rattle.zst_model.specs.sends.Headers.{Sent, guid_of_source}
 use Rattle.zst_model.specs.sends.SendPlan.{send_plan}
-use Rattle.zst_model.specs.states.State.{State, IsState}
+use Rattle.zst_model.specs.states.State.{State, IsState, number_bound}
 use Rattle.zst_laws.specs.Remembering.{IsOwn, SourceRemembers}
+use Rattle.zst_plan.specs.ResumePlan.{resumed_send}
 use Rattle.zst_plan.specs.declared.receive.RecvAsk.{RecvAsk}
 use Rattle.zst_stream.specs.Items.{IsUnredacted}
-use Rattle.zst_send.specs.Opening.{opening}
+use Rattle.zst_token.specs.declared.token.Token.{Token}
+use Rattle.zst_send.specs.Opening.{built, opening}
 use Rattle.zst_replication.specs.Outcomes.{HasOneMore}
 use Rattle.zst_replication.specs.Replicas.{IsSendable, MatchesBase}
 
 -- What is sent of a lawful pool can be stated and read, as long as no block of the snapshot is redacted.
 abbrev pub PlainCanBeSent : Type 0
-PlainCanBeSent = (ask : SendAsk) (pool : Pool) (sent : Sent) → IsPool pool → opening ask pool ≡ Ok sent → IsUnredacted sent.snapshot.objects.state → IsSendable sent
+PlainCanBeSent = (ask : SendAsk) (pool : Pool) (sent : Sent) → IsPool pool → opening ask pool ≡ Ok sent → IsUnredacted sent.snapshot.objects.state → IsSendable sent None
+
+-- a point that a token has: one in an object of at most 2^48, at an offset of 64 bits
+pub record IsTokenPoint (point : Point) : Type 0 where
+  pub object : point.object ≤ number_bound
+  pub offset : point.offset < 2 ^ 64
+
+-- So does the rest of it, from each point that a token can have.
+abbrev pub RestCanBeSent : Type 0
+RestCanBeSent =
+    (token : Token) (pool : Pool) (sent : Sent) (point : Point) → IsPool pool → resumed_send token pool ≡ Ok sent → built sent ≡ Ok sent
+    → IsUnredacted sent.snapshot.objects.state → IsTokenPoint point → IsSendable sent (Some point)
 
 -- A full stream matches whatever a lawful pool has.
 abbrev pub FullMatches : Type 0

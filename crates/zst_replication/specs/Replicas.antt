@@ -1,25 +1,26 @@
 -- The laws of a send that is received.
-use Rattle.std.specs.Prelude.{ℕ, ◌≡◌, ◌++◌, ◌<◌, false, List, length, take, None, Ok}
+use Rattle.std.specs.Prelude.{ℕ, ◌≡◌, ◌++◌, ◌<◌, false, List, length, take, Option, None, Ok}
 use Rattle.std.specs.List.{concat}
 use Rattle.zst_model.specs.declared.refusals.refusal.Refusal.{Refusal}
+use Rattle.zst_model.specs.declared.sends.header.Point.{Point}
 use Rattle.zst_model.specs.pools.Kept.{kept_of}
 use Rattle.zst_model.specs.pools.Pool.{Pool, Partial, IsPool, partial_of}
 use Rattle.zst_model.specs.sends.Headers.{Sent, header_of, choice_of, sent_view}
 use Rattle.zst_model.specs.sends.Included.{no_pairs}
-use Rattle.zst_model.specs.sends.Items.{origin}
 use Rattle.zst_model.specs.sends.Target.{BaseOk, CanRedact}
 use Rattle.zst_plan.specs.RecvPlan.{Base, Begins, recv_plan}
 use Rattle.zst_plan.specs.declared.receive.RecvAsk.{RecvAsk}
+use Rattle.zst_record.specs.Payload.{stated_point}
 use Rattle.zst_stream.specs.Items.{CanSend}
-use Rattle.zst_send.specs.Sends.{sent_text}
+use Rattle.zst_send.specs.Sends.{begun, begun_text}
 use Rattle.zst_recv.specs.Answers.{is_done}
 use Rattle.zst_recv.specs.Feeds.{receives}
 use Rattle.zst_recv.specs.Receiving.{Stage, Ends, Fed, Goes, Stops, left_by, pool_of}
-use Rattle.zst_replication.specs.Outcomes.{HasNothing, HasOneMore, Progress, base_name, base_objects}
+use Rattle.zst_replication.specs.Outcomes.{HasNothing, HasOneMore, Progress, base_name, base_objects, course_from}
 
--- a stream can state what is sent, of which nothing is to be redacted, and what is redacted already is user data
-pub record IsSendable (sent : Sent) : Type 0 where
-  pub stated : CanSend (header_of sent) sent.snapshot.objects (choice_of sent) origin
+-- a stream can state what is sent, from its beginning or from a point, of which nothing is to be redacted, and what is redacted already is user data
+pub record IsSendable (sent : Sent) (start : Option Point) : Type 0 where
+  pub stated : CanSend (begun sent start) sent.snapshot.objects (choice_of sent) (stated_point start)
   pub whole : sent.redaction ≡ None
   pub redacted : CanRedact sent.snapshot.objects.state no_pairs
 
@@ -29,17 +30,17 @@ MatchesBase sent ask pool =
     (component : List ℕ) (base : Base) → recv_plan ask (header_of sent) pool ≡ Ok (Begins component base)
     → BaseOk (base_objects base).state sent.snapshot.objects (choice_of sent)
 
--- some pieces were read of an input that begins with what was sent
-abbrev pub AreOfStream : List (List ℕ) → Sent → Type 0
-AreOfStream pieces sent = (unread behind : List ℕ) × (concat pieces ++ unread ≡ sent_text sent ++ behind)
+-- some pieces were read of an input that begins with what was sent, from its beginning or from a point
+abbrev pub AreOfStream : List (List ℕ) → Sent → Option Point → Type 0
+AreOfStream pieces sent start = (unread behind : List ℕ) × (concat pieces ++ unread ≡ begun_text sent start ++ behind)
 
 -- However it is cut into pieces, a stream that was sent and is received to its end makes one snapshot more: the one that was sent, of the
 -- component and over the base that the receive was planned with.
 abbrev pub SentIsReceived : Type 0
 SentIsReceived =
     (sent : Sent) (ask : RecvAsk) (pool after : Pool) (partial : Partial) (pieces : List (List ℕ))
-    → IsSendable sent → IsPool pool → partial_of ask.target pool ≡ None → MatchesBase sent ask pool
-    → AreOfStream pieces sent → receives ask pool pieces ≡ Goes after (Ends partial)
+    → IsSendable sent None → IsPool pool → partial_of ask.target pool ≡ None → MatchesBase sent ask pool
+    → AreOfStream pieces sent None → receives ask pool pieces ≡ Goes after (Ends partial)
     → (base : Base) × (recv_plan ask (header_of sent) pool ≡ Ok (Begins partial.component base))
     × HasOneMore pool after ask.target partial.component (base_name base) (header_of sent) sent.snapshot.objects.state
 
@@ -48,9 +49,9 @@ SentIsReceived =
 abbrev pub StopsAreProgress : Type 0
 StopsAreProgress =
     (sent : Sent) (ask : RecvAsk) (pool : Pool) (component : List ℕ) (base : Base) (pieces : List (List ℕ))
-    → IsSendable sent → IsPool pool → partial_of ask.target pool ≡ None → MatchesBase sent ask pool
-    → recv_plan ask (header_of sent) pool ≡ Ok (Begins component base) → AreOfStream pieces sent
-    → Progress ask (sent_view sent) component base (kept_of pool) (kept_of (pool_of (receives ask pool pieces)))
+    → IsSendable sent None → IsPool pool → partial_of ask.target pool ≡ None → MatchesBase sent ask pool
+    → recv_plan ask (header_of sent) pool ≡ Ok (Begins component base) → AreOfStream pieces sent None
+    → Progress ask (sent_view sent) (course_from component base) (kept_of pool) (kept_of (pool_of (receives ask pool pieces)))
 
 -- a receive goes on, and hasn't come to END
 abbrev pub IsWaiting : Fed → Type 0

@@ -1,7 +1,9 @@
 ghost use Rattle.zst_replication.specs.Counting.{RecordsAreCounted};
+ghost use Rattle.zst_replication.specs.Grounds.{Grounds};
 ghost use Rattle.zst_replication.specs.Histories.{EventsAreHistory, ReceivedRemembers, ReceivesRemember};
-ghost use Rattle.zst_replication.specs.Matching.{BasesMatch, FullMatches, OneMoreIsKept, PlainCanBeSent, SourceIsKnown};
+ghost use Rattle.zst_replication.specs.Matching.{BasesMatch, FullMatches, OneMoreIsKept, PlainCanBeSent, RestCanBeSent, SourceIsKnown};
 ghost use Rattle.zst_replication.specs.Replicas.{CutLeavesNothing, LeftIsKept, SentIsReceived, StopsAreProgress};
+ghost use Rattle.zst_replication.specs.Resumption.{ChainsAreUnderway, ChainsComplete, FitRestIsReceived, PiecesAreApplied, RestIsReceived, ResumedStopsAreProgress, SameViewsSameRest, TokensGoOn};
 ghost use Rattle.zst_replication.specs.Soundness.{ReceivesKeepSound};
 
 /// What a feed applies is counted by the records that its text covers.
@@ -12,20 +14,28 @@ pub fn records_are_counted()
     zst_stream::fronts_agree();
 }
 
-/// However it is cut into pieces, a stream that was sent and is received to its end makes one snapshot more: the one that was sent.
-pub fn sent_is_received()
-    ensures { SentIsReceived }
+/// What the laws of a received send rest on.
+fn grounds_stand()
+    ensures { Grounds }
 {
     zst_laws::send_is_exact();
     zst_laws::snapshot_has_view();
     zst_laws::start_stands();
     zst_laws::cut_stands();
+    zst_laws::resume_is_exact();
     zst_laws::received_is_state();
     zst_stream::fronts_agree();
     zst_stream::view_is_a_stream();
     zst_stream::view_is_read();
     zst_stream::image_is_read();
     zst_stream::covers_are_pieces();
+}
+
+/// However it is cut into pieces, a stream that was sent and is received to its end makes one snapshot more: the one that was sent.
+pub fn sent_is_received()
+    ensures { SentIsReceived }
+{
+    grounds_stand();
 }
 
 /// Of a receive without `-s` that hasn't come to END the image keeps nothing, whatever was read.
@@ -37,17 +47,54 @@ pub fn cut_leaves_nothing()
 pub fn stops_are_progress()
     ensures { StopsAreProgress }
 {
-    zst_laws::send_is_exact();
-    zst_laws::snapshot_has_view();
-    zst_laws::start_stands();
-    zst_laws::cut_stands();
+    grounds_stand();
+}
+
+/// So it is of a receive that goes on with a partial state, wherever the rest of its stream is cut off.
+pub fn resumed_stops_are_progress()
+    ensures { ResumedStopsAreProgress }
+{
+    grounds_stand();
+}
+
+/// The rest of a stream that is received to its end makes one snapshot more: what the view makes of the base, which is what was
+/// sent where the base was fit for it.
+pub fn rest_is_received()
+    ensures made { RestIsReceived }
+    ensures sent { FitRestIsReceived }
+{
+    grounds_stand();
+}
+
+/// Whatever is read, and however it is cut into pieces: while a receive is under way, its partial state is what all covered
+/// records make of that with which it began, and the image has it where it is kept.
+pub fn pieces_are_applied()
+    ensures { PiecesAreApplied }
+{
     zst_laws::received_is_state();
     zst_stream::fronts_agree();
-    zst_stream::view_is_a_stream();
-    zst_stream::view_is_read();
-    zst_stream::image_is_read();
-    zst_stream::covers_are_pieces();
 }
+
+/// The token that is told of a partial state on its way names its point, and the stream that is sent by it goes on there.
+pub fn tokens_go_on()
+    ensures { TokensGoOn }
+{}
+
+/// A receive in sessions stays on its way as long as what happens between them leaves its partial state, and once it comes to
+/// END it has made one snapshot more: the one that was sent.
+pub fn chains_complete()
+    ensures underway { ChainsAreUnderway }
+    ensures complete { ChainsComplete }
+{
+    stops_are_progress();
+    resumed_stops_are_progress();
+    rest_is_received();
+}
+
+/// Two sends that give the same view give the same rest.
+pub fn same_views_same_rest()
+    ensures { SameViewsSameRest }
+{}
 
 /// What goes where a session ends isn't kept before that either.
 pub fn left_is_kept()
@@ -66,6 +113,16 @@ pub fn plain_can_be_sent()
     zst_laws::plans_are_of_pool();
     zst_laws::sends_are_stated();
     zst_stream::plain_is_allowed();
+    zst_record::payload_has_length();
+}
+
+/// So can the rest of it, from each point that a token can have.
+pub fn rest_can_be_sent()
+    ensures { RestCanBeSent }
+{
+    zst_laws::sends_are_stated();
+    zst_stream::plain_is_allowed();
+    zst_record::payload_has_length();
 }
 
 /// A full stream matches whatever a lawful pool has.

@@ -1,16 +1,5 @@
-use Rattle.zst_replication.proofs.Replicated.{sent_received}
+use Rattle.zst_replication.proofs.Fresh.{sent_received}
 use Rattle.zst_replication.proofs.laws.sent_is_received.Goals as goal
 
 pub returns : goal.returns
-returns c = sent_received (record {
-  exact = c.send_is_exact.ensures;
-  views = c.snapshot_has_view.ensures;
-  starts = c.start_stands.ensures;
-  cuts = c.cut_stands.ensures;
-  applied = c.received_is_state.ensures.applied;
-  fronts = c.fronts_agree.ensures;
-  streams = c.view_is_a_stream.ensures;
-  reads = c.view_is_read.ensures;
-  images = c.image_is_read.ensures;
-  covered = c.covers_are_pieces.ensures;
-})
+returns c = sent_received c.grounds_stand.ensures

@@ -1,0 +1,5 @@
+use Rattle.zst_replication.proofs.Sendable.{rest_can_send}
+use Rattle.zst_replication.proofs.laws.rest_can_be_sent.Goals as goal
+
+pub returns : goal.returns
+returns c = rest_can_send c.sends_are_stated.ensures.header c.plain_is_allowed.ensures c.payload_has_length.ensures
