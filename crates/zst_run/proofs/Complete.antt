@@ -21,7 +21,7 @@ use Rattle.zst_dir.specs.Rows.{Rows}
 use Rattle.zst_plan.specs.declared.receive.RecvAsk.{RecvAsk}
 use Rattle.zst_reader.specs.Filling.{stream_limit}
 use Rattle.zst_recv.specs.Tokens.{token_told}
-use Rattle.zst_send.specs.Sends.{sent_text}
+use Rattle.zst_send.specs.Sends.{begun_text}
 use Rattle.zst_stream.specs.Laws.{FrontsAgree}
 use Rattle.zst_stream.specs.Reading.{complete, faulty, reading, waiting}
 use Rattle.zst_token.specs.Spelling.{token_text}
@@ -32,7 +32,7 @@ use Rattle.zst_run.specs.Dumps.{Ends}
 use Rattle.zst_run.specs.Receives.{ArePieces, IsReceiveRefusal, ReceiveEnds, Refused}
 use Rattle.zst_run.specs.Replies.{Replied}
 use Rattle.zst_run.specs.Runs.{status_of}
-use Rattle.zst_run.specs.Sends.{SendEnds, TextEnds}
+use Rattle.zst_run.specs.Sends.{SendEnds, TextEnds, start_of}
 use Rattle.zst_run.specs.Tokens.{AnswersBy, OfToken, as_answer, token_lines}
 
 pub done_is_told : DoneIsTold
@@ -53,9 +53,9 @@ text_done text before after out out' (Err refusals.OutOfMemory) within disk sink
 text_done text before after out out' (Err other) within disk sink ends = absurd ends
 
 pub sends_complete : (here here' : DiskState) → SendsComplete here here'
-sends_complete here here' ask pool sent out out' result honest reads is within disk sink sends =
-    text_done (sent_text sent) here.faults here'.faults out out' result within disk sink
-    (subst (λ (planned : Result Sent PlanFault). SendEnds None planned here.faults here'.faults out out' result) is (sends.sends pool honest reads).ends)
+sends_complete here here' asked pool sent out out' result honest reads is within disk sink sends =
+    text_done (begun_text sent (start_of asked)) here.faults here'.faults out out' result within disk sink
+    (subst (λ (planned : Result Sent PlanFault). SendEnds (start_of asked) planned here.faults here'.faults out out' result) is (sends.sends pool honest reads).ends)
 
 -- ---- receives
 

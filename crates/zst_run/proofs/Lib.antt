@@ -20,6 +20,7 @@ pub mod Receiving
 pub mod ReceivedFrom
 pub mod ReceiptLine
 pub mod Piped
+pub mod Chained
 pub mod Complete
 pub mod TurnEnds
 pub mod TokenTold

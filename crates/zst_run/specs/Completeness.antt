@@ -9,7 +9,6 @@ use Rattle.zst_uber.specs.declared.uber.Uber.{Uber}
 use Rattle.zst_model.specs.declared.pools.command.Command.{Command}
 use Rattle.zst_model.specs.declared.refusals.refusal.Refusal.{Refusal}
 use Rattle.zst_model.specs.declared.refusals.refusal.Refusal.TheVariants as refusals
-use Rattle.zst_model.specs.declared.sends.ask.SendAsk.{SendAsk}
 use Rattle.zst_model.specs.pools.Pool.{Pool}
 use Rattle.zst_model.specs.pools.Step.{Stepped, stepped}
 use Rattle.zst_model.specs.sends.Headers.{Sent}
@@ -21,16 +20,15 @@ use Rattle.zst_recv.specs.Feeds.{receives}
 use Rattle.zst_recv.specs.Receiving.{Stops}
 use Rattle.zst_recv.specs.Stages.{TellsTarget}
 use Rattle.zst_recv.specs.Tokens.{token_told}
-use Rattle.zst_send.specs.Opening.{opening}
-use Rattle.zst_send.specs.Sends.{sent_text}
+use Rattle.zst_send.specs.Sends.{begun_text}
 use Rattle.zst_stream.specs.Reading.{complete, reading}
 use Rattle.zst_token.specs.declared.token.Token.{Token}
 use Rattle.zst_run.specs.Commands.{Creates, Opens, Steps, most_of}
 use Rattle.zst_run.specs.Dumps.{Dumps}
 use Rattle.zst_run.specs.Receives.{ArePieces, CostMore, Receives}
 use Rattle.zst_run.specs.Runs.{Told}
-use Rattle.zst_run.specs.declared.send.Asked.TheVariants.{Named}
-use Rattle.zst_run.specs.Sends.{Sends}
+use Rattle.zst_run.specs.declared.send.Asked.{Asked}
+use Rattle.zst_run.specs.Sends.{Sends, start_of, to_send}
 use Rattle.zst_run.specs.Tokens.{Tokens}
 
 -- no fault was counted in between
@@ -51,10 +49,10 @@ DoneIsTold = (note note' : SinkState) (status : ℕ) (result : Result (Unit {0})
 -- the disk nor the output counted a fault, it is done, or no memory was left.
 abbrev pub SendsComplete : (here here' : DiskState) → Type 0
 SendsComplete here here' =
-    (ask : SendAsk) (pool : Pool) (sent : Sent) (out out' : SinkState) (result : Result (Unit {0}) Refusal)
-    → here'.honest → Reads false pool here.seen → opening ask pool ≡ Ok sent → length (sent_text sent) ≤ stream_limit
+    (asked : Asked) (pool : Pool) (sent : Sent) (out out' : SinkState) (result : Result (Unit {0}) Refusal)
+    → here'.honest → Reads false pool here.seen → to_send asked pool ≡ Ok sent → length (begun_text sent (start_of asked)) ≤ stream_limit
     → NoneCounted here.faults here'.faults → NoneCounted out.faults out'.faults
-    → Sends (Named ask) here here' out out' result → DoneOrNoMemory result
+    → Sends asked here here' out out' result → DoneOrNoMemory result
 
 -- ---- receives
 

@@ -20,7 +20,7 @@ use Rattle.zst_model.specs.declared.sends.ask.SendAsk.{SendAsk}
 use Rattle.zst_model.specs.declared.sends.header.Point.{Point}
 use Rattle.zst_model.specs.pools.Pool.{Pool}
 use Rattle.zst_model.specs.refusals.Refusal.{refusal_of}
-use Rattle.zst_model.specs.sends.Headers.{Sent, header_of, sent_view}
+use Rattle.zst_model.specs.sends.Headers.{Sent, sent_view}
 use Rattle.zst_model.specs.states.Apply.{unless, ◌>>=◌}
 use Rattle.zst_tree.specs.Damage.{IsSeen}
 use Rattle.zst_tree.specs.declared.tree.ObjSet.{ObjSet}
@@ -191,14 +191,15 @@ pub record Sends (asked : Asked) (here here' : DiskState) (out out' : SinkState)
 
 -- ---- sends that are alike
 
--- a pool that reads of an image as this send was asked, with what is sent of it
-pub record SendsOf (sent : Sent) (here here' : DiskState) (out out' : SinkState) (result : Result (Unit {0}) Refusal) : Type 0 where
-  pub ask : SendAsk
+-- a pool that reads of an image as this send was asked, from its beginning or from a point, with what is sent of it
+pub record SendsOf (sent : Sent) (start : Option Point) (here here' : DiskState) (out out' : SinkState) (result : Result (Unit {0}) Refusal) : Type 0 where
+  pub asked : Asked
+  pub begins : start_of asked ≡ start
   pub pool : Pool
   pub honest : here'.honest
   pub reads : Reads false pool here.seen
-  pub is : opening ask pool ≡ Ok sent
-  pub sends : Sends (Named ask) here here' out out' result
+  pub is : to_send asked pool ≡ Ok sent
+  pub sends : Sends asked here here' out out' result
 
 -- two outputs got bytes of which those of one are a front of those of the other
 pub record WroteAlike (out out' into into' : SinkState) : Type 0 where
@@ -214,12 +215,12 @@ pub record WroteSame (out out' into into' : SinkState) : Type 0 where
   pub wrote : out'.written ≡ out.written ++ bytes
   pub wrote_too : into'.written ≡ into.written ++ bytes
 
--- Two sends of one header and one view write the same bytes where both end well, whatever else their pools hold and wherever
--- it stands; where either stops early, what one wrote is a front of what the other did.
+-- Two sends of one view, both from the beginning or from the same point, write the same bytes where both end well, whatever else their pools hold and
+-- wherever it stands; where either stops early, what one wrote is a front of what the other did.
 pub record SentAlike (here here' there there' : DiskState) : Type 0 where
-  pub front : (sent also : Sent) (out out' into into' : SinkState) (one other : Result (Unit {0}) Refusal)
-      → header_of sent ≡ header_of also → sent_view sent ≡ sent_view also → SendsOf sent here here' out out' one → SendsOf also there there' into into' other
+  pub front : (sent also : Sent) (start : Option Point) (out out' into into' : SinkState) (one other : Result (Unit {0}) Refusal)
+      → sent_view sent ≡ sent_view also → SendsOf sent start here here' out out' one → SendsOf also start there there' into into' other
       → WroteAlike out out' into into'
-  pub equal : (sent also : Sent) (out out' into into' : SinkState)
-      → header_of sent ≡ header_of also → sent_view sent ≡ sent_view also → SendsOf sent here here' out out' (Ok tt) → SendsOf also there there' into into' (Ok tt)
+  pub equal : (sent also : Sent) (start : Option Point) (out out' into into' : SinkState)
+      → sent_view sent ≡ sent_view also → SendsOf sent start here here' out out' (Ok tt) → SendsOf also start there there' into into' (Ok tt)
       → WroteSame out out' into into'

@@ -23,8 +23,8 @@ pub use image::{Opening, open, opening_of};
 pub use note::status_of;
 pub use on_file::run_on_file;
 pub use replicated::{
-    refused_leaves_nothing, sent_snapshot_stands, sound_stays_sound, sources_still_remember,
-    stops_are_progress,
+    chains_of_runs_complete, refused_leaves_nothing, rests_are_progress, sent_rest_stands,
+    sent_snapshot_stands, sound_stays_sound, sources_still_remember, stops_are_progress,
 };
 pub use running::run;
 pub use send::equal_views_are_written_alike;

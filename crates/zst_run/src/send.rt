@@ -308,7 +308,9 @@ pub(crate) fn send<D: Disk, K: Sink>(
     result
 }
 
-/// Sends of equal headers and equal views write equal bytes.
+/// Sends of equal views, both from the beginning or from one point, write equal bytes.
 pub fn equal_views_are_written_alike<D: Disk, E: Disk>()
     ensures { (here now : D) (there later : E) → SentAlike (D.state here) (D.state now) (E.state there) (E.state later) }
-{}
+{
+    zst_send::equal_views_are_sent_alike();
+}

@@ -2,4 +2,4 @@ use Rattle.zst_run.proofs.SentAlike.{sent_alike}
 use Rattle.zst_run.proofs.send.equal_views_are_written_alike.Goals as goal
 
 pub returns : goal.returns
-returns g c = λ here now there later. sent_alike _ _ _ _
+returns g c = λ here now there later. sent_alike c.equal_views_are_sent_alike.ensures.rest _ _ _ _
