@@ -23,6 +23,7 @@ fn grounds_stand()
     zst_laws::start_stands();
     zst_laws::cut_stands();
     zst_laws::resume_is_exact();
+    zst_laws::points_rise();
     zst_laws::received_is_state();
     zst_stream::fronts_agree();
     zst_stream::view_is_a_stream();
