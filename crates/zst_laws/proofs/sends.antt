@@ -8,6 +8,7 @@ pub mod Exact
 pub mod Resume
 pub mod CutBlocks
 pub mod Cut
+pub mod Rising
 pub mod Writer
 pub mod Walk
 pub mod More

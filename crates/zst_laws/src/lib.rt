@@ -5,7 +5,7 @@ ghost use Rattle.zst_laws.specs.Example.{SmallItems, SmallPoints, RewrittenItems
 ghost use Rattle.zst_laws.specs.History.{AnyIsFullBase, BeforeIsBase, RedactedIsBase};
 ghost use Rattle.zst_laws.specs.Joining.{RunsAreMaximal, HeldGoesOn};
 ghost use Rattle.zst_laws.specs.Ranges.{NumbersAreCut, IndicesAreCut};
-ghost use Rattle.zst_laws.specs.Resuming.{ResumeIsExact, StartStands, CutStands};
+ghost use Rattle.zst_laws.specs.Resuming.{ResumeIsExact, StartStands, CutStands, PointsRise};
 ghost use Rattle.zst_laws.specs.Sending.{SnapshotHasView, SendIsExact, FullIsExact, RedactedIsState, StreamsAgree, ViewsAgree};
 ghost use Rattle.zst_laws.specs.Walk.{WalkBegins, WalkEnds, ObjectIsNext, GoneIsNext, GoneRunIsNext, BlockIsNext, BlockRunIsNext};
 
@@ -113,6 +113,11 @@ pub fn start_stands()
 /// A send that is cut after any of its items leaves what stands for the point that it came to.
 pub fn cut_stands()
     ensures { CutStands }
+{}
+
+/// The items of a send from a point never lead back behind it.
+pub fn points_rise()
+    ensures { PointsRise }
 {}
 
 /// Snapshots that differ in the bytes of redacted pairs alone are sent alike.

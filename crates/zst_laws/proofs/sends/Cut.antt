@@ -28,7 +28,7 @@ use Rattle.zst_laws.proofs.sends.Runs.{put_here, put_other, ok_inj, bind_ok, app
 use Rattle.zst_laws.proofs.sends.Joins.{join_applies, joined_if, joined_if', mapped}
 
 -- the end of a run of numbers is not cut
-next_uncut : (a : ℕ) → is_number a ≡ true → min (a + 1) number_bound ≡ a + 1
+pub next_uncut : (a : ℕ) → is_number a ≡ true → min (a + 1) number_bound ≡ a + 1
 next_uncut a n =
     let below : a < number_bound = ltb-true a number_bound (and_parts (nat_lt 0 a) (nat_lt a number_bound) n).1 in
     min-eq_left (omega arith)
@@ -210,7 +210,7 @@ module _ (shown : ObjectView) (lawful : IsShown (There shown)) (o : Option Objec
           (λ e. subst (λ l. Opens shown o k (put_change shown ∷ l)) (sym (s ∙ ap (λ r. spill_change shown.attr.spill ++ r) e)) opens_all)
           (none_or_all rest more (tail_change shown ∷ []) (omega arith) t)
 
-nothing_left : {A : Type 0} (is rest : List A) → is ++ rest ≡ [] → is ≡ []
+pub nothing_left : {A : Type 0} (is rest : List A) → is ++ rest ≡ [] → is ≡ []
 nothing_left [] rest e = refl
 nothing_left (i ∷ is) rest e = absurd (cc)
 
