@@ -1,17 +1,20 @@
 -- What a send costs in calls of the disk: looks for what comes next, and reads of blocks.
-use Rattle.std.specs.Prelude.{◌≡◌, ◌⊎◌, ℕ, ◌+◌, ◌*◌, ◌/◌, ◌≤◌, ◌&&◌, Bool, min, nat_le, if◌then◌else◌, List, [], ◌∷◌, ◌++◌, Option, Some, None, IfSome}
+use Rattle.std.specs.Prelude.{◌≡◌, ◌⊎◌, ℕ, ◌+◌, ◌*◌, ◌/◌, ◌≤◌, ◌&&◌, Bool, min, nat_le, if◌then◌else◌, List, [], ◌∷◌, ◌++◌, length, Option, Some, None, IfSome}
 use Rattle.zst_block.specs.declared.ptr.Ptr.{Ptr}
 use Rattle.zst_model.specs.declared.states.item.Change.TheVariants as changes
 use Rattle.zst_model.specs.declared.states.item.Item.{Item}
 use Rattle.zst_model.specs.declared.states.item.Item.TheVariants.{At, FreeObjects}
 use Rattle.zst_model.specs.declared.sends.header.Point.{Point}
-use Rattle.zst_model.specs.sends.Headers.{Sent, sent_view}
+use Rattle.zst_model.specs.sends.Headers.{Sent}
 use Rattle.zst_model.specs.sends.Items.{items}
 use Rattle.zst_model.specs.sends.View.{View}
 use Rattle.zst_model.specs.states.Dated.{DatedState, size_at}
 use Rattle.zst_model.specs.states.State.{number_bound}
+use Rattle.zst_record.specs.Payload.{stated_point}
+use Rattle.zst_stream.specs.Image.{front_of}
 use Rattle.zst_tree.specs.Indices.{Blocks}
 use Rattle.zst_send.specs.Records.{AreLeft, HasPut, reads_of, sizes_of, touched}
+use Rattle.zst_send.specs.Sends.{begun, begun_view}
 use Rattle.zst_send.specs.declared.due.Due.{Due}
 use Rattle.zst_send.specs.declared.due.Due.TheVariants.{Absent, Object, Spill, Tail, Holes, Redacted, Block}
 use Rattle.zst_send.specs.declared.place.Place.{Place}
@@ -132,10 +135,14 @@ pub record PutsIn (has : Blocks) (snap : DatedState) (view : View) (tight : Type
 
 -- ---- a send
 
--- these items of a send are to be put yet
-abbrev pub AreToCome : Blocks → Sent → Send → List Item → Type 0
-AreToCome has sent send items = AreLeft has sent.snapshot.objects (sent_view sent) send.stand.walk send.stand.ended items
+-- the items of a send, from its beginning or from a point, that stand, in whole or in part, in `count` bytes of its text from `place` on: the first one stands behind BEGIN and its payload
+abbrev pub items_in : Sent → Option Point → (place count : ℕ) → List Item
+items_in sent start place count = touched place count (length (front_of (begun sent start))) (items (begun_view sent start) (stated_point start))
+
+-- these items of such a send are to be put yet
+abbrev pub AreToCome : Blocks → Sent → Option Point → Send → List Item → Type 0
+AreToCome has sent start send items = AreLeft has sent.snapshot.objects (begun_view sent start) send.stand.walk send.stand.ended items
 
 -- of the items that were to come a send has put some since, for no more calls than they and its looks ahead take
-abbrev pub PaysFor : Blocks → Sent → List Item → (old new : Send) → (before after : ℕ) → Type 0
-PaysFor has sent items old new before after = Pays has sent.snapshot.objects (sent_view sent) items old.stand new.stand before after
+abbrev pub PaysFor : Blocks → Sent → Option Point → List Item → (old new : Send) → (before after : ℕ) → Type 0
+PaysFor has sent start items old new before after = Pays has sent.snapshot.objects (begun_view sent start) items old.stand new.stand before after

@@ -4,12 +4,10 @@ use Rattle.zst_model.specs.declared.states.item.Change.TheVariants as changes
 use Rattle.zst_model.specs.declared.states.item.Item.{Item}
 use Rattle.zst_model.specs.declared.states.item.Item.TheVariants.{At, FreeObjects}
 use Rattle.zst_model.specs.declared.sends.header.Point.{Point}
-use Rattle.zst_model.specs.sends.Headers.{Sent, header_of, sent_view}
-use Rattle.zst_model.specs.sends.Items.{items, origin}
+use Rattle.zst_model.specs.sends.Items.{items}
 use Rattle.zst_model.specs.sends.View.{View}
 use Rattle.zst_model.specs.states.Dated.{DatedState}
 use Rattle.zst_record.specs.Formats.{record_len}
-use Rattle.zst_stream.specs.Image.{front_of}
 use Rattle.zst_stream.specs.Records.{item_payload}
 use Rattle.zst_tree.specs.Indices.{Blocks}
 use Rattle.zst_send.specs.Places.{IsWalk, items_left}
@@ -41,10 +39,6 @@ touched place count start (item ∷ items) =
     if overlap start (size_of item) place count
     then item ∷ touched place count (start + size_of item) items
     else touched place count (start + size_of item) items
-
--- the items of a send that stand, in whole or in part, in `count` bytes of its text from `place` on: the first one stands behind BEGIN and its payload
-abbrev pub items_in : Sent → (place count : ℕ) → List Item
-items_in sent place count = touched place count (length (front_of (header_of sent))) (items (sent_view sent) origin)
 
 -- ---- what was put
 

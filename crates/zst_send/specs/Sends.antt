@@ -91,10 +91,14 @@ SendsGoOn =
     (send : Send) (sent : Sent) (given left old new : List ℕ) (space less : FreeSectors)
     → KeepsBlocks old space new less → Sends (Has old space) send sent given left → Sends (Has new less) send sent given left
 
--- Two sends of one header and one view that have given equally many bytes have given the same ones, and the same are left, whatever else their pools hold.
+-- Two sends of one view from one start that have given equally many bytes have given the same ones, and the same are left, whatever else their pools hold.
 abbrev pub EqualViewsAreSentAlike : Type 0
 EqualViewsAreSentAlike =
-    (one other : Send) (sent also : Sent) (image others : List ℕ) (space elsewhere : FreeSectors) (given left told behind : List ℕ)
-    → header_of sent ≡ header_of also → sent_view sent ≡ sent_view also → length given ≡ length told
-    → Sends (Has image space) one sent given left → Sends (Has others elsewhere) other also told behind
+    (one other : Send) (sent also : Sent) (start : Option Point) (image others : List ℕ) (space elsewhere : FreeSectors) (given left told behind : List ℕ)
+    → sent_view sent ≡ sent_view also → length given ≡ length told
+    → SendsFrom (Has image space) one sent start given left → SendsFrom (Has others elsewhere) other also start told behind
     → (given ≡ told) × (left ≡ behind)
+
+-- Snapshots of one view are to be sent alike from each start.
+abbrev pub SameViewsSameRest : Type 0
+SameViewsSameRest = (sent also : Sent) (start : Option Point) → sent_view sent ≡ sent_view also → begun_text sent start ≡ begun_text also start

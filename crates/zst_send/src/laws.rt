@@ -6,7 +6,7 @@ ghost use Rattle.zst_dir.specs.Rows.{Rows};
 ghost use Rattle.zst_image.specs.Reads.{RunsBy};
 ghost use Rattle.zst_model.specs.pools.Pool.{Pool};
 ghost use Rattle.zst_plan.specs.Receipts.{TellsDates};
-ghost use Rattle.zst_send.specs.Sends.{EqualViewsAreSentAlike, SendsGoOn};
+ghost use Rattle.zst_send.specs.Sends.{EqualViewsAreSentAlike, SameViewsSameRest, SendsGoOn};
 
 use zst_objset::sets_hold_states;
 
@@ -17,9 +17,10 @@ pub fn sends_go_on()
     sets_hold_states();
 }
 
-/// Sends of equal headers and equal views give equal bytes.
+/// Sends of equal views give equal bytes, from the beginning and from each point.
 pub fn equal_views_are_sent_alike()
-    ensures { EqualViewsAreSentAlike }
+    ensures alike { EqualViewsAreSentAlike }
+    ensures rest { SameViewsSameRest }
 {}
 
 /// Tight sets tell the dates of a pool's heads to a plan of a receive, where no head's set has more

@@ -41,12 +41,11 @@ impl Send {
     ghost use Rattle.zst_pool.specs.Damage.{IsOf};
     ghost use Rattle.zst_pool.specs.Finding.{set_named};
     ghost use Rattle.zst_pool.specs.Telling.{stop_of};
-    ghost use Rattle.zst_send.specs.Costs.{AreToCome, PaysFor, most_calls};
+    ghost use Rattle.zst_send.specs.Costs.{AreToCome, PaysFor, items_in, most_calls};
     ghost use Rattle.zst_send.specs.Damage.{IsDamagedSend};
     ghost use Rattle.zst_send.specs.Knowing.{IsAmong, Knows};
     ghost use Rattle.zst_send.specs.Opening.{IsOfRow, IsPlanned, Opens, Resumes, built, is_plain, opening};
     ghost use Rattle.zst_send.specs.Sends.{SendFits, Sends, SendsFrom, Takes, TakesFrom, begun_text, sent_set};
-    ghost use Rattle.zst_send.specs.Records.{items_in};
     ghost use Rattle.zst_send.specs.Working.{RoomFits};
 
     /// Plans a send and takes all of its memory. Nothing is read.
@@ -159,14 +158,14 @@ impl Send {
         // The pool is only read. E28 comes only where its disk failed in this call.
         ensures looks { Looks (D.state pool.old.io.disk.now) pool.old.io.space pool.old.io.failed (D.state pool.new.io.disk.now) pool.new.io.space pool.new.io.failed (stop_of result) }
         // Of a set whose slots are tight it calls the disk at most 64 times for each number and pair of the items that have a byte of what it gave, and for two more, and once for each WRITE and SPILL of theirs.
-        ensures pays { (sent : Sent) (given left : List ℕ) → (D.state pool.new.io.disk.now).honest → Sends (Has (D.state pool.old.io.disk.now).seen pool.old.io.space) self.old sent given left
+        ensures pays { (sent : Sent) (start : Option Point) (given left : List ℕ) → (D.state pool.new.io.disk.now).honest → SendsFrom (Has (D.state pool.old.io.disk.now).seen pool.old.io.space) self.old sent start given left
             → SetIsTight (Has (D.state pool.old.io.disk.now).seen pool.old.io.space) self.old.subject.set sent.snapshot.objects
-            → IfOk result (λ count. (D.state pool.new.io.disk.now).calls ≤ (D.state pool.old.io.disk.now).calls + most_calls sent (items_in sent (length given) count)) }
+            → IfOk result (λ count. (D.state pool.new.io.disk.now).calls ≤ (D.state pool.old.io.disk.now).calls + most_calls sent (items_in sent start (length given) count)) }
         // Over several takes the items that are put pay once, and a look that was made ahead isn't made again.
-        ensures ahead { (sent : Sent) (given left : List ℕ) → (D.state pool.new.io.disk.now).honest → Sends (Has (D.state pool.old.io.disk.now).seen pool.old.io.space) self.old sent given left
+        ensures ahead { (sent : Sent) (start : Option Point) (given left : List ℕ) → (D.state pool.new.io.disk.now).honest → SendsFrom (Has (D.state pool.old.io.disk.now).seen pool.old.io.space) self.old sent start given left
             → SetIsTight (Has (D.state pool.old.io.disk.now).seen pool.old.io.space) self.old.subject.set sent.snapshot.objects
-            → (items : List Item) × AreToCome (Has (D.state pool.old.io.disk.now).seen pool.old.io.space) sent self.old items
-            × IfOk result (λ count. PaysFor (Has (D.state pool.new.io.disk.now).seen pool.new.io.space) sent items self.old self.new ((D.state pool.old.io.disk.now).calls + 1) (D.state pool.new.io.disk.now).calls) }
+            → (items : List Item) × AreToCome (Has (D.state pool.old.io.disk.now).seen pool.old.io.space) sent start self.old items
+            × IfOk result (λ count. PaysFor (Has (D.state pool.new.io.disk.now).seen pool.new.io.space) sent start items self.old self.new ((D.state pool.old.io.disk.now).calls + 1) (D.state pool.new.io.disk.now).calls) }
         ensures kept { pool.new.kept ≡ pool.old.kept }
         ensures kept_fit { FitsDisk (D.state pool.new.io.disk.now).size pool.new.io.space }
         ensures same { pool.new.io.disk.ghost_name ≡ pool.old.io.disk.ghost_name }

@@ -2,7 +2,6 @@ use Rattle.std.proofs.Common.{◌≡◌, ℕ, ◌+◌, List, ◌++◌, take, dro
 use Rattle.std.proofs.lemmas.List.{take-append-drop, length-take-le}
 use Rattle.zst_space.specs.FreeSectors.{FreeSectors}
 use Rattle.zst_block.specs.Blocks.{Has}
-use Rattle.zst_model.specs.sends.Headers.{header_of}
 use Rattle.zst_model.specs.sends.Included.{Choice}
 use Rattle.zst_model.specs.sends.View.{view_of}
 use Rattle.zst_objset.proofs.LeafLaws.{look_on}
@@ -17,7 +16,7 @@ use Rattle.zst_send.specs.Standing.{StandsAt}
 use Rattle.std.proofs.lemmas.Result.{err_from_is_err_and}
 use Rattle.zst_pool.proofs.Telling.{set_told}
 use Rattle.zst_objset.specs.declared.fault.ObjFault.TheVariants as set_faults
-use Rattle.zst_model.specs.sends.Items.{items, origin}
+use Rattle.zst_model.specs.sends.Items.{items}
 use Rattle.zst_stream.specs.Image.{front_of}
 use Rattle.zst_traverse.specs.Cells.{choice_after}
 use Rattle.zst_send.specs.Costs.{Pays, blocks_in, cells_in}
@@ -95,37 +94,37 @@ pub returns-clause-knows : goal.returns-clause-knows
 returns-clause-knows g c = λ images among honest was. c.in_ok-count.ensures.stands images among honest was
 
 pub returns-in_err-count-clause-pays : goal.returns-in_err-count-clause-pays
-returns-in_err-count-clause-pays g c = λ sent given left honest sends tight.
+returns-in_err-count-clause-pays g c = λ sent start given left honest sends tight.
     let p = err_from_is_err_and c.from_residual.result c.from_residual.ensures.1 in
     rw p.1 tt
 
 pub returns-clause-pays : goal.returns-clause-pays
-returns-clause-pays g c = λ sent given left honest sends tight.
+returns-clause-pays g c = λ sent start given left honest sends tight.
     let snap = sent.snapshot.objects in
     let has = Has (g.D.Disk.state c.args.pool.now.io.disk.now).seen c.args.pool.now.io.space in
-    let had = subst (λ (choice : Choice). HasPut has snap (view_of (header_of sent) snap choice) origin (length (front_of (header_of sent))) sends.put (length given) c.args.self.now.stand) sends.choice sends.has_put in
-    let puts = c.in_ok-count.ensures.puts (header_of sent) snap origin (length (front_of (header_of sent))) sends.put (length given) honest sends.holds had in
-    let pays = take_pays _ snap (view_of (header_of sent) snap (choice_after c.args.self.now.subject.source)) _ origin (length (front_of (header_of sent))) sends.put (length given) c.in_ok-count.count c.args.self.now.stand c.fill.new.self _ _ tight puts in
+    let had = subst (λ (choice : Choice). HasPut has snap (view_of (begun sent start) snap choice) (stated_point start) (length (front_of (begun sent start))) sends.put (length given) c.args.self.now.stand) sends.choice sends.has_put in
+    let puts = c.in_ok-count.ensures.puts (begun sent start) snap (stated_point start) (length (front_of (begun sent start))) sends.put (length given) honest sends.holds had in
+    let pays = take_pays _ snap (view_of (begun sent start) snap (choice_after c.args.self.now.subject.source)) _ (stated_point start) (length (front_of (begun sent start))) sends.put (length given) c.in_ok-count.count c.args.self.now.stand c.fill.new.self _ _ tight puts in
     subst (λ (choice : Choice). (g.D.Disk.state c.fill.new.io.disk.now).calls ≤ (g.D.Disk.state c.args.pool.now.io.disk.now).calls
-    + (64 * (cells_in snap (touched (length given) c.in_ok-count.count (length (front_of (header_of sent))) (items (view_of (header_of sent) snap choice) origin)) + 2) + blocks_in (touched (length given) c.in_ok-count.count (length (front_of (header_of sent))) (items (view_of (header_of sent) snap choice) origin)))) (sym sends.choice) pays
+    + (64 * (cells_in snap (touched (length given) c.in_ok-count.count (length (front_of (begun sent start))) (items (view_of (begun sent start) snap choice) (stated_point start))) + 2) + blocks_in (touched (length given) c.in_ok-count.count (length (front_of (begun sent start))) (items (view_of (begun sent start) snap choice) (stated_point start))))) (sym sends.choice) pays
 
 pub returns-then-pool-clause-ahead : goal.returns-then-pool-clause-ahead
-returns-then-pool-clause-ahead g c = λ sent given left honest sends tight. (sends.has_put.later, sends.has_put.are_left, tt)
+returns-then-pool-clause-ahead g c = λ sent start given left honest sends tight. (sends.has_put.later, sends.has_put.are_left, tt)
 
 pub returns-in_err-count-clause-ahead : goal.returns-in_err-count-clause-ahead
-returns-in_err-count-clause-ahead g c = λ sent given left honest sends tight.
+returns-in_err-count-clause-ahead g c = λ sent start given left honest sends tight.
     let p = err_from_is_err_and c.from_residual.result c.from_residual.ensures.1 in
     (sends.has_put.later, sends.has_put.are_left, rw p.1 tt)
 
 pub returns-clause-ahead : goal.returns-clause-ahead
-returns-clause-ahead g c = λ sent given left honest sends tight.
+returns-clause-ahead g c = λ sent start given left honest sends tight.
     let snap = sent.snapshot.objects in
     let has = Has (g.D.Disk.state c.args.pool.now.io.disk.now).seen c.args.pool.now.io.space in
-    let had = subst (λ (choice : Choice). HasPut has snap (view_of (header_of sent) snap choice) origin (length (front_of (header_of sent))) sends.put (length given) c.args.self.now.stand) sends.choice sends.has_put in
-    let puts = c.in_ok-count.ensures.puts (header_of sent) snap origin (length (front_of (header_of sent))) sends.put (length given) honest sends.holds had in
-    let pays = take_puts has _ snap (view_of (header_of sent) snap (choice_after c.args.self.now.subject.source)) _ origin (length (front_of (header_of sent))) sends.put (length given) c.in_ok-count.count c.args.self.now.stand c.fill.new.self _ _ tight had puts in (
+    let had = subst (λ (choice : Choice). HasPut has snap (view_of (begun sent start) snap choice) (stated_point start) (length (front_of (begun sent start))) sends.put (length given) c.args.self.now.stand) sends.choice sends.has_put in
+    let puts = c.in_ok-count.ensures.puts (begun sent start) snap (stated_point start) (length (front_of (begun sent start))) sends.put (length given) honest sends.holds had in
+    let pays = take_puts has _ snap (view_of (begun sent start) snap (choice_after c.args.self.now.subject.source)) _ (stated_point start) (length (front_of (begun sent start))) sends.put (length given) c.in_ok-count.count c.args.self.now.stand c.fill.new.self _ _ tight had puts in (
       had.later,
-      subst (λ (choice : Choice). AreLeft has snap (view_of (header_of sent) snap choice) c.args.self.now.stand.walk c.args.self.now.stand.ended had.later) (sym sends.choice) had.are_left,
-      subst (λ (choice : Choice). Pays (Has (g.D.Disk.state c.fill.new.io.disk.now).seen c.fill.new.io.space) snap (view_of (header_of sent) snap choice) had.later c.args.self.now.stand c.fill.new.self
+      subst (λ (choice : Choice). AreLeft has snap (view_of (begun sent start) snap choice) c.args.self.now.stand.walk c.args.self.now.stand.ended had.later) (sym sends.choice) had.are_left,
+      subst (λ (choice : Choice). Pays (Has (g.D.Disk.state c.fill.new.io.disk.now).seen c.fill.new.io.space) snap (view_of (begun sent start) snap choice) had.later c.args.self.now.stand c.fill.new.self
           ((g.D.Disk.state c.args.pool.now.io.disk.now).calls + 1) (g.D.Disk.state c.fill.new.io.disk.now).calls) (sym sends.choice) pays,
     )
