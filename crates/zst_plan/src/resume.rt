@@ -30,6 +30,7 @@ fn no_guid(guid: u64) -> PlanFault
 fn find_to(dir: &Dir, token: &Token) -> Result<usize, PlanFault>
     ensures inside { IfOk result (λ place. place < length dir.now.snapshots) }
     ensures found { (pool : Pool) → AreNamed dir.now pool → AnswerAlike (StandsAt dir.now.snapshots pool.snapshots) result (find_to token.now pool) }
+    ensures to { IfOk result (λ place. position (λ snapshot. snapshot.guid == token.now.to) dir.now.snapshots ≡ Some place) }
 {
     match dir.by_guid(token.to) {
         Some(place) => Ok(place),
@@ -138,6 +139,8 @@ fn find_marked(dir: &Dir, token: &Token) -> Result<Option<usize>, PlanFault>
 pub fn resume_plan(dir: &Dir, token: &Token) -> Result<SendPlan, PlanFault>
     ensures inside { IfOk result (IsInside dir.now) }
     ensures exact { (pool : Pool) → AreNamed dir.now pool → AnswerAlike (IsPlanOf dir.now pool) result (resumed_send token.now pool) }
+    // Whatever the object sets hold, the snapshot is the first with the token's to guid.
+    ensures to { IfOk result (λ plan. position (λ snapshot. snapshot.guid == token.now.to) dir.now.snapshots ≡ Some plan.snap) }
 {
     let snap = find_to(dir, token)?;
     let source = find_from(dir, token, &dir.snapshots()[snap])?;
