@@ -14,13 +14,12 @@ use Rattle.zst_model.specs.sends.Features.{redacts, resuming, sa_spill}
 use Rattle.zst_model.specs.sends.Headers.{Sent, features_of, header_of, redacted_part, sent_view}
 use Rattle.zst_model.specs.sends.PartWay.{IsPartWay}
 use Rattle.zst_model.specs.sends.Target.{target}
-use Rattle.zst_model.specs.sends.View.{View, header_from}
+use Rattle.zst_model.specs.sends.View.{View}
 use Rattle.zst_model.specs.states.Apply.{unless, ◌>>=◌}
 use Rattle.zst_model.specs.states.State.{State}
 use Rattle.zst_plan.specs.RecvPlan.{RecvPlan, Resumes, fresh_plan, goes_on, is_resumed, recv_plan, resumed_plan, snapshot_name, wrong_resume}
 use Rattle.zst_plan.specs.declared.receive.RecvAsk.{RecvAsk}
-use Rattle.zst_record.specs.Payload.{stated_point}
-use Rattle.zst_stream.specs.Records.{view_text}
+
 use Rattle.zst_token.specs.ForPartial.{token_for}
 use Rattle.zst_send.specs.Sends.{begun}
 use Rattle.zst_recv.specs.Feeds.{receives}
@@ -28,7 +27,7 @@ use Rattle.zst_recv.specs.Receiving.{pool_of}
 use Rattle.zst_recv.specs.Tokens.{token_of_partial}
 use Rattle.zst_replication.specs.Grounds.{Grounds}
 use Rattle.zst_replication.specs.Outcomes.{HasOneMore, Progress, course_on}
-use Rattle.zst_replication.specs.Resumption.{FitRestIsReceived, IsUnderway, RestIsReceived, ResumedStopsAreProgress, SameViewsSameRest, TokensGoOn}
+use Rattle.zst_replication.specs.Resumption.{FitRestIsReceived, IsUnderway, RestIsReceived, ResumedStopsAreProgress, TokensGoOn}
 use Rattle.zst_replication.proofs.Planned.{found_there, own_target, resumes}
 use Rattle.zst_replication.proofs.Replicated.{BeginsWith, made, progressed, received}
 use Rattle.zst_replication.proofs.Results.{ok_parts}
@@ -144,9 +143,3 @@ tokens_go_on sent state ask pool partial component underway named = (
 
     goes : Result RecvPlan PlanFault
     goes = unless (not (goes_on partial header)) (wrong_resume partial header) (Ok (Resumes partial))
-
--- ---- its stream
-
-pub same_rest : SameViewsSameRest
-same_rest sent also start e =
-    ap (λ (v : View). view_text (header_from v.header start) (record { header = header_from v.header start; shown = v.shown }) (stated_point start)) e

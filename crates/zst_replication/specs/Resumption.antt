@@ -1,5 +1,5 @@
 -- The laws of a receive that is cut and goes on (zfs-receive(8), -s; zfs-send(8), -t).
-use Rattle.std.specs.Prelude.{ℕ, ◌≡◌, true, List, Option, Some, None, Ok}
+use Rattle.std.specs.Prelude.{ℕ, ◌≡◌, true, List, Some, None, Ok}
 use Rattle.std.specs.List.{concat}
 use Rattle.zst_model.specs.declared.sends.header.Header.{Header}
 use Rattle.zst_model.specs.declared.sends.header.Point.{Point}
@@ -16,7 +16,7 @@ use Rattle.zst_plan.specs.RecvPlan.{Base, RecvPlan, Begins, Resumes, component_f
 use Rattle.zst_plan.specs.declared.receive.RecvAsk.{RecvAsk}
 use Rattle.zst_stream.specs.Items.{items_of}
 use Rattle.zst_stream.specs.Reading.{reading}
-use Rattle.zst_send.specs.Sends.{begun, begun_text}
+use Rattle.zst_send.specs.Sends.{begun}
 use Rattle.zst_recv.specs.Feeds.{receives}
 use Rattle.zst_recv.specs.Receiving.{Lives, Ends, Goes, opened, pool_of}
 use Rattle.zst_recv.specs.Tokens.{token_told}
@@ -116,7 +116,3 @@ ChainsComplete =
     → Chain sent target component base pool → ask.target ≡ target → IsPool pool → partial_of target pool ≡ Some partial
     → GivesRest sent also partial.point → AreOfStream pieces also (Some partial.point) → receives ask pool pieces ≡ Goes after (Ends last)
     → HasOneMore pool after target component (base_name base) (header_of sent) sent.snapshot.objects.state
-
--- Two sends that give the same view give the same rest, from each point.
-abbrev pub SameViewsSameRest : Type 0
-SameViewsSameRest = (sent also : Sent) (start : Option Point) → sent_view sent ≡ sent_view also → begun_text sent start ≡ begun_text also start

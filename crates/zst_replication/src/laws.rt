@@ -3,7 +3,7 @@ ghost use Rattle.zst_replication.specs.Grounds.{Grounds};
 ghost use Rattle.zst_replication.specs.Histories.{EventsAreHistory, ReceivedRemembers, ReceivesRemember};
 ghost use Rattle.zst_replication.specs.Matching.{BasesMatch, FullMatches, OneMoreIsKept, PlainCanBeSent, RestCanBeSent, SourceIsKnown};
 ghost use Rattle.zst_replication.specs.Replicas.{CutLeavesNothing, LeftIsKept, SentIsReceived, StopsAreProgress};
-ghost use Rattle.zst_replication.specs.Resumption.{ChainsAreUnderway, ChainsComplete, FitRestIsReceived, PiecesAreApplied, RestIsReceived, ResumedStopsAreProgress, SameViewsSameRest, TokensGoOn};
+ghost use Rattle.zst_replication.specs.Resumption.{ChainsAreUnderway, ChainsComplete, FitRestIsReceived, PiecesAreApplied, RestIsReceived, ResumedStopsAreProgress, TokensGoOn};
 ghost use Rattle.zst_replication.specs.Soundness.{ReceivesKeepSound};
 
 /// What a feed applies is counted by the records that its text covers.
@@ -91,11 +91,6 @@ pub fn chains_complete()
     resumed_stops_are_progress();
     rest_is_received();
 }
-
-/// Two sends that give the same view give the same rest.
-pub fn same_views_same_rest()
-    ensures { SameViewsSameRest }
-{}
 
 /// What goes where a session ends isn't kept before that either.
 pub fn left_is_kept()

@@ -36,7 +36,7 @@ use Rattle.zst_pool.specs.Faults.{pool_refusal}
 use Rattle.zst_pool.specs.declared.fault.PoolFault.{PoolFault}
 use Rattle.zst_reader.specs.Filling.{stream_limit}
 use Rattle.zst_send.specs.Damage.{IsDamagedSend}
-use Rattle.zst_send.specs.Opening.{IsOfRow, built, opening}
+use Rattle.zst_send.specs.Opening.{built, opening, set_with}
 use Rattle.zst_send.specs.Sends.{begun_text}
 use Rattle.zst_token.specs.declared.token.Token.{Token}
 use Rattle.zst_run.specs.declared.send.Asked.{Asked}
@@ -75,10 +75,10 @@ abbrev pub start_of : Asked → Option Point
 start_of (Named ask) = None
 start_of (Rest token) = Some token.point
 
--- the object set is that of the asked name; a token's is that of one of the snapshots
+-- the object set is that of the asked name; a token's is that of the first snapshot with its to guid
 abbrev pub HasSet : Asked → Rows → ObjSet → Type 0
 HasSet (Named ask) rows set = set_named (names.Snapshot ask.snap) rows ≡ Some set
-HasSet (Rest token) rows set = IsOfRow rows set
+HasSet (Rest token) rows set = set_with token.to rows ≡ Some set
 
 -- a damage of such an object set
 abbrev pub OfAsked : Asked → Rows → (ObjSet → DamageFact) → DamageFact
@@ -146,7 +146,7 @@ TellsOf Is result = (sector : ℕ) (stated found : List ℕ) → result ≡ Err 
 -- A send from a pool that was opened by this body and these rows, whether or not the image reads as a pool. What the directory
 -- tells alone: E3, E6, E7 and E19 come exactly where the definition refuses the plan of a pool that the body and the rows name,
 -- whatever its object sets hold, and then nothing is written. E25 comes only of a block of the asked snapshot's own object set, or,
--- where a token asks, of that of one of the snapshots.
+-- where a token asks, of that of the first snapshot with its to guid.
 pub record SendRan (asked : Asked) (here : DiskState) (out out' : SinkState) (result : Result (Unit {0}) Refusal) (uber : Uber) (rows : Rows) : Type 0 where
   pub opens : Opens here uber rows
   pub planned : (pool : Pool) (fault : PlanFault) → IsNamedBy uber (kept_rows rows) pool → to_send asked pool ≡ Err fault

@@ -1,5 +1,6 @@
 // The lines that send a snapshot, or the rest of it that a token tells: the stream is written piece by piece, as it is read of the image.
-ghost use Rattle.std.specs.Prelude.{Option, ◌≡◌, ◌≢◌, ◌≤◌, ◌<◌, ℕ, Contains, List, false, length, IfErr, IfOk, IfSome, None, Some, Ok, Err};
+ghost use Rattle.std.specs.Prelude.{Option, ◌≡◌, ◌==◌, ◌≢◌, ◌≤◌, ◌<◌, ℕ, Contains, List, false, length, IfErr, IfOk, IfSome, None, Some, Ok, Err};
+ghost use Rattle.std.specs.List.{position};
 ghost use Rattle.zst_outside.specs.Images.{OnlyReads};
 ghost use Rattle.zst_outside.specs.States.{SinkState};
 ghost use Rattle.zst_space.specs.FreeSectors.{FreeSectors};
@@ -15,7 +16,7 @@ ghost use Rattle.zst_plan.specs.Plans.{IsInside, IsPlanOf};
 ghost use Rattle.zst_reader.specs.Filling.{stream_limit};
 ghost use Rattle.zst_send.specs.Damage.{IsDamagedSend};
 ghost use Rattle.zst_send.specs.Knowing.{IsAmong, Knows};
-ghost use Rattle.zst_send.specs.Opening.{IsOfRow, opening};
+ghost use Rattle.zst_send.specs.Opening.{opening};
 ghost use Rattle.zst_send.specs.Sends.{SendFits, sent_set};
 ghost use Rattle.zst_run.specs.declared.send.Asked.TheVariants.{Named, Rest};
 ghost use Rattle.zst_run.specs.Sends.{HasSet, IsSendRefusal, IsSource, OfAsked, OfGiving, Sends, SendsBy, SentAlike, TellsOf, ask_of, rest_of, send_damage, source_of, start_of, to_send};
@@ -214,6 +215,7 @@ fn open_named<D: Disk>(
 fn rest_plan(dir: &Dir, token: &Token) -> Result<SendPlan, PlanFault>
     ensures inside { IfOk result (IsInside dir.now) }
     ensures exact { (pool : Plain) → AreNamed dir.now pool → AnswerAlike (IsPlanOf dir.now pool) result (rest_of token.now pool) }
+    ensures to { IfOk result (λ plan. position (λ snapshot. snapshot.guid == token.now.to) dir.now.snapshots ≡ Some plan.snap) }
 {
     if token.large {
         return Err(PlanFault::Unsupported(Lack::LargeBlocks));

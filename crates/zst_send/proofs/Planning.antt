@@ -3,7 +3,6 @@ use Rattle.std.proofs.Common.{◌≡◌, ℕ, Bool, true, false, not, List, [], 
 use Rattle.std.proofs.lemmas.List.{get_or_default}
 use Rattle.std.proofs.lemmas.List.Quantifiers.{position-Some}
 use Rattle.std.specs.List.{find, position}
-use Rattle.std.specs.Str.{bytes_eq}
 use Rattle.std.specs.Prelude.{IsErrAnd}
 use Rattle.std.proofs.lemmas.Bool.{and_parts, lt-ltb, true≢false}
 use Rattle.zst_dir.proofs.Matching.{Match-alike}
@@ -12,7 +11,6 @@ use Rattle.zst_dir.specs.Rows.{Rows}
 use Rattle.zst_dir.specs.declared.rows.Snapshot.{Snapshot}
 use Rattle.zst_image.specs.Reads.{BookmarkIs, RunsBy, SetIs, SnapshotIs}
 use Rattle.zst_model.specs.declared.refusals.faults.Lack.TheVariants as lacks
-use Rattle.zst_model.specs.declared.refusals.named.Name.TheVariants as names
 use Rattle.zst_model.specs.declared.refusals.plan_fault.PlanFault.{PlanFault}
 use Rattle.zst_model.specs.declared.refusals.plan_fault.PlanFault.TheVariants as plans
 use Rattle.zst_model.specs.declared.sends.ask.SendAsk.{SendAsk}
@@ -29,12 +27,11 @@ use Rattle.zst_plan.specs.declared.plan.SendPlan.{SendPlan}
 use Rattle.zst_block.specs.declared.fault.BlockFault.{BlockFault}
 use Rattle.zst_block.specs.declared.fault.BlockFault.TheVariants as blocks
 use Rattle.zst_pool.specs.Faults.{of_block}
-use Rattle.zst_pool.specs.Finding.{set_named}
 use Rattle.zst_pool.specs.declared.fault.PoolFault.{PoolFault}
 use Rattle.zst_pool.specs.declared.fault.PoolFault.TheVariants.{OutOfMemory, Plan}
 use Rattle.zst_traverse.specs.Cells.{choice_after}
 use Rattle.zst_tree.specs.Indices.{Blocks}
-use Rattle.zst_send.specs.Opening.{IsPlanned, Opens, built, is_plain, opening}
+use Rattle.zst_send.specs.Opening.{IsPlanned, Opens, built, is_plain, opening, set_where}
 use Rattle.zst_send.specs.declared.send.Send.{Send}
 
 -- what a place has stands for what stands there in the other list
@@ -51,11 +48,10 @@ found_at p d (x ∷ xs) zero below here before = ap (λ b. cond b (Some x) (find
 found_at p d (x ∷ xs) (suc i) below here before =
     ap (λ b. cond b (Some x) (find p xs)) (before 0 (omega arith)) ∙ found_at p d xs i (omega (arith, below)) here (λ k less. before (suc k) (omega (arith, less)))
 
--- the snapshot of a name has the set of that name
-pub set_at : (rows : Rows) (name : List ℕ) (place : ℕ) (row : Snapshot) → position (λ snapshot. bytes_eq snapshot.name name) rows.snapshots ≡ Some place → row ≡ get_or rows.snapshots place row
-    → set_named (names.Snapshot name) rows ≡ Some row.objects
-set_at rows name place row stands here =
-    let passes = λ (snapshot : Snapshot). bytes_eq snapshot.name name in
+-- the first snapshot that passes a test has the set that is found so
+pub set_at : (rows : Rows) (passes : Snapshot → Bool) (place : ℕ) (row : Snapshot) → position passes rows.snapshots ≡ Some place → row ≡ get_or rows.snapshots place row
+    → set_where passes rows ≡ Some row.objects
+set_at rows passes place row stands here =
     let at = position-Some passes rows.snapshots place row stands in
     ap (λ (o : Option Snapshot). option_map (λ (snapshot : Snapshot). snapshot.objects) o) (found_at passes row rows.snapshots place at.0 at.1 at.2)
     ∙ ap (λ (r : Snapshot). Some r.objects) (sym here)

@@ -1,5 +1,5 @@
 -- What opening a send answers.
-use Rattle.std.specs.Prelude.{◌≡◌, ◌&&◌, Bool, not, Contains, [], is_some, Some, Result, Ok, Err}
+use Rattle.std.specs.Prelude.{◌≡◌, ◌==◌, ◌&&◌, ℕ, Bool, not, [], find, is_some, Option, Some, option_map, Result, Ok, Err}
 use Rattle.zst_dir.specs.Rows.{Rows}
 use Rattle.zst_dir.specs.declared.rows.Snapshot.{Snapshot}
 use Rattle.zst_model.specs.declared.refusals.faults.Lack.TheVariants as lacks
@@ -66,6 +66,9 @@ IsPlanned plan (Err DiskFault) = ⊥
 IsPlanned plan (Err Failed) = ⊥
 IsPlanned plan (Err OutOfMemory) = (sent : Sent) × (plan ≡ Ok sent)
 
--- the object set is that of a snapshot that the directory has
-abbrev pub IsOfRow : Rows → ObjSet → Type 0
-IsOfRow rows set = (row : Snapshot) × Contains rows.snapshots row × (row.objects ≡ set)
+-- the object set of the first snapshot of a directory that passes a test, and of the first with a guid
+abbrev pub set_where : (Snapshot → Bool) → Rows → Option ObjSet
+set_where test rows = option_map (λ snapshot. snapshot.objects) (find test rows.snapshots)
+
+abbrev pub set_with : ℕ → Rows → Option ObjSet
+set_with guid rows = set_where (λ snapshot. snapshot.guid == guid) rows

@@ -22,13 +22,13 @@ pub struct Send {
 }
 
 impl Send {
-    ghost use Rattle.std.specs.Prelude.{Option, ◌≡◌, ◌≢◌, ◌+◌, ◌≤◌, false, true, Contains, List, [], ℕ, IfErr, IfOk, None, Some, Err, length, Ok};
+    ghost use Rattle.std.specs.Prelude.{Bool, Option, ◌≡◌, ◌==◌, ◌≢◌, ◌+◌, ◌≤◌, false, true, Contains, List, [], ℕ, IfErr, IfOk, None, Some, Err, length, Ok};
     ghost use Rattle.std.specs.List.{position};
-    ghost use Rattle.std.specs.Str.{bytes_eq};
     ghost use Rattle.zst_space.specs.FreeSectors.{FreeSectors};
     ghost use Rattle.zst_block.specs.Blocks.{FitsDisk, Has};
     ghost use Rattle.zst_block.specs.Working.{Looks};
     ghost use Rattle.zst_dir.specs.Named.{AreNamed};
+    ghost use Rattle.zst_dir.specs.declared.rows.Snapshot.{Snapshot as SnapshotRow};
     ghost use Rattle.zst_image.specs.Reads.{RunsBy};
     ghost use Rattle.zst_model.specs.pools.Pool.{Pool as Plain};
     ghost use Rattle.zst_model.specs.declared.refusals.named.Name.TheVariants as names;
@@ -44,7 +44,7 @@ impl Send {
     ghost use Rattle.zst_send.specs.Costs.{AreToCome, PaysFor, items_in, most_calls};
     ghost use Rattle.zst_send.specs.Damage.{IsDamagedSend};
     ghost use Rattle.zst_send.specs.Knowing.{IsAmong, Knows};
-    ghost use Rattle.zst_send.specs.Opening.{IsOfRow, IsPlanned, Opens, Resumes, built, is_plain, opening};
+    ghost use Rattle.zst_send.specs.Opening.{IsPlanned, Opens, Resumes, built, is_plain, opening, set_where, set_with};
     ghost use Rattle.zst_send.specs.Sends.{SendFits, Sends, SendsFrom, Takes, TakesFrom, begun_text, sent_set};
     ghost use Rattle.zst_send.specs.Working.{RoomFits};
 
@@ -102,8 +102,8 @@ impl Send {
             → IfOk result (λ send. SetIsTight (Has image space) send.subject.set sent.snapshot.objects) }
         // Its refusals are those of the rows alone, whatever the object sets and the lists hold.
         ensures planned { (running : Plain) (sent : Sent) → pool.old.io.failed ≡ false → AreNamed pool.old.kept.dir running → IsPlanOf pool.old.kept.dir running plan.now sent → IsPlanned (built sent) result }
-        // It is of the object set of a snapshot's row, and keeps no pointer yet.
-        ensures set { IfOk result (λ send. IsOfRow pool.old.kept.dir (sent_set send)) }
+        // It is of the object set of the planned snapshot, the first with its guid, and keeps no pointer yet.
+        ensures set { (guid : ℕ) → position (λ snapshot. snapshot.guid == guid) pool.old.kept.dir.snapshots ≡ Some plan.now.snap → IfOk result (λ send. set_with guid pool.old.kept.dir ≡ Some (sent_set send)) }
         ensures knows { (images : List (List ℕ)) → IfOk result (Knows (IsAmong images)) }
         ensures fits { IfOk result SendFits }
         // A pool that has failed answers nothing else.
@@ -185,8 +185,7 @@ impl Send {
         requires inside { IsInside dir.now plan.now }
         requires room { RoomFits room }
         requires empty { room.holds ≡ None }
-        ensures set { (name : List ℕ) → position (λ snapshot. bytes_eq snapshot.name name) dir.now.snapshots ≡ Some plan.now.snap → set_named (names.Snapshot name) dir.now ≡ Some (sent_set result) }
-        ensures row { IsOfRow dir.now (sent_set result) }
+        ensures set { (test : SnapshotRow → Bool) → position test dir.now.snapshots ≡ Some plan.now.snap → set_where test dir.now ≡ Some (sent_set result) }
         ensures knows { (images : List (List ℕ)) → Knows (IsAmong images) result }
         ensures fits { SendFits result }
         ensures sends { (image : List ℕ) (space : FreeSectors) (running : Plain) (sent : Sent) → RunsBy None (Has image space) dir.now running → IsPlanOf dir.now running plan.now sent → is_plain sent ≡ true

@@ -1,3 +1,4 @@
+use Rattle.std.specs.Str.{bytes_eq}
 use Rattle.std.proofs.Common.{◌≡◌, ◌∙◌, subst}
 use Rattle.zst_block.specs.Blocks.{Has}
 use Rattle.zst_model.specs.sends.Headers.{Sent}
@@ -73,7 +74,7 @@ returns-clause-planned g c = λ running live named.
     (s.0, planned_is ask running s.0 s.1 ∙ c.in_ok-check_built.ensures.judges running s.0 named s.2)
 
 pub returns-clause-set : goal.returns-clause-set
-returns-clause-set g c = c.planned.ensures.set c.args.ask.now.snap c.in_ok-plan.ensures.named
+returns-clause-set g c = c.planned.ensures.set (λ snapshot. bytes_eq snapshot.name c.args.ask.now.snap) c.in_ok-plan.ensures.named
 
 pub returns-clause-tight : goal.returns-clause-tight
 returns-clause-tight g c = λ image space running number live runs sent is.

@@ -42,18 +42,11 @@ returns-clause-sends c = λ image space running sent runs is plain.
     }
 
 pub returns-clause-set : goal.returns-clause-set
-returns-clause-set c = λ name stands.
+returns-clause-set c = λ test stands.
     let plan = c.args.plan.now in
     let row = c.index-snapshots-plan.result in
-    set_at c.args.dir.now name plan.snap row stands (c.index-snapshots-plan.is ∙ ap (λ (xs : List Snapshot). get_or xs plan.snap row) c.snapshots.ensures)
+    set_at c.args.dir.now test plan.snap row stands (c.index-snapshots-plan.is ∙ ap (λ (xs : List Snapshot). get_or xs plan.snap row) c.snapshots.ensures)
     ∙ ap (λ (r : Snapshot). Some r.objects) c.index-snapshots-plan.is
-
-pub returns-clause-row : goal.returns-clause-row
-returns-clause-row c =
-    let plan = c.args.plan.now in
-    let row = c.index-snapshots-plan.result in
-    let here = c.index-snapshots-plan.is ∙ ap (λ (xs : List Snapshot). get_or xs plan.snap row) c.snapshots.ensures in
-    (row, (plan.snap, c.requires.inside.snapshot, sym here), ap (λ (r : Snapshot). r.objects) c.index-snapshots-plan.is)
 
 pub returns-clause-knows : goal.returns-clause-knows
 returns-clause-knows c = λ images. c.start.ensures.knows images _

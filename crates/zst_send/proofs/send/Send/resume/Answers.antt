@@ -1,4 +1,4 @@
-use Rattle.std.proofs.Common.{sym, subst, Result}
+use Rattle.std.proofs.Common.{sym, subst, Result, ◌==◌}
 use Rattle.zst_block.specs.Blocks.{Has}
 use Rattle.zst_pool.specs.declared.fault.PoolFault.{PoolFault}
 use Rattle.zst_pool.specs.declared.fault.PoolFault.TheVariants.{OutOfMemory, Plan}
@@ -34,3 +34,6 @@ returns-in_err-room-clause-planned g c = λ running sent live named is.
 
 pub returns-clause-planned : goal.returns-clause-planned
 returns-clause-planned g c = λ running sent live named is. (sent, c.in_ok-check_built.ensures.judges running sent named is)
+
+pub returns-clause-set : goal.returns-clause-set
+returns-clause-set g c = λ guid stands. c.planned.ensures.set (λ snapshot. snapshot.guid == guid) stands
