@@ -19,7 +19,6 @@ use Rattle.zst_model.specs.states.Apply.{unless, ◌>>=◌}
 use Rattle.zst_model.specs.states.State.{State}
 use Rattle.zst_plan.specs.RecvPlan.{RecvPlan, Resumes, fresh_plan, goes_on, is_resumed, recv_plan, resumed_plan, snapshot_name, wrong_resume}
 use Rattle.zst_plan.specs.declared.receive.RecvAsk.{RecvAsk}
-
 use Rattle.zst_token.specs.ForPartial.{token_for}
 use Rattle.zst_send.specs.Sends.{begun}
 use Rattle.zst_recv.specs.Feeds.{receives}

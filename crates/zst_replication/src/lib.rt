@@ -7,6 +7,6 @@ pub use laws::{
     bases_match, chains_complete, cut_leaves_nothing, events_are_history, full_matches,
     left_is_kept, one_more_is_kept, pieces_are_applied, plain_can_be_sent, receives_keep_sound,
     receives_remember, records_are_counted, rest_can_be_sent, rest_is_received,
-    resumed_stops_are_progress, sent_is_received, source_is_known,
-    stops_are_progress, tokens_go_on,
+    resumed_stops_are_progress, sent_is_received, source_is_known, stops_are_progress,
+    tokens_go_on,
 };

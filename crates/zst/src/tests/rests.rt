@@ -2,7 +2,9 @@
 
 use super::cuts::TOKENS;
 use super::images::{SMALL, disk_of, image_of, run_on};
-use super::receives::{SMALL_RECEIVED, WHOLE, check_blocks, new_image, pool_of, receive, run_with, sent};
+use super::receives::{
+    SMALL_RECEIVED, WHOLE, check_blocks, new_image, pool_of, receive, run_with, sent,
+};
 use super::runs::{check, text_of};
 use super::sessions::{Accepted, Refused, accept, refuse};
 use std::alloc::Global;
@@ -109,7 +111,8 @@ fn an_increment_goes_on_whatever_comes_between(rt: HostRuntime) -> Result<(), Fa
 }
 
 /// A stream that isn't the rest of what is kept: what it states, and that it goes on at the start.
-const WRONG_RESUME: &str = "zst: E15 wrong resume: have 0000000100000001 1 0, want 0000000100000001 1 512\n";
+const WRONG_RESUME: &str =
+    "zst: E15 wrong resume: have 0000000100000001 1 0, want 0000000100000001 1 512\n";
 
 #[test]
 fn what_a_cut_receive_kept_is_given_up(rt: HostRuntime) -> Result<(), Fail> {
@@ -129,7 +132,12 @@ fn what_a_cut_receive_kept_is_given_up(rt: HostRuntime) -> Result<(), Fail> {
     check(&rt, "a whole stream", &ran, 3, "", note);
 
     let rest = rest_of(&rt, alloc, &mut from, &mut into, "token I tank/b")?;
-    accept(&rt, alloc, &mut into, &[("abort I tank/b", "ok 3\n"), ("list I", "")])?;
+    accept(
+        &rt,
+        alloc,
+        &mut into,
+        &[("abort I tank/b", "ok 3\n"), ("list I", "")],
+    )?;
     let gone = [("abort I tank/b", 3, "E14 no partial: tank/b")];
     refuse(&rt, alloc, &mut into, &gone)?;
     let ran = run_with(alloc, &mut into, WHOLE, &rest)?;
