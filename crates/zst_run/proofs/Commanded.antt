@@ -287,6 +287,7 @@ told_of_start here mid rows space sector stated found (commands.Clone origin dat
 told_of_start here mid rows space sector stated found (commands.Bookmark snapshot bookmark) reads is = is
 told_of_start here mid rows space sector stated found (commands.Rollback destroys snapshot) reads is = is
 told_of_start here mid rows space sector stated found (commands.Destroy name) reads is = is
+told_of_start here mid rows space sector stated found (commands.Abort dataset) reads is = is
 told_of_start here mid rows space sector stated found (commands.Read name k i) reads is =
     told_before here mid (λ seen size. OfSet rows name (λ set at s f. (count : ℕ) × IsDamagedBlock (IsSeen seen) size count set at s f) sector stated found) reads is
 told_of_start here mid rows space sector stated found commands.List reads is = is

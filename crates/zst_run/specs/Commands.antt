@@ -98,7 +98,7 @@ pub record HasVersion (here : DiskState) (number : ℕ) : Type 0 where
 abbrev pub Opens : DiskState → Uber → Rows → Type 0
 Opens here uber rows = (body : List ℕ) × (latest here.seen ≡ Some body) × IsOpened here body uber rows
 
--- What the directory tells alone: E3 to E6, and E23 of datasets, snapshots, bookmarks and guids come exactly where the definition
+-- What the directory tells alone: E3 to E6, E14, and E23 of datasets, snapshots, bookmarks and guids come exactly where the definition
 -- refuses a pool that the body and the rows name, whatever its object sets hold. Any other E23 is past a limit.
 pub record Planned (now : ℕ) (command : Command) (uber : Uber) (rows : Rows) (answer : Result (List (List ℕ)) Refusal) : Type 0 where
   pub exact : (pool : Pool) (fault : PlanFault) → IsNamedBy uber (kept_rows rows) pool → is_by_rows fault ≡ true
