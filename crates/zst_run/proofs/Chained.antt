@@ -1,20 +1,18 @@
 -- The rest of a stream, which a token asked for, received in any number of runs.
 use Rattle.std.specs.Prelude.{Bool, true, false, not, if◌then◌else◌, ◌≤◌, ◌<◌, ◌^◌, Result, Ok, Err}
 use Rattle.std.specs.List.{concat}
-use Rattle.std.proofs.Common.{◌≡◌, ℕ, List, ◌++◌, take, Option, Some, None, refl, sym, ap, ◌∙◌, subst}
+use Rattle.std.proofs.Common.{◌≡◌, ℕ, List, take, Option, Some, None, refl, sym, ap, ◌∙◌, subst}
 use Rattle.zst_outside.specs.Images.{DiskState}
-use Rattle.zst_outside.specs.States.{SourceState, SinkState, Gave}
+use Rattle.zst_outside.specs.States.{SourceState, Gave}
 use Rattle.zst_model.specs.declared.refusals.faults.Lack.TheVariants as lacks
 use Rattle.zst_model.specs.declared.refusals.plan_fault.PlanFault.{PlanFault}
 use Rattle.zst_model.specs.declared.refusals.plan_fault.PlanFault.TheVariants as plans
-use Rattle.zst_model.specs.declared.refusals.refusal.Refusal.{Refusal}
 use Rattle.zst_model.specs.declared.sends.header.Point.{Point}
 use Rattle.zst_model.specs.pools.Kept.{kept_of}
 use Rattle.zst_model.specs.pools.Pool.{Pool, IsPool, Partial, partial_of}
 use Rattle.zst_model.specs.sends.Headers.{Sent, header_of, sent_view}
 use Rattle.zst_model.specs.states.Apply.{unless, ◌>>=◌}
 use Rattle.zst_model.specs.states.State.{number_bound}
-use Rattle.zst_plan.specs.RecvPlan.{Base}
 use Rattle.zst_plan.specs.ResumePlan.{resumed_send}
 use Rattle.zst_plan.specs.declared.receive.RecvAsk.{RecvAsk}
 use Rattle.zst_send.specs.Opening.{built, is_plain}
@@ -29,7 +27,6 @@ use Rattle.zst_replication.specs.Outcomes.{HasOneMore, Progress, base_name, cour
 use Rattle.zst_replication.specs.Replicas.{AreOfStream}
 use Rattle.zst_replication.specs.Resumption.{Begun, Chain, GivesRest, GoneOn, RestIsReceived, ResumedStopsAreProgress}
 use Rattle.zst_replication.specs.Resumption as resumption
-use Rattle.zst_run.specs.Receives.{Receives}
 use Rattle.zst_run.specs.Replicated.{ChainsComplete, IsReadOf, IsRestReceiver, IsRestSender, RestsAreProgress, RunsAreChained, SentRestStands}
 use Rattle.zst_run.specs.Sends.{rest_of}
 use Rattle.zst_run.specs.declared.send.Asked.TheVariants.{Rest}

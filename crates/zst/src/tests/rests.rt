@@ -101,7 +101,7 @@ fn an_increment_goes_on_whatever_comes_between(rt: HostRuntime) -> Result<(), Fa
     run_with(alloc, &mut into, "receive -s I tank/b", front)?;
 
     refuse(&rt, alloc, &mut into, &HELD)?;
-    accept(&rt, alloc, &mut into, &[("fs I tank/c", "ok 5\n")])?;
+    accept(&rt, alloc, &mut into, &[("fs I tank/c", "ok 4\n")])?;
     accept(&rt, alloc, &mut from, &MEANWHILE)?;
     let rest = rest_of(&rt, alloc, &mut from, &mut into, "token I tank/b")?;
     let out = "received tank/b@2 guid 0000000100000002 items 4\n";
