@@ -2,9 +2,6 @@ ghost use Rattle.std.specs.Prelude.{◌≡◌, IfOk, IfSome, Some};
 ghost use Rattle.zst_dir.specs.Rows.{Rows};
 ghost use Rattle.zst_dir.specs.Spelling.{IsDir};
 
-#[cfg(test)]
-mod tests;
-
 use crate::dir::Dir;
 use crate::lawful::is_lawful;
 use crate::lists::{read_bookmarks, read_datasets, read_partials};

@@ -1,6 +1,9 @@
+mod ends;
+
+use crate::tests::ends::{Dripping, Narrow, Script};
 use crate::{FileDisk, Input, Output, Unknown};
 use std::fs::{self, File};
-use std::io::{self, ErrorKind, Read, Write};
+use std::io::{Read, Write};
 use std::test::Fail;
 use zst_outside::{Disk, Fault, Sink, Source, write_all};
 
@@ -54,43 +57,6 @@ fn a_sync_that_fails_is_a_fault(rt: HostRuntime) -> Result<(), Fail> {
     Ok(())
 }
 
-// How a fake reader or writer answers its calls: each other one is interrupted, and one fails.
-#[derive(Drop)]
-struct Script {
-    calls: u64,
-    fails: u64,
-}
-
-impl Script {
-    fn next(&mut self) -> io::Result<()> {
-        self.calls = self.calls.saturating_add(1);
-        if self.calls == self.fails {
-            return Err(ErrorKind::BrokenPipe.into());
-        }
-        if self.calls % 2 == 1 {
-            return Err(ErrorKind::Interrupted.into());
-        }
-        Ok(())
-    }
-}
-
-// It gives two bytes a call.
-#[derive(Drop)]
-struct Dripping {
-    left: &'static [u8],
-    script: Script,
-}
-
-impl Read for Dripping {
-    fn read(&mut self, into: &mut [u8]) -> io::Result<usize> {
-        self.script.next()?;
-        let count = self.left.len().min(2).min(into.len());
-        into[..count].copy_from_slice(&self.left[..count]);
-        self.left = &self.left[count..];
-        Ok(count)
-    }
-}
-
 #[test]
 fn input_gives_all_in_spite_of_a_fault(rt: HostRuntime) {
     let reader = Dripping {
@@ -108,26 +74,6 @@ fn input_gives_all_in_spite_of_a_fault(rt: HostRuntime) {
     assert!(rt; into[..1] == [b'e']);
     assert_eq!(rt; input.read(&mut into), Ok(0));
     assert_eq!(rt; input.faults(), 1);
-}
-
-// It takes at most 40,000 bytes a call.
-#[derive(Drop)]
-struct Narrow<'a> {
-    got: &'a mut Vec<u8>,
-    script: Script,
-}
-
-impl Write for Narrow<'_> {
-    fn write(&mut self, from: &[u8]) -> io::Result<usize> {
-        self.script.next()?;
-        let count = from.len().min(40000);
-        self.got.extend_from_slice(&from[..count])?;
-        Ok(count)
-    }
-
-    fn flush(&mut self) -> io::Result<()> {
-        Ok(())
-    }
 }
 
 #[test]

@@ -1,59 +1,13 @@
+mod lines;
+
+use crate::tests::lines::{bad_name, parsed, redaction, resumed, usage, with_bytes};
 use crate::{Line, LineFault, parse};
-use std::alloc::Global;
-use std::process::Abort;
 use std::test::Fail;
 use zst_model::{Command, Name, Refusal};
 
 /// A token of the first snapshot of a pool with the id 1.
 const TOKEN: &str =
     "zst1-0000000000000000010000000100000000000000000000000100000000000000000200000000000000000000000000000000000000000000-0000000000000c1f";
-
-/// The words that stand between the blanks of a text.
-fn words(alloc: Global, text: &str) -> Result<Vec<String>, Fail> {
-    let mut words = Vec::new(alloc);
-    for part in text.split(' ') {
-        let mut word = String::new(alloc);
-        word.push_str(part)?;
-        words.push(word)?;
-    }
-    Ok(words)
-}
-
-fn parsed(alloc: Global, text: &str) -> Result<Result<Line, LineFault>, Fail> {
-    Ok(parse(alloc, words(alloc, text)?.as_slice()))
-}
-
-fn usage(rt: &impl Abort, alloc: Global, text: &str, place: u64) -> Result<(), Fail> {
-    let found = parsed(alloc, text)?.err();
-    assert!(rt; found == Some(LineFault::Usage { place }), "{text}");
-    Ok(())
-}
-
-fn bad_name(rt: &impl Abort, alloc: Global, text: &str, place: u64) -> Result<(), Fail> {
-    let found = parsed(alloc, text)?.err();
-    assert!(rt; found == Some(LineFault::BadName { place }), "{text}");
-    Ok(())
-}
-
-/// A text, and behind it so many bytes in hexadecimal.
-fn with_bytes(alloc: Global, front: &str, count: usize) -> Result<String, Fail> {
-    let mut text = String::new(alloc);
-    text.push_str(front)?;
-    for _ in 0..count {
-        text.push_str("a5")?;
-    }
-    Ok(text)
-}
-
-/// A redaction that keeps so many snapshots.
-fn redaction(alloc: Global, snapshots: usize) -> Result<String, Fail> {
-    let mut text = String::new(alloc);
-    text.push_str("redact a.img t@s t#b")?;
-    for _ in 0..snapshots {
-        text.push_str(" t@k")?;
-    }
-    Ok(text)
-}
 
 #[test]
 fn lines_on_heads_are_read(rt: HostRuntime) -> Result<(), Fail> {
@@ -290,11 +244,6 @@ fn a_send_says_its_options_in_each_order(rt: HostRuntime) -> Result<(), Fail> {
         );
     }
     Ok(())
-}
-
-/// A send that goes on from this token.
-fn resumed(alloc: Global, token: &str) -> Result<String, Fail> {
-    Ok(format!(in alloc; "send -t {token} a.img")?)
 }
 
 #[test]

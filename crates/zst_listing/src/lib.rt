@@ -10,3 +10,6 @@ mod rows;
 pub use fault::ListFault;
 pub use objects::list_objects;
 pub use rows::list_rows;
+
+#[cfg(test)]
+mod tests;

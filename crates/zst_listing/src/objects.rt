@@ -8,9 +8,6 @@ ghost use Rattle.zst_objset.specs.Damage.{IsDamagedSet};
 ghost use Rattle.zst_objset.specs.Sets.{SetHolds};
 ghost use Rattle.zst_tree.specs.Damage.{IsSeen};
 
-#[cfg(test)]
-mod tests;
-
 use crate::fault::ListFault;
 use std::alloc::{AllocError, Global};
 use zst_block::{Io, Ptr};

@@ -8,9 +8,6 @@ ghost use Rattle.zst_model.specs.pools.Lines.{pool_lines};
 ghost use Rattle.zst_model.specs.pools.Pool.{Pool};
 ghost use Rattle.zst_space.specs.FreeSectors.{FreeSectors};
 
-#[cfg(test)]
-mod tests;
-
 use crate::lines::{bookmark_line, dataset_line, partial_line, snapshot_line};
 use crate::ranges::{bookmarks_of, datasets_of, partials_of, place_behind, snapshots_of};
 use std::alloc::{AllocError, Global};

@@ -214,6 +214,3 @@ pub fn put_begin_payload(header: &Header, into: &mut [u8; LONGEST_BEGIN_PAYLOAD]
     let end = put_words(into, end, redact);
     put_words(into, end, from_redact)
 }
-
-#[cfg(test)]
-mod tests;

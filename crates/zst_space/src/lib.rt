@@ -4,3 +4,6 @@
 mod space;
 
 pub use space::{Extent, Full, Space};
+
+#[cfg(test)]
+mod tests;

@@ -1,14 +1,12 @@
+mod texts;
+
+use crate::tests::texts::{AT_THE_START, both_ways, from_place, refused};
 use crate::{Token, TokenFault};
-use std::alloc::Global;
-use std::process::Abort;
 use std::test::Fail;
 use zst_model::{GuidSet, Point, Refusal};
 
 /// The guid of the first snapshot of a pool with the id 1.
 const TO: u64 = 0x0000_0001_0000_0001;
-
-const AT_THE_START: &str =
-    "zst1-0000000000000000010000000100000000000000000000000000000000000000000000000000000000000000000000000000000000000000-0000000000000017";
 
 const IN_THE_OBJECT: &str =
     "zst1-0000000000000000010000000100000000000000000000000100000000000000000000000000000000000000000000000000000000000000-000000000000001f";
@@ -25,41 +23,6 @@ fn token(object: u64, offset: u64) -> Token {
         redact: GuidSet::empty(),
         from_redact: GuidSet::empty(),
     }
-}
-
-fn same(one: &Token, other: &Token) -> bool {
-    one.large == other.large
-        && one.to == other.to
-        && one.from == other.from
-        && one.point == other.point
-        && one.redact.as_slice() == other.redact.as_slice()
-        && one.from_redact.as_slice() == other.from_redact.as_slice()
-}
-
-/// The token has this text, and this text that token.
-fn both_ways(rt: &impl Abort, token: &Token, text: &str) {
-    assert!(rt; token.print().as_str() == text, "{text}");
-    assert!(rt;
-        Token::parse(text).is_ok_and(|read| same(&read, token)),
-        "{text}"
-    );
-}
-
-fn refused(rt: &impl Abort, text: &str, place: u64) {
-    assert!(rt;
-        Token::parse(text).is_err_and(|fault| fault.place == place),
-        "{text}"
-    );
-}
-
-/// The first token, with another text from a place on.
-fn from_place(alloc: Global, place: usize, text: &str) -> Result<String, Fail> {
-    let mut changed = String::from_str(alloc, AT_THE_START.get(..place).ok_or("place")?)?;
-    changed.push_str(text)?;
-    if let Some(rest) = AT_THE_START.get(changed.len()..) {
-        changed.push_str(rest)?;
-    }
-    Ok(changed)
 }
 
 #[test]

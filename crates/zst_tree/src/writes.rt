@@ -247,6 +247,3 @@ impl Tree {
         put_range(self, io, first, first + count, Ptr::redacted(number))
     }
 }
-
-#[cfg(test)]
-mod tests;

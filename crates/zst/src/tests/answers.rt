@@ -1,11 +1,11 @@
 // Reads and lists: what they print, and that they leave each byte of the image.
 
 use super::images::{
-    SMALL, bytes_of, disk_of, image_of, refused, run_all, run_into, run_on, turned, zeros,
+    SMALL, bytes_of, data_of, disk_of, image_of, refused, run_all, run_into, run_on, turned, zeros,
 };
 use super::runs::{check, sink};
-use super::sessions::{Accepted, EACH_KIND, Refused, accept, refuse};
 use super::streams::sums_before;
+use super::trials::{Accepted, EACH_KIND, Refused, accept, refuse};
 use std::alloc::Global;
 use std::process::Abort;
 use std::test::Fail;
@@ -22,11 +22,6 @@ fn answer(
     accept(rt, alloc, disk, lines)?;
     assert!(rt; bytes_of(alloc, disk)? == image);
     Ok(())
-}
-
-/// The line of a block of 512 bytes that begins with this one.
-pub(super) fn data_of(alloc: Global, first: &str) -> Result<String, Fail> {
-    Ok(format!(in alloc; "data {first}{}\n", "00".repeat(alloc, 511)?)?)
 }
 
 /// The lines of a file system whose head was changed after its snapshot.

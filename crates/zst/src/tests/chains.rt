@@ -1,21 +1,12 @@
 // Chains of snapshots between two pools: each stream is received, and sent on byte for byte as it came.
 
 use super::images::{disk_of, image_of, run_on};
-use super::receives::{new_image, pool_of, receive, sent};
+use super::links::{Link, check_alike};
+use super::transfers::{new_image, pool_of, receive, sent};
 use std::alloc::Global;
 use std::process::Abort;
 use std::test::Fail;
 use zst_outside::MemDisk;
-
-/// A link of a chain: lines on the sender, and on the receiver; what is then sent, how it is received, and what that
-/// prints. Both pools have the same names, so that what is sent on is the same.
-struct Link {
-    here: &'static [&'static str],
-    there: &'static [&'static str],
-    send: &'static str,
-    receive: &'static str,
-    out: &'static str,
-}
 
 /// A whole snapshot and five increments from it.
 const CHAIN: [Link; 6] = [
@@ -107,21 +98,6 @@ fn do_lines(
     for line in lines {
         assert_eq!(rt; run_on(alloc, disk, line)?.status, 0, "{line}");
     }
-    Ok(())
-}
-
-/// Checks that both pools answer a line alike.
-fn check_alike(
-    rt: &impl Abort,
-    alloc: Global,
-    here: &mut MemDisk,
-    there: &mut MemDisk,
-    line: &str,
-) -> Result<(), Fail> {
-    let (first, second) = (run_on(alloc, here, line)?, run_on(alloc, there, line)?);
-    assert_eq!(rt; first.status, 0, "{line}");
-    assert_eq!(rt; second.status, 0, "{line}");
-    assert!(rt; first.out.bytes() == second.out.bytes(), "{line}");
     Ok(())
 }
 

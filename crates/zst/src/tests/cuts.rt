@@ -1,35 +1,15 @@
 // A small stream that comes in pieces, is cut after each of its bytes, or has one of them turned.
 
-use super::images::{bytes_of, disk_of, image_of, note_of, run_on, run_over};
-use super::is_judged;
-use super::receives::{SMALL_RECEIVED, WHOLE, run_with};
+use super::fronts::{check_lost, new_image, sum_over};
+use super::images::{bytes_of, disk_of, note_of, run_on, run_over};
 use super::runs::{check, checksum_note, sink, source_of};
-use super::sends::small_stream;
+use super::snapshots::small_stream;
 use super::streams::{Field, OBJECT, Stream};
-use std::alloc::Global;
-use std::process::Abort;
+use super::texts::is_judged;
+use super::tokens::TOKENS;
+use super::transfers::{SMALL_RECEIVED, WHOLE, run_with};
 use std::test::Fail;
-use zst_outside::{MemSource, SureDisk};
-
-/// The image of a new pool with the id 2, as small as a small stream needs it.
-fn new_image(rt: &impl Abort, alloc: Global) -> Result<Vec<u8>, Fail> {
-    image_of(rt, alloc, 256, &["create I 256 2"])
-}
-
-/// Runs a receive of this stream on a new pool that ends with status 4 and this note, and lists nothing then.
-fn check_lost(
-    rt: &impl Abort,
-    alloc: Global,
-    image: &[u8],
-    stream: &[u8],
-    note: &str,
-) -> Result<(), Fail> {
-    let mut disk = SureDisk::new(image.to_vec(alloc)?);
-    let ran = run_with(alloc, &mut disk, WHOLE, stream)?;
-    check(rt, note, &ran, 4, "", note);
-    check(rt, note, &run_on(alloc, &mut disk, "list I")?, 0, "", "");
-    Ok(())
-}
+use zst_outside::MemSource;
 
 #[test]
 fn a_stream_that_is_cut_leaves_nothing(rt: HostRuntime) -> Result<(), Fail> {
@@ -43,17 +23,6 @@ fn a_stream_that_is_cut_leaves_nothing(rt: HostRuntime) -> Result<(), Fail> {
         check_lost(&rt, alloc, &image, front, &note)?;
     }
     Ok(())
-}
-
-/// Where the checksum stands that covers a byte of a small stream: its last record's for a payload and its own else.
-fn sum_over(place: usize) -> usize {
-    match place {
-        0..624 => 592,
-        624..936 => 904,
-        936..1_248 => 1_216,
-        1_248..2_072 => 2_040,
-        _ => 2_352,
-    }
 }
 
 #[test]
@@ -124,22 +93,6 @@ fn what_is_kept_of_a_cut_stream_is_listed(rt: HostRuntime) -> Result<(), Fail> {
     }
     Ok(())
 }
-
-/// How many bytes came to a receive that keeps what it has, and the token then.
-pub(super) const TOKENS: [(usize, &str); 3] = [
-    (
-        700,
-        "zst1-0000000000000000010000000100000000000000000000000000000000000000000000000000000000000000000000000000000000000000-0000000000000017\n",
-    ),
-    (
-        1_000,
-        "zst1-0000000000000000010000000100000000000000000000000100000000000000000000000000000000000000000000000000000000000000-000000000000001f\n",
-    ),
-    (
-        2_100,
-        "zst1-0000000000000000010000000100000000000000000000000100000000000000000200000000000000000000000000000000000000000000-0000000000000c1f\n",
-    ),
-];
 
 #[test]
 fn a_cut_stream_has_its_token(rt: HostRuntime) -> Result<(), Fail> {

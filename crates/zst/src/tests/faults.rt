@@ -2,7 +2,7 @@
 
 use super::runs::{check, lines_of, run_words, sink, source_of, text_of};
 use super::streams::{smallest, ten_records};
-use super::{TEN, covered};
+use super::texts::{TEN, covered};
 use std::test::Fail;
 use zst_outside::{MemSink, MemSource};
 

@@ -1,106 +1,11 @@
 // What is handed on, and when: a sink that keeps what it takes until it is flushed.
 
-use super::runs::sink;
-use super::streams::ten_records;
-use super::{TEN, covered};
-use std::alloc::Global;
-use std::process::Abort;
-use std::str;
+use super::outputs::{check_out, dump_ten, lines_before};
+use super::texts::{TEN, covered};
 use std::test::Fail;
-use zst_outside::{Fault, MemSource, Sink, SureDisk};
-use zst_run::run;
 
 /// The number of no call.
 const NONE: u64 = u64::MAX;
-
-/// An output that keeps what it takes until it is flushed. Its flushes are numbered from 0, and one of them fails.
-#[derive(Drop)]
-struct Gathering {
-    handed_on: Vec<u8>,
-    waiting: Vec<u8>,
-    failing: u64,
-    flushes: u64,
-    faults: u64,
-}
-
-impl Gathering {
-    fn new(alloc: Global, failing: u64) -> Gathering {
-        Gathering {
-            handed_on: Vec::new(alloc),
-            waiting: Vec::new(alloc),
-            failing,
-            flushes: 0,
-            faults: 0,
-        }
-    }
-}
-
-impl Sink for Gathering {
-    ghost use Rattle.std.specs.Prelude.{◌++◌, length};
-
-    ghost state = { λ s. record { written = s.handed_on.items ++ s.waiting.items; waiting = length s.waiting.items; faults = s.faults } };
-
-    fn write(&mut self, from: &[u8]) -> Result<usize, Fault> {
-        match self.waiting.extend_from_slice(from) {
-            Ok(()) => Ok(from.len()),
-            Err(_) => {
-                self.faults = self.faults.saturating_add(1);
-                Err(Fault)
-            }
-        }
-    }
-
-    fn flush(&mut self) -> Result<(), Fault> {
-        let number = self.flushes;
-        self.flushes = number.saturating_add(1);
-        if number == self.failing || self.handed_on.extend_from_slice(&self.waiting).is_err() {
-            self.faults = self.faults.saturating_add(1);
-            return Err(Fault);
-        }
-        self.waiting.clear();
-        Ok(())
-    }
-
-    fn faults(&self) -> u64 {
-        self.faults
-    }
-}
-
-/// Dumps the ten records, read in pieces of a record's size, where a read and a flush of these numbers fail.
-fn dump_ten(
-    rt: &impl Abort,
-    alloc: Global,
-    read: u64,
-    flush: u64,
-) -> Result<(u8, Gathering), Fail> {
-    let mut words = Vec::new(alloc);
-    words.push(String::from_str(alloc, "dump")?)?;
-    let mut here = SureDisk::new(Vec::new(alloc));
-    let mut there = SureDisk::new(Vec::new(alloc));
-    let fail = vec![in alloc; read]?;
-    let mut input = MemSource::new(ten_records(rt, alloc)?, fail).in_pieces_of(312);
-    let mut out = Gathering::new(alloc, flush);
-    let status = run(
-        alloc,
-        &words,
-        0,
-        &mut here,
-        &mut there,
-        &mut input,
-        &mut out,
-        &mut sink(alloc),
-    );
-    Ok((status, out))
-}
-
-/// Compares what was handed on, and what waits.
-fn check_out(rt: &impl Abort, out: &Gathering, handed_on: &str, waiting: &str) {
-    assert_eq!(rt;
-        str::from_utf8(&out.handed_on).unwrap_or("no text"),
-        handed_on
-    );
-    assert_eq!(rt; str::from_utf8(&out.waiting).unwrap_or("no text"), waiting);
-}
 
 /// The ten records take fourteen reads. A read that fails ends the dump at once, and so shows what was handed on before it.
 #[test]
@@ -112,14 +17,6 @@ fn lines_are_handed_on_before_more_is_asked_for(rt: HostRuntime) -> Result<(), F
         check_out(&rt, &out, covered(312 * read as usize), "");
     }
     Ok(())
-}
-
-/// The lines that are written before a flush.
-fn lines_before(flush: u64) -> &'static str {
-    if flush < 14 {
-        return covered(312 * flush as usize);
-    }
-    TEN
 }
 
 /// A flush comes before each read, and one at the end.

@@ -143,3 +143,8 @@ pub(super) fn refused(
     assert!(rt; bytes_of(alloc, &mut disk)?.as_slice() == image, "{line}");
     Ok(disk)
 }
+
+/// The line of a block of 512 bytes that begins with this one.
+pub(super) fn data_of(alloc: Global, first: &str) -> Result<String, Fail> {
+    Ok(format!(in alloc; "data {first}{}\n", "00".repeat(alloc, 511)?)?)
+}

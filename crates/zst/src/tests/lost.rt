@@ -1,52 +1,15 @@
 // Receives whose disk stops or fails at each of its calls, whose input or output fails, and those that find no room.
 
 use super::images::{disk_of, image_of, note_of, run_on, run_over};
-use super::receives::{
-    SMALL_LIST, SMALL_RECEIVED, WHOLE, check_blocks, new_image, receive, run_with,
-};
+use super::losses::{check_moments, has_snapshot, large_stream};
 use super::runs::{check, sink, source_of, text_of};
-use super::sends::{NAME_S, free_from, small_stream};
-use super::streams::{GUID, Stream};
-use std::alloc::Global;
-use std::process::Abort;
+use super::snapshots::small_stream;
+use super::transfers::{SMALL_LIST, SMALL_RECEIVED, WHOLE, new_image, receive, run_with};
 use std::test::Fail;
 use zst_outside::{Disk, MemDisk, MemSink, MemSource};
 
 /// What a stop may leave in a range that was written and not synced.
 const FILLS: [u8; 4] = [0x00, 0x01, 0xa5, 0xff];
-
-/// Whether an image has the snapshot, and with it all that this list says: else it has nothing.
-fn has_snapshot(
-    rt: &impl Abort,
-    alloc: Global,
-    image: &mut MemDisk,
-    list: &str,
-    what: &str,
-) -> Result<bool, Fail> {
-    let ran = run_on(alloc, image, "list I")?;
-    if text_of(&ran.out).is_empty() {
-        check(rt, what, &ran, 0, "", "");
-        return Ok(false);
-    }
-    check(rt, what, &ran, 0, list, "");
-    check_blocks(rt, alloc, image, "tank/b@s", &[(0, "aa"), (1, "hole")])?;
-    Ok(true)
-}
-
-/// Checks that each image which a stop leaves of a receive has nothing or the whole snapshot, and once it has that
-/// keeps it.
-fn check_moments(rt: &impl Abort, alloc: Global, disk: &MemDisk, fill: u8) -> Result<(), Fail> {
-    let mut reached = false;
-    for moment in 0..=disk.calls() {
-        let mut image = disk.image(alloc, moment, fill)?;
-        let what = format!(in alloc; "at {moment}, filled with {fill}")?;
-        let found = has_snapshot(rt, alloc, &mut image, SMALL_LIST, &what)?;
-        assert!(rt; found || !reached, "{what}");
-        reached = found;
-    }
-    assert!(rt; reached);
-    Ok(())
-}
 
 #[test]
 fn a_receive_is_stopped_at_each_call(rt: HostRuntime) -> Result<(), Fail> {
@@ -132,31 +95,6 @@ fn an_output_that_fails_loses_the_line_alone(rt: HostRuntime) -> Result<(), Fail
         check(&rt, "the snapshot stands", &list, 0, SMALL_LIST, "");
     }
     Ok(())
-}
-
-/// How many blocks the large stream has.
-const BLOCKS: u64 = 20;
-
-/// A stream of several pieces: an object of one small block, and one of large ones.
-fn large_stream(rt: &impl Abort, alloc: Global) -> Result<Vec<u8>, Fail> {
-    let mut stream = Stream::begin(rt, alloc, &[NAME_S])?;
-    stream.put(rt, &[(0, 4, 1), (8, 8, 1), (16, 4, 19), (24, 4, 512)])?;
-    stream.put(rt, &[(0, 4, 3), (8, 8, 1), (16, 4, 19), (32, 8, 512)])?;
-    let mut block = vec![in alloc; 0; 131_072]?;
-    *block.get_mut(0).ok_or("a block")? = 0xaa;
-    stream.add(block.get(..512).ok_or("a small block")?)?;
-    stream.put(rt, &[(0, 4, 1), (8, 8, 2), (16, 4, 19), (24, 4, 131_072)])?;
-    for i in 0..BLOCKS {
-        let offset = i * 131_072;
-        stream.put(
-            rt,
-            &[(0, 4, 3), (8, 8, 2), (24, 8, offset), (32, 8, 131_072)],
-        )?;
-        stream.add(&block)?;
-    }
-    stream.put(rt, &free_from(3, GUID))?;
-    stream.end(rt)?;
-    Ok(stream.bytes)
 }
 
 /// What the receive of the large stream prints, and leaves: its three pieces are three commits.

@@ -1,67 +1,15 @@
 // Receives that the plan refuses, each for the first of its causes, and those that it accepts beside them.
 
-use super::images::{SMALL, bytes_of, disk_of, note_of, run_on};
-use super::receives::{
-    SMALL_LIST, SMALL_RECEIVED, WHOLE, check_blocks, new_image, pool_of, receive, run_with, sent,
-};
+use super::images::{disk_of, run_on};
+use super::increments::{Streams, increments, refuse_stream, with_small};
 use super::runs::check;
-use super::sends::{NAME_S, small_stream, small_stream_with};
-use super::sessions::{Refused, accept, refuse};
+use super::snapshots::{NAME_S, small_stream, small_stream_with};
 use super::streams::GUID;
-use std::alloc::Global;
-use std::process::Abort;
+use super::transfers::{
+    SMALL_LIST, SMALL_RECEIVED, WHOLE, check_blocks, new_image, receive, run_with,
+};
+use super::trials::{Refused, accept, refuse};
 use std::test::Fail;
-use zst_outside::MemDisk;
-
-/// Streams of a pool with three snapshots.
-#[derive(Drop)]
-struct Streams {
-    /// From the first snapshot to the second.
-    next: Vec<u8>,
-    /// From the second to the third.
-    last: Vec<u8>,
-}
-
-fn increments(rt: &impl Abort, alloc: Global) -> Result<Streams, Fail> {
-    let mut lines = SMALL.to_vec(alloc)?;
-    *lines.get_mut(0).ok_or("create")? = "create I 2048 1";
-    lines.extend_from_slice(&[
-        "write I tank/a 1 1 bb",
-        "snapshot I tank/a@t",
-        "write I tank/a 1 2 cc",
-        "snapshot I tank/a@u",
-    ])?;
-    let mut here = pool_of(rt, alloc, &lines)?;
-    Ok(Streams {
-        next: sent(rt, alloc, &mut here, "send -i tank/a@s I tank/a@t")?,
-        last: sent(rt, alloc, &mut here, "send -i tank/a@t I tank/a@u")?,
-    })
-}
-
-/// A pool that received a small snapshot as `tank/b`.
-fn with_small(rt: &impl Abort, alloc: Global) -> Result<MemDisk, Fail> {
-    let mut disk = disk_of(alloc, &new_image(rt, alloc)?)?;
-    let stream = small_stream(rt, alloc)?;
-    receive(rt, alloc, &mut disk, WHOLE, &stream, SMALL_RECEIVED)?;
-    Ok(disk)
-}
-
-/// Receives a stream by lines that are each refused and leave every byte of the image.
-fn refuse_stream(
-    rt: &impl Abort,
-    alloc: Global,
-    disk: &mut MemDisk,
-    stream: &[u8],
-    lines: &[Refused],
-) -> Result<(), Fail> {
-    let image = bytes_of(alloc, disk)?;
-    for (line, status, text) in lines {
-        let ran = run_with(alloc, disk, line, stream)?;
-        check(rt, line, &ran, *status, "", &note_of(alloc, text)?);
-        assert!(rt; bytes_of(alloc, disk)? == image, "{line}");
-    }
-    Ok(())
-}
 
 /// What refuses a whole snapshot.
 const WHOLE_REFUSED: [Refused; 4] = [

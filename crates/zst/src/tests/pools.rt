@@ -4,26 +4,11 @@ use super::images::{
     SMALL, bytes_of, disk_of, image_of, note_of, ok_line, refused, run_all, run_into, run_on,
     turned, zeros,
 };
+use super::lines::{BODY, COMMANDS, refuse_all, with_byte};
 use super::runs::{check, sink, text_of};
 use super::streams::{sums_at, sums_before};
-use std::alloc::Global;
-use std::process::Abort;
 use std::test::Fail;
 use zst_outside::{Disk, MemDisk, MemSink};
-
-/// A line of each command on a pool, all of which a small pool accepts.
-const COMMANDS: [&str; 7] = [
-    "fs I tank/b",
-    "volume I tank/v",
-    "object I tank/a 1 19 512 0 none none",
-    "write I tank/a 1 0 bb",
-    "punch I tank/a 1 0 1",
-    "free I tank/a 1 1",
-    "snapshot I tank/a@t",
-];
-
-/// The lines that only answer.
-const ANSWERED: [&str; 3] = ["read I tank/a 1 0", "list I", "list I tank/a"];
 
 #[test]
 fn small_has_its_five_numbers(rt: HostRuntime) -> Result<(), Fail> {
@@ -318,33 +303,6 @@ fn faulty_lines_are_refused_with_their_place(rt: HostRuntime) -> Result<(), Fail
     Ok(())
 }
 
-/// Checks that each of these lines is refused so, and leaves each byte of the image.
-fn refuse_lines(
-    rt: &impl Abort,
-    alloc: Global,
-    image: &[u8],
-    lines: &[&str],
-    status: u8,
-    text: &str,
-) -> Result<(), Fail> {
-    for line in lines {
-        refused(rt, alloc, image, line, status, text)?;
-    }
-    Ok(())
-}
-
-/// Checks that each command on a pool is refused so.
-fn refuse_all(
-    rt: &impl Abort,
-    alloc: Global,
-    image: &[u8],
-    status: u8,
-    text: &str,
-) -> Result<(), Fail> {
-    refuse_lines(rt, alloc, image, &COMMANDS, status, text)?;
-    refuse_lines(rt, alloc, image, &ANSWERED, status, text)
-}
-
 #[test]
 fn zeros_have_no_pool(rt: HostRuntime) -> Result<(), Fail> {
     let alloc = rt.alloc();
@@ -352,30 +310,6 @@ fn zeros_have_no_pool(rt: HostRuntime) -> Result<(), Fail> {
     refuse_all(&rt, alloc, &[], 8, "E26 no pool")?;
     let mut disk = disk_of(alloc, &zeros(alloc, 256)?)?;
     run_all(&rt, alloc, &mut disk, &["create I 256 1"], 1)
-}
-
-/// Where the latest body begins: a first commit goes into the first slot and each later one into the other, so that the
-/// fifth is in the first.
-const BODY: usize = 512;
-
-/// Puts a number of 8 bytes at a place.
-fn put_number(bytes: &mut [u8], place: usize, number: u64) -> Result<(), Fail> {
-    for (i, byte) in number.to_le_bytes().iter().enumerate() {
-        *bytes.get_mut(place.saturating_add(i)).ok_or("a place")? = *byte;
-    }
-    Ok(())
-}
-
-/// The image with this byte in the latest body, and the sums that the body then has.
-fn with_byte(alloc: Global, image: &[u8], place: usize, byte: u8) -> Result<Vec<u8>, Fail> {
-    let mut other = image.to_vec(alloc)?;
-    *other.get_mut(BODY.saturating_add(place)).ok_or("a place")? = byte;
-    let body = other.get(BODY..1024).ok_or("a body")?;
-    let [a, b, c, d] = sums_before(body, 480);
-    for (place, sum) in [(480usize, a), (488, b), (496, c), (504, d)] {
-        put_number(&mut other, BODY.saturating_add(place), sum)?;
-    }
-    Ok(other)
 }
 
 #[test]

@@ -1,12 +1,12 @@
 // The rest of a stream that was cut, sent by its token.
 
-use super::cuts::TOKENS;
 use super::images::{SMALL, disk_of, image_of, run_on};
-use super::receives::{
+use super::runs::{check, text_of};
+use super::tokens::TOKENS;
+use super::transfers::{
     SMALL_RECEIVED, WHOLE, check_blocks, new_image, pool_of, receive, run_with, sent,
 };
-use super::runs::{check, text_of};
-use super::sessions::{Accepted, Refused, accept, refuse};
+use super::trials::{Accepted, Refused, accept, refuse};
 use std::alloc::Global;
 use std::process::Abort;
 use std::test::Fail;

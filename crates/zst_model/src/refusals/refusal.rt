@@ -158,6 +158,3 @@ impl From<StreamFault> for Refusal {
         Refusal::Stream(fault)
     }
 }
-
-#[cfg(test)]
-mod tests;

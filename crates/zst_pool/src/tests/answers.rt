@@ -2,21 +2,15 @@
 ghost use Rattle.zst_model.specs.states.State.{is_block_size};
 ghost use Rattle.zst_model.specs.pools.Step.{IsCommand};
 
-use super::{
-    NOW, Refused, file_system, number_of, object, small, snapshot, step_on, with_small, write,
-};
+use super::commands::{file_system, object, small, snapshot, write};
+use super::errors::Refused;
+use super::pools::{NOW, number_of, step_on, with_small};
+use super::replies::{check_line, check_refused};
 use crate::{Pool, PoolFault};
 use std::alloc::Global;
-use std::process::Abort;
 use zst_image::Kept;
 use zst_model::{Command, Reply};
 use zst_outside::{Disk, MemDisk};
-
-pub(super) fn check_line(rt: &impl Abort, reply: &Reply, line: &str) {
-    let lines = reply.lines();
-    assert_eq!(rt; lines.len(), 1);
-    assert!(rt; lines[0].as_slice() == line.as_bytes(), "{line}");
-}
 
 #[test]
 fn small_has_the_numbers_1_to_5(rt: HostRuntime) -> Result<(), Refused> {
@@ -37,25 +31,6 @@ fn small_has_the_numbers_1_to_5(rt: HostRuntime) -> Result<(), Refused> {
             (0x1_0000_0001, 5, 1_700_000_000)
         );
     }
-    Ok(())
-}
-
-// Checks that a command is refused with this text, and that the pool is as it was.
-pub(super) fn check_refused(
-    rt: &impl Abort,
-    alloc: Global,
-    disk: &mut MemDisk,
-    command: Command,
-    text: &str,
-) -> Result<(), Refused>
-    requires { IsCommand command }
-{
-    let number = number_of(alloc, disk)?;
-    match step_on(alloc, disk, command) {
-        Ok(_) => panic!(rt; "not refused: {text}"),
-        Err(fault) => assert_eq!(rt; fault.0.text().as_str(), text),
-    }
-    assert_eq!(rt; number_of(alloc, disk)?, number, "{text}");
     Ok(())
 }
 

@@ -1,97 +1,15 @@
 // Clones, bookmarks, and what a destroy takes.
-ghost use Rattle.std.specs.Prelude.{◌≡◌, ◌<◌, IfOk};
-ghost use Rattle.zst_dir.specs.Rows.{IsSnapshotRow};
-ghost use Rattle.zst_model.specs.pools.Step.{IsCommand};
-
-use super::answers::check_refused;
+use super::commands::{bookmark_of, clone_of, destroy_bookmark, destroy_dataset, destroy_snapshot};
+use super::crowds::{check_fault, check_whole, with_thousand};
+use super::errors::Refused;
 use super::looks::{bytes_of, disk_of, pool_of};
-use super::stops::{check_command, check_failed};
-use super::{NOW, Refused, dataset, file_system, snapshot, step_on, with_small};
-use crate::Pool;
-use crate::checks::{check_new_snapshot, open_dataset};
-use crate::fault::of_committed;
+use super::pools::{NOW, rows_of, step_on, with_clones, with_small};
+use super::replies::check_refused;
+use super::runs::{check_command, check_failed};
 use std::alloc::Global;
-use std::process::Abort;
-use zst_dir::{Dir, Snapshot};
-use zst_image::{Kept, commit_dir};
-use zst_model::limits::LAST_NUMBER;
-use zst_model::{Command, GuidSet, Name, PlanFault, Refusal};
-use zst_names::{BookName, SnapName};
+use zst_image::Kept;
+use zst_model::Refusal;
 use zst_outside::{Disk, MemDisk};
-use zst_tree::ObjSet;
-
-pub(super) fn clone_of(origin: &str, name: &str) -> Result<Command, Refused>
-    ensures { IfOk result IsCommand }
-{
-    let origin = SnapName::parse(origin).map_err(PlanFault::from)?;
-    let _ = origin.text();
-    let dataset = dataset(name)?;
-    let _ = dataset.text();
-    Ok(Command::Clone { origin, dataset })
-}
-
-pub(super) fn bookmark_of(snapshot: &str, name: &str) -> Result<Command, Refused>
-    ensures { IfOk result IsCommand }
-{
-    let snapshot = SnapName::parse(snapshot).map_err(PlanFault::from)?;
-    let _ = snapshot.text();
-    let bookmark = BookName::parse(name).map_err(PlanFault::from)?;
-    let _ = bookmark.text();
-    Ok(Command::Bookmark { snapshot, bookmark })
-}
-
-fn destroy_dataset(text: &str) -> Result<Command, Refused>
-    ensures { IfOk result IsCommand }
-{
-    let name = dataset(text)?;
-    let _ = name.text();
-    Ok(Command::Destroy {
-        name: Name::Dataset(name),
-    })
-}
-
-fn destroy_snapshot(text: &str) -> Result<Command, Refused>
-    ensures { IfOk result IsCommand }
-{
-    let name = SnapName::parse(text).map_err(PlanFault::from)?;
-    let _ = name.text();
-    Ok(Command::Destroy {
-        name: Name::Snapshot(name),
-    })
-}
-
-fn destroy_bookmark(text: &str) -> Result<Command, Refused>
-    ensures { IfOk result IsCommand }
-{
-    let name = BookName::parse(text).map_err(PlanFault::from)?;
-    let _ = name.text();
-    Ok(Command::Destroy {
-        name: Name::Bookmark(name),
-    })
-}
-
-// How many datasets, snapshots and bookmarks the pool of a disk has.
-pub(super) fn rows_of(alloc: Global, disk: &mut MemDisk) -> Result<(usize, usize, usize), Refused> {
-    let dir = Kept::open(alloc, disk)?.dir;
-    Ok((
-        dir.datasets().len(),
-        dir.snapshots().len(),
-        dir.bookmarks().len(),
-    ))
-}
-
-// A pool of three datasets with a snapshot each: tank/a, a clone tank/b of its snapshot, of which there is a bookmark
-// too, and a clone tank/c of the clone's.
-fn with_clones(alloc: Global) -> Result<MemDisk, Refused> {
-    let mut disk = with_small(alloc, 1)?;
-    step_on(alloc, &mut disk, snapshot("tank/a@s")?)?;
-    step_on(alloc, &mut disk, bookmark_of("tank/a@s", "tank/a#k")?)?;
-    step_on(alloc, &mut disk, clone_of("tank/a@s", "tank/b")?)?;
-    step_on(alloc, &mut disk, snapshot("tank/b@t")?)?;
-    step_on(alloc, &mut disk, clone_of("tank/b@t", "tank/c")?)?;
-    step_on(alloc, &mut disk, snapshot("tank/c@u")?)?;
-    Ok(disk)
-}
 
 #[test]
 fn a_clone_holds_its_origin(rt: HostRuntime) -> Result<(), Refused> {
@@ -212,80 +130,6 @@ fn each_call_of_a_clone_may_fail(rt: HostRuntime) -> Result<(), Refused> {
         check_failed(&rt, alloc, &bytes, (&mut disk, is_fault), call, &after)?;
     }
     Ok(())
-}
-
-// A snapshot that has nothing.
-fn row(name: SnapName, guid: u64) -> Snapshot
-    requires guid { 0 < guid }
-    ensures row { IsSnapshotRow result }
-    ensures name { result.name ≡ name }
-{
-    let _ = name.text();
-    Snapshot {
-        name,
-        guid,
-        time: NOW,
-        number: 2,
-        objects: ObjSet::empty(),
-        redact: GuidSet::empty(),
-    }
-}
-
-// Adds a snapshot of tank/a, named and dated by this number.
-fn add_snapshot(alloc: Global, dir: &mut Dir, number: u64) -> Result<(), Refused>
-    requires { 0 < number }
-{
-    let text = format!(in alloc; "tank/a@s{number}")?;
-    let name = SnapName::parse(text.as_str()).map_err(PlanFault::from)?;
-    open_dataset(dir, &name.dataset())?;
-    check_new_snapshot(dir, &name)?;
-    if !dir.partials().is_empty() {
-        return Err(Refused(Refusal::Failed));
-    }
-    dir.add_snapshot(row(name, number))?;
-    Ok(())
-}
-
-// Gives tank/a so many snapshots by one commit.
-fn commit_snapshots(alloc: Global, disk: &mut MemDisk, count: u64) -> Result<(), Refused> {
-    let kept = Kept::open(alloc, disk)?;
-    let mut dir = kept.dir.copy(alloc)?;
-    for place in 0..count {
-        add_snapshot(alloc, &mut dir, place + 1)?;
-    }
-    if kept.body.number >= LAST_NUMBER {
-        return Err(Refused(Refusal::Failed));
-    }
-    let mut pool = Pool::new(alloc, disk, kept);
-    let body = pool.kept.body;
-    of_committed(commit_dir(&mut pool.io, alloc, &body, count, dir))?;
-    Ok(())
-}
-
-// The bytes of a disk whose one dataset has a thousand snapshots.
-fn with_thousand(alloc: Global) -> Result<Vec<u8>, Refused> {
-    let mut disk = disk_of(alloc, vec![in alloc; 0; 524_288]?);
-    Kept::create(alloc, &mut disk, 1024, 1)?;
-    step_on(alloc, &mut disk, file_system("tank/a")?)?;
-    commit_snapshots(alloc, &mut disk, 1000)?;
-    bytes_of(alloc, &mut disk)
-}
-
-// Checks that a disk has all of the thousand snapshots, or nothing.
-fn check_whole(rt: &impl Abort, alloc: Global, disk: &mut MemDisk, at: u64) -> Result<(), Refused> {
-    let rows = rows_of(alloc, disk)?;
-    assert!(rt; rows == (1, 1000, 0) || rows == (0, 0, 0), "at {at}");
-    Ok(())
-}
-
-// Checks so where the call of this number fails as the dataset is destroyed.
-fn check_fault(rt: &impl Abort, alloc: Global, bytes: Vec<u8>, call: u64) -> Result<(), Refused> {
-    let fail = vec![in alloc; call; 1]?;
-    let mut disk = MemDisk::new(bytes, fail, None);
-    let answer = step_on(alloc, &mut disk, destroy_dataset("tank/a")?);
-    let is_fault = matches!(answer, Err(Refused(Refusal::DiskFault)));
-    assert!(rt; is_fault, "at {call}");
-    check_whole(rt, alloc, &mut disk, call)
 }
 
 #[test]

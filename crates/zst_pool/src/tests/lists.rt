@@ -2,8 +2,9 @@
 ghost use Rattle.std.specs.Prelude.{◌≤◌};
 ghost use Rattle.zst_dir.specs.Rows.{IsBookmarkRow};
 
-use super::lineage::bookmark_of;
-use super::{NOW, Refused, step_on, with_small};
+use super::commands::bookmark_of;
+use super::errors::Refused;
+use super::pools::{NOW, step_on, with_small};
 use crate::Pool;
 use std::alloc::Global;
 use zst_dir::Bookmark;

@@ -1,7 +1,7 @@
 // What stands on a disk.
 ghost use Rattle.std.specs.Prelude.{◌≡◌};
 
-use super::Refused;
+use super::errors::Refused;
 use std::alloc::Global;
 use zst_block::Io;
 use zst_image::{Kept, OpenFault};

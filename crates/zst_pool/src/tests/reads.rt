@@ -1,39 +1,9 @@
 // What a pool tells of its blocks and its objects.
-ghost use Rattle.std.specs.Prelude.{◌<◌, IfOk};
-ghost use Rattle.zst_model.specs.pools.Step.{HasObjects, IsCommand};
-
-use super::answers::{check_line, check_refused};
-use super::{Refused, dataset, number_of, step_on, with_small};
-use zst_model::{Command, Name, PlanFault, Reply};
-use zst_names::SnapName;
-
-fn head(text: &str) -> Result<Name, Refused>
-    ensures { IfOk result HasObjects }
-{
-    let name = dataset(text)?;
-    let _ = name.text();
-    Ok(Name::Dataset(name))
-}
-
-fn taken(text: &str) -> Result<Name, Refused>
-    ensures { IfOk result HasObjects }
-{
-    let name = SnapName::parse(text).map_err(PlanFault::from)?;
-    let _ = name.text();
-    Ok(Name::Snapshot(name))
-}
-
-fn read(name: Name, object: u64, index: u64) -> Command
-    requires name { HasObjects name }
-    requires object { 0 < object }
-    ensures { IsCommand result }
-{
-    Command::Read {
-        name,
-        object,
-        index,
-    }
-}
+use super::commands::{head, read, taken};
+use super::errors::Refused;
+use super::pools::{number_of, step_on, with_small};
+use super::replies::{check_line, check_refused};
+use zst_model::{Command, Reply};
 
 // Whether a block of 512 bytes is told that begins so.
 fn is_data(reply: &Reply, start: &str) -> bool {

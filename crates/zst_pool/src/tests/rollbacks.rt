@@ -1,25 +1,14 @@
 // Heads that go back to a snapshot.
-ghost use Rattle.std.specs.Prelude.{IfOk};
-ghost use Rattle.zst_model.specs.pools.Step.{IsCommand};
-
-use super::answers::check_refused;
-use super::lineage::{bookmark_of, clone_of, rows_of};
+use super::commands::{clone_of, rollback, snapshot};
+use super::errors::Refused;
 use super::looks::{Look, bytes_of, disk_of, pool_of};
-use super::stops::{check_command, check_failed};
-use super::{Refused, snapshot, step_on, with_small};
+use super::pools::{rows_of, step_on, with_newer, with_small};
+use super::replies::check_refused;
+use super::runs::{check_command, check_failed};
 use std::alloc::Global;
 use std::process::Abort;
-use zst_model::{Command, PlanFault, Refusal};
-use zst_names::SnapName;
+use zst_model::Refusal;
 use zst_outside::{Disk, MemDisk};
-
-fn rollback(text: &str, destroys: bool) -> Result<Command, Refused>
-    ensures { IfOk result IsCommand }
-{
-    let snapshot = SnapName::parse(text).map_err(PlanFault::from)?;
-    let _ = snapshot.text();
-    Ok(Command::Rollback { destroys, snapshot })
-}
 
 // The first byte of the first block of tank/a.
 fn first_byte(alloc: Global, disk: &mut MemDisk) -> Result<Option<u8>, Refused> {
@@ -27,14 +16,6 @@ fn first_byte(alloc: Global, disk: &mut MemDisk) -> Result<Option<u8>, Refused> 
     let look = pool_of(alloc, bytes)?;
     let first = look.and_then(|look| look.first);
     Ok(first.and_then(|first| first.bytes.first().copied()))
-}
-
-// The small pool, whose block was written again since its snapshot, with a snapshot and a bookmark that are newer.
-fn with_newer(alloc: Global) -> Result<MemDisk, Refused> {
-    let mut disk = with_small(alloc, 5)?;
-    step_on(alloc, &mut disk, snapshot("tank/a@t")?)?;
-    step_on(alloc, &mut disk, bookmark_of("tank/a@t", "tank/a#k")?)?;
-    Ok(disk)
 }
 
 #[test]

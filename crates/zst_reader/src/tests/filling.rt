@@ -1,72 +1,10 @@
 // A reader that reads by itself.
-use super::streams::Stream;
-use super::{open_reader, smallest_stream};
-use crate::{CAPACITY, Reader, Step};
-use std::alloc::Global;
-use std::process::Abort;
+use super::inputs::{Found, is_found, nothing, read_all, take_all, whole};
+use super::readers::open_reader;
+use super::streams::{Stream, long_stream, smallest_stream};
+use crate::CAPACITY;
 use std::test::Fail;
-use zst_model::StreamFault;
-use zst_outside::{Fault, MemSource, Source};
-
-/// What was found of a stream.
-#[derive(Clone, Copy, Debug, PartialEq, Eq)]
-struct Found {
-    records: u64,
-    payload: u64,
-    faults: u64,
-    finish: Result<(), StreamFault>,
-}
-
-/// Counts the records that a reader can hand out now, and their payloads' bytes.
-fn take_all(reader: &mut Reader, found: &mut Found) {
-    for _ in 0..10_000 {
-        match reader.next() {
-            Ok(Step::Record(record)) => {
-                found.records = found.records.saturating_add(1);
-                found.payload = found.payload.saturating_add(record.payload.len() as u64);
-            }
-            _ => return,
-        }
-    }
-}
-
-fn nothing() -> Found {
-    Found {
-        records: 0,
-        payload: 0,
-        faults: 0,
-        finish: Ok(()),
-    }
-}
-
-/// Reads an input to its end, and goes on after each fault.
-fn read_all(rt: &impl Abort, alloc: Global, input: &mut MemSource) -> Found {
-    let mut reader = open_reader(rt, alloc);
-    let mut found = nothing();
-    for _ in 0..10_000 {
-        take_all(&mut reader, &mut found);
-        if reader.room() == 0 || reader.pushed() >= 1 << 40 {
-            break;
-        }
-        match reader.fill(input) {
-            Ok(0) => break,
-            Ok(_) => {}
-            Err(Fault) => found.faults = found.faults.saturating_add(1),
-        }
-    }
-    found.finish = reader.finish();
-    found
-}
-
-/// Two records without payload, after so many faults.
-fn whole(faults: u64) -> Found {
-    Found {
-        records: 2,
-        payload: 0,
-        faults,
-        finish: Ok(()),
-    }
-}
+use zst_outside::{MemSource, Source};
 
 #[test]
 fn an_input_in_pieces_of_any_size_is_two_records(rt: HostRuntime) -> Result<(), Fail> {
@@ -95,19 +33,6 @@ fn a_fault_of_the_input_is_told_and_takes_nothing(rt: HostRuntime) -> Result<(),
     Ok(())
 }
 
-/// Whether a stream is found so, read in pieces of at most so many bytes.
-fn is_found(
-    rt: &impl Abort,
-    alloc: Global,
-    stream: &Stream,
-    size: usize,
-    want: Found,
-) -> Result<bool, Fail> {
-    assert!(rt; size > 0);
-    let mut input = MemSource::new(stream.bytes.clone()?, Vec::new(alloc)).in_pieces_of(size);
-    Ok(read_all(rt, alloc, &mut input) == want)
-}
-
 #[test]
 fn a_stream_longer_than_the_window_is_read_whole(rt: HostRuntime) -> Result<(), Fail> {
     let alloc = rt.alloc();
@@ -130,22 +55,6 @@ fn a_stream_longer_than_the_window_is_read_whole(rt: HostRuntime) -> Result<(), 
         );
     }
     Ok(())
-}
-
-/// A block whose bytes are all the same.
-fn block_of(alloc: Global, byte: u8, len: usize) -> Result<Vec<u8>, Fail> {
-    Ok(vec![in alloc; byte; len]?)
-}
-
-/// Nine blocks of 131,072 bytes.
-fn long_stream(rt: &impl Abort, alloc: Global) -> Result<Stream, Fail> {
-    let mut stream = Stream::begin(rt, alloc)?;
-    for number in 0..9u8 {
-        let block = block_of(alloc, number, 131_072)?;
-        stream.write(rt, 131_072 * u64::from(number), &block)?;
-    }
-    stream.end(rt)?;
-    Ok(stream)
 }
 
 #[test]

@@ -1,17 +1,9 @@
 // Streams whose BEGIN has a payload.
+use super::payloads::{PAYLOAD, hand_out_resumed, is_refused_by};
+use super::readers::{open_reader, push_all};
 use super::streams::Stream;
-use super::{hand_out_all, open_reader, push_all};
-use crate::{Reader, Step};
-use std::alloc::Global;
-use std::process::Abort;
 use std::test::Fail;
-use zst_model::{Lack, Point, StreamFault};
-use zst_record::Head;
-
-/// Resumed at byte 512 of object 1.
-const PAYLOAD: &[u8; 40] = b"ZSTBEG01\
-    \x01\0\0\0\0\0\0\0\0\x02\0\0\0\0\0\0\
-    \0\0\0\0\0\0\0\0\0\0\0\0\0\0\0\0";
+use zst_model::Point;
 
 /// `drr_versioninfo` of the smallest stream. The features stand above its lowest two bits: RESUMING is 20, REDACTED is 21.
 const PLAIN: u64 = 17;
@@ -19,23 +11,6 @@ const PLAIN: u64 = 17;
 const RESUMED: u64 = PLAIN + (1 << 22);
 
 const BOTH: u64 = RESUMED + (1 << 23);
-
-/// How many records it hands out, where BEGIN says this point.
-fn hand_out_resumed(rt: &impl Abort, reader: &mut Reader, point: Point) -> u64 {
-    for turn in 0..4 {
-        match reader.next() {
-            Ok(Step::Record(record)) => {
-                if let Head::Begin { header, .. } = record.head {
-                    assert!(rt; record.at == 0 && record.payload == PAYLOAD.as_slice());
-                    assert!(rt; header.resume == Some(point) && header.features == 4 + (1 << 20));
-                }
-            }
-            Ok(_) => return turn,
-            Err(_) => panic!(rt; "a fault"),
-        }
-    }
-    4
-}
 
 #[test]
 fn begin_says_where_a_stream_is_resumed(rt: HostRuntime) -> Result<(), Fail> {
@@ -57,31 +32,6 @@ fn begin_says_where_a_stream_is_resumed(rt: HostRuntime) -> Result<(), Fail> {
         assert!(rt; reader.finish() == Ok(()), "pieces of {size}");
     }
     Ok(())
-}
-
-/// Whether the stream is refused by so many bytes of it, and is only cut with one less.
-fn is_refused_by(
-    rt: &impl Abort,
-    alloc: Global,
-    version: u64,
-    payload: &[u8],
-    count: usize,
-) -> Result<bool, Fail> {
-    let stream = Stream::begin_with(rt, alloc, version, payload)?;
-    assert!(rt; count > 0 && count <= stream.bytes.len());
-    let (front, rest) = stream.bytes.split_at(count - 1);
-    let mut reader = open_reader(rt, alloc);
-    push_all(rt, &mut reader, front);
-    let at = front.len() as u64;
-    let is_cut = hand_out_all(&mut reader) == Ok(0)
-        && reader.finish() == Err(StreamFault::Truncated { at });
-    let (last, _) = rest.split_at(1);
-    push_all(rt, &mut reader, last);
-    let fault = StreamFault::Unsupported {
-        at: 0,
-        lack: Lack::NotBuilt,
-    };
-    Ok(is_cut && hand_out_all(&mut reader) == Err(fault) && reader.finish() == Err(fault))
 }
 
 #[test]

@@ -1,5 +1,4 @@
 // Streams of the tests' own.
-use super::{GUID, set, smallest_stream};
 use std::alloc::Global;
 use std::process::Abort;
 use std::test::Fail;
@@ -102,4 +101,59 @@ impl Stream {
         };
         self.put(rt, &head, &[])
     }
+}
+
+pub(super) const GUID: u64 = 0x1_0000_0001;
+
+/// Writes a number of so many bytes, as the tables of zfs_ioctl.h place it.
+fn set(rt: &impl Abort, stream: &mut [u8; 624], place: usize, width: usize, value: u64) {
+    assert!(rt; place <= 616 && width <= 8);
+    let bytes = value.to_le_bytes();
+    for i in 0..width {
+        stream[place + i] = bytes[i];
+    }
+}
+
+/// The smallest stream: BEGIN of `t/a@s` and END, with the sums that a sender of OpenZFS states.
+pub(super) fn smallest_stream(rt: &impl Abort) -> [u8; 624] {
+    let mut stream = [0; 624];
+    let fields = [
+        (8, 8, 0x2_F5ba_cbac),
+        (16, 8, 17),
+        (24, 8, 1_700_000_000),
+        (32, 4, 2),
+        (36, 4, 12),
+        (40, 8, GUID),
+        (56, 5, 0x73_4061_2f74),
+        (312, 4, 5),
+        (320, 8, 6_902_770_870),
+        (328, 8, 504_849_252_908),
+        (336, 8, 18_777_133_574_465),
+        (344, 8, 473_262_148_586_970),
+        (352, 8, GUID),
+        (592, 8, 19_677_500_080),
+        (600, 8, 1_812_738_505_247),
+        (608, 8, 98_333_701_267_116),
+        (616, 8, 4_055_694_265_642_928),
+    ];
+    for (place, width, value) in fields {
+        set(rt, &mut stream, place, width, value);
+    }
+    stream
+}
+
+/// A block whose bytes are all the same.
+fn block_of(alloc: Global, byte: u8, len: usize) -> Result<Vec<u8>, Fail> {
+    Ok(vec![in alloc; byte; len]?)
+}
+
+/// Nine blocks of 131,072 bytes.
+pub(super) fn long_stream(rt: &impl Abort, alloc: Global) -> Result<Stream, Fail> {
+    let mut stream = Stream::begin(rt, alloc)?;
+    for number in 0..9u8 {
+        let block = block_of(alloc, number, 131_072)?;
+        stream.write(rt, 131_072 * u64::from(number), &block)?;
+    }
+    stream.end(rt)?;
+    Ok(stream)
 }

@@ -1,9 +1,8 @@
 // Receives that don't come to their end.
 
-use super::{
-    Begin, FIRST, FULL, INCREMENT, NUMBERS, Put, Refused, SECOND, SMALL, into, new_disk, receive,
-    snapshot, stream_of,
-};
+use super::errors::Refused;
+use super::pools::{into, new_disk, receive, snapshot};
+use super::records::{Begin, FIRST, FULL, INCREMENT, NUMBERS, Put, SECOND, SMALL, stream_of};
 use std::alloc::Global;
 use std::process::Abort;
 use zst_image::Kept;

@@ -1,18 +1,10 @@
 // Receives that were cut, and go on with a stream that is resumed.
 
-use super::streams::{block_line, check_snapshot};
-use super::tokens::CUTS;
-use super::{
-    FEATURES, FIRST, FULL, NUMBERS, Put, Refused, SMALL, check_lines, dataset, header_of, into,
-    new_disk, read, receive, stream_of, stream_with,
-};
-use crate::token;
-use std::alloc::Global;
-use std::process::Abort;
-use zst_image::Kept;
-use zst_model::{PlanFault, Point, Refusal, ResumePlace, StreamFault};
-use zst_outside::MemDisk;
-use zst_pool::Pool;
+use super::cuts::{CUTS, check_token, complete, cut, resumed_of, with_cut};
+use super::errors::Refused;
+use super::pools::{dataset, into, receive};
+use super::records::{FIRST, FULL, NUMBERS, Put, SMALL, stream_of};
+use zst_model::{PlanFault, Point, Refusal, ResumePlace};
 
 /// BEGIN's payload of a stream that goes on at the first byte of object 1, and of one behind its first block.
 const AT_OBJECT: &[u8; 40] = b"ZSTBEG01\
@@ -29,75 +21,6 @@ const REST: [Put; 3] = [
     Put::Free(1, 512, u64::MAX),
     Put::Absent(2, NUMBERS - 2),
 ];
-
-// The small stream, as it goes on by a payload. RESUMING is bit 20.
-fn resumed_of(
-    rt: &impl Abort,
-    alloc: Global,
-    payload: &[u8],
-    puts: &[Put],
-) -> Result<Vec<u8>, Refused> {
-    let mut header = header_of(&FULL);
-    header.features = FEATURES + (1 << 20);
-    stream_with(rt, alloc, header, payload, puts)
-}
-
-// Checks that tank/b has a partial state with this token.
-fn check_token(
-    rt: &impl Abort,
-    alloc: Global,
-    disk: &mut MemDisk,
-    text: &str,
-) -> Result<(), Refused> {
-    let kept = Kept::open(alloc, disk)?;
-    let pool = Pool::new(alloc, disk, kept);
-    let told = token(&pool, &dataset("tank/b")?)?;
-    assert!(rt; told.print().as_str() == text, "{text}");
-    Ok(())
-}
-
-// Receives the first bytes of a stream into tank/b, and checks the token that is left.
-fn cut(
-    rt: &impl Abort,
-    alloc: Global,
-    disk: &mut MemDisk,
-    keep: bool,
-    front: &[u8],
-    text: &str,
-) -> Result<(), Refused> {
-    let mut ask = into("tank/b")?;
-    ask.keep = keep;
-    let at = front.len() as u64;
-    assert_eq!(rt;
-        receive(alloc, disk, ask, front, 700),
-        Err(Refused(Refusal::Stream(StreamFault::Truncated { at })))
-    );
-    check_token(rt, alloc, disk, text)
-}
-
-// A pool that has kept so many bytes of the small stream.
-fn with_cut(rt: &impl Abort, alloc: Global, count: usize, text: &str) -> Result<MemDisk, Refused> {
-    let mut disk = new_disk(alloc)?;
-    let stream = stream_of(rt, alloc, &FULL, &SMALL)?;
-    let front = stream.get(..count).unwrap_or(&[]);
-    cut(rt, alloc, &mut disk, true, front, text)?;
-    Ok(disk)
-}
-
-// Receives the rest of the small stream, and checks the snapshot.
-fn complete(
-    rt: &impl Abort,
-    alloc: Global,
-    disk: &mut MemDisk,
-    stream: &[u8],
-    items: u64,
-) -> Result<(), Refused> {
-    assert_eq!(rt; receive(alloc, disk, into("tank/b")?, stream, 700)?, items);
-    check_snapshot(rt, alloc, disk, "tank/b@s", FIRST)?;
-    let line = block_line(alloc, "aa")?;
-    check_lines(rt, alloc, disk, read("tank/b@s", 1, 0)?, &[line.as_str()])?;
-    check_lines(rt, alloc, disk, read("tank/b@s", 1, 1)?, &["hole"])
-}
 
 #[test]
 fn a_kept_receive_goes_on_and_gives_the_same_snapshot(rt: HostRuntime) -> Result<(), Refused> {

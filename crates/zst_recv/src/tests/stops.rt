@@ -1,36 +1,9 @@
 // Receives whose disk stops at one of its calls.
 
-use super::{FULL, Refused, SMALL, feed_all, into, new_disk, stream_of};
-use crate::Recv;
-use std::alloc::Global;
-use std::process::Abort;
-use zst_image::Kept;
-use zst_outside::{Disk, MemDisk};
-use zst_pool::Pool;
-
-// A disk that stops at this call, after a new pool was made on it and the small stream was fed in three pieces.
-fn received_until(rt: &impl Abort, alloc: Global, stop: Option<u64>) -> Result<MemDisk, Refused> {
-    let bytes = vec![in alloc; 0; 524_288]?;
-    let mut disk = MemDisk::new(bytes, Vec::new(alloc), stop);
-    Kept::create(alloc, &mut disk, 1_024, 2)?;
-    let stream = stream_of(rt, alloc, &FULL, &SMALL)?;
-    if let Ok(kept) = Kept::open(alloc, &mut disk) {
-        let mut pool = Pool::new(alloc, &mut disk, kept);
-        let mut recv = Recv::open(&mut pool, alloc, into("tank/b")?)?;
-        let _ = feed_all(alloc, &mut recv, &mut pool, &stream, 1_000);
-    }
-    Ok(disk)
-}
-
-// Checks that an image has no snapshot and nothing else of the receive, or the whole one.
-fn check_image(rt: &impl Abort, alloc: Global, image: &mut MemDisk) -> Result<usize, Refused> {
-    let kept = Kept::open(alloc, image)?;
-    let count = kept.dir.snapshots().len();
-    assert_eq!(rt; kept.dir.partials().len(), 0);
-    assert_eq!(rt; kept.dir.datasets().len(), count);
-    assert!(rt; count <= 1);
-    Ok(count)
-}
+use super::errors::Refused;
+use super::images::{check_image, received_until};
+use super::pools::new_disk;
+use zst_outside::Disk;
 
 #[test]
 fn at_every_call_an_image_has_no_snapshot_or_the_whole_one(rt: HostRuntime) -> Result<(), Refused> {

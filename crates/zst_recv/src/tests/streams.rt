@@ -1,49 +1,12 @@
 // What a receive that comes to its end leaves.
 
-use super::{
-    FIRST, FULL, INCREMENT, NUMBERS, Put, Refused, SECOND, SMALL, check_lines, into, new_disk,
-    read, receive, snapshot, stream_of,
+use super::errors::Refused;
+use super::pools::{
+    SIZES, block_line, check_lines, check_snapshot, into, new_disk, read, receive, snapshot,
 };
-use std::alloc::Global;
-use std::process::Abort;
+use super::records::{FIRST, FULL, INCREMENT, NUMBERS, Put, SECOND, SMALL, stream_of};
 use zst_image::Kept;
 use zst_model::{Command, Name};
-use zst_outside::MemDisk;
-
-/// The sizes of the pieces in which a stream is fed.
-const SIZES: [usize; 6] = [1, 7, 311, 312, 4_096, 1_048_576];
-
-// A block that begins with this byte, as `read` tells it.
-pub(super) fn block_line(alloc: Global, first: &str) -> Result<String, Refused> {
-    let mut line = String::new(alloc);
-    line.push_str("data ")?;
-    line.push_str(first)?;
-    for _ in 1..512 {
-        line.push_str("00")?;
-    }
-    Ok(line)
-}
-
-// Checks the guid, the time and the number of a snapshot of the pool.
-pub(super) fn check_snapshot(
-    rt: &impl Abort,
-    alloc: Global,
-    disk: &mut MemDisk,
-    name: &str,
-    guid: u64,
-) -> Result<(), Refused> {
-    let kept = Kept::open(alloc, disk)?;
-    let Some(place) = kept.dir.snapshot(&snapshot(name)?) else {
-        assert!(rt; false, "{name} is missing");
-        return Ok(());
-    };
-    let row = &kept.dir.snapshots()[place];
-    assert_eq!(rt; row.guid, guid);
-    assert_eq!(rt; row.time, super::NOW);
-    assert_eq!(rt; row.number, kept.body.number);
-    assert_eq!(rt; kept.dir.partials().len(), 0);
-    Ok(())
-}
 
 #[test]
 fn an_empty_file_system_comes(rt: HostRuntime) -> Result<(), Refused> {

@@ -1,6 +1,9 @@
 // The token of a receive that was cut.
 
-use super::{FULL, Refused, SMALL, dataset, into, new_disk, stream_of};
+use super::cuts::CUTS;
+use super::errors::Refused;
+use super::pools::{dataset, into, new_disk};
+use super::records::{FULL, SMALL, stream_of};
 use crate::{Recv, token};
 use std::alloc::Global;
 use std::process::Abort;
@@ -8,22 +11,6 @@ use zst_image::Kept;
 use zst_model::PlanFault;
 use zst_pool::Pool;
 use zst_token::Token;
-
-/// How many bytes of the small stream came, and the token then.
-pub(super) const CUTS: [(usize, &str); 3] = [
-    (
-        700,
-        "zst1-0000000000000000010000000100000000000000000000000000000000000000000000000000000000000000000000000000000000000000-0000000000000017",
-    ),
-    (
-        1_000,
-        "zst1-0000000000000000010000000100000000000000000000000100000000000000000000000000000000000000000000000000000000000000-000000000000001f",
-    ),
-    (
-        2_100,
-        "zst1-0000000000000000010000000100000000000000000000000100000000000000000200000000000000000000000000000000000000000000-0000000000000c1f",
-    ),
-];
 
 // Feeds the front of the small stream, and gives the token while the receive runs.
 fn token_behind(

@@ -1,52 +1,11 @@
 // Sends on a disk of which a call fails.
 
-use super::{Change, Refused, SMALL, ask, change_all, sent, take_rest, with_changes};
-use crate::{Send, SendAsk};
-use std::alloc::Global;
-use std::process::Abort;
-use zst_image::Kept;
-use zst_model::Refusal;
+use super::commands::{Change, SMALL};
+use super::errors::Refused;
+use super::failures::{bytes_of, taken_over};
+use super::pools::{change_all, with_changes};
+use super::sends::{ask, sent};
 use zst_outside::{Disk, MemDisk};
-use zst_pool::Pool;
-
-// What a disk reads.
-fn bytes_of(alloc: Global, disk: &mut MemDisk) -> Result<Vec<u8>, Refused> {
-    let mut bytes = vec![in alloc; 0; disk.bytes() as usize]?;
-    match disk.read(0, &mut bytes) {
-        Ok(()) => Ok(bytes),
-        Err(_) => Err(Refused(Refusal::DiskFault)),
-    }
-}
-
-// Takes a send on a disk of which the call of this number fails, until that is told, and the rest on the pool that was
-// opened again.
-fn taken_over(
-    rt: &impl Abort,
-    alloc: Global,
-    disk: &mut MemDisk,
-    ask: &SendAsk,
-    (call, size): (u64, usize),
-) -> Result<Vec<u8>, Refused> {
-    let kept = Kept::open(alloc, disk)?;
-    let mut pool = Pool::new(alloc, disk, kept);
-    let mut send = Send::open(&mut pool, alloc, ask)?;
-    let mut bytes = Vec::new(alloc);
-    let first = take_rest(alloc, &mut send, &mut pool, size, &mut bytes);
-    assert!(rt; first == Err(Refused(Refusal::DiskFault)), "at {call}");
-
-    // Then E31, whoever asks, until the pool is opened again.
-    let count = bytes.len();
-    let second = take_rest(alloc, &mut send, &mut pool, size, &mut bytes);
-    assert!(rt; second == Err(Refused(Refusal::Failed)), "at {call}");
-    assert_eq!(rt; bytes.len(), count, "at {call}");
-    match Send::open(&mut pool, alloc, ask) {
-        Ok(_) => panic!(rt; "a send is opened on a failed pool"),
-        Err(fault) => assert_eq!(rt; Refused::from(fault), Refused(Refusal::Failed)),
-    }
-    pool.reopen(alloc)?;
-    take_rest(alloc, &mut send, &mut pool, size, &mut bytes)?;
-    Ok(bytes)
-}
 
 #[test]
 fn each_call_of_a_send_may_fail(rt: HostRuntime) -> Result<(), Refused> {

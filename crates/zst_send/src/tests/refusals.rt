@@ -1,8 +1,9 @@
 // Sends that are refused when they are opened.
 
-use super::{
-    Change, Refused, SMALL, ask, bookmark, change_all, roll_back, sent, step_on, with_changes,
-};
+use super::commands::{Change, SMALL, bookmark, roll_back};
+use super::errors::Refused;
+use super::pools::{change_all, step_on, with_changes};
+use super::sends::{ask, sent};
 use crate::SendAsk;
 use std::alloc::Global;
 use std::process::Abort;

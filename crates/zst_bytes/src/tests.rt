@@ -1,0 +1,5 @@
+mod cursor;
+mod fields;
+mod padding;
+mod text;
+mod words;

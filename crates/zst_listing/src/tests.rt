@@ -1,0 +1,4 @@
+mod objects;
+mod rows;
+mod sets;
+mod texts;

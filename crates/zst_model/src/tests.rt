@@ -1,0 +1,6 @@
+mod bytes;
+mod guids;
+mod list;
+mod name;
+mod points;
+mod refusals;

@@ -1,0 +1,40 @@
+use crate::{Extent, Full, Space};
+use std::alloc::AllocError;
+
+#[test]
+fn what_is_left_past_the_end_bounds_a_run(rt: HostRuntime) {
+    let mut space = Space::new(10, 16, Vec::new(rt.alloc()));
+    assert_eq!(rt; space.take(6), Ok(10));
+    assert_eq!(rt; space.end(), 16);
+    assert_eq!(rt;
+        space.take(1),
+        Err(Full {
+            need: 1,
+            largest: 0
+        })
+    );
+}
+
+#[test]
+fn runs_stand_in_the_first_extent_that_is_long_enough(rt: HostRuntime) -> Result<(), AllocError> {
+    let low = Extent { first: 8, count: 3 };
+    let high = Extent {
+        first: 20,
+        count: 6,
+    };
+    let mut space = Space::new(30, 32, vec![in rt.alloc(); low, high]?);
+    assert_eq!(rt; space.largest(), 6);
+    assert_eq!(rt; space.take(4), Ok(20));
+    assert_eq!(rt; space.take(2), Ok(8));
+    assert_eq!(rt;
+        space.take(5),
+        Err(Full {
+            need: 5,
+            largest: 2
+        })
+    );
+    assert_eq!(rt; space.take(2), Ok(24));
+    assert_eq!(rt; space.take(1), Ok(10));
+    assert_eq!(rt; space.take(2), Ok(30));
+    Ok(())
+}
