@@ -23,7 +23,9 @@ use Rattle.zst_tree.specs.declared.tree.Tree.{Tree}
 use Rattle.zst_objset.specs.Changes.{changed}
 use Rattle.zst_objset.specs.Dnodes.{BlockIs, IsThere, ObjectIs, tree_of}
 use Rattle.zst_objset.specs.Putting.{MakesDnode, date_to, dates_to}
-use Rattle.zst_objset.specs.Ranges.{free_of, put_range, redact_of, redaction_check, with_range}
+use Rattle.zst_objset.specs.Ranges.{change_of, free_of, put_range, range_check, redact_of, redaction_check, with_range}
+use Rattle.zst_objset.specs.declared.ranges.RangeChange.{RangeChange}
+use Rattle.zst_objset.specs.declared.ranges.RangeChange.TheVariants as ranges
 use Rattle.zst_objset.proofs.AnswerLaws.{object_of}
 use Rattle.zst_objset.proofs.ChangePuts.{changed_to}
 use Rattle.zst_objset.proofs.IndicesChanged.{change_made}
@@ -86,6 +88,10 @@ pub no_redact : (offset length : ℕ) → apply_change (Redact offset length) No
 unfolding apply_change
 no_redact offset length = refl
 
+pub no_change : (change : RangeChange) (first count : ℕ) (state : Option Object) → apply_change (change_of change first count state) None ≡ Err NoObject
+no_change ranges.Punch first count state = no_free _ _
+no_change ranges.Redact first count state = no_redact _ _
+
 -- or one does
 module _ (first count : ℕ) (state : Option Object) (object : Object) (there : state ≡ Some object) (lawful : IsObject object) where
   free_made : apply_change (free_of first count state) state ≡ Ok (Some (with_range first count Hole object))
@@ -102,17 +108,26 @@ module _ (has : Blocks) (number k first count : ℕ) (state : DatedState) (dnode
   abbrev object_there : IsObject there.object
   object_there = object_of (state.state k) there.object there.there (lawful.objects k)
 
-  pub free_is : changed number (At k (free_of first count (state.state k))) state ≡ Ok (changed_to number k (free_of first count (state.state k)) state (with_range first count Hole there.object))
+  free_is : changed number (At k (free_of first count (state.state k))) state ≡ Ok (changed_to number k (free_of first count (state.state k)) state (with_range first count Hole there.object))
   free_is = change_made number k (free_of first count (state.state k)) state (with_range first count Hole there.object) (free_made first count (state.state k) there.object there.there object_there)
 
-  pub redact_is : redaction_check dnode first count ≡ Ok tt
+  redact_is : redaction_check dnode first count ≡ Ok tt
       → changed number (At k (redact_of first count (state.state k))) state ≡ Ok (changed_to number k (redact_of first count (state.state k)) state (with_range first count Redacted there.object))
   redact_is checked =
       change_made number k (redact_of first count (state.state k)) state (with_range first count Redacted there.object)
       (redact_made first count (state.state k) there.object there.there object_there dnode there.is.type_is there.is.size_is (Ok tt) checked)
 
-  pub redact_refused : (fault : ApplyFault) → redaction_check dnode first count ≡ Err fault → apply_change (redact_of first count (state.state k)) (state.state k) ≡ Err fault
+  redact_refused : (fault : ApplyFault) → redaction_check dnode first count ≡ Err fault → apply_change (redact_of first count (state.state k)) (state.state k) ≡ Err fault
   redact_refused fault checked = redact_made first count (state.state k) there.object there.there object_there dnode there.is.type_is there.is.size_is (Err fault) checked
+
+  pub change_is : (change : RangeChange) → range_check change dnode first count ≡ Ok tt
+      → (after : DatedState) × (changed number (At k (change_of change first count (state.state k))) state ≡ Ok after)
+  change_is ranges.Punch checked = (_, free_is)
+  change_is ranges.Redact checked = (_, redact_is checked)
+
+  pub change_fails : (change : RangeChange) (fault : ApplyFault) → range_check change dnode first count ≡ Err fault → apply_change (change_of change first count (state.state k)) (state.state k) ≡ Err fault
+  change_fails ranges.Punch fault checked = absurd (cc)
+  change_fails ranges.Redact fault checked = redact_refused fault checked
 
 odd_checked : (a odd some past : Bool) → unless a NotUserData (unless (odd && (some && past)) OddBlock (Ok tt)) ≡ Ok (tt {0}) → odd ≡ true → some ≡ true → past ≡ false
 odd_checked true odd some past checked is_odd is_some = absurd (cc)

@@ -5,6 +5,7 @@ ghost use Rattle.zst_block.specs.Working.{Looks, Works, stop_of as block_stop};
 ghost use Rattle.zst_dnode.specs.Dnode.{DnodeFits};
 ghost use Rattle.zst_dnode.specs.declared.slot.Slot.TheVariants.{There};
 ghost use Rattle.zst_model.specs.declared.refusals.faults.Quantity.TheVariants as quantities;
+ghost use Rattle.zst_model.specs.declared.states.item.Item.TheVariants.{At};
 ghost use Rattle.zst_model.specs.pools.Sound.{DatedUpTo};
 ghost use Rattle.zst_model.specs.states.Apply.{within};
 ghost use Rattle.zst_model.specs.states.Dated.{DatedState};
@@ -13,11 +14,11 @@ ghost use Rattle.zst_tree.specs.Damage.{IsSeen, NamesDamage, NamesNode, SumsUp};
 ghost use Rattle.zst_tree.specs.Indices.{Delivers, Map};
 ghost use Rattle.zst_tree.specs.Sets.{SetFits};
 ghost use Rattle.zst_objset.specs.Answers.{Changes, stop_of, LimitOnly, NotRedacted};
-ghost use Rattle.zst_objset.specs.Changes.{holes_made, range_redacted};
+ghost use Rattle.zst_objset.specs.Changes.{changed, indices_changed};
 ghost use Rattle.zst_objset.specs.Damage.{IfSetDamaged, IsDamagedObject};
 ghost use Rattle.zst_objset.specs.Dnodes.{IsThere, ObjectIs};
 ghost use Rattle.zst_objset.specs.Putting.{MakesDnode};
-ghost use Rattle.zst_objset.specs.Ranges.{free_of, redact_of, redaction_check, with_range};
+ghost use Rattle.zst_objset.specs.Ranges.{IsRightNode, change_of, free_of, range_check, redact_of, redaction_check, with_range};
 ghost use Rattle.zst_objset.specs.Sets.{SetHolds};
 ghost use Rattle.zst_objset.specs.Tight.{IsTightDnode, IsTightSlot, SetIsTight};
 ghost use Rattle.zst_objset.specs.declared.fault.ObjFault.TheVariants as faults;
@@ -32,6 +33,15 @@ use zst_model::limits::INDEX_BOUND;
 use zst_model::{ApplyFault, Quantity};
 use zst_outside::Disk;
 use zst_tree::ObjSet;
+
+/// What becomes of a range of an object's indices.
+#[derive(Clone, Copy, Debug)]
+pub(crate) enum RangeChange {
+    /// Holes.
+    Punch,
+    /// Redacted blocks.
+    Redact,
+}
 
 // E23 where a range ends past the last index. The sum may be past 64 bits.
 #[tactic(auto, unfolding(zst_model::specs::states::State::index_bound))]
@@ -60,6 +70,21 @@ fn check_redaction(dnode: &Dnode, first: u64, count: u64) -> Result<(), ApplyFau
         return Err(ApplyFault::OddBlock);
     }
     Ok(())
+}
+
+// Whether a range of an object's indices may be changed so.
+fn check_change(
+    dnode: &Dnode,
+    change: RangeChange,
+    first: u64,
+    count: u64,
+) -> Result<(), ApplyFault>
+    ensures { result ≡ range_check change dnode.now first count }
+{
+    match change {
+        RangeChange::Punch => Ok(()),
+        RangeChange::Redact => check_redaction(dnode, first, count),
+    }
 }
 
 // How many indices of a tree are to be punched. Where the object's end, all that the tree has past
@@ -173,40 +198,40 @@ fn redacted<D: Disk>(
     Ok(with_tree(dnode, tree, end_redacted(dnode.end, first, count)))
 }
 
-/// Makes holes of `count` indices.
-pub(crate) fn punch<D: Disk>(
-    set: &mut ObjSet,
+// The dnode of an object after a change of a range.
+fn range_changed<D: Disk>(
     io: &mut Io<'_, D>,
-    object: u64,
+    dnode: Dnode,
+    change: RangeChange,
     first: u64,
     count: u64,
     number: u64,
-) -> Result<(), ObjFault>
-    requires object { 0 < object }
+) -> Result<Dnode, BlockFault>
+    requires dnode { DnodeFits dnode }
+    requires checked { range_check change dnode first count ≡ Ok tt }
+    requires range { first + count ≤ index_bound }
     requires fits { FitsDisk (D.state io.old.disk.now).size io.old.space }
-    ensures changed { (state : DatedState) → (D.state io.new.disk.now).honest → SetHolds (Has (D.state io.old.disk.now).seen io.old.space) set.old state
-        → Changes (SetHolds (Has (D.state io.new.disk.now).seen io.new.space) set.new) (holes_made number object first count state) result }
-    ensures tight { (state : DatedState) → (D.state io.new.disk.now).honest → SetIsTight (Has (D.state io.old.disk.now).seen io.old.space) set.old state → DatedUpTo number state
-        → Changes (SetIsTight (Has (D.state io.new.disk.now).seen io.new.space) set.new) (holes_made number object first count state) result }
-    ensures limits { IfErr result (LimitOnly quantities.Block index_bound (first + count)) }
-    ensures unredacted { IfErr result NotRedacted }
-    ensures damaged { (D.state io.new.disk.now).honest → IfSetDamaged result (IsDamagedObject (SparesTaken io.old.space (D.state io.old.disk.now).seen) (D.state io.old.disk.now).size (SumsUp (SparesTaken io.old.space (D.state io.old.disk.now).seen)) set.old) }
-    ensures kept { OnErr result (set.new ≡ set.old) }
-    ensures levels { OnOk result (SetFits set.new) }
-    ensures works { Works 1280 16 (D.state io.old.disk.now) io.old.space io.old.failed (D.state io.new.disk.now) io.new.space io.new.failed (stop_of result) }
+    ensures made { (k : ℕ) (state : DatedState) → (D.state io.new.disk.now).honest → is_number k ≡ true → IsState state.state → IsThere (Has (D.state io.old.disk.now).seen io.old.space) state k dnode
+        → Delivers (MakesDnode (Has (D.state io.new.disk.now).seen io.new.space) number k (change_of change first count (state.state k)) state) result }
+    ensures tight { (k : ℕ) (state : DatedState) → (D.state io.new.disk.now).honest → is_number k ≡ true → IsState state.state → IsThere (Has (D.state io.old.disk.now).seen io.old.space) state k dnode
+        → DatedUpTo number state → IsTightSlot state k (There dnode) → IfOk result (IsTightDnode number k (change_of change first count (state.state k)) state) }
+    ensures fits { IfOk result DnodeFits }
+    ensures damaged { (D.state io.new.disk.now).honest → NamesDamage (SparesTaken io.old.space (D.state io.old.disk.now).seen) (D.state io.old.disk.now).size (IsRightNode change (SparesTaken io.old.space (D.state io.old.disk.now).seen)) dnode.levels dnode.root result }
+    ensures works { Works 320 16 (D.state io.old.disk.now) io.old.space io.old.failed (D.state io.new.disk.now) io.new.space io.new.failed (block_stop result) }
     ensures same { io.new.disk.ghost_name ≡ io.old.disk.ghost_name }
 {
-    let dnode = object_there(set, io, object)?;
-    check_range(first, count)?;
-    let made = punched(io, dnode, first, count, number)?;
-    put_dnode(set, io, object, made)
+    match change {
+        RangeChange::Punch => punched(io, dnode, first, count, number),
+        RangeChange::Redact => redacted(io, dnode, first, count, number),
+    }
 }
 
-/// Redacts `count` indices.
-pub(crate) fn redact_range<D: Disk>(
+/// Makes holes of `count` indices, or redacts them.
+pub(crate) fn change_range<D: Disk>(
     set: &mut ObjSet,
     io: &mut Io<'_, D>,
     object: u64,
+    change: RangeChange,
     first: u64,
     count: u64,
     number: u64,
@@ -214,20 +239,20 @@ pub(crate) fn redact_range<D: Disk>(
     requires object { 0 < object }
     requires fits { FitsDisk (D.state io.old.disk.now).size io.old.space }
     ensures changed { (state : DatedState) → (D.state io.new.disk.now).honest → SetHolds (Has (D.state io.old.disk.now).seen io.old.space) set.old state
-        → Changes (SetHolds (Has (D.state io.new.disk.now).seen io.new.space) set.new) (range_redacted number object first count state) result }
+        → Changes (SetHolds (Has (D.state io.new.disk.now).seen io.new.space) set.new) (indices_changed (first + count) (changed number (At object (change_of change first count (state.state object))) state)) result }
     ensures tight { (state : DatedState) → (D.state io.new.disk.now).honest → SetIsTight (Has (D.state io.old.disk.now).seen io.old.space) set.old state → DatedUpTo number state
-        → Changes (SetIsTight (Has (D.state io.new.disk.now).seen io.new.space) set.new) (range_redacted number object first count state) result }
+        → Changes (SetIsTight (Has (D.state io.new.disk.now).seen io.new.space) set.new) (indices_changed (first + count) (changed number (At object (change_of change first count (state.state object))) state)) result }
     ensures limits { IfErr result (LimitOnly quantities.Block index_bound (first + count)) }
     ensures unredacted { IfErr result NotRedacted }
-    ensures damaged { (D.state io.new.disk.now).honest → IfSetDamaged result (IsDamagedObject (SparesTaken io.old.space (D.state io.old.disk.now).seen) (D.state io.old.disk.now).size NamesNode set.old) }
+    ensures damaged { (D.state io.new.disk.now).honest → IfSetDamaged result (IsDamagedObject (SparesTaken io.old.space (D.state io.old.disk.now).seen) (D.state io.old.disk.now).size (IsRightNode change (SparesTaken io.old.space (D.state io.old.disk.now).seen)) set.old) }
     ensures kept { OnErr result (set.new ≡ set.old) }
     ensures levels { OnOk result (SetFits set.new) }
     ensures works { Works 1280 16 (D.state io.old.disk.now) io.old.space io.old.failed (D.state io.new.disk.now) io.new.space io.new.failed (stop_of result) }
     ensures same { io.new.disk.ghost_name ≡ io.old.disk.ghost_name }
 {
     let dnode = object_there(set, io, object)?;
-    check_redaction(&dnode, first, count)?;
+    check_change(&dnode, change, first, count)?;
     check_range(first, count)?;
-    let made = redacted(io, dnode, first, count, number)?;
+    let made = range_changed(io, dnode, change, first, count, number)?;
     put_dnode(set, io, object, made)
 }

@@ -5,7 +5,7 @@ use crate::changing::put_spill;
 use crate::fault::ObjFault;
 use crate::freeing::free_objects;
 use crate::objects::Objects;
-use crate::ranges::{punch, redact_range};
+use crate::ranges::{RangeChange, change_range};
 use crate::searching::next_object;
 use crate::writing::write_block;
 use zst_block::Io;
@@ -112,7 +112,7 @@ impl<D: Disk> Objects<D> for ObjSet {
         count: u64,
         number: u64,
     ) -> Result<(), ObjFault> {
-        punch(self, io, object, first, count, number)
+        change_range(self, io, object, RangeChange::Punch, first, count, number)
     }
 
     fn redact_range(
@@ -123,6 +123,6 @@ impl<D: Disk> Objects<D> for ObjSet {
         count: u64,
         number: u64,
     ) -> Result<(), ObjFault> {
-        redact_range(self, io, object, first, count, number)
+        change_range(self, io, object, RangeChange::Redact, first, count, number)
     }
 }

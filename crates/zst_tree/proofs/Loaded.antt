@@ -1,5 +1,5 @@
 -- What a node that was read says of the subtrees below it.
-use Rattle.std.proofs.Common.{◌≡◌, ℕ, zero, suc, ◌-◌, ◌<◌, ◌==◌, Bool, false, List, Option, Err, sym, subst, arith}
+use Rattle.std.proofs.Common.{◌≡◌, ℕ, zero, suc, ◌-◌, ◌<◌, ◌==◌, Bool, false, List, Option, Result, Ok, Err, sym, subst, arith}
 use Rattle.std.proofs.lemmas.Bool.{ne_eqb}
 use Rattle.zst_outside.specs.Images.{DiskState}
 use Rattle.zst_space.specs.FreeSectors.{FreeSectors}
@@ -10,7 +10,7 @@ use Rattle.zst_block.specs.Working.{Looks}
 use Rattle.zst_block.specs.declared.ptr.Ptr.{Ptr}
 use Rattle.zst_block.specs.declared.fault.BlockFault.{BlockFault}
 use Rattle.zst_block.specs.declared.fault.BlockFault.TheVariants.{Full, Damaged, DiskFault}
-use Rattle.zst_tree.specs.Indices.{Blocks, Map, Subtree, IsNode, IsNoDamage}
+use Rattle.zst_tree.specs.Indices.{Blocks, Map, Subtree, IsNode, IsNoDamage, Delivers}
 use Rattle.zst_tree.specs.Changes.{Parts}
 use Rattle.zst_tree.specs.Reaching.{stands_throughout}
 use Rattle.zst_tree.proofs.Below.{node_below}
@@ -53,11 +53,14 @@ node_fault has level ptr base map read fault some inner gives stands =
 
 -- so the parts of a node that was read stand below it
 pub loaded_parts : (old : DiskState) (space : FreeSectors) (old_failed : Bool) (new : DiskState) (less : FreeSectors) (new_failed : Bool) (stop : Option BlockFault) → Looks old space old_failed new less new_failed stop
-    → (level : ℕ) (ptr : Ptr) (base : ℕ) (map : Map) (loaded : List ℕ) → 0 < level → is_flat ptr ≡ false → ((bytes : List ℕ) → IsNode (Has old.seen space) level ptr bytes → loaded ≡ bytes)
-    → Subtree (Has old.seen space) level ptr base map → Parts (Has new.seen less) (level - 1) loaded base map
-loaded_parts old space old_failed new less new_failed stop looks level ptr base map loaded some inner gives stands =
+    → (level : ℕ) (ptr : Ptr) (base : ℕ) (map : Map) (loaded : List ℕ) (result : Result (Unit {0}) BlockFault) → 0 < level → is_flat ptr ≡ false
+    → ((bytes : List ℕ) → IsNode (Has old.seen space) level ptr bytes → GivesBlock bytes loaded result) → Subtree (Has old.seen space) level ptr base map
+    → Delivers (λ done. Parts (Has new.seen less) (level - 1) loaded base map) result
+loaded_parts old space old_failed new less new_failed stop looks level ptr base map loaded (Ok done) some inner gives stands =
     there_after old space old_failed new less new_failed stop looks (λ (seen : List ℕ) (s : FreeSectors). Parts (Has seen s) (level - 1) loaded base map)
     (loaded_is (Has old.seen space) level ptr base map loaded some inner gives stands).parts
+loaded_parts old space old_failed new less new_failed stop looks level ptr base map loaded (Err fault) some inner gives stands =
+    node_fault (Has old.seen space) level ptr base map loaded fault some inner gives stands
 
 -- a pointer that doesn't stand throughout names a node
 pub inner_level : (level : ℕ) (ptr : Ptr) → stands_throughout level ptr ≡ false → (0 < level) × (is_flat ptr ≡ false)

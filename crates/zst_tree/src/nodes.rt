@@ -1,11 +1,12 @@
 // The nodes of a tree, as its walks read them.
-ghost use Rattle.std.specs.Prelude.{◌≡◌, ◌↔◌, ◌+◌, ◌<◌, ◌≤◌, ℕ, List, false, IsTrue, OnOk, length};
+ghost use Rattle.std.specs.Prelude.{◌≡◌, ◌↔◌, ◌+◌, ◌-◌, ◌<◌, ◌≤◌, ℕ, List, false, IsTrue, OnOk, length};
 ghost use Rattle.zst_block.specs.Blocks.{FitsDisk, Has, IsBlock};
 ghost use Rattle.zst_block.specs.Ptr.{is_flat};
 ghost use Rattle.zst_block.specs.Reading.{GivesBlock};
 ghost use Rattle.zst_block.specs.Working.{Looks, TellsDamage, stop_of};
+ghost use Rattle.zst_tree.specs.Changes.{Parts};
 ghost use Rattle.zst_tree.specs.Damage.{IsSeen, NamesDamage, NamesNode};
-ghost use Rattle.zst_tree.specs.Indices.{IsNode, child};
+ghost use Rattle.zst_tree.specs.Indices.{Delivers, IsNode, Map, Subtree, child};
 
 use crate::steps::{Steps, tick};
 use std::sync::ledger::Ledger;
@@ -28,6 +29,8 @@ pub(crate) fn load_node<D: Disk>(io: &mut Io<'_, D>, level: u8, ptr: Ptr) -> Res
     requires fits { FitsDisk (D.state io.old.disk.now).size io.old.space }
     ensures block { (D.state io.new.disk.now).honest → OnOk result (IsBlock (D.state io.old.disk.now).seen ptr io.new.node) }
     ensures there { (bytes : List ℕ) → (D.state io.new.disk.now).honest → IsNode (Has (D.state io.old.disk.now).seen io.old.space) level ptr bytes → GivesBlock bytes io.new.node result }
+    ensures parts { (base : ℕ) (map : Map) → 0 < level → is_flat ptr ≡ false → (D.state io.new.disk.now).honest → Subtree (Has (D.state io.old.disk.now).seen io.old.space) level ptr base map
+        → Delivers (λ done. Parts (Has (D.state io.new.disk.now).seen io.new.space) (level - 1) io.new.node base map) result }
     ensures damaged { (D.state io.new.disk.now).honest → TellsDamage (D.state io.old.disk.now).seen (D.state io.old.disk.now).size ptr result }
     ensures names { 0 < level → is_flat ptr ≡ false → (D.state io.new.disk.now).honest → NamesDamage (IsSeen (D.state io.old.disk.now).seen) (D.state io.old.disk.now).size NamesNode level ptr result }
     ensures long { OnOk result (length io.new.node ≡ 8192) }
@@ -59,6 +62,8 @@ pub(crate) fn load_counted<D: Disk, L: Ledger>(
     requires fits { FitsDisk (D.state io.old.disk.now).size io.old.space }
     ensures block { (D.state io.new.disk.now).honest → OnOk result (IsBlock (D.state io.old.disk.now).seen ptr io.new.node) }
     ensures there { (bytes : List ℕ) → (D.state io.new.disk.now).honest → IsNode (Has (D.state io.old.disk.now).seen io.old.space) level ptr bytes → GivesBlock bytes io.new.node result }
+    ensures parts { (base : ℕ) (map : Map) → 0 < level → is_flat ptr ≡ false → (D.state io.new.disk.now).honest → Subtree (Has (D.state io.old.disk.now).seen io.old.space) level ptr base map
+        → Delivers (λ done. Parts (Has (D.state io.new.disk.now).seen io.new.space) (level - 1) io.new.node base map) result }
     ensures damaged { (D.state io.new.disk.now).honest → TellsDamage (D.state io.old.disk.now).seen (D.state io.old.disk.now).size ptr result }
     ensures names { 0 < level → is_flat ptr ≡ false → (D.state io.new.disk.now).honest → NamesDamage (IsSeen (D.state io.old.disk.now).seen) (D.state io.old.disk.now).size NamesNode level ptr result }
     ensures long { OnOk result (length io.new.node ≡ 8192) }

@@ -1,12 +1,15 @@
 //! What a path down to an index shows.
-ghost use Rattle.std.specs.Prelude.{◌≡◌};
+ghost use Rattle.std.specs.Prelude.{◌≡◌, ◌<◌, false};
+ghost use Rattle.zst_block.specs.Ptr.{is_flat};
 ghost use Rattle.zst_tree.specs.Reaching.{nearer_of, stands_throughout};
 
 use zst_block::Ptr;
 
-// Whether a pointer at a level stands for every index below it.
+// Whether a pointer at a level stands for every index below it. One that doesn't names a node.
+#[tactic(auto, using(crate::proofs::Loaded::inner_level))]
 pub(crate) fn stands_throughout(level: u8, ptr: &Ptr) -> bool
-    ensures { result ≡ stands_throughout level ptr.now }
+    ensures same { result ≡ stands_throughout level ptr.now }
+    ensures inner { result ≡ false → (0 < level) × (is_flat ptr.now ≡ false) }
 {
     level == 0 || ptr.is_flat()
 }

@@ -5,10 +5,9 @@ use Rattle.zst_block.specs.Blocks.{Has}
 use Rattle.zst_tree.specs.Damage.{NamesNode}
 use Rattle.zst_tree.specs.Finding.{Finds}
 use Rattle.zst_tree.specs.Indices.{span, child}
-use Rattle.zst_tree.specs.Changes.{Parts}
 use Rattle.zst_tree.proofs.Damage.{hangs_below, hangs_flat, hangs_leaf, told_below}
 use Rattle.zst_tree.proofs.Finding.{finds_leaf, finds_flat, finds_child, left_of_child}
-use Rattle.zst_tree.proofs.Loaded.{loaded_is, node_fault, there_after, there_before}
+use Rattle.zst_tree.proofs.Loaded.{loaded_is, there_before}
 use Rattle.zst_tree.proofs.Results.{delivers_if}
 use Rattle.zst_tree.proofs.get.+find_in.Goals as goal
 
@@ -22,16 +21,14 @@ returns-then-is_flat-clause-finds g t c = λ base map honest stands.
 pub returns-in_err-load_counted-clause-finds : goal.returns-in_err-load_counted-clause-finds
 returns-in_err-load_counted-clause-finds g t c = λ base map honest stands.
     let p = err_from_is_err_and c.from_residual.result c.from_residual.ensures.1 in
-    let has = Has (g.D.Disk.state c.args.io.now.disk.now).seen c.args.io.now.space in
-    rw (p.1, p.2) (node_fault has c.args.level c.args.ptr base map c.load_counted.new.io.node _ (omega arith) (search rules) (λ bytes node. c.in_err-load_counted.ensures.there bytes honest node) stands)
+    rw (p.1, p.2) (c.in_err-load_counted.ensures.parts base map (omega arith) (search rules) honest stands)
 
 pub returns-clause-finds : goal.returns-clause-finds
 returns-clause-finds g t c = λ base map honest stands.
     let before = c.in_ok-load_counted.ensures.looks in
     let was_honest = c.find_in.ensures.looks.reads.honest honest in
     let loaded = loaded_is _ c.args.level c.args.ptr base map c.load_counted.new.io.node (omega arith) (search rules) (λ bytes node. c.in_ok-load_counted.ensures.there bytes was_honest node) stands in
-    let parts : Parts (Has (g.D.Disk.state c.load_counted.new.io.disk.now).seen c.load_counted.new.io.space) (c.args.level - 1) c.load_counted.new.io.node base map =
-    there_after _ _ _ _ _ _ _ before (λ (seen : List ℕ) (s : FreeSectors). Parts (Has seen s) (c.args.level - 1) c.load_counted.new.io.node base map) loaded.parts in
+    let parts = c.in_ok-load_counted.ensures.parts base map (omega arith) (search rules) was_honest stands in
     delivers_if _ _ c.find_in.result
     (λ found finds. finds_child _ c.args.level c.args.ptr c.args.offset c.place_of-place.result.child c.place_of-place.result.rest c.load_counted.new.io.node found (omega arith) loaded.node c.place_of-place.ensures.rest c.place_of-place.ensures.sum
     (there_before _ _ _ _ _ _ _ before (λ (seen : List ℕ) (s : FreeSectors). Finds (Has seen s) (c.args.level - 1) (child c.load_counted.new.io.node c.place_of-place.result.child) c.place_of-place.result.rest found) (rw c.child_at-child.ensures.child at finds)))

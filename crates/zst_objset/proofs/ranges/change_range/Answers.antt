@@ -3,15 +3,15 @@ use Rattle.std.proofs.lemmas.Result.{err_from_is_err_and}
 use Rattle.zst_block.specs.Blocks.{Has}
 use Rattle.zst_block.proofs.BlocksLaws.{FillsFree-then}
 use Rattle.zst_block.proofs.Working.{Works-after, Works-more, Works-then}
-use Rattle.zst_objset.specs.Ranges.{redact_of}
+use Rattle.zst_objset.specs.Ranges.{IsRightNode, change_of}
 use Rattle.zst_objset.proofs.IndicesChanged.{Changes-indices, change_refused, in_range, indices_not_there, past_indices}
 use Rattle.zst_objset.proofs.LeafLaws.{is_number_at, keeps_on}
-use Rattle.zst_objset.proofs.RangeLaws.{no_redact, redact_is, redact_refused}
+use Rattle.zst_objset.proofs.RangeLaws.{change_fails, change_is, no_change}
 use Rattle.zst_objset.proofs.SetGrows.{SetHolds-grows}
 use Rattle.zst_objset.proofs.SpillLaws.{stops}
 use Rattle.std.proofs.Common.{Err}
 use Rattle.zst_dnode.specs.declared.dnode.Dnode.{Dnode}
-use Rattle.zst_tree.specs.Damage.{NamesNode}
+use Rattle.zst_block.specs.Blocks.{SparesTaken}
 use Rattle.zst_tree.proofs.Told.{fills_looks}
 use Rattle.zst_objset.proofs.DamageLaws.{told_before, object_told, set_after, set_spared, tree_told}
 use Rattle.zst_model.specs.states.State.{index_bound}
@@ -19,33 +19,34 @@ use Rattle.zst_model.specs.declared.refusals.faults.Quantity.TheVariants as quan
 use Rattle.std.proofs.Common.{refl}
 use Rattle.zst_objset.proofs.LimitLaws.{if_no_limit, no_limit}
 use Rattle.zst_objset.proofs.TightLaws.{tight_grows}
-use Rattle.zst_objset.proofs.ranges.redact_range.Goals as goal
+use Rattle.zst_objset.proofs.ranges.change_range.Goals as goal
 
 pub returns-in_err-dnode-clause-changed : goal.returns-in_err-dnode-clause-changed
 returns-in_err-dnode-clause-changed g c = λ state honest holds.
     let p = err_from_is_err_and c.from_residual.result c.from_residual.ensures.1 in
-    rw (p.1, p.2) (indices_not_there c.args.number c.args.object (c.args.first + c.args.count) (redact_of c.args.first c.args.count (state.state c.args.object)) state (Has (g.D.Disk.state c.object_there.new.io.disk.now).seen c.object_there.new.io.space) _ (no_redact _ _) (c.in_err-dnode.ensures.found state honest holds))
+    rw (p.1, p.2) (indices_not_there c.args.number c.args.object (c.args.first + c.args.count) (change_of c.args.change c.args.first c.args.count (state.state c.args.object)) state (Has (g.D.Disk.state c.object_there.new.io.disk.now).seen c.object_there.new.io.space) _ (no_change c.args.change _ _ _) (c.in_err-dnode.ensures.found state honest holds))
 
-pub returns-in_err-check_redaction-clause-changed : goal.returns-in_err-check_redaction-clause-changed
-returns-in_err-check_redaction-clause-changed g c = λ state honest holds.
-    let p = err_from_is_err_and c.from_residual-in_err-check_redaction.result c.from_residual-in_err-check_redaction.ensures.1 in
+pub returns-in_err-check_change-clause-changed : goal.returns-in_err-check_change-clause-changed
+returns-in_err-check_change-clause-changed g c = λ state honest holds.
+    let p = err_from_is_err_and c.from_residual-in_err-check_change.result c.from_residual-in_err-check_change.ensures.1 in
     let there = c.in_ok-dnode.ensures.found state honest holds in
-    rw (p.1, p.2) (change_refused c.args.number c.args.object (c.args.first + c.args.count) (redact_of c.args.first c.args.count (state.state c.args.object)) state _ (redact_refused _ c.args.number c.args.object c.args.first c.args.count state c.in_ok-dnode.dnode holds.lawful there _ (sym c.in_err-check_redaction.ensures)))
+    rw (p.1, p.2) (change_refused c.args.number c.args.object (c.args.first + c.args.count) (change_of c.args.change c.args.first c.args.count (state.state c.args.object)) state _ (change_fails _ c.args.number c.args.object c.args.first c.args.count state c.in_ok-dnode.dnode holds.lawful there c.args.change _ (sym c.in_err-check_change.ensures)))
 
 pub returns-in_err-check_range-clause-changed : goal.returns-in_err-check_range-clause-changed
 returns-in_err-check_range-clause-changed g c = λ state honest holds.
     let p = err_from_is_err_and c.from_residual-in_err-check_range.result c.from_residual-in_err-check_range.ensures.1 in
     let past = c.in_err-check_range.ensures.past in
     let there = c.in_ok-dnode.ensures.found state honest holds in
-    rw (p.1, p.2, past.0) (past_indices (c.args.first + c.args.count) _ _ past.1 (redact_is _ c.args.number c.args.object c.args.first c.args.count state c.in_ok-dnode.dnode holds.lawful there (sym c.in_ok-check_redaction.ensures)))
+    let is = change_is _ c.args.number c.args.object c.args.first c.args.count state c.in_ok-dnode.dnode holds.lawful there c.args.change (sym c.in_ok-check_change.ensures) in
+    rw (p.1, p.2, past.0) (past_indices (c.args.first + c.args.count) _ is.0 past.1 is.1)
 
 pub returns-in_err-made-clause-changed : goal.returns-in_err-made-clause-changed
 returns-in_err-made-clause-changed g c = λ state honest holds.
     let p = err_from_is_err_and c.from_residual-in_err-made.result c.from_residual-in_err-made.ensures.1 in
     let there = c.in_ok-dnode.ensures.found state (c.in_err-made.ensures.works.fills.honest honest) holds in
     let number = is_number_at c.args.object (omega arith) (omega (arith, c.in_ok-dnode.ensures.bound)) in
-    let is = redact_is _ c.args.number c.args.object c.args.first c.args.count state c.in_ok-dnode.dnode holds.lawful there (sym c.in_ok-check_redaction.ensures) in
-    rw (p.1, p.2) (stops _ _ _ (in_range (c.args.first + c.args.count) _ _ c.in_ok-check_range.ensures.inside is) (c.in_err-made.ensures.made c.args.object state honest number holds.lawful there))
+    let is = change_is _ c.args.number c.args.object c.args.first c.args.count state c.in_ok-dnode.dnode holds.lawful there c.args.change (sym c.in_ok-check_change.ensures) in
+    rw (p.1, p.2) (stops _ _ _ (in_range (c.args.first + c.args.count) _ is.0 c.in_ok-check_range.ensures.inside is.1) (c.in_err-made.ensures.made c.args.object state honest number holds.lawful there))
 
 pub returns-in_err-made-clause-works : goal.returns-in_err-made-clause-works
 returns-in_err-made-clause-works g c =
@@ -58,14 +59,14 @@ returns-clause-works g c = Works-after c.in_ok-dnode.ensures.looks (Works-more (
 pub returns-clause-changed : goal.returns-clause-changed
 returns-clause-changed g c = λ state honest holds.
     let old = g.D.Disk.state c.args.io.now.disk.now in
-    let new = g.D.Disk.state c.redacted.new.io.disk.now in
+    let new = g.D.Disk.state c.range_changed.new.io.disk.now in
     let made = c.in_ok-made.ensures in
     let was_made = c.put_dnode.ensures.works.fills.honest honest in
     let there = c.in_ok-dnode.ensures.found state (made.works.fills.honest was_made) holds in
     let number = is_number_at c.args.object (omega arith) (omega (arith, c.in_ok-dnode.ensures.bound)) in
-    let grown = SetHolds-grows (Has old.seen c.args.io.now.space) (Has new.seen c.redacted.new.io.space) (keeps_on _ _ _ _ _ _ _ _ _ c.in_ok-dnode.ensures.looks made.works.fills) c.args.set.now state holds in
+    let grown = SetHolds-grows (Has old.seen c.args.io.now.space) (Has new.seen c.range_changed.new.io.space) (keeps_on _ _ _ _ _ _ _ _ _ c.in_ok-dnode.ensures.looks made.works.fills) c.args.set.now state holds in
     Changes-indices (c.args.first + c.args.count) _ _ _ c.in_ok-check_range.ensures.inside
-    (c.put_dnode.ensures.changed c.args.number (redact_of c.args.first c.args.count (state.state c.args.object)) state honest grown (made.made c.args.object state was_made number holds.lawful there))
+    (c.put_dnode.ensures.changed c.args.number (change_of c.args.change c.args.first c.args.count (state.state c.args.object)) state honest grown (made.made c.args.object state was_made number holds.lawful there))
 
 pub returns-in_err-dnode-clause-damaged : goal.returns-in_err-dnode-clause-damaged
 returns-in_err-dnode-clause-damaged g c = λ honest.
@@ -77,8 +78,8 @@ returns-in_err-made-clause-damaged g c = λ honest.
     let p = err_from_is_err_and c.from_residual-in_err-made.result c.from_residual-in_err-made.ensures.1 in
     let old = g.D.Disk.state c.args.io.now.disk.now in
     let stands = c.in_ok-dnode.ensures.stands (c.in_err-made.ensures.works.fills.honest honest) in
-    rw (p.1, p.2) (tree_told old c.args.io.now.space c.args.set.now NamesNode c.in_ok-dnode.dnode stands _
-    (told_before (λ space seen. NamesNode) c.in_ok-dnode.dnode.levels c.in_ok-dnode.dnode.root _ _ _ _ _ _ _ c.in_ok-dnode.ensures.looks _
+    rw (p.1, p.2) (tree_told old c.args.io.now.space c.args.set.now (IsRightNode c.args.change (SparesTaken c.args.io.now.space old.seen)) c.in_ok-dnode.dnode stands _
+    (told_before (λ space seen. IsRightNode c.args.change (SparesTaken space seen)) c.in_ok-dnode.dnode.levels c.in_ok-dnode.dnode.root _ _ _ _ _ _ _ c.in_ok-dnode.ensures.looks _
     (c.in_err-made.ensures.damaged honest)))
 
 pub returns-clause-damaged : goal.returns-clause-damaged
@@ -106,10 +107,10 @@ returns-in_err-dnode-clause-tight g c = λ state honest tight dated.
     let refused = returns-in_err-dnode-clause-changed g c state honest tight.holds in
     rw (p.1, p.2) (rw (p.1, p.2) at refused)
 
-pub returns-in_err-check_redaction-clause-tight : goal.returns-in_err-check_redaction-clause-tight
-returns-in_err-check_redaction-clause-tight g c = λ state honest tight dated.
-    let p = err_from_is_err_and c.from_residual-in_err-check_redaction.result c.from_residual-in_err-check_redaction.ensures.1 in
-    let refused = returns-in_err-check_redaction-clause-changed g c state honest tight.holds in
+pub returns-in_err-check_change-clause-tight : goal.returns-in_err-check_change-clause-tight
+returns-in_err-check_change-clause-tight g c = λ state honest tight dated.
+    let p = err_from_is_err_and c.from_residual-in_err-check_change.result c.from_residual-in_err-check_change.ensures.1 in
+    let refused = returns-in_err-check_change-clause-changed g c state honest tight.holds in
     rw (p.1, p.2) (rw (p.1, p.2) at refused)
 
 pub returns-in_err-check_range-clause-tight : goal.returns-in_err-check_range-clause-tight
@@ -127,15 +128,15 @@ returns-in_err-made-clause-tight g c = λ state honest tight dated.
 pub returns-clause-tight : goal.returns-clause-tight
 returns-clause-tight g c = λ state honest tight dated.
     let old = g.D.Disk.state c.args.io.now.disk.now in
-    let new = g.D.Disk.state c.redacted.new.io.disk.now in
+    let new = g.D.Disk.state c.range_changed.new.io.disk.now in
     let made = c.in_ok-made.ensures in
     let was_made = c.put_dnode.ensures.works.fills.honest honest in
     let there = c.in_ok-dnode.ensures.found state (made.works.fills.honest was_made) tight.holds in
     let number = is_number_at c.args.object (omega arith) (omega (arith, c.in_ok-dnode.ensures.bound)) in
-    let grown = tight_grows c.args.set.now old.seen c.args.io.now.space new.seen c.redacted.new.io.space state (keeps_on _ _ _ _ _ _ _ _ _ c.in_ok-dnode.ensures.looks made.works.fills) tight in
+    let grown = tight_grows c.args.set.now old.seen c.args.io.now.space new.seen c.range_changed.new.io.space state (keeps_on _ _ _ _ _ _ _ _ _ c.in_ok-dnode.ensures.looks made.works.fills) tight in
     let was = c.in_ok-dnode.ensures.tight state (made.works.fills.honest was_made) tight in
     Changes-indices (c.args.first + c.args.count) _ _ _ c.in_ok-check_range.ensures.inside
-    (c.put_dnode.ensures.tight c.args.number (redact_of c.args.first c.args.count (state.state c.args.object)) state honest grown (made.made c.args.object state was_made number tight.holds.lawful there)
+    (c.put_dnode.ensures.tight c.args.number (change_of c.args.change c.args.first c.args.count (state.state c.args.object)) state honest grown (made.made c.args.object state was_made number tight.holds.lawful there)
     (made.tight c.args.object state was_made number tight.holds.lawful there dated was))
 
 pub returns-in_err-dnode-clause-unredacted : goal.returns-in_err-dnode-clause-unredacted
