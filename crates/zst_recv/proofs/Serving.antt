@@ -13,6 +13,7 @@ use Rattle.zst_model.specs.declared.refusals.plan_fault.PlanFault.TheVariants as
 use Rattle.zst_model.specs.declared.refusals.refusal.Refusal.{Refusal}
 use Rattle.zst_model.specs.pools.Kept.{kept_of}
 use Rattle.zst_model.specs.pools.Pool.{Pool}
+use Rattle.zst_plan.specs.declared.receive.RecvAsk.{RecvAsk}
 use Rattle.zst_pool.specs.Calls.{IsAtRest, IsCallFault, IsUnderWay}
 use Rattle.zst_pool.specs.Partials.{without_unkept}
 use Rattle.zst_pool.specs.declared.fault.PoolFault.{PoolFault}
@@ -40,7 +41,7 @@ use Rattle.zst_recv.specs.declared.stage.Stage.TheVariants as stages
 use Rattle.zst_recv.proofs.Behind.{fed_within}
 use Rattle.zst_recv.proofs.Counting.{applied_within, few_records}
 use Rattle.zst_recv.proofs.Ending.{IsBegun}
-use Rattle.zst_recv.proofs.Feeding.{IsDue, fell, gives, moments_after, moments_before, stopped_behind, unput}
+use Rattle.zst_recv.proofs.Feeding.{IsDue, due_some, fell, gives, moments_after, moments_before, stopped_behind, unput}
 use Rattle.zst_block.proofs.BlocksLaws.{Has-spared}
 use Rattle.zst_recv.proofs.Putting.{stage_later, stage_more}
 use Rattle.zst_recv.proofs.Going.{begun_then, done_is, goes_on_so, left_is, outcome_is, point_is, used_is}
@@ -209,37 +210,41 @@ module _ (tight : Bool) (old last : DiskState) (after : Kept) (recv : Recv) (tex
       (record { moments = Leaves-none old (λ c. Reads tight (kept_of running) c ⊎ Reads tight (kept_of (pool_of (fed_piece recv.ask text piece stage running))) c); answer = (refl, long, rests) }))
 
   -- the piece wasn't read
-  pub lost : (two : DiskState) (kept : Kept) (space : FreeSectors) (given fault : RecvFault) → IsUnderWay tight old two space kept running → last ≡ two → given ≡ fault → ReadFault (fault_in recv.ask running text piece (at_stage stage)) fault
-      → (fault_in recv.ask running text piece (at_stage stage) ≡ Some (recv_refusal fault) → (keeps_before fault && is_kept (taken_of recv.ask running text piece (at_stage stage)).work.stage) ≡ false)
+  pub lost : (ask : RecvAsk) (two : DiskState) (kept : Kept) (space : FreeSectors) (given fault : RecvFault) → recv.ask ≡ ask → IsUnderWay tight old two space kept running → last ≡ two → given ≡ fault → ReadFault (fault_in ask running text piece (at_stage stage)) fault
+      → (fault_in ask running text piece (at_stage stage) ≡ Some (recv_refusal fault) → (keeps_before fault && is_kept (taken_of ask running text piece (at_stage stage)).work.stage) ≡ false)
       → ((need largest : ℕ) → fault ≡ faults.Pool (pools.Full need largest) → largest < need) → IsAtRest tight two after (left_by stage running) → Feeds tight old last after recv text piece stage running (Err given)
-  lost two kept space given fault way same is told none full rests =
+  lost ask two kept space given fault asked way same is told none full rests =
+      let here = subst (λ (a : RecvAsk). ReadFault (fault_in a running text piece (at_stage stage)) fault
+      × (fault_in a running text piece (at_stage stage) ≡ Some (recv_refusal fault) → (keeps_before fault && is_kept (taken_of a running text piece (at_stage stage)).work.stage) ≡ false)) (sym asked) (told, none) in
       subst (λ (f : RecvFault). Feeds tight old last after recv text piece stage running (Err f)) (sym is)
       (subst (λ (d : DiskState). Feeds tight old d after recv text piece stage running (Err fault)) (sym same)
       (record {
         moments = moments_before recv.ask text piece stage running tight old two (since old two space kept running way);
-        answer = fell recv.ask text piece stage running tight two after recv rests fault told none full;
+        answer = fell recv.ask text piece stage running tight two after recv rests fault here.0 here.1 full;
       }))
 
   -- its commit was refused
-  pub unmade : (two : DiskState) (kept : Kept) (first : Option Refusal) (given : RecvFault) (fault : PoolFault) → IsDue recv.ask text piece stage running first
-      → Puts tight old two kept running (put (taken_of recv.ask running text piece (at_stage stage)).work running) (Err fault) → last ≡ two → given ≡ faults.Pool fault
+  pub unmade : (ask : RecvAsk) (two : DiskState) (kept : Kept) (first : Option Refusal) (given : RecvFault) (fault : PoolFault) → recv.ask ≡ ask → IsDue ask text piece stage running first
+      → Puts tight old two kept running (put (taken_of ask running text piece (at_stage stage)).work running) (Err fault) → last ≡ two → given ≡ faults.Pool fault
       → (IsAtRest tight two kept running → IsAtRest tight two after (left_by stage running)) → Feeds tight old last after recv text piece stage running (Err given)
-  unmade two kept first given fault due puts same is rests =
+  unmade ask two kept first given fault asked due puts same is rests =
+      let here = subst (λ (a : RecvAsk). IsDue a text piece stage running first × Puts tight old two kept running (put (taken_of a running text piece (at_stage stage)).work running) (Err fault)) (sym asked) (due, puts) in
+      let put = here.1 in
       subst (λ (f : RecvFault). Feeds tight old last after recv text piece stage running (Err f)) (sym is)
       (subst (λ (d : DiskState). Feeds tight old d after recv text piece stage running (Err (faults.Pool fault))) (sym same)
       (record {
-        moments = moments_after recv.ask text piece stage running tight old two first due puts.moments;
-        answer = unput recv.ask text piece stage running tight two after recv (IsAtRest tight two kept running) rests first due fault puts.answer;
+        moments = moments_after recv.ask text piece stage running tight old two first here.0 put.moments;
+        answer = unput recv.ask text piece stage running tight two after recv (IsAtRest tight two kept running) rests first here.0 fault put.answer;
       }))
 
   -- the records before a fault were committed
-  pub stopped : (kept : Kept) (fault : RecvFault) → IsDue recv.ask text piece stage running (Some (recv_refusal fault)) → ReadFault (fault_in recv.ask running text piece (at_stage stage)) fault → keeps_before fault ≡ true
+  pub stopped : (fault : RecvFault) → ReadFault (fault_in recv.ask running text piece (at_stage stage)) fault → keeps_before fault ≡ true
       → (fault_in recv.ask running text piece (at_stage stage) ≡ Some (recv_refusal fault) → is_kept (taken_of recv.ask running text piece (at_stage stage)).work.stage ≡ true)
       → Puts tight old last after running (put (taken_of recv.ask running text piece (at_stage stage)).work running) (Ok tt) → Feeds tight old last after recv text piece stage running (Err fault)
-  stopped kept fault due told keeps stands puts =
+  stopped fault told keeps stands puts =
       let put = puts.answer in
       record {
-        moments = moments_after recv.ask text piece stage running tight old last (Some (recv_refusal fault)) due puts.moments;
+        moments = moments_after recv.ask text piece stage running tight old last (Some (recv_refusal fault)) (due_some recv.ask text piece stage running fault told keeps stands) puts.moments;
         answer = stopped_behind recv.ask text piece stage running tight last after recv put.0 put.1 put.2 fault told keeps stands;
       }
 

@@ -1,9 +1,9 @@
-use Rattle.std.proofs.Common.{◌≡◌, ◌&&◌, ◌++◌, Bool, true, false, Some, None, Ok, Err, refl, sym, ap, ◌∙◌, subst, arith, ◌⊎◌}
-use Rattle.std.specs.Prelude.{◌+◌, ◌-◌, ℕ, IsSome, not, sum_by}
+use Rattle.std.proofs.Common.{◌≡◌, ◌&&◌, ◌++◌, Bool, true, false, cond, Some, None, Ok, Err, refl, sym, ap, ◌∙◌, subst, arith, ◌⊎◌}
+use Rattle.std.specs.Prelude.{◌+◌, ◌-◌, ℕ, IsSome, List, [], Result, not, sum_by}
 use Rattle.zst_space.specs.FreeSectors.{FreeSectors}
 use Rattle.zst_reader.specs.StandsFor.{StandsFor, pushed_of, HandsOut}
 use Rattle.zst_reader.specs.declared.reader.Reader.{Reader}
-use Rattle.zst_record.specs.Heads.{size_of}
+use Rattle.zst_record.specs.Heads.{Covered, size_of}
 use Rattle.zst_outside.specs.Images.{DiskState}
 use Rattle.zst_block.specs.Blocks.{FillsFree, Has}
 use Rattle.zst_image.specs.Committing.{Ready}
@@ -11,205 +11,192 @@ use Rattle.zst_image.specs.Reads.{bound_of, free_by}
 use Rattle.zst_image.specs.declared.kept.Kept.{Kept}
 use Rattle.zst_model.specs.pools.Pool.{Pool}
 use Rattle.zst_plan.specs.declared.receive.RecvAsk.{RecvAsk}
-use Rattle.zst_pool.specs.Calls.{CallGrows, IsCallFull}
+use Rattle.zst_pool.specs.Calls.{CallGrows, CanCommit, IsAtRest, IsCallFull, IsUnderWay}
+use Rattle.zst_pool.specs.Partials.{without_unkept}
 use Rattle.zst_pool.specs.declared.fault.PoolFault.{PoolFault}
+use Rattle.zst_pool.specs.declared.fault.PoolFault.TheVariants as pools
 use Rattle.zst_pool.proofs.Resting.{commit_still, rests_on, rests_still}
 use Rattle.zst_model.specs.declared.refusals.faults.Quantity.TheVariants as quantities
+use Rattle.zst_model.specs.declared.refusals.plan_fault.PlanFault.{PlanFault}
 use Rattle.zst_model.specs.declared.refusals.plan_fault.PlanFault.TheVariants as plans
-use Rattle.zst_recv.specs.Faults.{IsFeedFault, keeps_before, recv_refusal, stop_at, stream_limit}
-use Rattle.zst_recv.specs.Receiving.{Work, at_stage, is_kept, put}
+use Rattle.zst_recv.specs.Faults.{IsFeedFault, keeps_before, recv_refusal, stop_at, stop_of, stream_limit}
+use Rattle.zst_recv.specs.Receiving.{Stage, Work, at_stage, is_kept, left_by, put}
 use Rattle.zst_recv.specs.Answers.{is_done}
 use Rattle.zst_recv.specs.Feeds.{new_records}
 use Rattle.zst_recv.specs.Settling.{Puts}
-use Rattle.zst_recv.specs.Stages.{HasRead, IsStage, IsWork, StageFits, TellsBefore, has_partial, is_live, received_at, waits_at}
-use Rattle.zst_recv.specs.Taking.{ReadFault, TakesAll, fault_in, taken_of}
+use Rattle.zst_recv.specs.Stages.{HasRead, IsStage, IsWork, Receives, StageFits, TellsBefore, has_partial, is_live, received_at, waits_at}
+use Rattle.zst_recv.specs.Taking.{Reads, TakesAll, fault_in, taken_of}
 use Rattle.zst_recv.specs.declared.batch.Batch as batches
 use Rattle.zst_recv.specs.declared.recv.Fed as coded_recv
 use Rattle.zst_recv.specs.declared.stage.Stage as coded
 use Rattle.zst_recv.proofs.Ending.{untaken}
-use Rattle.zst_recv.proofs.Feeding.{IsDue, due_some}
+use Rattle.zst_recv.proofs.Feeding.{due_some}
 use Rattle.zst_recv.proofs.Going.{done_is}
 use Rattle.zst_recv.proofs.Putting.{put_none, put_stands, same_ok}
 use Rattle.zst_recv.specs.declared.fault.RecvFault.{RecvFault}
+use Rattle.zst_recv.specs.declared.fault.RecvFault.TheVariants as faults
 use Rattle.zst_recv.proofs.Damaging.{damaged_renewed, err_told, told_call}
 use Rattle.zst_recv.proofs.Behind.{over_reads}
 use Rattle.zst_recv.proofs.Serving.{behind_fits, both_false, by_test, fed_so, first_stage, first_way, fits_within, kept_is, left_rests, live_fits, loose, lost, not_false, not_not, over_fits, received_then, stopped, too_long, unmade, untaken_stands, waits_behind, known_call, still_open}
-use Rattle.zst_stream.specs.Reading.{waiting}
+use Rattle.zst_stream.specs.Reading.{reading, waiting}
 use Rattle.zst_recv.specs.Costs.{PieceIsShort, Spends, records_behind}
 use Rattle.zst_recv.proofs.Spending.{full_keeps_none, same_pool, short_put, short_read, piece_grows}
 use Rattle.zst_recv.specs.Planning.{RefusesEach, RefusesOne, is_planned}
 use Rattle.zst_recv.proofs.Keeping.{keeps_behind, live_partial}
 use Rattle.zst_recv.proofs.Planning.{both_planned, call_unplanned, over_waits, waits_ahead, waits_kept}
+use Rattle.zst_recv.proofs.recv.Recv.feed.Given.{Over}
 use Rattle.zst_recv.proofs.recv.Recv.feed.Goals as goal
-use Rattle.zst_recv.proofs.recv.Recv.feed.Goals.{then-keeps_before+else-is_kept, else-keeps_before}
+use Rattle.zst_recv.proofs.recv.Recv.feed.Goals.{After-has_partial-held, After-read, Then-is_kept, then-keeps_before+else-is_kept, else-keeps_before}
+
+-- what was read can be committed
+can_commit : (g : Over) (c : After-read g) → CanCommit (g.D.Disk.state c.read.new.io.disk.now) c.read.new.io.space c.renew.new.self.kept.body
+can_commit g c =
+    commit_still (g.D.Disk.state c.renew.new.self.io.disk.now) (g.D.Disk.state c.read.new.io.disk.now) c.renew.new.self.io.space c.read.new.io.space c.renew.new.self.kept (c.renew.ensures.works (c.requires.ready c.if-pool.false))
+    c.read.ensures.fills.fills c.read.ensures.fills.fits c.read.ensures.fills.sectors
+
+-- how a piece was read: the pool is under way since it was at rest, and of the piece was taken what the definition takes before its first fault
+record ReadsPiece (g : Over) (c : After-read g) (tight : Bool) (running : Pool) (text : List ℕ) (stage : Stage) (result : Result (Unit {0}) RecvFault) : Type 0 where
+  way : IsUnderWay tight (g.D.Disk.state c.args.pool.now.io.disk.now) (g.D.Disk.state c.read.new.io.disk.now) c.read.new.io.space c.renew.new.self.kept running
+  taken : Reads c.args.self.now.ask running c.read.new.reader text c.args.piece.now (IsWork (bound_of tight (running.number + 1)) (Has (g.D.Disk.state c.read.new.io.disk.now).seen c.read.new.io.space) c.read.new.batch) (at_stage stage) result
+
+-- so it was, where the disk told the truth until then
+reads_piece : (g : Over) (c : After-read g) (tight : Bool) (running : Pool) (text : List ℕ) (stage : Stage) (result : Result (Unit {0}) RecvFault) → c.read.result ≡ result → (g.D.Disk.state c.read.new.io.disk.now).honest
+    → IsAtRest tight (g.D.Disk.state c.args.pool.now.io.disk.now) c.args.pool.now.kept running → TellsBefore c.args.self.now.ask stage c.args.pool.now.kept.dir running
+    → Receives (bound_of tight running.number) (Has (g.D.Disk.state c.args.pool.now.io.disk.now).seen (free_by c.args.pool.now.kept.body)) c.args.self.now text stage → ReadsPiece g c tight running text stage result
+reads_piece g c tight running text stage result was honest rested tells is =
+    let old = g.D.Disk.state c.args.pool.now.io.disk.now in
+    let one = g.D.Disk.state c.renew.new.self.io.disk.now in
+    let two = g.D.Disk.state c.read.new.io.disk.now in
+    let kept = c.args.pool.now.kept in
+    let same = c.renew.new.self.kept in
+    let space = c.renew.new.self.io.space in
+    let recv = c.args.self.now in
+    let bound = bound_of tight (running.number + 1) in
+    let disk = ap (λ (d : g.row.D.Denot). g.D.Disk.state d) c.renew.ensures.disk in
+    let way = first_way old one kept same space disk c.renew.ensures.kept c.renew.ensures.space running rested in
+    let stands = first_stage old one kept same space disk c.renew.ensures.kept c.renew.ensures.space tight running.number recv.stage stage is.stands in
+    let work = c.new-batch.ensures.work bound one.seen space stage (subst (λ (s : coded.Stage). IsStage bound (Has one.seen space) s stage) (sym c.replace.ensures.value) stands) in
+    let read = c.read.ensures.read tight c.args.pool.now.io.disk.now running (at_stage stage) text is.handed honest way (subst (λ (k : Kept). TellsBefore recv.ask stage k.dir running) (sym c.renew.ensures.kept) tells) is.reads work in
+    record {
+      way = rests_still old one space same running way two c.read.new.io.space c.read.ensures.fills.fills;
+      taken = subst (Reads recv.ask running c.read.new.reader text c.args.piece.now (IsWork bound (Has two.seen c.read.new.io.space) c.read.new.batch) (at_stage stage)) was read;
+    }
+
+-- what was read before this fault is kept
+keeps_read : (g : Over) (c : Then-is_kept g) (tight : Bool) (running : Pool) (text : List ℕ) (stage : Stage) → ReadsPiece g (goal.at.Then-is_kept g c).After-read tight running text stage (Err c.in-Err.fault)
+    → (keeps_before c.in-Err.fault ≡ true)
+    × (fault_in c.args.self.now.ask running text c.args.piece.now (at_stage stage) ≡ Some (recv_refusal c.in-Err.fault) → is_kept (taken_of c.args.self.now.ask running text c.args.piece.now (at_stage stage)).work.stage ≡ true)
+keeps_read g c tight running text stage read =
+    let has = Has (g.D.Disk.state c.read.new.io.disk.now).seen c.read.new.io.space in
+    let taken = (taken_of c.args.self.now.ask running text c.args.piece.now (at_stage stage)).work in (
+      sym c.keeps_before.ensures ∙ c.if-keeps_before.true,
+      λ first. sym (kept_is (bound_of tight (running.number + 1)) has c.read.new.batch.stage taken.stage (let work = read.taken.1 first in work.stage)) ∙ sym c.is_kept.ensures ∙ c.if-is_kept.true,
+    )
+
+-- where it is given up, the receive leaves the pool at rest
+left : (g : Over) (c : After-has_partial-held g) {tight : Bool} (running : Pool) (text : List ℕ) (stage : Stage)
+    → Receives (bound_of tight running.number) (Has (g.D.Disk.state c.args.pool.now.io.disk.now).seen (free_by c.args.pool.now.kept.body)) c.args.self.now text stage → (now : DiskState) (after : Kept)
+    → IsAtRest tight now after (cond c.has_partial-held.result (without_unkept c.args.self.now.ask.target running) running) → IsAtRest tight now after (left_by stage running)
+left g c {tight = tight} running text stage is now after rests =
+    let recv = c.args.self.now in
+    left_rests (bound_of tight running.number) (Has (g.D.Disk.state c.args.pool.now.io.disk.now).seen (free_by c.args.pool.now.kept.body)) c.args.pool.now.kept.dir recv.ask.target recv.stage stage running now after
+    c.has_partial-held.result c.has_partial-held.ensures is.stands c.requires.recv.stage rests
 
 pub returns-then-piece-started-clause-feeds : goal.returns-then-piece-started-clause-feeds
 returns-then-piece-started-clause-feeds g c = λ tight running text stage told alive rested tells is.
+    let at = goal.at.returns-then-piece-started-clause-feeds g c in
     let old = g.D.Disk.state c.args.pool.now.io.disk.now in
-    let recv = c.args.self.now in
-    let kept = c.args.pool.now.kept in
-    let has = Has old.seen (free_by kept.body) in
     let last = ap (λ (io : _). g.D.Disk.state io.disk.now) c.give_up.ensures.io in
-    let left = left_rests (bound_of tight running.number) has kept.dir recv.ask.target recv.stage stage running old c.give_up.new.pool.kept c.has_partial-held.result c.has_partial-held.ensures is.stands c.requires.recv.stage
-    (c.give_up.ensures.rests tight c.args.pool.now.io.disk.now running rested) in
-    too_long tight old (g.D.Disk.state c.give_up.new.pool.io.disk.now) c.give_up.new.pool.kept c.give_up.new.self text c.args.piece.now stage running last left
+    too_long tight old (g.D.Disk.state c.give_up.new.pool.io.disk.now) c.give_up.new.pool.kept c.give_up.new.self text c.args.piece.now stage running last
+    (left g at.After-has_partial-held running text stage is old c.give_up.new.pool.kept (c.give_up.ensures.rests tight c.args.pool.now.io.disk.now running rested))
     (omega (arith, c.if-piece-started.true, c.pushed-started.ensures, is.reads.stands.pushed)) c.give_up.result (c.give_up.ensures.fault ∙ c.too_long.ensures)
 
 pub returns-in-Err-2-clause-feeds : goal.returns-in-Err-2-clause-feeds
 returns-in-Err-2-clause-feeds g c = λ tight running text stage told alive rested tells is.
+    let at = goal.at.returns-in-Err-2-clause-feeds g c in
     let gave = c.give_up-in-Err-2 in
     let last = ap (λ (io : _). g.D.Disk.state io.disk.now) gave.ensures.io in
-    let honest = subst (λ (d : DiskState). d.honest) last told in
+    let fault = c.in-Err.fault in
+    let read = reads_piece g at.After-read tight running text stage (Err fault) c.in-Err.is (subst (λ (d : DiskState). d.honest) last told) rested tells is in
     let old = g.D.Disk.state c.args.pool.now.io.disk.now in
-    let one = g.D.Disk.state c.renew.new.self.io.disk.now in
     let two = g.D.Disk.state c.read.new.io.disk.now in
-    let kept = c.args.pool.now.kept in
     let same = c.renew.new.self.kept in
     let recv = c.args.self.now in
-    let batch = c.read.new.batch in
-    let disk = ap (λ (d : g.row.D.Denot). g.D.Disk.state d) c.renew.ensures.disk in
-    let way = first_way old one kept same c.renew.new.self.io.space disk c.renew.ensures.kept c.renew.ensures.space running rested in
-    let way2 = rests_still old one c.renew.new.self.io.space same running way two c.read.new.io.space c.read.ensures.fills.fills in
-    let has = Has old.seen (free_by kept.body) in
-    let now = Has two.seen c.read.new.io.space in
-    let bound = bound_of tight (running.number + 1) in
-    let stands = first_stage old one kept same c.renew.new.self.io.space disk c.renew.ensures.kept c.renew.ensures.space tight running.number recv.stage stage is.stands in
-    let work = c.new-batch.ensures.work bound one.seen c.renew.new.self.io.space stage (subst (λ (s : coded.Stage). IsStage bound (Has one.seen c.renew.new.self.io.space) s stage) (sym c.replace.ensures.value) stands) in
-    let read = c.in-Err.ensures.read tight c.args.pool.now.io.disk.now running (at_stage stage) text is.handed honest way (subst (λ (k : Kept). TellsBefore recv.ask stage k.dir running) (sym c.renew.ensures.kept) tells) is.reads work in
-    let fault = c.in-Err.fault in
     let piece = c.args.piece.now in
-    let read2 = subst (λ (a : RecvAsk). ReadFault (fault_in a running text piece (at_stage stage)) fault × (fault_in a running text piece (at_stage stage) ≡ Some (recv_refusal fault) → IsWork bound now batch (taken_of a running text piece (at_stage stage)).work)) (sym gave.ensures.ask) read in
-    let stays = (taken_of gave.new.self.ask running text piece (at_stage stage)).work.stage in
-    let left = left_rests (bound_of tight running.number) has kept.dir recv.ask.target recv.stage stage running two gave.new.pool.kept c.has_partial-held.result c.has_partial-held.ensures is.stands c.requires.recv.stage
-    (gave.ensures.rests tight c.read.new.io.disk.now running (rests_on old two c.read.new.io.space same running way2)) in
-    lost tight old (g.D.Disk.state gave.new.pool.io.disk.now) gave.new.pool.kept gave.new.self text piece stage running two same c.read.new.io.space gave.result fault way2 last gave.ensures.fault read2.0
+    let stays = (taken_of recv.ask running text piece (at_stage stage)).work.stage in
+    lost tight old (g.D.Disk.state gave.new.pool.io.disk.now) gave.new.pool.kept gave.new.self text piece stage running recv.ask two same c.read.new.io.space gave.result fault gave.ensures.ask read.way last gave.ensures.fault read.taken.0
     (λ first. elim c.if-keeps_before.branch [
-      | then-keeps_before+else-is_kept w ↦ both_false (keeps_before fault) (is_kept stays) (sym (kept_is bound now batch.stage stays (let has_made = read2.1 first in has_made.stage)) ∙ sym w.is_kept.ensures ∙ w.if-is_kept.false)
+      | then-keeps_before+else-is_kept w ↦
+          both_false (keeps_before fault) (is_kept stays)
+          (sym (kept_is (bound_of tight (running.number + 1)) (Has two.seen c.read.new.io.space) c.read.new.batch.stage stays (let work = read.taken.1 first in work.stage)) ∙ sym w.is_kept.ensures ∙ w.if-is_kept.false)
       | else-keeps_before w ↦ ap (λ (b : Bool). b && is_kept stays) (sym c.keeps_before.ensures ∙ w.if-keeps_before.false)
     ])
-    (λ need largest full. let f = c.in-Err.ensures.fills.full need largest (ap stop_at full) in f.0) left
+    (λ need largest full. let f = c.in-Err.ensures.fills.full need largest (ap stop_at full) in f.0)
+    (left g at.After-has_partial-held running text stage is two gave.new.pool.kept (gave.ensures.rests tight c.read.new.io.disk.now running (rests_on old two c.read.new.io.space same running read.way)))
 
 pub returns-in-Err-put-clause-feeds : goal.returns-in-Err-put-clause-feeds
 returns-in-Err-put-clause-feeds g c = λ tight running text stage told alive rested tells is.
+    let at = goal.at.returns-in-Err-put-clause-feeds g c in
     let gave = c.give_up-in-Err-put in
     let three = g.D.Disk.state c.put.new.pool.io.disk.now in
     let last = ap (λ (io : _). g.D.Disk.state io.disk.now) gave.ensures.io in
-    let honest3 = subst (λ (d : DiskState). d.honest) last told in
-    let honest = c.put.ensures.honest honest3 in
-    let old = g.D.Disk.state c.args.pool.now.io.disk.now in
-    let one = g.D.Disk.state c.renew.new.self.io.disk.now in
-    let two = g.D.Disk.state c.read.new.io.disk.now in
-    let kept = c.args.pool.now.kept in
-    let same = c.renew.new.self.kept in
+    let honest = subst (λ (d : DiskState). d.honest) last told in
+    let read = reads_piece g at.After-read tight running text stage (Ok c.in-Ok.field-0) c.in-Ok.is (c.put.ensures.honest honest) rested tells is in
     let recv = c.args.self.now in
-    let batch = c.read.new.batch in
-    let disk = ap (λ (d : g.row.D.Denot). g.D.Disk.state d) c.renew.ensures.disk in
-    let way = first_way old one kept same c.renew.new.self.io.space disk c.renew.ensures.kept c.renew.ensures.space running rested in
-    let way2 = rests_still old one c.renew.new.self.io.space same running way two c.read.new.io.space c.read.ensures.fills.fills in
-    let has = Has old.seen (free_by kept.body) in
-    let now = Has two.seen c.read.new.io.space in
-    let bound = bound_of tight (running.number + 1) in
-    let stands = first_stage old one kept same c.renew.new.self.io.space disk c.renew.ensures.kept c.renew.ensures.space tight running.number recv.stage stage is.stands in
-    let work = c.new-batch.ensures.work bound one.seen c.renew.new.self.io.space stage (subst (λ (s : coded.Stage). IsStage bound (Has one.seen c.renew.new.self.io.space) s stage) (sym c.replace.ensures.value) stands) in
-    let read = c.in-Ok.ensures.read tight c.args.pool.now.io.disk.now running (at_stage stage) text is.handed honest way (subst (λ (k : Kept). TellsBefore recv.ask stage k.dir running) (sym c.renew.ensures.kept) tells) is.reads work in
-    let fault = c.in-Err-put.fault in
-    let piece = c.args.piece.now in
-    let taken = (taken_of recv.ask running text piece (at_stage stage)).work in
-    let puts = c.in-Err-put.ensures.puts tight c.args.pool.now.io.disk.now running taken honest3 way2 read.is in
-    let both = subst (λ (a : RecvAsk). (IsDue a text piece stage running None) × (Puts tight old three c.put.new.pool.kept running (put (taken_of a running text piece (at_stage stage)).work running) (Err fault))) (sym gave.ensures.ask) (read.whole, puts) in
-    unmade tight old (g.D.Disk.state gave.new.pool.io.disk.now) gave.new.pool.kept gave.new.self text piece stage running three c.put.new.pool.kept None gave.result fault both.0 both.1 last gave.ensures.fault
-    (λ at. left_rests (bound_of tight running.number) has kept.dir recv.ask.target recv.stage stage running three gave.new.pool.kept c.has_partial-held.result c.has_partial-held.ensures is.stands c.requires.recv.stage
-    (gave.ensures.rests tight c.put.new.pool.io.disk.now running at))
+    let taken = (taken_of recv.ask running text c.args.piece.now (at_stage stage)).work in
+    unmade tight (g.D.Disk.state c.args.pool.now.io.disk.now) (g.D.Disk.state gave.new.pool.io.disk.now) gave.new.pool.kept gave.new.self text c.args.piece.now stage running recv.ask three c.put.new.pool.kept None gave.result c.in-Err-put.fault
+    gave.ensures.ask read.taken.whole (c.in-Err-put.ensures.puts tight c.args.pool.now.io.disk.now running taken honest read.way read.taken.is) last gave.ensures.fault
+    (λ rests. left g at.After-has_partial-held running text stage is three gave.new.pool.kept (gave.ensures.rests tight c.put.new.pool.io.disk.now running rests))
 
 pub returns-in-Err-put-2-clause-feeds : goal.returns-in-Err-put-2-clause-feeds
 returns-in-Err-put-2-clause-feeds g c = λ tight running text stage told alive rested tells is.
+    let at = goal.at.returns-in-Err-put-2-clause-feeds g c in
     let gave = c.give_up-in-Err-put-2 in
     let three = g.D.Disk.state c.put-in-Err.new.pool.io.disk.now in
     let last = ap (λ (io : _). g.D.Disk.state io.disk.now) gave.ensures.io in
-    let honest3 = subst (λ (d : DiskState). d.honest) last told in
-    let honest = c.put-in-Err.ensures.honest honest3 in
-    let old = g.D.Disk.state c.args.pool.now.io.disk.now in
-    let one = g.D.Disk.state c.renew.new.self.io.disk.now in
-    let two = g.D.Disk.state c.read.new.io.disk.now in
-    let kept = c.args.pool.now.kept in
-    let same = c.renew.new.self.kept in
-    let recv = c.args.self.now in
-    let batch = c.read.new.batch in
-    let disk = ap (λ (d : g.row.D.Denot). g.D.Disk.state d) c.renew.ensures.disk in
-    let way = first_way old one kept same c.renew.new.self.io.space disk c.renew.ensures.kept c.renew.ensures.space running rested in
-    let way2 = rests_still old one c.renew.new.self.io.space same running way two c.read.new.io.space c.read.ensures.fills.fills in
-    let has = Has old.seen (free_by kept.body) in
-    let now = Has two.seen c.read.new.io.space in
-    let bound = bound_of tight (running.number + 1) in
-    let stands = first_stage old one kept same c.renew.new.self.io.space disk c.renew.ensures.kept c.renew.ensures.space tight running.number recv.stage stage is.stands in
-    let work = c.new-batch.ensures.work bound one.seen c.renew.new.self.io.space stage (subst (λ (s : coded.Stage). IsStage bound (Has one.seen c.renew.new.self.io.space) s stage) (sym c.replace.ensures.value) stands) in
-    let read = c.in-Err.ensures.read tight c.args.pool.now.io.disk.now running (at_stage stage) text is.handed honest way (subst (λ (k : Kept). TellsBefore recv.ask stage k.dir running) (sym c.renew.ensures.kept) tells) is.reads work in
+    let honest = subst (λ (d : DiskState). d.honest) last told in
     let fault = c.in-Err.fault in
-    let other = c.in-Err-put-2.other in
-    let piece = c.args.piece.now in
-    let taken = (taken_of recv.ask running text piece (at_stage stage)).work in
-    let keeps : keeps_before fault ≡ true = sym c.keeps_before.ensures ∙ c.if-keeps_before.true in
-    let due = due_some recv.ask text piece stage running fault read.0 keeps (λ first. sym (kept_is bound now batch.stage taken.stage (let has_made = read.1 first in has_made.stage)) ∙ sym c.is_kept.ensures ∙ c.if-is_kept.true) in
-    let puts = c.in-Err-put-2.ensures.puts tight c.args.pool.now.io.disk.now running taken honest3 way2 (read.1 due.0) in
-    let both = subst (λ (a : RecvAsk). (IsDue a text piece stage running (Some (recv_refusal fault))) × (Puts tight old three c.put-in-Err.new.pool.kept running (put (taken_of a running text piece (at_stage stage)).work running) (Err other))) (sym gave.ensures.ask) (due, puts) in
-    unmade tight old (g.D.Disk.state gave.new.pool.io.disk.now) gave.new.pool.kept gave.new.self text piece stage running three c.put-in-Err.new.pool.kept (Some (recv_refusal fault)) gave.result other both.0 both.1 last gave.ensures.fault
-    (λ at. left_rests (bound_of tight running.number) has kept.dir recv.ask.target recv.stage stage running three gave.new.pool.kept c.has_partial-held.result c.has_partial-held.ensures is.stands c.requires.recv.stage
-    (gave.ensures.rests tight c.put-in-Err.new.pool.io.disk.now running at))
+    let read = reads_piece g at.After-read tight running text stage (Err fault) c.in-Err.is (c.put-in-Err.ensures.honest honest) rested tells is in
+    let keeps = keeps_read g at.Then-is_kept tight running text stage read in
+    let recv = c.args.self.now in
+    let due = due_some recv.ask text c.args.piece.now stage running fault read.taken.0 keeps.0 keeps.1 in
+    let taken = (taken_of recv.ask running text c.args.piece.now (at_stage stage)).work in
+    unmade tight (g.D.Disk.state c.args.pool.now.io.disk.now) (g.D.Disk.state gave.new.pool.io.disk.now) gave.new.pool.kept gave.new.self text c.args.piece.now stage running recv.ask three c.put-in-Err.new.pool.kept (Some (recv_refusal fault)) gave.result c.in-Err-put-2.other
+    gave.ensures.ask due (c.in-Err-put-2.ensures.puts tight c.args.pool.now.io.disk.now running taken honest read.way (read.taken.1 due.0)) last gave.ensures.fault
+    (λ rests. left g at.After-has_partial-held running text stage is three gave.new.pool.kept (gave.ensures.rests tight c.put-in-Err.new.pool.io.disk.now running rests))
 
 pub returns-in-Ok-put-2-clause-feeds : goal.returns-in-Ok-put-2-clause-feeds
 returns-in-Ok-put-2-clause-feeds g c = λ tight running text stage told alive rested tells is.
-    let three = g.D.Disk.state c.put-in-Err.new.pool.io.disk.now in
-    let honest = c.put-in-Err.ensures.honest told in
-    let old = g.D.Disk.state c.args.pool.now.io.disk.now in
-    let one = g.D.Disk.state c.renew.new.self.io.disk.now in
-    let two = g.D.Disk.state c.read.new.io.disk.now in
-    let kept = c.args.pool.now.kept in
-    let same = c.renew.new.self.kept in
-    let recv = c.args.self.now in
-    let batch = c.read.new.batch in
-    let disk = ap (λ (d : g.row.D.Denot). g.D.Disk.state d) c.renew.ensures.disk in
-    let way = first_way old one kept same c.renew.new.self.io.space disk c.renew.ensures.kept c.renew.ensures.space running rested in
-    let way2 = rests_still old one c.renew.new.self.io.space same running way two c.read.new.io.space c.read.ensures.fills.fills in
-    let has = Has old.seen (free_by kept.body) in
-    let now = Has two.seen c.read.new.io.space in
-    let bound = bound_of tight (running.number + 1) in
-    let stands = first_stage old one kept same c.renew.new.self.io.space disk c.renew.ensures.kept c.renew.ensures.space tight running.number recv.stage stage is.stands in
-    let work = c.new-batch.ensures.work bound one.seen c.renew.new.self.io.space stage (subst (λ (s : coded.Stage). IsStage bound (Has one.seen c.renew.new.self.io.space) s stage) (sym c.replace.ensures.value) stands) in
-    let read = c.in-Err.ensures.read tight c.args.pool.now.io.disk.now running (at_stage stage) text is.handed honest way (subst (λ (k : Kept). TellsBefore recv.ask stage k.dir running) (sym c.renew.ensures.kept) tells) is.reads work in
+    let at = goal.at.returns-in-Ok-put-2-clause-feeds g c in
     let fault = c.in-Err.fault in
+    let read = reads_piece g at.After-read tight running text stage (Err fault) c.in-Err.is (c.put-in-Err.ensures.honest told) rested tells is in
+    let keeps = keeps_read g at.Then-is_kept tight running text stage read in
+    let recv = c.args.self.now in
     let piece = c.args.piece.now in
+    let due = due_some recv.ask text piece stage running fault read.taken.0 keeps.0 keeps.1 in
     let taken = (taken_of recv.ask running text piece (at_stage stage)).work in
-    let keeps : keeps_before fault ≡ true = sym c.keeps_before.ensures ∙ c.if-keeps_before.true in
-    let stays = λ (first : fault_in recv.ask running text piece (at_stage stage) ≡ Some (recv_refusal fault)). sym (kept_is bound now batch.stage taken.stage (let has_made = read.1 first in has_made.stage)) ∙ sym c.is_kept.ensures ∙ c.if-is_kept.true in
-    let due = due_some recv.ask text piece stage running fault read.0 keeps stays in
-    let puts = c.in-Ok-put-2.ensures.puts tight c.args.pool.now.io.disk.now running taken told way2 (read.1 due.0) in
-    stopped tight old three c.put-in-Err.new.pool.kept (record recv { reader = c.read.new.reader; stage = c.replace.new.dest }) text piece stage running same fault due read.0 keeps stays puts
+    let puts = c.in-Ok-put-2.ensures.puts tight c.args.pool.now.io.disk.now running taken told read.way (read.taken.1 due.0) in
+    stopped tight (g.D.Disk.state c.args.pool.now.io.disk.now) (g.D.Disk.state c.put-in-Err.new.pool.io.disk.now) c.put-in-Err.new.pool.kept (record recv { reader = c.read.new.reader; stage = c.replace.new.dest }) text piece stage running fault read.taken.0 keeps.0 keeps.1 puts
 
 pub returns-in-Ok-put-clause-feeds : goal.returns-in-Ok-put-clause-feeds
 returns-in-Ok-put-clause-feeds g c = λ tight running text stage told alive rested tells is.
-    let three = g.D.Disk.state c.put.new.pool.io.disk.now in
-    let honest = c.put.ensures.honest told in
+    let at = goal.at.returns-in-Ok-put-clause-feeds g c in
+    let reads = reads_piece g at.After-read tight running text stage (Ok c.in-Ok.field-0) c.in-Ok.is (c.put.ensures.honest told) rested tells is in
+    let read = reads.taken in
     let old = g.D.Disk.state c.args.pool.now.io.disk.now in
-    let one = g.D.Disk.state c.renew.new.self.io.disk.now in
     let two = g.D.Disk.state c.read.new.io.disk.now in
-    let kept = c.args.pool.now.kept in
+    let three = g.D.Disk.state c.put.new.pool.io.disk.now in
     let same = c.renew.new.self.kept in
     let recv = c.args.self.now in
     let batch = c.read.new.batch in
-    let disk = ap (λ (d : g.row.D.Denot). g.D.Disk.state d) c.renew.ensures.disk in
-    let way = first_way old one kept same c.renew.new.self.io.space disk c.renew.ensures.kept c.renew.ensures.space running rested in
-    let way2 = rests_still old one c.renew.new.self.io.space same running way two c.read.new.io.space c.read.ensures.fills.fills in
-    let has = Has old.seen (free_by kept.body) in
+    let has = Has old.seen (free_by c.args.pool.now.kept.body) in
     let now = Has two.seen c.read.new.io.space in
     let bound = bound_of tight (running.number + 1) in
-    let stands = first_stage old one kept same c.renew.new.self.io.space disk c.renew.ensures.kept c.renew.ensures.space tight running.number recv.stage stage is.stands in
-    let work = c.new-batch.ensures.work bound one.seen c.renew.new.self.io.space stage (subst (λ (s : coded.Stage). IsStage bound (Has one.seen c.renew.new.self.io.space) s stage) (sym c.replace.ensures.value) stands) in
-    let read = c.in-Ok.ensures.read tight c.args.pool.now.io.disk.now running (at_stage stage) text is.handed honest way (subst (λ (k : Kept). TellsBefore recv.ask stage k.dir running) (sym c.renew.ensures.kept) tells) is.reads work in
     let piece = c.args.piece.now in
     let after = c.put.new.pool.kept in
     let goes = c.go_on.new.self in
     let taken = (taken_of recv.ask running text piece (at_stage stage)).work in
-    let puts = c.in-Ok-put.ensures.puts tight c.args.pool.now.io.disk.now running taken told way2 read.is in
+    let puts = c.in-Ok-put.ensures.puts tight c.args.pool.now.io.disk.now running taken told reads.way read.is in
     let live = sym (done_is (bound_of tight running.number) has recv.stage stage is.stands) ∙ ap not c.requires.live in
     let ends = λ (next : Pool) (made : put taken running ≡ Ok next) (going : is_done taken.stage ≡ false).
     by_test batch.taken (IsStage (bound_of tight next.number) (Has three.seen (free_by after.body)) batch.stage taken.stage)
@@ -224,7 +211,7 @@ returns-in-Ok-put-clause-feeds g c = λ tight running text stage told alive rest
     let code : batch.stage ≡ recv.stage = ap (λ (b : batches.Batch). b.stage) (c.read.ensures.idle none) ∙ c.new-batch.ensures.stage ∙ c.replace.ensures.value in
     let number = bound_of tight running.number in
     let first = subst (λ (k : Kept). IsStage number (Has old.seen (free_by k.body)) recv.stage stage) (sym c.renew.ensures.kept) is.stands in
-    let second = untaken_stands number old two c.read.new.io.space same running way2 recv.stage stage first in
+    let second = untaken_stands number old two c.read.new.io.space same running reads.way recv.stage stage first in
     let third = subst (λ (d : DiskState). IsStage number (Has d.seen (free_by same.body)) recv.stage stage) (sym (ap (λ (d : g.row.D.Denot). g.D.Disk.state d) (c.put.ensures.idle_disk none))) second in
     let fourth = subst (λ (k : Kept). IsStage number (Has three.seen (free_by k.body)) recv.stage stage) (sym (c.put.ensures.idle_kept none)) third in
     let still : running ≡ next = same_ok running next (sym (put_none taken running (sym read.is.taken ∙ none)) ∙ made) in
@@ -242,19 +229,13 @@ pub put-requires-clause-stage : goal.put-requires-clause-stage
 put-requires-clause-stage g c = (c.args.self.now.ask.target, c.read.ensures.stage)
 
 pub put-requires-clause-works : goal.put-requires-clause-works
-put-requires-clause-works g c =
-    let can = commit_still (g.D.Disk.state c.renew.new.self.io.disk.now) (g.D.Disk.state c.read.new.io.disk.now) c.renew.new.self.io.space c.read.new.io.space c.renew.new.self.kept (c.renew.ensures.works (c.requires.ready c.if-pool.false))
-    c.read.ensures.fills.fills c.read.ensures.fills.fits c.read.ensures.fills.sectors in
-    can
+put-requires-clause-works g c = can_commit g (goal.at.put-requires-clause-works g c).After-read
 
 pub put-requires-in-Err-clause-stage : goal.put-requires-in-Err-clause-stage
 put-requires-in-Err-clause-stage g c = (c.args.self.now.ask.target, c.read.ensures.stage)
 
 pub put-requires-in-Err-clause-works : goal.put-requires-in-Err-clause-works
-put-requires-in-Err-clause-works g c =
-    let can = commit_still (g.D.Disk.state c.renew.new.self.io.disk.now) (g.D.Disk.state c.read.new.io.disk.now) c.renew.new.self.io.space c.read.new.io.space c.renew.new.self.kept (c.renew.ensures.works (c.requires.ready c.if-pool.false))
-    c.read.ensures.fills.fills c.read.ensures.fills.fits c.read.ensures.fills.sectors in
-    can
+put-requires-in-Err-clause-works g c = can_commit g (goal.at.put-requires-in-Err-clause-works g c).After-read
 
 pub returns-in-Ok-put-clause-recv : goal.returns-in-Ok-put-clause-recv
 returns-in-Ok-put-clause-recv g c =
@@ -265,8 +246,7 @@ returns-in-Ok-put-clause-recv g c =
 pub returns-in-Err-2-clause-ready : goal.returns-in-Err-2-clause-ready
 returns-in-Err-2-clause-ready g c = λ alive.
     let gave = c.give_up-in-Err-2 in
-    let can = commit_still (g.D.Disk.state c.renew.new.self.io.disk.now) (g.D.Disk.state c.read.new.io.disk.now) c.renew.new.self.io.space c.read.new.io.space c.renew.new.self.kept (c.renew.ensures.works (c.requires.ready c.if-pool.false))
-    c.read.ensures.fills.fills c.read.ensures.fills.fits c.read.ensures.fills.sectors in
+    let can = can_commit g (goal.at.returns-in-Err-2-clause-ready g c).After-read in
     let last = ap (λ (io : _). g.D.Disk.state io.disk.now) gave.ensures.io in
     subst (λ (b : _). Ready (g.D.Disk.state gave.new.pool.io.disk.now) b) (sym gave.ensures.body) (subst (λ (d : DiskState). Ready d c.renew.new.self.kept.body) (sym last) can.ready)
 
@@ -448,27 +428,27 @@ returns-in-Err-2-clause-short g c = λ text handed need largest stands is.
     subst (λ (s : FreeSectors). PieceIsShort records kept s need largest) (sym (ap (λ (io : _). io.space) gave.ensures.io))
     (short_read records kept c.read.new.io.space (stop_at c.in-Err.fault) need largest full told.0 told.1 spends)
 
+-- a piece whose commit found no room is short of it
+short_by : (g : Over) (c : After-read g) (text : List ℕ) (handed : List Covered) (need largest : ℕ) (after last : FreeSectors) → StandsFor c.args.self.now.reader text handed → IsCallFull c.read.new.io.space after c.renew.new.self.kept.dir need largest → last ≡ after
+    → PieceIsShort (records_behind handed (text ++ c.args.piece.now)) c.args.pool.now.kept last need largest
+short_by g c text handed need largest after last stands full same =
+    let records = records_behind handed (text ++ c.args.piece.now) in
+    let kept = c.args.pool.now.kept in
+    let spends = subst (λ (s : FreeSectors). Spends records s c.read.new.io.space (stop_of c.read.result)) c.renew.ensures.space (c.read.ensures.spends text handed stands) in
+    subst (λ (s : FreeSectors). PieceIsShort records kept s need largest) (sym same)
+    (short_put records kept c.read.new.io.space after (stop_of c.read.result) need largest spends (subst (λ (k : Kept). IsCallFull c.read.new.io.space after k.dir need largest) c.renew.ensures.kept full))
+
 pub returns-in-Err-put-clause-short : goal.returns-in-Err-put-clause-short
 returns-in-Err-put-clause-short g c = λ text handed need largest stands is.
     let gave = c.give_up-in-Err-put in
-    let records = records_behind handed (text ++ c.args.piece.now) in
-    let kept = c.args.pool.now.kept in
     let full = ap (λ (f : PoolFault). Err f) (same_pool _ _ (sym gave.ensures.fault ∙ err_told coded_recv.Fed _ _ is)) in
-    let told = subst (λ (k : Kept). IsCallFull c.read.new.io.space c.put.new.pool.io.space k.dir need largest) c.renew.ensures.kept (c.in-Err-put.ensures.short need largest full) in
-    let spends = subst (λ (s : FreeSectors). Spends records s c.read.new.io.space None) c.renew.ensures.space (c.in-Ok.ensures.spends text handed stands) in
-    subst (λ (s : FreeSectors). PieceIsShort records kept s need largest) (sym (ap (λ (io : _). io.space) gave.ensures.io))
-    (short_put records kept c.read.new.io.space c.put.new.pool.io.space None need largest spends told)
+    short_by g (goal.at.returns-in-Err-put-clause-short g c).After-read text handed need largest c.put.new.pool.io.space gave.new.pool.io.space stands (c.in-Err-put.ensures.short need largest full) (ap (λ (io : _). io.space) gave.ensures.io)
 
 pub returns-in-Err-put-2-clause-short : goal.returns-in-Err-put-2-clause-short
 returns-in-Err-put-2-clause-short g c = λ text handed need largest stands is.
     let gave = c.give_up-in-Err-put-2 in
-    let records = records_behind handed (text ++ c.args.piece.now) in
-    let kept = c.args.pool.now.kept in
     let full = ap (λ (f : PoolFault). Err f) (same_pool _ _ (sym gave.ensures.fault ∙ err_told coded_recv.Fed _ _ is)) in
-    let told = subst (λ (k : Kept). IsCallFull c.read.new.io.space c.put-in-Err.new.pool.io.space k.dir need largest) c.renew.ensures.kept (c.in-Err-put-2.ensures.short need largest full) in
-    let spends = subst (λ (s : FreeSectors). Spends records s c.read.new.io.space (stop_at c.in-Err.fault)) c.renew.ensures.space (c.in-Err.ensures.spends text handed stands) in
-    subst (λ (s : FreeSectors). PieceIsShort records kept s need largest) (sym (ap (λ (io : _). io.space) gave.ensures.io))
-    (short_put records kept c.read.new.io.space c.put-in-Err.new.pool.io.space (stop_at c.in-Err.fault) need largest spends told)
+    short_by g (goal.at.returns-in-Err-put-2-clause-short g c).After-read text handed need largest c.put-in-Err.new.pool.io.space gave.new.pool.io.space stands (c.in-Err-put-2.ensures.short need largest full) (ap (λ (io : _). io.space) gave.ensures.io)
 
 pub returns-in-Ok-put-2-clause-short : goal.returns-in-Ok-put-2-clause-short
 returns-in-Ok-put-2-clause-short g c = λ text handed need largest stands is.
@@ -516,11 +496,17 @@ returns-then-piece-started-clause-because g c = λ text handed fault alive stand
 pub returns-then-piece-started-clause-uncovered : goal.returns-then-piece-started-clause-uncovered
 returns-then-piece-started-clause-uncovered g c = λ text handed stands none waits. absurd (over_waits c.give_up.new.self.stage c.give_up.ensures.over waits)
 
+-- where BEGIN is covered, and its plan refuses the pool, that is what the reading answers
+planned_so : (g : Over) (c : After-read g) (text : List ℕ) (handed : List Covered) (fault : PlanFault) → StandsFor c.args.self.now.reader text handed → waits_at c.args.self.now.stage ≡ true → (reading text).covered ≡ []
+    → RefusesOne c.args.pool.now.kept.dir c.args.self.now.ask (text ++ c.args.piece.now) fault → (c.read.result ≡ Err (faults.Pool (pools.Plan fault))) × (waits_at c.read.new.batch.stage ≡ true)
+planned_so g c text handed fault stands waits none refuses =
+    c.read.ensures.planned text handed fault stands (ap waits_at (c.new-batch.ensures.stage ∙ c.replace.ensures.value) ∙ waits) none
+    (subst (λ (k : Kept). RefusesOne k.dir c.args.self.now.ask (text ++ c.args.piece.now) fault) (sym c.renew.ensures.kept) refuses)
+
 pub returns-in-Err-2-clause-planned : goal.returns-in-Err-2-clause-planned
 returns-in-Err-2-clause-planned g c = λ text handed fault alive waits stands none within refuses.
-    let at = ap waits_at (c.new-batch.ensures.stage ∙ c.replace.ensures.value) ∙ waits in
-    let told = c.in-Err.ensures.planned text handed fault stands at none (subst (λ (k : Kept). RefusesOne k.dir c.args.self.now.ask (text ++ c.args.piece.now) fault) (sym c.renew.ensures.kept) refuses) in
-    ap (λ (f : RecvFault). Err f) (c.give_up-in-Err-2.ensures.fault ∙ err_told (Unit {0}) _ _ told.0)
+    let told = planned_so g (goal.at.returns-in-Err-2-clause-planned g c).After-read text handed fault stands waits none refuses in
+    ap (λ (f : RecvFault). Err f) (c.give_up-in-Err-2.ensures.fault ∙ err_told (Unit {0}) _ _ (sym c.in-Err.is ∙ told.0))
 
 pub returns-in-Err-2-clause-because : goal.returns-in-Err-2-clause-because
 returns-in-Err-2-clause-because g c = λ text handed fault alive stands kind is.
@@ -532,9 +518,8 @@ returns-in-Err-2-clause-uncovered g c = λ text handed stands none waits. absurd
 
 pub returns-in-Err-put-clause-planned : goal.returns-in-Err-put-clause-planned
 returns-in-Err-put-clause-planned g c = λ text handed fault alive waits stands none within refuses.
-    let at = ap waits_at (c.new-batch.ensures.stage ∙ c.replace.ensures.value) ∙ waits in
-    let told = c.in-Ok.ensures.planned text handed fault stands at none (subst (λ (k : Kept). RefusesOne k.dir c.args.self.now.ask (text ++ c.args.piece.now) fault) (sym c.renew.ensures.kept) refuses) in
-    absurd (cc told.0)
+    let told = planned_so g (goal.at.returns-in-Err-put-clause-planned g c).After-read text handed fault stands waits none refuses in
+    absurd (cc (told.0, c.in-Ok.is))
 
 pub returns-in-Err-put-clause-because : goal.returns-in-Err-put-clause-because
 returns-in-Err-put-clause-because g c = λ text handed fault alive stands kind is.
@@ -545,8 +530,7 @@ returns-in-Err-put-clause-uncovered g c = λ text handed stands none waits. absu
 
 pub returns-in-Err-put-2-clause-planned : goal.returns-in-Err-put-2-clause-planned
 returns-in-Err-put-2-clause-planned g c = λ text handed fault alive waits stands none within refuses.
-    let at = ap waits_at (c.new-batch.ensures.stage ∙ c.replace.ensures.value) ∙ waits in
-    let told = c.in-Err.ensures.planned text handed fault stands at none (subst (λ (k : Kept). RefusesOne k.dir c.args.self.now.ask (text ++ c.args.piece.now) fault) (sym c.renew.ensures.kept) refuses) in
+    let told = planned_so g (goal.at.returns-in-Err-put-2-clause-planned g c).After-read text handed fault stands waits none refuses in
     absurd (waits_kept c.read.new.batch.stage told.1 (sym c.is_kept.ensures ∙ c.if-is_kept.true))
 
 pub returns-in-Err-put-2-clause-because : goal.returns-in-Err-put-2-clause-because
@@ -558,8 +542,7 @@ returns-in-Err-put-2-clause-uncovered g c = λ text handed stands none waits. ab
 
 pub returns-in-Ok-put-2-clause-planned : goal.returns-in-Ok-put-2-clause-planned
 returns-in-Ok-put-2-clause-planned g c = λ text handed fault alive waits stands none within refuses.
-    let at = ap waits_at (c.new-batch.ensures.stage ∙ c.replace.ensures.value) ∙ waits in
-    let told = c.in-Err.ensures.planned text handed fault stands at none (subst (λ (k : Kept). RefusesOne k.dir c.args.self.now.ask (text ++ c.args.piece.now) fault) (sym c.renew.ensures.kept) refuses) in
+    let told = planned_so g (goal.at.returns-in-Ok-put-2-clause-planned g c).After-read text handed fault stands waits none refuses in
     absurd (waits_kept c.read.new.batch.stage told.1 (sym c.is_kept.ensures ∙ c.if-is_kept.true))
 
 pub returns-in-Ok-put-2-clause-because : goal.returns-in-Ok-put-2-clause-because
@@ -572,9 +555,8 @@ returns-in-Ok-put-2-clause-uncovered g c = λ text handed stands none waits. abs
 
 pub returns-in-Ok-put-clause-planned : goal.returns-in-Ok-put-clause-planned
 returns-in-Ok-put-clause-planned g c = λ text handed fault alive waits stands none within refuses.
-    let at = ap waits_at (c.new-batch.ensures.stage ∙ c.replace.ensures.value) ∙ waits in
-    let told = c.in-Ok.ensures.planned text handed fault stands at none (subst (λ (k : Kept). RefusesOne k.dir c.args.self.now.ask (text ++ c.args.piece.now) fault) (sym c.renew.ensures.kept) refuses) in
-    absurd (cc told.0)
+    let told = planned_so g (goal.at.returns-in-Ok-put-clause-planned g c).After-read text handed fault stands waits none refuses in
+    absurd (cc (told.0, c.in-Ok.is))
 
 pub returns-in-Ok-put-clause-uncovered : goal.returns-in-Ok-put-clause-uncovered
 returns-in-Ok-put-clause-uncovered g c = λ text handed stands none waits.
