@@ -11,7 +11,7 @@ use std::env;
 use std::io::{self, Stderr, Stdin, Stdout, Write};
 use std::process::ExitCode;
 use std::time::{SystemTime, UNIX_EPOCH};
-use zst_file::{FileDisk, Input, Output, Start, Unknown};
+use zst_file::{FileDisk, Input, Output, Start, UnknownStart};
 use zst_outside::SureDisk;
 use zst_run::{open, opening_of, run, run_on_file};
 
@@ -91,7 +91,7 @@ fn main(rt: HostRuntime) -> io::Result<ExitCode> {
     let Some((path, opening)) = opening_of(alloc, &words)? else {
         return run_over_none(&rt, &words);
     };
-    match open(&rt, path.as_str(), opening, Unknown) {
+    match open(&rt, path.as_str(), opening, UnknownStart) {
         Ok(mut disk) => run_over_file(&rt, &words, &mut disk),
         Err(_) => {
             let _ = rt.stderr().write_all(b"zst: cannot open\n");

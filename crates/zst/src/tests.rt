@@ -11,7 +11,7 @@ mod items;
 mod lines;
 mod links;
 mod losses;
-mod lost;
+mod lost_receives;
 mod moments;
 mod outputs;
 mod plans;

@@ -2,7 +2,7 @@
 use Rattle.std.proofs.Common.{◌≡◌, ◌⊎◌, inl, inr, ℕ, ◌+◌, ◌^◌, ◌-◌, ◌<◌, ◌==◌, ◌||◌, Bool, true, false, refl, arith}
 use Rattle.std.proofs.lemmas.Bool.Decides.{nat_tests}
 use Rattle.zst_model.specs.states.State.{is_block_size, largest_block, number_bound}
-use Rattle.zst_record.specs.Decode.{is_object, is_range}
+use Rattle.zst_record.specs.Decoding.{is_object, is_range}
 use Rattle.zst_record.specs.Formats.{to_end}
 
 pub stated : (k : ℕ) → 0 < k → k < 2 ^ 48 → is_object k ≡ true

@@ -1,8 +1,8 @@
-pub mod Answering
-pub mod Changing
-pub mod Freeing
+pub mod RecordAnswers
+pub mod EqualChanges
+pub mod FreedNumbers
 pub mod HeadLaws
-pub mod Ranging
-pub mod Receiving
-pub mod Spending
-pub mod Telling
+pub mod ByteRanges
+pub mod ReceivedRecords
+pub mod RecordCosts
+pub mod SetFaults

@@ -2,7 +2,7 @@
 use Rattle.std.specs.Prelude.{ℕ, ◌==◌, ◌||◌, ◌&&◌, not, Result, Ok}
 use Rattle.zst_model.specs.declared.refusals.apply_fault.ApplyFault.{ApplyFault}
 use Rattle.zst_model.specs.declared.refusals.apply_fault.ApplyFault.TheVariants.{SizeDiffers, Unaligned, NotUserData}
-use Rattle.zst_model.specs.states.Apply.{is_unaligned, unless}
+use Rattle.zst_model.specs.states.AppliedItems.{is_unaligned, unless}
 use Rattle.zst_record.specs.Formats.{to_end}
 
 -- WRITE: a whole block, at a multiple of the block size

@@ -1,4 +1,4 @@
-pub mod Applying
+pub mod AppliedRecords
 pub mod Checks
 pub mod Costs
 pub mod Damage

@@ -1,24 +1,24 @@
 //! The records that say what stands at indices of an object: WRITE, FREE and REDACT.
 ghost use Rattle.std.specs.Prelude.{◌≡◌, ◌+◌, ◌/◌, ◌<◌, ◌≤◌, ℕ, IfErr, IfOk, OnErr, length};
 ghost use Rattle.zst_block.specs.Blocks.{FitsDisk, Has, SparesTaken};
-ghost use Rattle.zst_block.specs.Working.{Looks, Works};
+ghost use Rattle.zst_block.specs.IoCalls.{Looks, Works};
 ghost use Rattle.zst_model.specs.declared.states.item.Change.TheVariants.{Redact, Write};
 ghost use Rattle.zst_model.specs.declared.states.item.Item.TheVariants.{At};
-ghost use Rattle.zst_model.specs.pools.Sound.{DatedUpTo};
-ghost use Rattle.zst_model.specs.sends.Received.{received};
-ghost use Rattle.zst_model.specs.states.Dated.{DatedState};
+ghost use Rattle.zst_model.specs.pools.Soundness.{DatedUpTo};
+ghost use Rattle.zst_model.specs.sends.ReceivedRecords.{received};
+ghost use Rattle.zst_model.specs.states.DatedState.{DatedState};
 ghost use Rattle.zst_stream.specs.Items.{free_change};
 ghost use Rattle.zst_tree.specs.Damage.{IsSeen};
 ghost use Rattle.zst_tree.specs.Sets.{SetFits};
 ghost use Rattle.zst_objset.specs.Answers.{FindsThere, NotLimit, NotRedacted, stop_of};
 ghost use Rattle.zst_objset.specs.Damage.{IfSetDamaged, IsDamagedSet};
 ghost use Rattle.zst_objset.specs.Sets.{SetHolds};
-ghost use Rattle.zst_objset.specs.Tight.{SetIsTight};
-ghost use Rattle.zst_apply.specs.Applying.{Applies, LimitOfIndex};
+ghost use Rattle.zst_objset.specs.TightSets.{SetIsTight};
+ghost use Rattle.zst_apply.specs.AppliedRecords.{Applies, LimitOfIndex};
 ghost use Rattle.zst_apply.specs.Damage.{apply_damage};
 
 use crate::checks::{check_free, check_redact, check_write};
-use crate::cut::freed_indices;
+use crate::cut_ranges::freed_indices;
 use zst_block::Io;
 use zst_dnode::Dnode;
 use zst_model::ApplyFault;

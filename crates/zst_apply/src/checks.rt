@@ -1,6 +1,6 @@
 //! What is judged of a record's range before it is taken as a range of indices.
 ghost use Rattle.std.specs.Prelude.{◌≡◌, ◌<◌};
-ghost use Rattle.zst_model.specs.states.Apply.{is_unaligned};
+ghost use Rattle.zst_model.specs.states.AppliedItems.{is_unaligned};
 ghost use Rattle.zst_apply.specs.Checks.{free_check, redact_check, write_check};
 
 use zst_dnode::Dnode;

@@ -1,12 +1,12 @@
 //! One record of a stream, applied to a set of objects.
 #![tactic(auto)]
 
-mod applying;
 mod blocks;
 mod checks;
-mod cut;
+mod cut_ranges;
 mod objects;
+mod record_table;
 #[cfg(test)]
 mod tests;
 
-pub use applying::apply;
+pub use record_table::apply;

@@ -1,22 +1,22 @@
 //! The records that say what stands at a number: OBJECT, SPILL and FREEOBJECTS.
 ghost use Rattle.std.specs.Prelude.{◌≡◌, ◌+◌, ◌/◌, ◌<◌, ℕ, IfErr, OnErr, length, true};
 ghost use Rattle.zst_block.specs.Blocks.{FitsDisk, Has, SparesTaken};
-ghost use Rattle.zst_block.specs.Working.{Works};
+ghost use Rattle.zst_block.specs.IoCalls.{Works};
 ghost use Rattle.zst_model.specs.declared.states.item.Change.TheVariants.{Put, Spill};
 ghost use Rattle.zst_model.specs.declared.states.item.Item.TheVariants.{At, FreeObjects};
-ghost use Rattle.zst_model.specs.pools.Sound.{DatedUpTo};
-ghost use Rattle.zst_model.specs.sends.Received.{received};
-ghost use Rattle.zst_model.specs.states.Dated.{DatedState};
+ghost use Rattle.zst_model.specs.pools.Soundness.{DatedUpTo};
+ghost use Rattle.zst_model.specs.sends.ReceivedRecords.{received};
+ghost use Rattle.zst_model.specs.states.DatedState.{DatedState};
 ghost use Rattle.zst_model.specs.states.State.{IsBonus, IsHead, IsSpill, is_number};
 ghost use Rattle.zst_tree.specs.Sets.{SetFits};
 ghost use Rattle.zst_objset.specs.Answers.{NotRedacted, stop_of};
 ghost use Rattle.zst_objset.specs.Damage.{IfSetDamaged};
 ghost use Rattle.zst_objset.specs.Sets.{SetHolds};
-ghost use Rattle.zst_objset.specs.Tight.{SetIsTight};
-ghost use Rattle.zst_apply.specs.Applying.{Applies, LimitOfIndex};
+ghost use Rattle.zst_objset.specs.TightSets.{SetIsTight};
+ghost use Rattle.zst_apply.specs.AppliedRecords.{Applies, LimitOfIndex};
 ghost use Rattle.zst_apply.specs.Damage.{apply_damage};
 
-use crate::cut::cut;
+use crate::cut_ranges::cut;
 use zst_block::Io;
 use zst_model::ObjectHead;
 use zst_model::limits::NUMBER_BOUND;

@@ -9,8 +9,8 @@ use Rattle.zst_block.specs.Blocks.{IsTaken, IsBlock, Has, FitsDisk, SparesTaken,
 use Rattle.zst_block.specs.declared.ptr.Ptr.{Ptr}
 
 -- sectors 0 to 7 are never free
-pub IsTaken-head : (size : ℕ) (space : FreeSectors) → FitsDisk size space → IsTaken space 0 4096
-IsTaken-head size space fits = λ byte starts ends free. let from = IsFree-from 8 (byte / 512) space fits.extents free in omega (arith, ends, from)
+pub IsTaken-label : (size : ℕ) (space : FreeSectors) → FitsDisk size space → IsTaken space 0 4096
+IsTaken-label size space fits = λ byte starts ends free. let from = IsFree-from 8 (byte / 512) space fits.extents free in omega (arith, ends, from)
 
 -- what isn't free isn't free where fewer sectors are
 pub IsTaken-fewer : (space fewer : FreeSectors) (place count : ℕ) → ((sector : ℕ) → IsFree fewer sector → IsFree space sector) → IsTaken space place count → IsTaken fewer place count
@@ -32,8 +32,8 @@ Has-spared space old new ptr bytes spares has = record {
 }
 
 -- and where sectors 0 to 7 alone are
-pub Has-head : (space : FreeSectors) (old new : List ℕ) (ptr : Ptr) (bytes : List ℕ) → Torn 0 4096 old new → Has old space ptr bytes → Has new space ptr bytes
-Has-head space old new ptr bytes torn has = record {
+pub Has-label : (space : FreeSectors) (old new : List ℕ) (ptr : Ptr) (bytes : List ℕ) → Torn 0 4096 old new → Has old space ptr bytes → Has new space ptr bytes
+Has-label space old new ptr bytes torn has = record {
   block = record {
     placed = record { whole = has.block.placed.whole; inside = omega (arith, torn.size, has.block.placed.inside) };
     bytes_are = torn.above (512 * ptr.sector) ptr.length (omega (arith, has.behind)) ∙ has.block.bytes_are;

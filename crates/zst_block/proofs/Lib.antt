@@ -1,5 +1,5 @@
-pub mod Written
+pub mod WrittenBlocks
 pub mod BlocksLaws
 pub mod PtrLaws
-pub mod Taking
-pub mod Working
+pub mod TakenSectors
+pub mod IoCallLemmas

@@ -1,5 +1,5 @@
 pub mod Ptr
 pub mod Faults
 pub mod Blocks
-pub mod Reading
-pub mod Working
+pub mod ReadAnswers
+pub mod IoCalls

@@ -1,11 +1,11 @@
 use crate::ptr::Ptr;
 use zst_outside::Fault;
-use zst_space::Full;
+use zst_space::SpaceFault;
 
 /// Why a block is not read or written.
 #[derive(Clone, Copy, Debug, PartialEq, Eq)]
 pub enum BlockFault {
-    /// No run of `need` sectors is free: the longest one has `largest`.
+    /// No free extent has `need` sectors: the longest one has `largest`.
     Full {
         need: u64,
         largest: u64,
@@ -49,13 +49,13 @@ impl From<Fault> for BlockFault {
     }
 }
 
-impl From<Full> for BlockFault {
+impl From<SpaceFault> for BlockFault {
     ghost use Rattle.std.specs.Prelude.{◌≡◌};
     ghost use Rattle.zst_block.specs.declared.fault.BlockFault.TheVariants as faults;
 
     ghost from_gives = { λ full fault. fault ≡ faults.Full full.need full.largest };
 
-    fn from(full: Full) -> Self {
+    fn from(full: SpaceFault) -> Self {
         BlockFault::Full {
             need: full.need,
             largest: full.largest,

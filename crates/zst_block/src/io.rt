@@ -2,11 +2,11 @@ ghost use Rattle.std.specs.Prelude.{◌≡◌, ◌↔◌, ◌+◌, ◌*◌, ◌/
 ghost use Rattle.zst_fletcher.specs.WeightSum.{weight_sum, parts_of};
 ghost use Rattle.zst_outside.specs.Images.{OnlyReads, DiskState};
 ghost use Rattle.zst_space.specs.FreeSectors.{room, largest_of};
-ghost use Rattle.zst_space.specs.Taking.{Takes, place_of, without};
+ghost use Rattle.zst_space.specs.TakenExtents.{Takes, place_of, without};
 ghost use Rattle.zst_block.specs.Faults.{HasDiskCause, is_disk_fault};
 ghost use Rattle.zst_block.specs.Blocks.{Has, IsBlock, IsPlaced, FitsDisk, FillsFree, KeepsBlocks, Follows};
-ghost use Rattle.zst_block.specs.Reading.{ReadAnswers, GivesBlock};
-ghost use Rattle.zst_block.specs.Working.{Looks, Works, TellsDamage, stop_of};
+ghost use Rattle.zst_block.specs.ReadAnswers.{ReadAnswers, GivesBlock};
+ghost use Rattle.zst_block.specs.IoCalls.{Looks, Works, TellsDamage, stop_of};
 
 use crate::fault::BlockFault;
 use crate::node::Node;
@@ -196,7 +196,7 @@ pub fn write<D: Disk>(
     ensures room { room io.old.space ≤ room io.new.space + length bytes.now / 512 }
     ensures kept_fit { FitsDisk (D.state io.new.disk.now).size io.new.space }
 
-    // It is full where no run is long enough, and then nothing is done.
+    // It is full where no free extent is long enough, and then nothing is done.
     ensures full { (need largest : ℕ) → result ≡ Err (BlockFault.Full need largest) ↔ ((need ≡ length bytes.now / 512) × (largest ≡ largest_of io.old.space) × (largest < need)) }
     ensures untouched { largest_of io.old.space < length bytes.now / 512 → io.new.disk.now ≡ io.old.disk.now }
     ensures space_untouched { largest_of io.old.space < length bytes.now / 512 → io.new.space ≡ io.old.space }
@@ -267,7 +267,7 @@ fn write_block<D: Disk>(
     ensures room { room space.old ≤ room space.new + length bytes.now / 512 }
     ensures kept_fit { FitsDisk (D.state disk.new).size space.new }
 
-    // It is full where no run is long enough, and then nothing is done.
+    // It is full where no free extent is long enough, and then nothing is done.
     ensures full { (need largest : ℕ) → result ≡ Err (BlockFault.Full need largest) ↔ ((need ≡ length bytes.now / 512) × (largest ≡ largest_of space.old) × (largest < need)) }
     ensures untouched { largest_of space.old < length bytes.now / 512 → disk.new ≡ disk.old }
     ensures space_untouched { largest_of space.old < length bytes.now / 512 → space.new ≡ space.old }

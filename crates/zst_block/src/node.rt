@@ -27,7 +27,7 @@ impl Node {
     ghost use Rattle.zst_block.specs.Blocks.{IsPlaced};
     ghost use Rattle.zst_block.specs.Faults.{HasDiskCause};
     ghost use Rattle.zst_block.specs.Ptr.{ptr_at, ptr_bytes, PtrFits};
-    ghost use Rattle.zst_block.specs.Reading.{ReadAnswers};
+    ghost use Rattle.zst_block.specs.ReadAnswers.{ReadAnswers};
     ghost use Rattle.zst_fletcher.specs.WeightSum.{weight_sum};
     ghost use Rattle.zst_outside.specs.Images.{OnlyReads};
 

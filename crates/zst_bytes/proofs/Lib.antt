@@ -1,6 +1,6 @@
 mod Digits
-mod Filling
-mod Reading
+mod Multiples
+mod FrontWords
 mod Tail
 mod Texts
 pub mod FieldsLaws

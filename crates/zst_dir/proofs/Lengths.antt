@@ -16,8 +16,8 @@ use Rattle.zst_model.specs.fields.Guids.{IsGuidSet}
 use Rattle.zst_model.specs.pools.Pool.{is_before, inserted, IsStated}
 use Rattle.zst_tree.specs.Sets.{set_bytes}
 use Rattle.zst_tree.specs.declared.tree.ObjSet.{ObjSet}
-use Rattle.zst_dir.specs.declared.going.Going.{Going}
-use Rattle.zst_dir.specs.Going.{takes_bookmark, takes_dataset, takes_snapshot, without}
+use Rattle.zst_dir.specs.declared.removal.Removal.{Removal}
+use Rattle.zst_dir.specs.Removal.{takes_bookmark, takes_dataset, takes_snapshot, without}
 use Rattle.zst_dir.specs.Rows.{Rows, with_head, with_head_at, with_objects, with_partial, snapshot_is_before, IsBookmarkRow, IsDatasetRow, IsSnapshotRow, IsPartialRow, IsLawful}
 use Rattle.zst_dir.specs.Spelling.{name_bytes, snapshot_bytes, snapshots_of, dataset_bytes, bookmark_bytes, header_bytes, partial_bytes, dir_bytes}
 use Rattle.zst_dir.specs.declared.rows.Dataset.{Dataset}
@@ -290,7 +290,7 @@ bookmark_grows rows row is =
     )
 
 -- rows that go add none
-pub left_shrinks : (going : Going) (rows : Rows) → IsLawful rows → IsLawful (without going rows) → length (dir_bytes (without going rows)) ≤ length (dir_bytes rows)
+pub left_shrinks : (going : Removal) (rows : Rows) → IsLawful rows → IsLawful (without going rows) → length (dir_bytes (without going rows)) ≤ length (dir_bytes rows)
 left_shrinks going rows lawful lawful_then =
     omega (
       arith,

@@ -1,24 +1,24 @@
 mod Guids
 mod Heads
-mod Inserting
-pub mod Left
-pub mod Matching
+mod InsertedRows
+pub mod RemovalLemmas
+pub mod Matches
 mod Lengths
 mod Loops
 mod Namesets
-mod Nested
+mod NestedSnapshots
 mod OneDirectory
-mod Parsed
-mod Parts
+mod ParsedNames
+mod RowParts
 mod Places
-mod Rising
+mod RisingLists
 mod RowsTold
 mod Sections
 pub mod SnapshotRuns
 mod SpelledRows
-mod Standing
-mod Telling
+mod ReadFronts
+mod TellingFields
 mod Texts
 mod Verdict
-pub mod Dropped
+pub mod DroppedPartials
 pub mod Lookups

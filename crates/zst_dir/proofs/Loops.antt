@@ -4,9 +4,9 @@ use Rattle.std.proofs.lemmas.List.{append-nil}
 use Rattle.std.proofs.lemmas.List.Elements.{All-push}
 use Rattle.std.specs.List.{All, flat_map}
 use Rattle.zst_bytes.specs.Words.{word}
-use Rattle.zst_dir.specs.Reading.{ReadsBack, AreRows, Appends}
+use Rattle.zst_dir.specs.RowReads.{ReadsBack, AreRows, Appends}
 use Rattle.zst_dir.specs.Spelling.{rows_bytes}
-use Rattle.zst_dir.proofs.Standing.{Stands, stands_first, stands_next, stands_more, stands_last, fits_next}
+use Rattle.zst_dir.proofs.ReadFronts.{Stands, stands_first, stands_next, stands_more, stands_last, fits_next}
 
 -- after so many of the counted rows: those that have been read stand behind the old ones, and the rest is as it was spelled
 pub record Reading {A : Type 0} (bytes : A → List ℕ) (IsRow : A → Type 0) (start : List ℕ) (before : List A) (count counter : ℕ) (now : List A) (cursor : List ℕ) : Type 0 where

@@ -11,7 +11,7 @@ use Rattle.std.specs.List.{AllPairs, list_any}
 use Rattle.std.specs.Ordering.{nat_cmp, is_eq}
 use Rattle.zst_model.proofs.OrderLaws.{same_bytes, bytes_same}
 use Rattle.zst_dir.specs.declared.rows.Snapshot.{Snapshot}
-use Rattle.zst_dir.specs.Tested.{HasNamed, AreNamesOf, has}
+use Rattle.zst_dir.specs.RowChecks.{HasNamed, AreNamesOf, has}
 
 -- snapshots no two of which have one name
 abbrev pub Differ : List Snapshot → Type 0

@@ -6,7 +6,7 @@ use Rattle.zst_dir.specs.Rows.{Rows, IsBookmarkRow, IsPartialRow}
 use Rattle.zst_dir.specs.Spelling.{IsDir, dataset_bytes, bookmark_bytes, partial_bytes}
 use Rattle.zst_dir.proofs.RowsTold.{bookmark_tells, datasets_tell, partial_tells}
 use Rattle.zst_dir.proofs.Sections.{AreSections, rows_are, sections}
-use Rattle.zst_dir.proofs.Telling.{rows_tell, word_tells}
+use Rattle.zst_dir.proofs.TellingFields.{rows_tell, word_tells}
 
 one_of_sections : (rows others : Rows) (bytes : List ℕ) → AreSections rows bytes → AreSections others bytes → rows ≡ others
 one_of_sections rows others bytes are are_others =

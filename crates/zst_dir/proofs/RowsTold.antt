@@ -5,16 +5,16 @@ use Rattle.std.specs.List.{All, flat_map}
 use Rattle.zst_names.specs.Names.{component_of}
 use Rattle.zst_model.specs.declared.sends.header.Header.{Header}
 use Rattle.zst_model.specs.pools.Pool.{IsKind, IsStated}
-use Rattle.zst_dir.specs.Reading.{AreRows, IsSnapshotOf, dataset_front, snapshots_under}
+use Rattle.zst_dir.specs.RowReads.{AreRows, IsSnapshotOf, dataset_front, snapshots_under}
 use Rattle.zst_dir.specs.Rows.{IsDatasetRow, IsSnapshotRow, IsBookmarkRow, IsPartialRow}
 use Rattle.zst_dir.specs.Spelling.{snapshot_bytes, snapshots_of, dataset_bytes, bookmark_bytes, header_bytes, partial_bytes}
 use Rattle.zst_dir.specs.declared.rows.Dataset.{Dataset}
 use Rattle.zst_dir.specs.declared.rows.Snapshot.{Snapshot}
 use Rattle.zst_dir.specs.declared.rows.Bookmark.{Bookmark}
 use Rattle.zst_dir.specs.declared.rows.Partial.{Partial}
-use Rattle.zst_dir.proofs.Nested.{are_snapshots_of}
-use Rattle.zst_dir.proofs.Parts.{snapshot_parts, dataset_parts, front_parts, bookmark_parts, header_parts, partial_parts}
-use Rattle.zst_dir.proofs.Telling.{Tells, word_tells, text_tells, name_tells, flag_tells, guids_tell, ptr_tells, set_tells, rows_tell}
+use Rattle.zst_dir.proofs.NestedSnapshots.{are_snapshots_of}
+use Rattle.zst_dir.proofs.RowParts.{snapshot_parts, dataset_parts, front_parts, bookmark_parts, header_parts, partial_parts}
+use Rattle.zst_dir.proofs.TellingFields.{Tells, word_tells, text_tells, name_tells, flag_tells, guids_tell, ptr_tells, set_tells, rows_tell}
 use Rattle.zst_dir.proofs.Texts.{plain_bookmark, snapshot_of_parts}
 
 kind_fits : (kind : ℕ) → IsKind kind → kind < 2 ^ 64

@@ -8,10 +8,10 @@ use Rattle.zst_dir.specs.declared.rows.Dataset.{Dataset}
 use Rattle.zst_dir.specs.declared.rows.Snapshot.{Snapshot}
 use Rattle.zst_dir.specs.declared.rows.Bookmark.{Bookmark}
 use Rattle.zst_dir.specs.declared.rows.Partial.{Partial}
-use Rattle.zst_dir.specs.Reading.{AreRows, Appends, dataset_front, snapshots_under}
+use Rattle.zst_dir.specs.RowReads.{AreRows, Appends, dataset_front, snapshots_under}
 use Rattle.zst_dir.specs.Rows.{Rows, IsDatasetRow, IsSnapshotRow, IsBookmarkRow, IsPartialRow}
 use Rattle.zst_dir.specs.Spelling.{IsDir, dir_bytes, rows_bytes, dataset_bytes, snapshot_bytes, snapshots_of, bookmark_bytes, partial_bytes}
-use Rattle.zst_dir.proofs.Parts.{snapshot_parts, dataset_parts, front_parts, bookmark_parts, partial_parts}
+use Rattle.zst_dir.proofs.RowParts.{snapshot_parts, dataset_parts, front_parts, bookmark_parts, partial_parts}
 use Rattle.zst_dir.proofs.SnapshotRuns.{snapshots_are_runs}
 
 -- what begins with a text has bytes

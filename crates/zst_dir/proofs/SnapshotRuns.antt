@@ -16,7 +16,7 @@ use Rattle.zst_dir.specs.Spelling.{snapshots_of, dataset_bytes}
 use Rattle.zst_dir.specs.declared.rows.Dataset.{Dataset}
 use Rattle.zst_dir.specs.declared.rows.Snapshot.{Snapshot}
 use Rattle.zst_dir.proofs.SpelledRows.{SpelledUpTo, spelled-none, spelled-more}
-use Rattle.zst_dir.proofs.Inserting.{of_snapshot}
+use Rattle.zst_dir.proofs.InsertedRows.{of_snapshot}
 
 -- whether a snapshot is of a dataset
 abbrev pub is_of : List ℕ → Snapshot → Bool

@@ -7,7 +7,7 @@ use Rattle.std.proofs.lemmas.List.Sums.{split_at_first, passes_at_first}
 use Rattle.std.proofs.lemmas.Str.Ascii.{IsAscii-from_all, IsAscii-nil}
 use Rattle.std.specs.List.{position_or_len, list_all, onto_first, AllByRecursion}
 use Rattle.zst_names.specs.Names.{is_component_byte, IsComponent, IsDataset, IsName, IsSnapshot, IsBookmark, parts, dataset_of, component_of}
-use Rattle.zst_dir.specs.Reading.{IsPlain}
+use Rattle.zst_dir.specs.RowReads.{IsPlain}
 
 -- a text with a component behind the mark is its parts, joined by the mark
 pub joined : (mark : ℕ) (text : List ℕ) → IsComponent (component_of mark text) → text ≡ dataset_of mark text ++ mark ∷ component_of mark text

@@ -6,11 +6,11 @@ use Rattle.std.specs.BTreeSet.{BTreeSet}
 use Rattle.std.specs.List.{AllPairs}
 use Rattle.zst_dir.specs.declared.rows.Dataset.{Dataset}
 use Rattle.zst_dir.specs.declared.rows.Partial.{Partial}
-use Rattle.zst_dir.specs.Reading.{IsSnapshotIn}
+use Rattle.zst_dir.specs.RowReads.{IsSnapshotIn}
 use Rattle.zst_dir.specs.Rows.{Rows, HasDataset, HasSnapshot, IsSnapshotRow, IsLawful}
-use Rattle.zst_dir.specs.Tested.{AreNamesOf, AreRead, LinkTo, Rise, has, name_to_be}
+use Rattle.zst_dir.specs.RowChecks.{AreNamesOf, AreRead, LinkTo, Rise, has, name_to_be}
 use Rattle.zst_names.specs.Names.{dataset_of}
-use Rattle.zst_dir.proofs.Inserting.{IfSome_weaker}
+use Rattle.zst_dir.proofs.InsertedRows.{IfSome_weaker}
 
 module _ (rows : Rows) (names : BTreeSet (List ℕ)) (are : AreNamesOf rows.snapshots names) where
   IsIn : Option (List ℕ) → Type 0

@@ -1,6 +1,6 @@
-pub mod Going
-pub mod Named
-pub mod Reading
+pub mod Removal
+pub mod RowNames
+pub mod RowReads
 pub mod Rows
 pub mod Spelling
-pub mod Tested
+pub mod RowChecks

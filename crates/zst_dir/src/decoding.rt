@@ -3,8 +3,8 @@ ghost use Rattle.zst_dir.specs.Rows.{Rows};
 ghost use Rattle.zst_dir.specs.Spelling.{IsDir};
 
 use crate::dir::Dir;
-use crate::lawful::is_lawful;
 use crate::lists::{read_bookmarks, read_datasets, read_partials};
+use crate::row_checks::is_lawful;
 use std::alloc::{AllocError, Global};
 use zst_bytes::Cursor;
 

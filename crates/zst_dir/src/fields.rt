@@ -5,7 +5,7 @@ ghost use Rattle.zst_bytes.specs.Words.{word, text_bytes, words_bytes};
 ghost use Rattle.zst_model.specs.fields.Guids.{IsGuidSet};
 ghost use Rattle.zst_model.specs.pools.Pool.{IsGuid, IsKind, IsStatedName};
 ghost use Rattle.zst_names.specs.Names.{IsDataset, IsSnapshot, IsBookmark, IsComponent, dataset_of, component_of};
-ghost use Rattle.zst_dir.specs.Reading.{ReadsBack, IsPlain};
+ghost use Rattle.zst_dir.specs.RowReads.{ReadsBack, IsPlain};
 ghost use Rattle.zst_dir.specs.Spelling.{flag, name_bytes};
 
 use std::str;

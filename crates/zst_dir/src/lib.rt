@@ -5,16 +5,16 @@ mod decoding;
 mod dir;
 mod encoding;
 mod fields;
-mod going;
-mod lawful;
 mod laws;
 mod lists;
-mod reading;
+mod removal;
+mod row_checks;
+mod row_reads;
 mod rows;
 #[cfg(test)]
 mod tests;
 
 pub use dir::Dir;
-pub use going::Going;
 pub use laws::bytes_are_one_directory;
+pub use removal::Removal;
 pub use rows::{Bookmark, Dataset, Partial, Snapshot};

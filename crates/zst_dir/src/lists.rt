@@ -1,13 +1,13 @@
 //! The lists of rows of a directory, read from the bytes in front.
 ghost use Rattle.std.specs.Prelude.{◌≡◌, ◌++◌, ◌∷◌, [], ℕ, List, true, IfOk};
 ghost use Rattle.std.specs.Bool.{OnTrue};
-ghost use Rattle.zst_dir.specs.Reading.{ReadsRows, AreRows, Appends, AppendsOne, IsSnapshotOf, IsSnapshotIn, snapshots_under};
+ghost use Rattle.zst_dir.specs.RowReads.{ReadsRows, AreRows, Appends, AppendsOne, IsSnapshotOf, IsSnapshotIn, snapshots_under};
 ghost use Rattle.zst_dir.specs.Rows.{IsDatasetRow, IsSnapshotRow, IsBookmarkRow, IsPartialRow};
 ghost use Rattle.zst_dir.specs.Spelling.{dataset_bytes, snapshot_bytes, snapshots_of, rows_bytes, bookmark_bytes, partial_bytes};
 ghost use Rattle.zst_dir.specs.declared.rows.Dataset.{Dataset};
 ghost use Rattle.zst_dir.specs.declared.rows.Snapshot.{Snapshot};
 
-use crate::reading::{read_bookmark, read_dataset, read_partial, read_snapshot};
+use crate::row_reads::{read_bookmark, read_dataset, read_partial, read_snapshot};
 use crate::rows::{Bookmark, Dataset, Partial, Snapshot};
 use std::alloc::AllocError;
 use zst_bytes::Cursor;
@@ -36,7 +36,7 @@ pub(crate) fn read_snapshots(
 
 // Reads a dataset and behind it its snapshots, and puts them behind the others. Tells whether they
 // stand there.
-#[tactic(auto, using(crate::proofs::Nested::are_snapshots_of, crate::proofs::Parts::dataset_parts))]
+#[tactic(auto, using(crate::proofs::NestedSnapshots::are_snapshots_of, crate::proofs::RowParts::dataset_parts))]
 fn read_one(
     cursor: &mut Cursor<'_>,
     datasets: &mut Vec<Dataset>,

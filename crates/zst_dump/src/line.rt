@@ -1,7 +1,7 @@
 ghost use Rattle.std.specs.Prelude.{◌≡◌, ◌<◌, ◌^◌, List, ℕ, Option, flat_map};
 ghost use Rattle.zst_outside.specs.Printing.{Prints};
 ghost use Rattle.zst_record.specs.Heads.{covered_of};
-ghost use Rattle.zst_dump.specs.Lines.{line_text, said, fields_text, named_text, begin_text, object_text, free_objects_text, write_text, free_text, end_text, spill_text, redact_text, resume_text, blank_guid, guids_text};
+ghost use Rattle.zst_dump.specs.RecordLines.{line_text, said, fields_text, named_text, begin_text, object_text, free_objects_text, write_text, free_text, end_text, spill_text, redact_text, resume_text, blank_guid, guids_text};
 ghost use Rattle.zst_dump.specs.Summary.{summary_text, records_of};
 
 use crate::counts::Counts;
@@ -10,7 +10,7 @@ use zst_model::{Header, Point};
 use zst_outside::{Fault, Sink, write_all};
 use zst_record::{Head, Record};
 
-#[tactic(auto, unfolding(crate::specs::Lines::fields_text))]
+#[tactic(auto, unfolding(crate::specs::RecordLines::fields_text))]
 fn print_fields<K: Sink>(header: &Header, payload: u64, out: &mut K) -> Result<(), Fault>
     ensures { Prints (K.state out.old) (K.state out.new) (fields_text header.now payload) result }
 {
@@ -35,7 +35,7 @@ fn print_fields<K: Sink>(header: &Header, payload: u64, out: &mut K) -> Result<(
     )
 }
 
-#[tactic(auto, unfolding(crate::specs::Lines::resume_text))]
+#[tactic(auto, unfolding(crate::specs::RecordLines::resume_text))]
 fn print_resume<K: Sink>(resume: &Option<Point>, out: &mut K) -> Result<(), Fault>
     ensures { Prints (K.state out.old) (K.state out.new) (resume_text resume.now) result }
 {
@@ -64,7 +64,7 @@ fn print_each<K: Sink>(guids: &[u64], out: &mut K) -> Result<(), Fault>
     Ok(())
 }
 
-#[tactic(auto, unfolding(crate::specs::Lines::guids_text))]
+#[tactic(auto, unfolding(crate::specs::RecordLines::guids_text))]
 fn print_guids<K: Sink>(word: &[u8], guids: &[u64], out: &mut K) -> Result<(), Fault>
     ensures { Prints (K.state out.old) (K.state out.new) (guids_text word.now guids.now) result }
 {
@@ -75,7 +75,7 @@ fn print_guids<K: Sink>(word: &[u8], guids: &[u64], out: &mut K) -> Result<(), F
     print_each(guids, out)
 }
 
-#[tactic(auto, unfolding(crate::specs::Lines::named_text))]
+#[tactic(auto, unfolding(crate::specs::RecordLines::named_text))]
 fn print_named<K: Sink>(name: &[u8], out: &mut K) -> Result<(), Fault>
     ensures { Prints (K.state out.old) (K.state out.new) (named_text name.now) result }
 {
@@ -85,7 +85,7 @@ fn print_named<K: Sink>(name: &[u8], out: &mut K) -> Result<(), Fault>
     )
 }
 
-#[tactic(auto, unfolding(crate::specs::Lines::begin_text))]
+#[tactic(auto, unfolding(crate::specs::RecordLines::begin_text))]
 fn print_begin<K: Sink>(header: &Header, payload: u64, out: &mut K) -> Result<(), Fault>
     ensures { Prints (K.state out.old) (K.state out.new) (begin_text header.now payload) result }
 {
@@ -96,7 +96,7 @@ fn print_begin<K: Sink>(header: &Header, payload: u64, out: &mut K) -> Result<()
     print_named(header.name.as_bytes(), out)
 }
 
-#[tactic(auto, unfolding(crate::specs::Lines::object_text))]
+#[tactic(auto, unfolding(crate::specs::RecordLines::object_text))]
 fn print_object<K: Sink>(
     object: u64,
     type_: u32,
@@ -125,7 +125,7 @@ fn print_object<K: Sink>(
     )
 }
 
-#[tactic(auto, unfolding(crate::specs::Lines::free_objects_text))]
+#[tactic(auto, unfolding(crate::specs::RecordLines::free_objects_text))]
 fn print_free_objects<K: Sink>(first: u64, count: u64, out: &mut K) -> Result<(), Fault>
     ensures { Prints (K.state out.old) (K.state out.new) (free_objects_text first count) result }
 {
@@ -141,7 +141,7 @@ fn print_free_objects<K: Sink>(first: u64, count: u64, out: &mut K) -> Result<()
     )
 }
 
-#[tactic(auto, unfolding(crate::specs::Lines::write_text))]
+#[tactic(auto, unfolding(crate::specs::RecordLines::write_text))]
 fn print_write<K: Sink>(
     object: u64,
     type_: u32,
@@ -167,7 +167,7 @@ fn print_write<K: Sink>(
     )
 }
 
-#[tactic(auto, unfolding(crate::specs::Lines::free_text))]
+#[tactic(auto, unfolding(crate::specs::RecordLines::free_text))]
 fn print_free<K: Sink>(object: u64, offset: u64, length: u64, out: &mut K) -> Result<(), Fault>
     ensures { Prints (K.state out.old) (K.state out.new) (free_text object offset length) result }
 {
@@ -185,7 +185,7 @@ fn print_free<K: Sink>(object: u64, offset: u64, length: u64, out: &mut K) -> Re
     )
 }
 
-#[tactic(auto, unfolding(crate::specs::Lines::end_text))]
+#[tactic(auto, unfolding(crate::specs::RecordLines::end_text))]
 fn print_end<K: Sink>(sums: &[u64; 4], out: &mut K) -> Result<(), Fault>
     ensures { Prints (K.state out.old) (K.state out.new) (end_text sums.now) result }
 {
@@ -205,7 +205,7 @@ fn print_end<K: Sink>(sums: &[u64; 4], out: &mut K) -> Result<(), Fault>
     )
 }
 
-#[tactic(auto, unfolding(crate::specs::Lines::spill_text))]
+#[tactic(auto, unfolding(crate::specs::RecordLines::spill_text))]
 fn print_spill<K: Sink>(object: u64, length: u64, out: &mut K) -> Result<(), Fault>
     ensures { Prints (K.state out.old) (K.state out.new) (spill_text object length) result }
 {
@@ -221,7 +221,7 @@ fn print_spill<K: Sink>(object: u64, length: u64, out: &mut K) -> Result<(), Fau
     )
 }
 
-#[tactic(auto, unfolding(crate::specs::Lines::redact_text))]
+#[tactic(auto, unfolding(crate::specs::RecordLines::redact_text))]
 fn print_redact<K: Sink>(object: u64, offset: u64, length: u64, out: &mut K) -> Result<(), Fault>
     ensures { Prints (K.state out.old) (K.state out.new) (redact_text object offset length) result }
 {

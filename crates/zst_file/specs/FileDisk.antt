@@ -1,7 +1,7 @@
 -- What a file shows.
 use Rattle.std.specs.Prelude.{ℕ, List}
 use Rattle.zst_file.specs.Event.{Event}
-use Rattle.zst_file.specs.Events.{file_state}
+use Rattle.zst_file.specs.FileHistory.{file_state}
 use Rattle.zst_outside.specs.Images.{DiskState}
 use Rattle.zst_file.specs.declared.start.Start.{Ghosts}
 use Rattle.zst_file.specs.declared.file_disk.FileDisk.{FileDisk}

@@ -4,7 +4,7 @@ use Rattle.std.proofs.Common.{inl, inr, ◌∙◌, ap, arith}
 use Rattle.std.proofs.lemmas.Bool.{cases_Bool, leb-true}
 use Rattle.zst_outside.specs.Ranges.{bytes_at, length-overwritten, length-bytes_at, Torn, Torn-same, Torn-overwritten}
 use Rattle.zst_file.specs.Event.{Event, read, wrote, synced, gave, took}
-use Rattle.zst_file.specs.Events.{put_in, after_call, held_after, IsHonest, MayLeaveCall, MayLeave, LeftSince, is_usable, fitted, length-fitted}
+use Rattle.zst_file.specs.FileHistory.{put_in, after_call, held_after, IsHonest, MayLeaveCall, MayLeave, LeftSince, is_usable, fitted, length-fitted}
 
 length-put_in : (place : ℕ) (bytes file : List ℕ) → length (put_in place bytes file) ≡ length file
 length-put_in place bytes file = elim (cases_Bool (nat_le (place + length bytes) (length file))) [

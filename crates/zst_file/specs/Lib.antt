@@ -1,6 +1,6 @@
 pub mod Event
 pub mod Note
-pub mod Events
+pub mod FileHistory
 pub mod Laws
 pub mod FileDisk
 pub mod Streams

@@ -1,7 +1,7 @@
 //! The disk over a file.
 ghost use Rattle.std.specs.Prelude.{◌≡◌, OnOk, is_ok};
 ghost use Rattle.zst_outside.specs.Causes.{HasCause};
-ghost use Rattle.zst_file.specs.Events.{is_usable};
+ghost use Rattle.zst_file.specs.FileHistory.{is_usable};
 
 use crate::host::Host;
 use crate::start::Start;
@@ -62,7 +62,7 @@ impl<S: Start> Disk for FileDisk<S> {
     ghost use Rattle.zst_outside.specs.Causes.{HasCause, next_count};
     ghost use Rattle.zst_outside.specs.Images.{Leaves, IsSynced, OnlyReads};
     ghost use Rattle.zst_file.specs.FileDisk.{history_of, state_of};
-    ghost use Rattle.zst_file.specs.Events.{fitted};
+    ghost use Rattle.zst_file.specs.FileHistory.{fitted};
     ghost use Rattle.zst_file.specs.Laws.{length_seen, rests, size_left, since_now, now_only};
 
     ghost tells_images = { true };

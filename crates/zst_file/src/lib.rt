@@ -34,4 +34,4 @@ mod tests;
 pub use file_disk::FileDisk;
 pub use input::Input;
 pub use output::Output;
-pub use start::{Start, Unknown};
+pub use start::{Start, UnknownStart};

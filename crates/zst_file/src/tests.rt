@@ -1,7 +1,7 @@
 mod ends;
 
-use crate::tests::ends::{Dripping, Narrow, Script};
-use crate::{FileDisk, Input, Output, Unknown};
+use crate::tests::ends::{DripReader, NarrowWriter, Script};
+use crate::{FileDisk, Input, Output, UnknownStart};
 use std::fs::{self, File};
 use std::io::{Read, Write};
 use std::test::Fail;
@@ -11,7 +11,7 @@ use zst_outside::{Disk, Fault, Sink, Source, write_all};
 fn a_file_keeps_what_is_written_into_it(rt: HostRuntime) -> Result<(), Fail> {
     fs::write(&rt, "disk", [0; 4096].as_slice())?;
     let file = File::options().read(true).write(true).open(&rt, "disk")?;
-    let mut disk = FileDisk::new(file, Unknown)?;
+    let mut disk = FileDisk::new(file, UnknownStart)?;
     assert_eq!(rt; disk.bytes(), 4096);
     if disk.bytes() == 4096 {
         assert_eq!(rt; disk.write_at(1000, b"block"), Ok(()));
@@ -23,7 +23,7 @@ fn a_file_keeps_what_is_written_into_it(rt: HostRuntime) -> Result<(), Fail> {
     assert_eq!(rt; (disk.calls(), disk.faults()), (3, 0));
     drop(disk);
     assert_eq!(rt; fs::metadata(&rt, "disk")?.len(), 4096);
-    let mut again = FileDisk::new(File::open(&rt, "disk")?, Unknown)?;
+    let mut again = FileDisk::new(File::open(&rt, "disk")?, UnknownStart)?;
     if again.bytes() == 4096 {
         let mut read = [0; 5];
         assert_eq!(rt; again.read(1000, &mut read), Ok(()));
@@ -35,7 +35,7 @@ fn a_file_keeps_what_is_written_into_it(rt: HostRuntime) -> Result<(), Fail> {
 #[test]
 fn each_refusal_of_the_system_is_a_fault(rt: HostRuntime) -> Result<(), Fail> {
     fs::write(&rt, "short", [7; 1024].as_slice())?;
-    let mut disk = FileDisk::new(File::open(&rt, "short")?, Unknown)?;
+    let mut disk = FileDisk::new(File::open(&rt, "short")?, UnknownStart)?;
     fs::write(&rt, "short", [7; 512].as_slice())?;
     if disk.bytes() == 1024 {
         // The file was cut behind the disk's back, and isn't open for writing.
@@ -50,7 +50,7 @@ fn each_refusal_of_the_system_is_a_fault(rt: HostRuntime) -> Result<(), Fail> {
 // The system syncs no such file.
 #[test]
 fn a_sync_that_fails_is_a_fault(rt: HostRuntime) -> Result<(), Fail> {
-    let mut disk = FileDisk::new(File::open(&rt, "/dev/null")?, Unknown)?;
+    let mut disk = FileDisk::new(File::open(&rt, "/dev/null")?, UnknownStart)?;
     assert_eq!(rt; disk.sync(), Err(Fault));
     assert_eq!(rt; disk.sync(), Err(Fault));
     assert_eq!(rt; (disk.calls(), disk.faults()), (2, 2));
@@ -59,7 +59,7 @@ fn a_sync_that_fails_is_a_fault(rt: HostRuntime) -> Result<(), Fail> {
 
 #[test]
 fn input_gives_all_in_spite_of_a_fault(rt: HostRuntime) {
-    let reader = Dripping {
+    let reader = DripReader {
         left: b"abcde",
         script: Script { calls: 0, fails: 5 },
     };
@@ -83,7 +83,7 @@ fn output_hands_on_once_it_is_flushed(rt: HostRuntime) -> Result<(), Fail> {
         let script = Script { calls: 0, fails: 0 };
         let mut out = Output::new(
             rt.alloc(),
-            Narrow {
+            NarrowWriter {
                 got: &mut got,
                 script,
             },
@@ -107,7 +107,7 @@ fn output_loses_and_repeats_no_byte_at_a_fault(rt: HostRuntime) -> Result<(), Fa
         let script = Script { calls: 0, fails };
         let mut out = Output::new(
             rt.alloc(),
-            Narrow {
+            NarrowWriter {
                 got: &mut got,
                 script,
             },

@@ -2,11 +2,11 @@
 #![tactic(auto)]
 
 mod lanes;
-mod plain;
 mod sum;
 #[cfg(test)]
 mod tests;
 mod weights;
+mod word_sums;
 
-pub use plain::sum_word_by_word;
 pub use sum::{Sum, sum_of};
+pub use word_sums::sum_word_by_word;

@@ -3,8 +3,8 @@ ghost use Rattle.zst_fletcher.specs.Pairs.{totals_of, seconds_of};
 ghost use Rattle.zst_fletcher.specs.WeightSum.{sums_of, weight_sum, IsWhole, parts_of};
 
 use crate::lanes::{STEP, sum_of_steps};
-use crate::plain::add_words;
 use crate::weights::{pyramid, triangle};
+use crate::word_sums::add_words;
 
 /// The bytes from which on a text is summed faster in lanes than word by word.
 const WORTH_LANES: usize = 256;

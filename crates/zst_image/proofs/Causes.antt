@@ -1,7 +1,7 @@
 -- What a fault of leaves or of a commit says of the disk.
 use Rattle.std.specs.Prelude.{Result, Err}
 use Rattle.std.proofs.Common.{◌≡◌, inl, inr, ℕ, List, refl, sym, ap, subst}
-use Rattle.zst_block.specs.Working as blocks
+use Rattle.zst_block.specs.IoCalls as blocks
 use Rattle.zst_block.specs.declared.fault.BlockFault.TheVariants as block_faults
 use Rattle.zst_fletcher.specs.WeightSum.{parts_of}
 use Rattle.zst_outside.specs.Images.{DiskState}
@@ -11,7 +11,7 @@ use Rattle.zst_leaves.specs.Leaves.{GivesText, stop_of_leaves}
 use Rattle.zst_leaves.specs.declared.fault.LeavesFault.{LeavesFault}
 use Rattle.zst_leaves.specs.declared.fault.LeavesFault.TheVariants.{Block, Memory}
 use Rattle.zst_image.specs.Faults.{HasDiskCause, stop_of_commit}
-use Rattle.zst_image.specs.Opening.{IsOpenFault, LoadFault, ReadFault, TellsFault}
+use Rattle.zst_image.specs.OpenAnswers.{IsOpenFault, LoadFault, ReadFault, TellsFault}
 use Rattle.zst_image.specs.declared.open_fault.OpenFault.{OpenFault}
 use Rattle.zst_image.specs.declared.open_fault.OpenFault.TheVariants as opens
 use Rattle.zst_image.specs.declared.commit_fault.CommitFault.{CommitFault}

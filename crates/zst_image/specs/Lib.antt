@@ -1,5 +1,5 @@
-pub mod Committing
-pub mod Creating
+pub mod Commits
+pub mod CreateAnswers
 pub mod Faults
-pub mod Opening
+pub mod OpenAnswers
 pub mod Reads

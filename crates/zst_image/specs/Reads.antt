@@ -9,12 +9,12 @@ use Rattle.zst_uber.specs.Slots.{Stands}
 use Rattle.zst_uber.specs.declared.uber.Uber.{Uber}
 use Rattle.zst_model.specs.pools.Pool.{Pool, IsPool}
 use Rattle.zst_model.specs.pools.Pool as plain
-use Rattle.zst_model.specs.pools.Sound.{DatedUpTo}
-use Rattle.zst_model.specs.states.Dated.{DatedState}
+use Rattle.zst_model.specs.pools.Soundness.{DatedUpTo}
+use Rattle.zst_model.specs.states.DatedState.{DatedState}
 use Rattle.zst_tree.specs.Indices.{Blocks}
 use Rattle.zst_leaves.specs.Leaves.{HasLeaves, leaves_for}
-use Rattle.zst_list.specs.Standing.{HasList}
-use Rattle.zst_dir.specs.Named.{Match, NamesDataset, NamesSnapshot, NamesBookmark, NamesPartial, AreNamed}
+use Rattle.zst_list.specs.StoredLists.{HasList}
+use Rattle.zst_dir.specs.RowNames.{Match, NamesDataset, NamesSnapshot, NamesBookmark, NamesPartial, AreNamed}
 use Rattle.zst_dir.specs.Rows.{Rows}
 use Rattle.zst_dir.specs.Spelling.{IsDir, dir_bytes}
 use Rattle.zst_dir.specs.declared.rows.Dataset.{Dataset}
@@ -22,7 +22,7 @@ use Rattle.zst_dir.specs.declared.rows.Snapshot.{Snapshot}
 use Rattle.zst_dir.specs.declared.rows.Bookmark.{Bookmark}
 use Rattle.zst_dir.specs.declared.rows.Partial.{Partial}
 use Rattle.zst_objset.specs.Sets.{SetHolds}
-use Rattle.zst_objset.specs.Tight.{SetIsTight}
+use Rattle.zst_objset.specs.TightSets.{SetIsTight}
 use Rattle.zst_tree.specs.declared.tree.ObjSet.{ObjSet}
 
 -- how well a set is known: with None it holds the state; with a number it is tight besides, and no date of the state is above the number

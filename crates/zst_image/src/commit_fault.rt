@@ -4,7 +4,7 @@ use zst_model::Refusal;
 /// Why a directory isn't committed.
 #[derive(Clone, Debug, Drop, PartialEq, Eq)]
 pub enum CommitFault {
-    /// E24: no run of `need` sectors is free: the longest one has `largest`.
+    /// E24: no free extent has `need` sectors: the longest one has `largest`.
     Full { need: u64, largest: u64 },
     /// E28: the disk failed, and its count of faults rose.
     DiskFault,

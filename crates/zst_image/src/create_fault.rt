@@ -1,4 +1,4 @@
-use zst_model::{PlanFault, Present, Quantity, Refusal};
+use zst_model::{PlanFault, PresentSubject, Quantity, Refusal};
 
 /// Why no pool is made in an image.
 #[derive(Clone, Debug, Drop, PartialEq, Eq)]
@@ -21,7 +21,7 @@ impl From<CreateFault> for Refusal {
 
     fn from(fault: CreateFault) -> Self {
         match fault {
-            CreateFault::Exists => Refusal::from(PlanFault::Exists(Present::Pool)),
+            CreateFault::Exists => Refusal::from(PlanFault::Exists(PresentSubject::Pool)),
             CreateFault::TooSmall { sectors } => Refusal::from(PlanFault::Limit {
                 which: Quantity::Device,
                 number: sectors,

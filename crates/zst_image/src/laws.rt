@@ -1,7 +1,7 @@
 ghost use Rattle.std.specs.Prelude.{◌≡◌, ℕ, Bool, true, false, List};
 ghost use Rattle.zst_block.specs.Blocks.{SparesTaken};
 ghost use Rattle.zst_uber.specs.declared.uber.Uber.{Uber};
-ghost use Rattle.zst_model.specs.pools.Kept.{KeepsAll};
+ghost use Rattle.zst_model.specs.pools.KeptPool.{KeepsAll};
 ghost use Rattle.zst_model.specs.pools.Pool.{Pool};
 ghost use Rattle.zst_dir.specs.Rows.{Rows};
 ghost use Rattle.zst_image.specs.Reads.{ReadsAs, free_by};

@@ -2,19 +2,19 @@
 #![tactic(auto)]
 
 mod commit_fault;
-mod committing;
+mod commits;
 mod create_fault;
-mod creating;
-mod kept;
+mod creation;
 mod laws;
 mod open_fault;
-mod opening;
+mod pool_reads;
+mod pool_state;
 #[cfg(test)]
 mod tests;
 
 pub use commit_fault::CommitFault;
-pub use committing::commit_dir;
+pub use commits::commit_dir;
 pub use create_fault::CreateFault;
-pub use kept::Kept;
 pub use laws::{images_keep_partials, reads_are_kept, reads_as_one, tight_sets_hold};
 pub use open_fault::OpenFault;
+pub use pool_state::PoolState;

@@ -1,4 +1,4 @@
-use crate::{CreateFault, Kept, OpenFault};
+use crate::{CreateFault, OpenFault, PoolState};
 use std::alloc::{AllocError, Global};
 use zst_outside::MemDisk;
 
@@ -12,17 +12,17 @@ fn zeros(alloc: Global) -> Result<MemDisk, AllocError> {
 fn zeros_have_no_pool_and_a_pool_is_made_once(rt: HostRuntime) -> Result<(), OpenFault> {
     let alloc = rt.alloc();
     let mut disk = zeros(alloc)?;
-    let opened = Kept::open(alloc, &mut disk);
+    let opened = PoolState::open(alloc, &mut disk);
     assert!(rt; opened.err() == Some(OpenFault::NoPool));
 
-    let made = Kept::create(alloc, &mut disk, 257, 1);
+    let made = PoolState::create(alloc, &mut disk, 257, 1);
     assert!(rt; made.err() == Some(CreateFault::TooSmall { sectors: 257 }));
 
-    let made = Kept::create(alloc, &mut disk, 256, 1);
+    let made = PoolState::create(alloc, &mut disk, 256, 1);
     assert!(rt; made.is_ok());
-    let again = Kept::create(alloc, &mut disk, 256, 2);
+    let again = PoolState::create(alloc, &mut disk, 256, 2);
     assert!(rt; again.err() == Some(CreateFault::Exists));
-    let kept = Kept::open(alloc, &mut disk)?;
+    let kept = PoolState::open(alloc, &mut disk)?;
     assert_eq!(rt; (kept.body.id, kept.body.number), (1, 1));
     Ok(())
 }

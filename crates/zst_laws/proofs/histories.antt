@@ -1,4 +1,4 @@
 pub mod DatedPlaces
-pub mod Dating
+pub mod Dates
 pub mod Increments
 pub mod Agreement

@@ -3,7 +3,7 @@ use Rattle.std.specs.Prelude.{ℕ, true, List, [], ◌∷◌, Option, Some, None
 use Rattle.zst_model.specs.declared.sends.header.Header.{Header}
 use Rattle.zst_model.specs.pools.Pool.{Pool, Dataset, Snapshot, Bookmark, Partial, untouched}
 use Rattle.zst_model.specs.pools.Rows.{snapshot_row}
-use Rattle.zst_model.specs.pools.Before.{IsMadeOf, Source, OfSnapshot, OfBookmark, Place, InDataset, InPartial, IsBefore}
+use Rattle.zst_model.specs.pools.Ancestry.{IsMadeOf, Source, OfSnapshot, OfBookmark, Place, InDataset, InPartial, IsBefore}
 
 -- two snapshots of `tank/a`, which the commits 3 and 5 made, and one of `tank/b`, which commit 8 made
 abbrev pub first : Snapshot

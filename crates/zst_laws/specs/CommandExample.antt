@@ -3,8 +3,8 @@ use Rattle.std.specs.Prelude.{◌≡◌, ℕ, List, [], ◌∷◌, replicate, Op
 use Rattle.zst_model.specs.declared.pools.command.Command.{Command}
 use Rattle.zst_model.specs.declared.pools.command.Command.TheVariants as commands
 use Rattle.zst_model.specs.states.State.{Data, Empty, BytesOf, attr_at, content_at}
-use Rattle.zst_model.specs.states.Dated.{DatedState}
-use Rattle.zst_model.specs.pools.Held.{Held}
+use Rattle.zst_model.specs.states.DatedState.{DatedState}
+use Rattle.zst_model.specs.pools.Sessions.{Held}
 use Rattle.zst_model.specs.pools.Pool.{Pool, Dataset, dataset_named, untouched}
 use Rattle.zst_model.specs.pools.Step.{Stepped, stepped}
 use Rattle.zst_laws.specs.LineExample.{pool_of, two_objects}

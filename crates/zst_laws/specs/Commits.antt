@@ -4,12 +4,12 @@ use Rattle.zst_model.specs.declared.refusals.apply_fault.ApplyFault.{ApplyFault}
 use Rattle.zst_model.specs.declared.sends.header.Header.{Header}
 use Rattle.zst_model.specs.declared.states.item.Item.{Item}
 use Rattle.zst_model.specs.states.State.{IsState}
-use Rattle.zst_model.specs.states.Apply.{◌>>=◌}
-use Rattle.zst_model.specs.states.Dated.{DatedState, apply_all_dated}
-use Rattle.zst_model.specs.sends.Included.{Pairs}
+use Rattle.zst_model.specs.states.AppliedItems.{◌>>=◌}
+use Rattle.zst_model.specs.states.DatedState.{DatedState, apply_all_dated}
+use Rattle.zst_model.specs.sends.Inclusion.{Pairs}
 use Rattle.zst_model.specs.sends.View.{view_of}
 use Rattle.zst_model.specs.sends.Target.{target, redacted, CanRedact, Remembers}
-use Rattle.zst_laws.specs.Dating.{AreLawfulItems}
+use Rattle.zst_laws.specs.Dates.{AreLawfulItems}
 
 -- a commit: its number, and the items that it applies
 pub record Commit : Type 0 where

@@ -4,15 +4,15 @@ use Rattle.zst_model.specs.declared.sends.header.Header.{Header}
 use Rattle.zst_model.specs.declared.sends.header.Point.{Point}
 use Rattle.zst_model.specs.declared.states.item.Change.TheVariants.{FreeFrom, Write}
 use Rattle.zst_model.specs.declared.states.item.Item.TheVariants.{At}
-use Rattle.zst_model.specs.pools.Before.{Source, OfSnapshot, OfBookmark}
+use Rattle.zst_model.specs.pools.Ancestry.{Source, OfSnapshot, OfBookmark}
 use Rattle.zst_model.specs.pools.Pool.{Pool, Snapshot, Bookmark, IsPool, IsStated}
 use Rattle.zst_model.specs.sends.Headers.{Sent, IsOf, header_of, choice_of, sent_view}
-use Rattle.zst_model.specs.sends.Included.{no_pairs}
+use Rattle.zst_model.specs.sends.Inclusion.{no_pairs}
 use Rattle.zst_model.specs.sends.Items.{items, origin}
 use Rattle.zst_model.specs.sends.Target.{CanRedact}
 use Rattle.zst_model.specs.sends.View.{IsUnresumed, IsView, header_from}
-use Rattle.zst_laws.specs.Example.{file_put, padded, rest_gone, rewritten, since}
-use Rattle.zst_laws.specs.Sending.{full}
+use Rattle.zst_laws.specs.FileExample.{file_put, padded, rest_gone, rewritten, since}
+use Rattle.zst_laws.specs.ExactSends.{full}
 use Rattle.zst_laws.specs.StepExample.{small_snapshot}
 
 -- a snapshot of `tank/a` that commit 7 made after equal bytes were written, and one of `tank/b`

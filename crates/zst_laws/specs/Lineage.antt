@@ -2,8 +2,8 @@
 use Rattle.std.specs.Prelude.{◌≡◌, ◌≢◌, ℕ, ◌+◌, ◌<◌, Bool, false, List, [], Some, None, Ok, Contains, ◌==◌}
 use Rattle.std.specs.List.{before_first}
 use Rattle.zst_model.specs.declared.pools.command.Command.TheVariants as commands
-use Rattle.zst_model.specs.declared.refusals.named.Name.TheVariants as names
-use Rattle.zst_model.specs.pools.Held.{Held}
+use Rattle.zst_model.specs.declared.refusals.subjects.Name.TheVariants as names
+use Rattle.zst_model.specs.pools.Sessions.{Held}
 use Rattle.zst_model.specs.pools.Pool.{Pool, Dataset, Snapshot, Bookmark, dataset_named, snapshot_named, bookmark_named}
 use Rattle.zst_model.specs.pools.Step.{Stepped, stepped}
 use Rattle.zst_laws.specs.StepRefusals.{dataset_before}

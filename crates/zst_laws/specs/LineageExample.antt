@@ -1,13 +1,13 @@
 -- A clone and a bookmark of a snapshot that goes, and a rollback past a bookmark.
 use Rattle.std.specs.Prelude.{◌≡◌, ℕ, true, false, List, [], ◌∷◌, Some, None, Err, codes}
 use Rattle.zst_model.specs.declared.pools.command.Command.TheVariants as commands
-use Rattle.zst_model.specs.declared.refusals.named.Name.TheVariants as names
+use Rattle.zst_model.specs.declared.refusals.subjects.Name.TheVariants as names
 use Rattle.zst_model.specs.declared.refusals.refusal.Refusal.{Refusal}
 use Rattle.zst_model.specs.pools.Pool.{Pool, Dataset, Snapshot, Bookmark, untouched}
 use Rattle.zst_model.specs.pools.Step.{stepped, busy_clone, busy_bookmark, busy_snapshot}
-use Rattle.zst_model.specs.states.Dated.{DatedState}
+use Rattle.zst_model.specs.states.DatedState.{DatedState}
 use Rattle.zst_model.specs.refusals.Refusal.{number_of, text_of}
-use Rattle.zst_laws.specs.Example.{small, rewritten}
+use Rattle.zst_laws.specs.FileExample.{small, rewritten}
 use Rattle.zst_laws.specs.LineExample.{answers}
 use Rattle.zst_laws.specs.StepExample.{new_pool, with_tank, gives}
 

@@ -3,12 +3,12 @@ use Rattle.std.specs.Prelude.{◌≡◌, ◌≢◌, ◌⊎◌, ℕ, ◌+◌, ◌
 use Rattle.zst_model.specs.declared.pools.command.Command.{Command}
 use Rattle.zst_model.specs.declared.pools.command.Command.TheVariants as commands
 use Rattle.zst_model.specs.declared.refusals.faults.Quantity.TheVariants as quantities
-use Rattle.zst_model.specs.declared.refusals.named.Name.TheVariants as names
+use Rattle.zst_model.specs.declared.refusals.subjects.Name.TheVariants as names
 use Rattle.zst_model.specs.declared.refusals.refusal.Refusal.TheVariants as refusals
-use Rattle.zst_model.specs.pools.Held.{Held}
+use Rattle.zst_model.specs.pools.Sessions.{Held}
 use Rattle.zst_model.specs.pools.Pool.{Pool, Dataset, Snapshot, Bookmark, Partial, IsPool, dataset_named, snapshot_named, bookmark_named, partial_of, is_before}
 use Rattle.zst_model.specs.pools.Step.{stepped, no_such, exists_already, not_ancestor, busy_partial, busy_clone, busy_bookmark, busy_snapshot}
-use Rattle.zst_laws.specs.HeldExample.{LeavesFree}
+use Rattle.zst_laws.specs.HoldingSessions.{LeavesFree}
 use Rattle.zst_laws.specs.Lineage.{dataset_before_mark, IsNewer, IsNewerMark}
 use Rattle.zst_laws.specs.StepRefusals.{Refuses, dataset_before, IsUnused}
 

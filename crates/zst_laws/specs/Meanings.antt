@@ -11,16 +11,16 @@ use Rattle.zst_model.specs.declared.refusals.apply_fault.ApplyFault.{ApplyFault}
 use Rattle.zst_model.specs.declared.refusals.apply_fault.ApplyFault.TheVariants.{NoObject, SizeDiffers, Unaligned, OddBlock, NotUserData}
 use Rattle.zst_model.specs.declared.pools.command.Command.TheVariants as commands
 use Rattle.zst_model.specs.states.State.{Block, Hole, Redacted, Data, Object, Empty, BytesOf, RedactedOf, content_at, end_at, is_block_size, is_number, is_user_data}
-use Rattle.zst_model.specs.states.Apply.{apply_change}
-use Rattle.zst_model.specs.states.Dated.{DatedState, apply_dated}
-use Rattle.zst_model.specs.sends.Included.{Choice, includes_pair, includes_number}
-use Rattle.zst_model.specs.pools.Held.{Held}
+use Rattle.zst_model.specs.states.AppliedItems.{apply_change}
+use Rattle.zst_model.specs.states.DatedState.{DatedState, apply_dated}
+use Rattle.zst_model.specs.sends.Inclusion.{Choice, includes_pair, includes_number}
+use Rattle.zst_model.specs.pools.Sessions.{Held}
 use Rattle.zst_model.specs.pools.Pool.{Dataset, Snapshot, Pool, dataset_named, untouched}
 use Rattle.zst_model.specs.pools.RedSet.{red_set}
 use Rattle.zst_model.specs.sends.Target.{CanRedact}
 use Rattle.zst_model.specs.sends.View.{header_from}
 use Rattle.zst_model.specs.pools.Step.{Stepped, stepped}
-use Rattle.zst_laws.specs.Example.{small}
+use Rattle.zst_laws.specs.FileExample.{small}
 use Rattle.zst_laws.specs.StepExample.{new_pool, gives}
 
 -- an object of this type with blocks of this size, without a bonus or a spill

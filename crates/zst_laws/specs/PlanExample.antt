@@ -1,20 +1,20 @@
 -- What is planned in small pools, and what is refused there.
 use Rattle.std.specs.Prelude.{◌≡◌, ℕ, List, [], ◌∷◌, Option, Some, None, Ok, Err, codes}
 use Rattle.zst_model.specs.declared.refusals.faults.Lack.TheVariants.{Relay}
-use Rattle.zst_model.specs.declared.refusals.named.Missing.TheVariants.{Named}
-use Rattle.zst_model.specs.declared.refusals.named.Name.TheVariants as names
+use Rattle.zst_model.specs.declared.refusals.subjects.AbsentSubject.TheVariants.{Named}
+use Rattle.zst_model.specs.declared.refusals.subjects.Name.TheVariants as names
 use Rattle.zst_model.specs.declared.refusals.plan_fault.PlanFault.{PlanFault}
 use Rattle.zst_model.specs.declared.refusals.plan_fault.PlanFault.TheVariants.{NoSuch, NotAncestor, NotRedactionOf, Unsupported}
 use Rattle.zst_model.specs.declared.refusals.refusal.Refusal.TheVariants.{Plan}
 use Rattle.zst_model.specs.declared.sends.ask.FromName.{FromName}
 use Rattle.zst_model.specs.declared.sends.ask.FromName.TheVariants.{Snap, Book}
 use Rattle.zst_model.specs.declared.sends.ask.SendAsk.{SendAsk}
-use Rattle.zst_model.specs.pools.Before.{OfSnapshot, OfBookmark}
+use Rattle.zst_model.specs.pools.Ancestry.{OfSnapshot, OfBookmark}
 use Rattle.zst_model.specs.pools.Pool.{Pool, Snapshot, Bookmark}
 use Rattle.zst_model.specs.sends.Headers.{flags_of}
 use Rattle.zst_model.specs.sends.SendPlan.{send_plan}
 use Rattle.zst_laws.specs.CloneExample.{clones, first, second, inner, of_first}
-use Rattle.zst_laws.specs.Example.{small, rewritten}
+use Rattle.zst_laws.specs.FileExample.{small, rewritten}
 use Rattle.zst_laws.specs.HeaderExample.{of_files}
 use Rattle.zst_laws.specs.LineageExample.{Says, first_taken, mark, second_taken, taken, tank_with}
 

@@ -4,7 +4,7 @@ use Rattle.zst_model.specs.declared.refusals.apply_fault.ApplyFault.TheVariants.
 use Rattle.zst_model.specs.declared.states.item.Change.TheVariants.{Free, FreeFrom}
 use Rattle.zst_model.specs.declared.states.item.Item.TheVariants.{FreeObjects}
 use Rattle.zst_model.specs.states.State.{Hole, Object, State, IsObject, IsState, is_number, index_bound}
-use Rattle.zst_model.specs.states.Apply.{apply, apply_change, is_unaligned, unless, with_blocks, within}
+use Rattle.zst_model.specs.states.AppliedItems.{apply, apply_change, is_unaligned, unless, with_blocks, within}
 
 -- in a lawful state FREEOBJECTS does what its range does without 0 and cut at 2^48
 abbrev pub NumbersAreCut : Type 0

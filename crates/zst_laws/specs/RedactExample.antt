@@ -4,13 +4,13 @@ use Rattle.zst_model.specs.declared.sends.header.Header.{Header}
 use Rattle.zst_model.specs.declared.states.item.Change.TheVariants.{FreeFrom, Redact, Write}
 use Rattle.zst_model.specs.declared.states.item.Item.TheVariants.{At}
 use Rattle.zst_model.specs.states.State.{Hole, Data}
-use Rattle.zst_model.specs.states.Dated.{DatedState}
-use Rattle.zst_model.specs.sends.Included.{Pairs}
+use Rattle.zst_model.specs.states.DatedState.{DatedState}
+use Rattle.zst_model.specs.sends.Inclusion.{Pairs}
 use Rattle.zst_model.specs.sends.View.{view_of}
 use Rattle.zst_model.specs.sends.Items.{items, origin}
 use Rattle.zst_model.specs.pools.RedSet.{red_set}
-use Rattle.zst_laws.specs.Sending.{full}
-use Rattle.zst_laws.specs.Example.{one_file, file_dates, file_put, rest_gone, padded}
+use Rattle.zst_laws.specs.ExactSends.{full}
+use Rattle.zst_laws.specs.FileExample.{one_file, file_dates, file_put, rest_gone, padded}
 
 -- what differs at the indices 0, 1 and 2, and what all others have
 abbrev pub of_three : {A : Type 0} → A → A → A → A → ℕ → A

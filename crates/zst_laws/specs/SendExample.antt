@@ -5,12 +5,12 @@ use Rattle.zst_model.specs.declared.states.item.Change.TheVariants.{Put, Spill, 
 use Rattle.zst_model.specs.declared.states.item.Item.{Item}
 use Rattle.zst_model.specs.declared.states.item.Item.TheVariants.{FreeObjects, At}
 use Rattle.zst_model.specs.states.State.{Block, Hole, Data}
-use Rattle.zst_model.specs.states.Dated.{DatedState}
-use Rattle.zst_model.specs.sends.Included.{no_pairs}
+use Rattle.zst_model.specs.states.DatedState.{DatedState}
+use Rattle.zst_model.specs.sends.Inclusion.{no_pairs}
 use Rattle.zst_model.specs.sends.View.{view_of}
 use Rattle.zst_model.specs.sends.Items.{items, origin}
-use Rattle.zst_laws.specs.Sending.{full}
-use Rattle.zst_laws.specs.Example.{file_of, first_block, padded, since, rest_gone}
+use Rattle.zst_laws.specs.ExactSends.{full}
+use Rattle.zst_laws.specs.FileExample.{file_of, first_block, padded, since, rest_gone}
 use Rattle.zst_laws.specs.LineExample.{whole_object}
 
 -- a snapshot with one object, which has a bonus, a spill, a hole and a block

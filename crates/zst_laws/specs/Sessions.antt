@@ -4,15 +4,15 @@ use Rattle.zst_model.specs.declared.sends.header.Header.{Header}
 use Rattle.zst_model.specs.declared.sends.header.Point.{Point}
 use Rattle.zst_model.specs.declared.states.item.Item.{Item}
 use Rattle.zst_model.specs.states.State.{State, IsState, no_objects}
-use Rattle.zst_model.specs.states.Dated.{DatedState}
-use Rattle.zst_model.specs.sends.Included.{Pairs}
+use Rattle.zst_model.specs.states.DatedState.{DatedState}
+use Rattle.zst_model.specs.sends.Inclusion.{Pairs}
 use Rattle.zst_model.specs.sends.View.{View, IsView, view_of}
 use Rattle.zst_model.specs.sends.Items.{items, origin}
-use Rattle.zst_model.specs.states.Apply.{apply_all}
+use Rattle.zst_model.specs.states.AppliedItems.{apply_all}
 use Rattle.zst_model.specs.sends.Points.{point_of}
 use Rattle.zst_model.specs.sends.Target.{target, redacted, CanRedact}
-use Rattle.zst_model.specs.sends.StandsFor.{StandsFor}
-use Rattle.zst_laws.specs.Sending.{full}
+use Rattle.zst_model.specs.sends.CutReceives.{StandsFor}
+use Rattle.zst_laws.specs.ExactSends.{full}
 use Rattle.zst_laws.specs.Commits.{Commit, apply_commits, AreLater}
 
 -- A receive in sessions, from a point and a state to a whole: each one but the last is cut after some first items of what is left, and

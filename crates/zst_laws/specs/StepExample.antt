@@ -1,14 +1,14 @@
 -- Commands on a pool with one file, and what they make of it.
 use Rattle.std.specs.Prelude.{◌≡◌, ℕ, Bool, List, [], ◌∷◌, Some, None, Result, Ok, codes, if◌then◌else◌, ◌==◌, nat_lt, ◌&&◌, ◌||◌}
 use Rattle.zst_model.specs.declared.pools.command.Command.TheVariants as commands
-use Rattle.zst_model.specs.declared.refusals.named.Name.TheVariants as names
+use Rattle.zst_model.specs.declared.refusals.subjects.Name.TheVariants as names
 use Rattle.zst_model.specs.declared.refusals.refusal.Refusal.{Refusal}
 use Rattle.zst_model.specs.states.State.{Block, Hole, Data, index_bound}
-use Rattle.zst_model.specs.states.Dated.{DatedState}
-use Rattle.zst_model.specs.pools.Held.{Held}
+use Rattle.zst_model.specs.states.DatedState.{DatedState}
+use Rattle.zst_model.specs.pools.Sessions.{Held}
 use Rattle.zst_model.specs.pools.Pool.{Pool, Snapshot, untouched}
 use Rattle.zst_model.specs.pools.Step.{Stepped, stepped}
-use Rattle.zst_laws.specs.Example.{file, one_file, file_dates, first_block, padded, small, rewritten}
+use Rattle.zst_laws.specs.FileExample.{file, one_file, file_dates, first_block, padded, small, rewritten}
 
 -- a pool as it is made: with this id, the number 1 and nothing in it
 abbrev pub new_pool : ℕ → Pool

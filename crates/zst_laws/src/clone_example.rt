@@ -1,4 +1,4 @@
-ghost use Rattle.zst_model.specs.pools.Sound.{Sound};
+ghost use Rattle.zst_model.specs.pools.Soundness.{Sound};
 ghost use Rattle.zst_laws.specs.CloneExample.{clones, ClonesStand, MadeOfOne};
 
 /// Of a clone of a clone: each snapshot and bookmark stands before what came of it, and before nothing else; the pool is sound.

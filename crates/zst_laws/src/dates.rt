@@ -1,4 +1,4 @@
-ghost use Rattle.zst_laws.specs.Dating.{ChangesAreDated, DatesAreExact, RemembersItself, RemembersOn, AppliedIsState, RemembersThrough};
+ghost use Rattle.zst_laws.specs.Dates.{ChangesAreDated, DatesAreExact, RemembersItself, RemembersOn, AppliedIsState, RemembersThrough};
 
 /// An item that is applied in a commit changes no content that it doesn't date.
 pub fn changes_are_dated()

@@ -1,39 +1,39 @@
 //! The laws of sends and receives: what the definitions of zst_model give together.
 #![tactic(auto)]
 
-ghost use Rattle.zst_laws.specs.Example.{SmallItems, SmallPoints, RewrittenItems, ShortenedItems, ReallocatedItems, DistantItems};
-ghost use Rattle.zst_laws.specs.History.{AnyIsFullBase, BeforeIsBase, RedactedIsBase};
-ghost use Rattle.zst_laws.specs.Joining.{RunsAreMaximal, HeldGoesOn};
+ghost use Rattle.zst_laws.specs.FileExample.{SmallItems, SmallPoints, RewrittenItems, ShortenedItems, ReallocatedItems, DistantItems};
+ghost use Rattle.zst_laws.specs.Bases.{AnyIsFullBase, BeforeIsBase, RedactedIsBase};
+ghost use Rattle.zst_laws.specs.JoinedRuns.{RunsAreMaximal, HeldGoesOn};
 ghost use Rattle.zst_laws.specs.Ranges.{NumbersAreCut, IndicesAreCut};
-ghost use Rattle.zst_laws.specs.Resuming.{ResumeIsExact, StartStands, CutStands, PointsRise};
-ghost use Rattle.zst_laws.specs.Sending.{SnapshotHasView, SendIsExact, FullIsExact, RedactedIsState, StreamsAgree, ViewsAgree};
+ghost use Rattle.zst_laws.specs.ResumedSends.{ResumeIsExact, StartStands, CutStands, PointsRise};
+ghost use Rattle.zst_laws.specs.ExactSends.{SnapshotHasView, SendIsExact, FullIsExact, RedactedIsState, StreamsAgree, ViewsAgree};
 ghost use Rattle.zst_laws.specs.Walk.{WalkBegins, WalkEnds, ObjectIsNext, GoneIsNext, GoneRunIsNext, BlockIsNext, BlockRunIsNext};
 
-mod aborting;
+mod aborts;
 mod clone_example;
 mod command_examples;
 mod commits;
 mod dates;
 mod headers;
-mod held;
-mod kept;
+mod holding_sessions;
+mod kept_pools;
 mod line_examples;
 mod lineage;
 mod lineage_examples;
 mod lineage_refusals;
 mod meanings;
 mod plan_examples;
-mod planning;
-mod receiving;
+mod received_records;
 mod redact_example;
-mod remembering;
+mod remembered_states;
 mod send_examples;
+mod send_plans;
 mod sessions;
 mod step_examples;
+mod step_invariants;
 mod step_refusals;
-mod stepping;
 
-pub use aborting::{aborted_go_alone, aborts_are_refused};
+pub use aborts::{aborted_go_alone, aborts_are_refused};
 pub use clone_example::{bookmarks_are_of_one, clones_stand};
 pub use command_examples::{object_is_replaced, range_is_punched};
 pub use commits::{history_remembers, increment_is_exact};
@@ -44,10 +44,10 @@ pub use dates::{
 pub use headers::{
     choices_are_exact, headers_are_exact, headers_keep_the_rest, sends_are_stated, sends_have_items,
 };
-pub use held::{
+pub use holding_sessions::{
     busy_sessions_are_named, least_session_is_named, sessions_hold_back, steps_ask_no_session,
 };
-pub use kept::{keeping_is_done, kept_are_kept, kept_are_lawful};
+pub use kept_pools::{keeping_is_done, kept_are_kept, kept_are_lawful};
 pub use line_examples::{blocks_are_read, objects_are_listed, pool_is_listed};
 pub use lineage::{
     bookmarks_keep_snapshots, clones_are_as_snapshots, destroyed_go_alone, heads_are_rolled_back,
@@ -64,23 +64,23 @@ pub use meanings::{
     user_data_has_two_types, volumes_are_made, writes_fail,
 };
 pub use plan_examples::{clones_are_planned, increments_are_planned, redacted_are_planned};
-pub use planning::{ancestor_is_wanted, before_is_tested, plans_are_of_pool};
-pub use receiving::{
+pub use received_records::{
     cut_is_part_way, far_records_are_refused, moved_has_taken, part_way_is_completed,
     received_is_state, record_faults_come_first,
 };
 pub use redact_example::two_clones_list_one_block;
-pub use remembering::{
+pub use remembered_states::{
     history_is_base, own_is_remembered, remembered_is_base, sources_are_bases, steps_remember,
 };
 pub use send_examples::{changed_objects_are_sent, whole_object_is_sent};
+pub use send_plans::{ancestor_is_wanted, before_is_tested, plans_are_of_pool};
 pub use sessions::{cuts_are_exact, cuts_complete, full_cuts_are_exact, increment_cuts_are_exact};
 pub use step_examples::{rewritten_is_made, small_is_changed, small_is_made, small_is_put_again};
+pub use step_invariants::{steps_keep_partials, steps_keep_pools, steps_keep_sound};
 pub use step_refusals::{
     heads_are_refused, new_datasets_are_refused, numbers_are_refused, punches_are_refused,
     reads_are_refused, snapshots_are_refused, writes_are_refused,
 };
-pub use stepping::{steps_keep_partials, steps_keep_pools, steps_keep_sound};
 
 /// A lawful snapshot with a lawful choice has a lawful view.
 pub fn snapshot_has_view()

@@ -7,14 +7,14 @@ use Rattle.zst_bytes.specs.Fields.{zeros}
 use Rattle.zst_bytes.proofs.FieldsLaws.{length-zeros}
 use Rattle.zst_space.specs.FreeSectors.{FreeSectors}
 use Rattle.zst_block.specs.Blocks.{IsBlock, Has}
-use Rattle.zst_block.specs.Reading.{GivesBlock}
+use Rattle.zst_block.specs.ReadAnswers.{GivesBlock}
 use Rattle.zst_block.specs.declared.fault.BlockFault.{BlockFault}
 use Rattle.zst_block.specs.declared.fault.BlockFault.TheVariants.{Full, Damaged, DiskFault}
 use Rattle.zst_block.specs.declared.ptr.Ptr.{Ptr}
 use Rattle.zst_tree.specs.Indices.{Blocks, IsNoDamage, child}
 use Rattle.zst_leaves.specs.Leaves.{Appends, HasLeaves, IsLeaf, LeavesBelow, bytes_below, part}
 use Rattle.zst_leaves.proofs.LeavesLaws.{LeavesBelow-grows, leaf_below, none_of}
-use Rattle.zst_leaves.proofs.Pieces.{length-part, parts_same}
+use Rattle.zst_leaves.proofs.TextParts.{length-part, parts_same}
 use Rattle.zst_leaves.proofs.Span.{span-suc}
 
 -- a block that is there isn't damaged

@@ -1,10 +1,10 @@
 pub mod Span
-pub mod Kept
-pub mod Least
-pub mod Pieces
-pub mod Counted
+pub mod KeptBlocks
+pub mod LevelCounts
+pub mod TextParts
+pub mod BlockCounts
 pub mod LeavesLaws
-pub mod Gathered
+pub mod GatheredTexts
 pub mod LeavesRead
-pub mod Placed
-pub mod Leading
+pub mod BlocksBeforeEnd
+pub mod DamageLemmas

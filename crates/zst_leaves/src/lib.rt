@@ -3,14 +3,14 @@
 
 mod fault;
 mod laws;
-mod reading;
+mod reads;
 mod sizes;
 #[cfg(test)]
 mod tests;
-mod writing;
+mod writes;
 
 pub use fault::LeavesFault;
 pub use laws::root_has_one_text;
-pub use reading::read_leaves;
+pub use reads::read_leaves;
 pub use sizes::MOST_BYTES;
-pub use writing::write_leaves;
+pub use writes::write_leaves;

@@ -2,7 +2,7 @@
 use Rattle.std.proofs.Common.{◌≡◌, ◌≢◌, ℕ, zero, suc, ◌+◌, ◌<◌, List, [], ◌∷◌, ◌++◌, length, get_or, Option, Some, None, decimal, codes, refl, ap, sym, ◌∙◌, arith}
 use Rattle.std.proofs.lemmas.Fmt.{decimal_injective}
 use Rattle.std.proofs.lemmas.List.{get_or-append-add, length-append}
-use Rattle.zst_line.specs.Lines.{IsBlockOf, IsSpillOf}
+use Rattle.zst_line.specs.Line.{IsBlockOf, IsSpillOf}
 use Rattle.zst_line.proofs.Spills.{no_colon}
 
 -- the last two of a list

@@ -5,8 +5,8 @@ use Rattle.std.specs.List.{AllZip}
 use Rattle.zst_line.specs.declared.kind.Kind.{Kind}
 use Rattle.zst_line.specs.declared.slot.Slot.{Slot}
 use Rattle.zst_line.specs.Grammar.{named, places_behind, word_at}
-use Rattle.zst_line.specs.Judged.{Takes}
-use Rattle.zst_line.proofs.InTurn.{word_here}
+use Rattle.zst_line.specs.WordFaults.{Takes}
+use Rattle.zst_line.proofs.WordWalk.{word_here}
 use Rattle.zst_line.proofs.OptionPlaces.{last_takes}
 
 pub last_word : (kind : Kind) (one last : Slot) (words : List (String Global)) (word : String Global) (text : List ℕ) → ((count : ℕ) → named kind count ≡ one ∷ last ∷ [])

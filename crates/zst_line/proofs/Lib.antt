@@ -1,12 +1,12 @@
 pub mod FirstWords
 pub mod Halves
-pub mod InTurn
+pub mod WordWalk
 pub mod LastWords
-pub mod Misreading
+pub mod MisreadWords
 pub mod NamesAtPlaces
 pub mod Numbers
 pub mod OneAnswer
-pub mod OptionByOption
+pub mod OptionWalk
 pub mod OptionPlaces
 pub mod SameLine
 pub mod Sizes

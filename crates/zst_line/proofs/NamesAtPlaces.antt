@@ -2,13 +2,13 @@
 use Rattle.std.proofs.Common.{◌≡◌, ℕ, true, List}
 use Rattle.std.proofs.lemmas.Bool.{false≢true}
 use Rattle.zst_model.specs.pools.Step.{HasObjects}
-use Rattle.zst_line.specs.declared.named.NameKind.{NameKind}
-use Rattle.zst_line.specs.declared.named.NameKind.TheVariants as kinds
+use Rattle.zst_line.specs.declared.name_kinds.NameKind.{NameKind}
+use Rattle.zst_line.specs.declared.name_kinds.NameKind.TheVariants as kinds
 use Rattle.zst_line.specs.declared.slot.Slot.TheVariants as slots
 use Rattle.zst_line.specs.Grammar.{dataset_or_snapshot}
-use Rattle.zst_line.specs.Judged.{Takes}
-use Rattle.zst_line.specs.Lines.{as_name, name_of}
-use Rattle.zst_line.specs.Named.{IsNameOf, kind_of_name, takes}
+use Rattle.zst_line.specs.WordFaults.{Takes}
+use Rattle.zst_line.specs.Line.{as_name, name_of}
+use Rattle.zst_line.specs.NameKinds.{IsNameOf, kind_of_name, takes}
 
 of_kind : (kind : NameKind) (word : List ℕ) → takes dataset_or_snapshot kind ≡ true → IsNameOf kind word → HasObjects (as_name kind word)
 of_kind kinds.Dataset word taken is = is

@@ -7,9 +7,9 @@ use Rattle.std.specs.List.{AllZip}
 use Rattle.zst_line.specs.declared.slot.Slot.{Slot}
 use Rattle.zst_line.specs.declared.slot.Slot.TheVariants.{Image, Number}
 use Rattle.zst_line.specs.Grammar.{word_at}
-use Rattle.zst_line.specs.Judged.{Takes}
+use Rattle.zst_line.specs.WordFaults.{Takes}
 use Rattle.zst_line.specs.Words.{IsNumber, IsSize}
-use Rattle.zst_line.proofs.InTurn.{word_here}
+use Rattle.zst_line.proofs.WordWalk.{word_here}
 use Rattle.zst_model.specs.states.State.{is_block_size}
 use Rattle.zst_line.proofs.Sizes.{block_size_below}
 

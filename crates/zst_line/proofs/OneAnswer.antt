@@ -12,9 +12,9 @@ use Rattle.zst_line.specs.declared.line.LineFault.TheVariants as faults
 use Rattle.zst_line.specs.declared.slot.Slot.{Slot}
 use Rattle.zst_line.specs.declared.slot.Slot.TheVariants.{Token, Name}
 use Rattle.zst_line.specs.Grammar.{word_of, places_of}
-use Rattle.zst_line.specs.Judged.{Fits, Stops, IsReadAt, Misread, FirstMisread, OfLine, UsageAt, MisreadAs, Takes, IsLine}
-use Rattle.zst_line.specs.Named.{IsNameOf, kind_of_name}
-use Rattle.zst_line.specs.Lines.{LineAnswers, OneAnswer}
+use Rattle.zst_line.specs.WordFaults.{Fits, Stops, IsReadAt, Misread, FirstMisread, OfLine, UsageAt, MisreadAs, Takes, IsLine}
+use Rattle.zst_line.specs.NameKinds.{IsNameOf, kind_of_name}
+use Rattle.zst_line.specs.Line.{LineAnswers, OneAnswer}
 use Rattle.zst_line.proofs.FirstWords.{same_kind}
 use Rattle.zst_line.proofs.SameLine.{same_line}
 

@@ -3,20 +3,20 @@ use Rattle.std.proofs.Common.{◌≡◌, ℕ, suc, ◌+◌, ◌<◌, Bool, true,
 use Rattle.std.proofs.lemmas.Bool.{lt-ltb}
 use Rattle.std.specs.List.{AllZip}
 use Rattle.zst_line.specs.declared.kind.Kind.{Kind}
-use Rattle.zst_line.specs.declared.named.Names.{Names}
-use Rattle.zst_line.specs.declared.options.Taking.{Taking}
-use Rattle.zst_line.specs.declared.options.Taking.TheVariants.{Nothing, NameOf}
+use Rattle.zst_line.specs.declared.name_kinds.Names.{Names}
+use Rattle.zst_line.specs.declared.options.OptionValue.{OptionValue}
+use Rattle.zst_line.specs.declared.options.OptionValue.TheVariants.{Nothing, NameOf}
 use Rattle.zst_line.specs.declared.slot.Slot.{Slot}
 use Rattle.zst_line.specs.declared.slot.Slot.TheVariants.{Name, Given}
 use Rattle.zst_line.specs.Grammar.{named, option_of, new_option, stands_in, value_of, places_behind, goes_on, places_of, option_at, word_at}
-use Rattle.zst_line.specs.Judged.{Takes}
-use Rattle.zst_line.specs.Lines.{first_of, value_behind}
+use Rattle.zst_line.specs.WordFaults.{Takes}
+use Rattle.zst_line.specs.Line.{first_of, value_behind}
 use Rattle.zst_line.specs.Words.{IsOption}
-use Rattle.zst_line.proofs.InTurn.{drop_at}
+use Rattle.zst_line.proofs.WordWalk.{drop_at}
 use Rattle.zst_line.proofs.Texts.{differ, same_bytes}
 
 -- the places from a word on, by what the option takes that it is
-abbrev pub step : Kind → List (List ℕ) → List ℕ → List (List ℕ) → Option Taking → List Slot
+abbrev pub step : Kind → List (List ℕ) → List ℕ → List (List ℕ) → Option OptionValue → List Slot
 step kind before word words taken = elim taken [
   | None ↦ named kind (length (word ∷ words))
   | Some taking ↦ Given ∷ places_behind kind (before ++ word ∷ []) (value_of taking) words
@@ -32,7 +32,7 @@ with_place : (kind : Kind) (slot : Slot) (places : List Slot) → Ends kind plac
 with_place kind slot places e = record { front = slot ∷ e.front; count = e.count; ends = ap (λ (rest : List Slot). slot ∷ rest) e.ends }
 
 step_ends : (kind : Kind) (before : List (List ℕ)) (word : List ℕ) (words : List (List ℕ)) → ((value : Option Slot) → Ends kind (places_behind kind (before ++ word ∷ []) value words))
-    → (taken : Option Taking) → Ends kind (step kind before word words taken)
+    → (taken : Option OptionValue) → Ends kind (step kind before word words taken)
 step_ends kind before word words behind None = record { front = []; count = length (word ∷ words); ends = refl }
 step_ends kind before word words behind (Some taking) = with_place kind Given (places_behind kind (before ++ word ∷ []) (value_of taking) words) (behind (value_of taking))
 
@@ -75,7 +75,7 @@ abbrev ValueRefuses : Option Slot → Type 0
 ValueRefuses None = Unit {0}
 ValueRefuses (Some slot) = Refuses slot
 
-value_refuses : (taking : Taking) → ValueRefuses (value_of taking)
+value_refuses : (taking : OptionValue) → ValueRefuses (value_of taking)
 value_refuses Nothing = tt
 value_refuses (NameOf names) = λ word takes is. takes.0.0 is
 
@@ -96,20 +96,20 @@ pub record TakesName (kind : Kind) (option : List ℕ) (names : Names) : Type 0 
   pub others : (count : ℕ) → AllRefuse (named kind count)
 
 -- an option that the line has is taken unless it stands before
-abbrev chosen : Option Taking → Bool → Option Taking
+abbrev chosen : Option OptionValue → Bool → Option OptionValue
 chosen taken stands = elim taken [
   | None ↦ None
   | Some taking ↦ if stands then None else Some taking
 ]
 
-new_is : (kind : Kind) (before : List (List ℕ)) (word : List ℕ) (taking : Taking) → option_of kind word ≡ Some taking → new_option kind before word ≡ (if stands_in before word then None else Some taking)
-new_is kind before word taking is = ap (λ (taken : Option Taking). chosen taken (stands_in before word)) is
+new_is : (kind : Kind) (before : List (List ℕ)) (word : List ℕ) (taking : OptionValue) → option_of kind word ≡ Some taking → new_option kind before word ≡ (if stands_in before word then None else Some taking)
+new_is kind before word taking is = ap (λ (taken : Option OptionValue). chosen taken (stands_in before word)) is
 
-unless_before : (stands : Bool) (one other : Taking) → (if stands then None else Some one) ≡ Some other → one ≡ other
+unless_before : (stands : Bool) (one other : OptionValue) → (if stands then None else Some one) ≡ Some other → one ≡ other
 unless_before true one other e = absurd cc
 unless_before false one other e = cc
 
-taken_is : (kind : Kind) (before : List (List ℕ)) (option : List ℕ) (names : Names) (taking : Taking) → option_of kind option ≡ Some (NameOf names) → new_option kind before option ≡ Some taking
+taken_is : (kind : Kind) (before : List (List ℕ)) (option : List ℕ) (names : Names) (taking : OptionValue) → option_of kind option ≡ Some (NameOf names) → new_option kind before option ≡ Some taking
     → NameOf names ≡ taking
 taken_is kind before option names taking is new = unless_before (stands_in before option) (NameOf names) taking (sym (new_is kind before option (NameOf names) is) ∙ new)
 
@@ -120,12 +120,12 @@ value_next kind before names [] value fits e = absurd fits
 value_next kind before names (word ∷ words) value fits e = let same : word ≡ value = cc in rw same at fits.0
 
 -- what is known of the words behind a word
-abbrev Behind : Kind → List (List ℕ) → List (List ℕ) → List ℕ → Names → List ℕ → Type 0
-Behind kind before words option names value =
+abbrev KnownBehind : Kind → List (List ℕ) → List (List ℕ) → List ℕ → Names → List ℕ → Type 0
+KnownBehind kind before words option names value =
     (pending : Option Slot) → ValueRefuses pending → AllZip Takes (places_behind kind before pending words) words → value_behind option words ≡ Some value → Takes (Name names) value
 
 at_option : (kind : Kind) (before : List (List ℕ)) (word : List ℕ) (words : List (List ℕ)) (option : List ℕ) (names : Names) (value : List ℕ) → TakesName kind option names
-    → Behind kind (before ++ word ∷ []) words option names value → (taking : Taking) → new_option kind before word ≡ Some taking
+    → KnownBehind kind (before ++ word ∷ []) words option names value → (taking : OptionValue) → new_option kind before word ≡ Some taking
     → AllZip Takes (places_behind kind (before ++ word ∷ []) (value_of taking) words) words
     → (same : Bool) → bytes_eq word option ≡ same → (if same then first_of words else value_behind option words) ≡ Some value → Takes (Name names) value
 at_option kind before word words option names value t behind taking new fits true same e =
@@ -135,14 +135,14 @@ at_option kind before word words option names value t behind taking new fits tru
 at_option kind before word words option names value t behind taking new fits false same e = behind (value_of taking) (value_refuses taking) fits e
 
 step_value : (kind : Kind) (before : List (List ℕ)) (word : List ℕ) (words : List (List ℕ)) (option : List ℕ) (names : Names) (value : List ℕ) → TakesName kind option names
-    → Behind kind (before ++ word ∷ []) words option names value → (taken : Option Taking) → new_option kind before word ≡ taken
+    → KnownBehind kind (before ++ word ∷ []) words option names value → (taken : Option OptionValue) → new_option kind before word ≡ taken
     → AllZip Takes (step kind before word words taken) (word ∷ words) → value_behind option (word ∷ words) ≡ Some value → Takes (Name names) value
 step_value kind before word words option names value t behind None new fits e =
     let none = no_value (named kind (length (word ∷ words))) (word ∷ words) option t.is (t.others (length (word ∷ words))) fits in absurd cc
 step_value kind before word words option names value t behind (Some taking) new fits e =
     at_option kind before word words option names value t behind taking new fits.1 (bytes_eq word option) refl e
 
-value_of_option : (kind : Kind) (before : List (List ℕ)) (words : List (List ℕ)) (option : List ℕ) (names : Names) (value : List ℕ) → TakesName kind option names → Behind kind before words option names value
+value_of_option : (kind : Kind) (before : List (List ℕ)) (words : List (List ℕ)) (option : List ℕ) (names : Names) (value : List ℕ) → TakesName kind option names → KnownBehind kind before words option names value
 value_of_option kind before [] option names value t (Some slot) refuses fits e = absurd fits
 value_of_option kind before [] option names value t None refuses fits e = absurd cc
 value_of_option kind before (word ∷ words) option names value t (Some slot) refuses fits e =
@@ -165,13 +165,13 @@ value_fits kind words option names t fits = if_some names (value_behind option w
 -- a line without options has the places of its named words
 pub without_options : (kind : Kind) (words : List (List ℕ)) → ((word : List ℕ) → option_of kind word ≡ None) → places_behind kind [] None words ≡ named kind (length words)
 without_options kind [] none = refl
-without_options kind (word ∷ words) none = ap (λ (taken : Option Taking). step kind [] word words (chosen taken (stands_in [] word))) (none word)
+without_options kind (word ∷ words) none = ap (λ (taken : Option OptionValue). step kind [] word words (chosen taken (stands_in [] word))) (none word)
 
 pub named_fits : (kind : Kind) (words : List (List ℕ)) → ((word : List ℕ) → option_of kind word ≡ None) → goes_on kind words ≡ false → AllZip Takes (places_of kind words) words → AllZip Takes (named kind (length words)) words
 named_fits kind words none whole fits = rw (whole, without_options kind words none) at fits
 
 -- the option at a place
-pub option_known : (kind : Kind) (words : List (List ℕ)) (place : ℕ) (taking : Taking) → place < length words → option_of kind (word_at words place) ≡ Some taking
+pub option_known : (kind : Kind) (words : List (List ℕ)) (place : ℕ) (taking : OptionValue) → place < length words → option_of kind (word_at words place) ≡ Some taking
     → option_at kind words place ≡ (if stands_in (take place words) (word_at words place) then None else Some taking)
 option_known kind words place taking h is = rw (lt-ltb place (length words) h) (new_is kind (take place words) (word_at words place) taking is)
 

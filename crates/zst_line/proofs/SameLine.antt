@@ -11,7 +11,7 @@ use Rattle.zst_line.specs.declared.kind.Kind.TheVariants as kinds
 use Rattle.zst_line.specs.declared.line.Line.{Line}
 use Rattle.zst_line.specs.declared.line.Line.TheVariants as lines
 use Rattle.zst_line.specs.Grammar.{word_at}
-use Rattle.zst_line.specs.Lines.{Says, NumbersFit, LineIs}
+use Rattle.zst_line.specs.Line.{Says, NumbersFit, LineIs}
 use Rattle.zst_line.proofs.FirstWords.{first_kind}
 use Rattle.zst_line.proofs.Halves.{same_end, same_spill}
 use Rattle.zst_line.proofs.Sizes.{block_size_below}

@@ -8,7 +8,7 @@ use Rattle.std.proofs.lemmas.List.{take_all, length-append, length-replicate}
 use Rattle.hex.specs.Hex.{decode_of}
 use Rattle.hex.proofs.HexLemmas.{decode_of-ok}
 use Rattle.zst_model.specs.states.State.{is_spill_size}
-use Rattle.zst_line.specs.Lines.{IsBlockOf}
+use Rattle.zst_line.specs.Line.{IsBlockOf}
 use Rattle.zst_line.specs.Words.{IsSpill}
 use Rattle.zst_line.proofs.Sizes.{spill_size_below}
 

@@ -4,9 +4,9 @@ use Rattle.std.specs.List.{list_any}
 use Rattle.zst_model.specs.pools.Limits.{largest_write}
 use Rattle.zst_line.specs.declared.kind.Kind.{Kind}
 use Rattle.zst_line.specs.declared.kind.Kind.TheVariants as kinds
-use Rattle.zst_line.specs.declared.named.Names.{Names}
-use Rattle.zst_line.specs.declared.options.Taking.{Taking}
-use Rattle.zst_line.specs.declared.options.Taking.TheVariants.{Nothing, NameOf}
+use Rattle.zst_line.specs.declared.name_kinds.Names.{Names}
+use Rattle.zst_line.specs.declared.options.OptionValue.{OptionValue}
+use Rattle.zst_line.specs.declared.options.OptionValue.TheVariants.{Nothing, NameOf}
 use Rattle.zst_line.specs.declared.slot.Slot.{Slot}
 use Rattle.zst_line.specs.declared.slot.Slot.TheVariants.{Image, Token, Name, Number, BlockSize, Bonus, Spill, HexBytes, Given}
 
@@ -104,7 +104,7 @@ abbrev pub word_at : List (List ℕ) → ℕ → List ℕ
 word_at words place = slice_index_or words place []
 
 -- what the option of a line takes that a word is
-abbrev pub option_of : Kind → List ℕ → Option Taking
+abbrev pub option_of : Kind → List ℕ → Option OptionValue
 option_of kinds.Rollback word = if bytes_eq word (codes "-r") then Some Nothing else None
 option_of kinds.Send word = if bytes_eq word (codes "-i") then Some (NameOf snapshot_or_bookmark) else (if bytes_eq word (codes "--redact") then Some (NameOf bookmark) else None)
 option_of kinds.Receive word =
@@ -119,23 +119,23 @@ abbrev pub stands_in : List (List ℕ) → List ℕ → Bool
 stands_in words word = list_any (λ other. bytes_eq other word) words
 
 -- what the option takes that a word is, unless it stands among the words before
-abbrev pub new_option : Kind → List (List ℕ) → List ℕ → Option Taking
+abbrev pub new_option : Kind → List (List ℕ) → List ℕ → Option OptionValue
 new_option kind before word = elim (option_of kind word) [
   | None ↦ None
   | Some taking ↦ if stands_in before word then None else Some taking
 ]
 
 -- the same of the word at a place, counted from 0
-abbrev pub option_at : Kind → List (List ℕ) → ℕ → Option Taking
+abbrev pub option_at : Kind → List (List ℕ) → ℕ → Option OptionValue
 option_at kind words place = if nat_lt place (length words) then new_option kind (take place words) (word_at words place) else None
 
 -- the place of an option's value, where it takes one
-abbrev pub value_of : Taking → Option Slot
+abbrev pub value_of : OptionValue → Option Slot
 value_of Nothing = None
 value_of (NameOf names) = Some (Name names)
 
 -- the places of an option: its own, and that of its value
-abbrev pub option_places : Taking → List Slot
+abbrev pub option_places : OptionValue → List Slot
 option_places Nothing = Given ∷ []
 option_places (NameOf names) = Given ∷ Name names ∷ []
 

@@ -1,5 +1,5 @@
 pub mod Grammar
-pub mod Judged
-pub mod Lines
-pub mod Named
+pub mod WordFaults
+pub mod Line
+pub mod NameKinds
 pub mod Words

@@ -2,12 +2,12 @@
 ghost use Rattle.std.specs.Prelude.{◌∷◌, map, codes, string_bytes, IfOk};
 ghost use Rattle.std.specs.List.{AllZip};
 ghost use Rattle.zst_line.specs.Grammar.{front};
-ghost use Rattle.zst_line.specs.Judged.{Takes};
-ghost use Rattle.zst_line.specs.Lines.{LineIs};
+ghost use Rattle.zst_line.specs.WordFaults.{Takes};
+ghost use Rattle.zst_line.specs.Line.{LineIs};
 
 use crate::kind::Kind;
 use crate::line::Line;
-use crate::said::{bonus, bookmark, bytes, dataset, name, number, snapshot, spill, text};
+use crate::word_values::{bonus, bookmark, bytes, dataset, name, number, snapshot, spill, text};
 use std::alloc::{AllocError, Global};
 use zst_model::{Command, ObjectHead};
 

@@ -3,25 +3,25 @@
 
 mod commands;
 mod kind;
+mod kind_lines;
 mod laws;
 mod line;
-mod named;
+mod name_kinds;
 mod options;
-mod parsing;
+mod parser;
 mod places;
-mod said;
 mod slot;
 mod snapshots;
-mod spelled;
 mod streams;
 mod table;
 #[cfg(test)]
 mod tests;
 mod text;
 mod tools;
+mod word_values;
 
 pub use laws::line_has_one_answer;
 pub use line::{Line, LineFault};
-pub use parsing::parse;
+pub use parser::parse;
 pub use snapshots::Snapshots;
 pub use text::Text;

@@ -91,7 +91,7 @@ pub enum LineFault {
 
 impl From<LineFault> for Refusal {
     ghost use Rattle.std.specs.Prelude.{◌≡◌};
-    ghost use Rattle.zst_line.specs.Lines.{refusal_of};
+    ghost use Rattle.zst_line.specs.Line.{refusal_of};
 
     ghost from_gives = { λ fault refusal. refusal ≡ refusal_of fault };
 

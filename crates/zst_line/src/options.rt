@@ -3,40 +3,40 @@ ghost use Rattle.std.specs.Prelude.{◌≡◌, map, string_bytes};
 ghost use Rattle.zst_line.specs.Grammar.{option_of, stands_in, option_at, value_of, goes_on};
 
 use crate::kind::Kind;
-use crate::named::Names;
+use crate::name_kinds::Names;
 use crate::slot::Slot;
 use crate::table::{BOOKMARK, SNAPSHOT, SNAPSHOT_OR_BOOKMARK};
 
 /// What an option takes.
 #[derive(Clone, Copy)]
-pub enum Taking {
+pub enum OptionValue {
     Nothing,
     /// A name of one of these kinds, which is the next word.
     NameOf(Names),
 }
 
-impl Taking {
+impl OptionValue {
     /// The place of its value.
     pub fn value(self) -> Option<Slot>
         ensures { result ≡ value_of self }
     {
         match self {
-            Taking::Nothing => None,
-            Taking::NameOf(names) => Some(Slot::Name(names)),
+            OptionValue::Nothing => None,
+            OptionValue::NameOf(names) => Some(Slot::Name(names)),
         }
     }
 }
 
 /// What the option of a line takes that a word is.
-fn option_of(kind: Kind, word: &str) -> Option<Taking>
+fn option_of(kind: Kind, word: &str) -> Option<OptionValue>
     ensures { result ≡ option_of kind word.now }
 {
     match (kind, word) {
-        (Kind::Rollback, "-r") => Some(Taking::Nothing),
-        (Kind::Send, "-i") => Some(Taking::NameOf(SNAPSHOT_OR_BOOKMARK)),
-        (Kind::Send, "--redact") => Some(Taking::NameOf(BOOKMARK)),
-        (Kind::Receive, "-s" | "-F") => Some(Taking::Nothing),
-        (Kind::Receive, "--origin") => Some(Taking::NameOf(SNAPSHOT)),
+        (Kind::Rollback, "-r") => Some(OptionValue::Nothing),
+        (Kind::Send, "-i") => Some(OptionValue::NameOf(SNAPSHOT_OR_BOOKMARK)),
+        (Kind::Send, "--redact") => Some(OptionValue::NameOf(BOOKMARK)),
+        (Kind::Receive, "-s" | "-F") => Some(OptionValue::Nothing),
+        (Kind::Receive, "--origin") => Some(OptionValue::NameOf(SNAPSHOT)),
         _ => None,
     }
 }
@@ -54,7 +54,7 @@ pub fn stands_in(words: &[String], word: &str) -> bool
 }
 
 /// What the option takes that the word at an index is, unless it stands among those before. There may be no such word.
-pub fn option_at(kind: Kind, words: &[String], index: usize) -> Option<Taking>
+pub fn option_at(kind: Kind, words: &[String], index: usize) -> Option<OptionValue>
     ensures { result ≡ option_at kind (map string_bytes words.now) index }
 {
     let word = words.get(index)?.as_str();

@@ -2,11 +2,11 @@
 ghost use Rattle.std.specs.Prelude.{◌≡◌, ◌↔◌, ◌+◌, ◌≤◌, ◌<◌, ◌++◌, length, map, string_bytes, IsTrue, IfOk, IfSome, MatchOption};
 ghost use Rattle.std.specs.List.{AllZip};
 ghost use Rattle.zst_line.specs.Grammar.{last_snapshots, option_places, places_of, word_at};
-ghost use Rattle.zst_line.specs.Judged.{Fits, IsReadAt, Stops, FirstMisread};
+ghost use Rattle.zst_line.specs.WordFaults.{Fits, IsReadAt, Stops, FirstMisread};
 
 use crate::kind::Kind;
 use crate::line::LineFault;
-use crate::options::{Taking, goes_on, option_at};
+use crate::options::{OptionValue, goes_on, option_at};
 use crate::slot::{Slot, fits, misread};
 use crate::table::{LAST_SNAPSHOT, RESUME, front};
 use std::alloc::{AllocError, Global};
@@ -26,7 +26,7 @@ fn last_snapshots(kind: Kind, count: usize) -> usize
 }
 
 /// Puts the places of an option behind those before.
-fn push_option(places: &mut Vec<Slot>, taking: Taking) -> Result<(), AllocError>
+fn push_option(places: &mut Vec<Slot>, taking: OptionValue) -> Result<(), AllocError>
     ensures { IfOk result (λ done. places.new.items ≡ places.old.items ++ option_places taking) }
 {
     places.push(Slot::Given)?;

@@ -2,11 +2,11 @@ ghost use Rattle.std.specs.Prelude.{◌≡◌, ◌↔◌, IsTrue, MatchOption, c
 ghost use Rattle.std.specs.List.{AllPass};
 ghost use Rattle.hex.specs.Hex.{is_hex_digit};
 ghost use Rattle.zst_line.specs.Words.{IsOption, IsText, IsHex, IsNumber, IsSize, IsSpill};
-ghost use Rattle.zst_line.specs.Named.{FitsName};
-ghost use Rattle.zst_line.specs.Judged.{Fits, IsReadAt, Misread};
+ghost use Rattle.zst_line.specs.NameKinds.{FitsName};
+ghost use Rattle.zst_line.specs.WordFaults.{Fits, IsReadAt, Misread};
 
 use crate::line::LineFault;
-use crate::named::{Names, kind_of_name, stop_of};
+use crate::name_kinds::{Names, kind_of_name, stop_of};
 use zst_bytes::decimal;
 use zst_model::limits::{LARGEST_BONUS, is_block_size, is_spill_size};
 use zst_token::Token;

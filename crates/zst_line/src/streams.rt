@@ -2,15 +2,15 @@
 ghost use Rattle.std.specs.Prelude.{◌≡◌, ◌∷◌, [], None, length, map, codes, string_bytes, false, true, All, IfOk, IfSome, option_map};
 ghost use Rattle.std.specs.List.{AllZip};
 ghost use Rattle.zst_line.specs.Grammar.{named, places_behind, places_of, goes_on, bookmark, snapshot, snapshot_or_bookmark};
-ghost use Rattle.zst_line.specs.Judged.{Takes};
-ghost use Rattle.zst_line.specs.Lines.{LineIs, first_of, name_of, value_behind};
+ghost use Rattle.zst_line.specs.WordFaults.{Takes};
+ghost use Rattle.zst_line.specs.Line.{LineIs, first_of, name_of, value_behind};
 ghost use Rattle.zst_line.specs.declared.slot.Slot.TheVariants as slots;
 
 use crate::kind::Kind;
 use crate::line::Line;
 use crate::options::stands_in;
-use crate::said::{bookmark, name, snapshot, text, token};
 use crate::snapshots::Snapshots;
+use crate::word_values::{bookmark, name, snapshot, text, token};
 use std::alloc::{AllocError, Global};
 use zst_model::{Command, Name};
 use zst_names::{BookName, SnapName};

@@ -3,7 +3,7 @@ ghost use Rattle.std.specs.Prelude.{◌≡◌};
 ghost use Rattle.zst_line.specs.Grammar.{front};
 
 use crate::kind::Kind;
-use crate::named::Names;
+use crate::name_kinds::Names;
 use crate::slot::Slot;
 use zst_model::limits::LARGEST_WRITE;
 

@@ -2,12 +2,12 @@
 ghost use Rattle.std.specs.Prelude.{◌∷◌, map, codes, string_bytes, IfOk};
 ghost use Rattle.std.specs.List.{AllZip};
 ghost use Rattle.zst_line.specs.Grammar.{front};
-ghost use Rattle.zst_line.specs.Judged.{Takes};
-ghost use Rattle.zst_line.specs.Lines.{LineIs};
+ghost use Rattle.zst_line.specs.WordFaults.{Takes};
+ghost use Rattle.zst_line.specs.Line.{LineIs};
 
 use crate::kind::Kind;
 use crate::line::Line;
-use crate::said::{dataset, number, text};
+use crate::word_values::{dataset, number, text};
 use std::alloc::{AllocError, Global};
 
 pub fn token(alloc: Global, words: &[String]) -> Result<Line, AllocError>

@@ -1,6 +1,6 @@
-pub mod Coded
-pub mod Growing
+pub mod ListBytes
+pub mod ListGrowth
 pub mod Loops
 pub mod OneList
 pub mod Sizes
-pub mod Told
+pub mod ReadRefusals

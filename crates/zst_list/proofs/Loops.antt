@@ -4,7 +4,7 @@ use Rattle.std.specs.List.{All}
 use Rattle.std.proofs.lemmas.List.{take_all, take_more}
 use Rattle.zst_model.specs.declared.states.cell.Run.{Run}
 use Rattle.zst_model.specs.fields.Lists.{Runs}
-use Rattle.zst_list.specs.Reading.{FitsWords, ReadsRun}
+use Rattle.zst_list.specs.RunReads.{FitsWords, ReadsRun}
 use Rattle.zst_list.specs.Spelling.{list_bytes, placed_bytes, runs_bytes}
 
 -- before this place: so many have been read, and where the bytes are a list these are its first, and the rest stands as it was spelled

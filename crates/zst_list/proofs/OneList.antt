@@ -11,10 +11,10 @@ use Rattle.zst_block.specs.declared.ptr.Ptr.{Ptr}
 use Rattle.zst_model.specs.declared.states.cell.Run.{Run}
 use Rattle.zst_model.specs.fields.Lists.{Runs}
 use Rattle.zst_leaves.specs.Leaves.{HasLeaves}
-use Rattle.zst_list.specs.Reading.{FitsWords}
+use Rattle.zst_list.specs.RunReads.{FitsWords}
 use Rattle.zst_list.specs.Spelling.{gap_bytes, list_bytes, run_bytes, runs_bytes}
-use Rattle.zst_list.specs.Standing.{HasList, list_length}
-use Rattle.zst_list.proofs.Coded.{each_fits}
+use Rattle.zst_list.specs.StoredLists.{HasList, list_length}
+use Rattle.zst_list.proofs.ListBytes.{each_fits}
 use Rattle.zst_list.proofs.Sizes.{length-list}
 
 -- a word in front tells its number, and what follows

@@ -7,7 +7,7 @@ use Rattle.zst_bytes.proofs.BytesLaws.{length-number_bytes}
 use Rattle.zst_model.specs.declared.states.cell.Run.{Run}
 use Rattle.zst_model.specs.fields.Lists.{Runs}
 use Rattle.zst_list.specs.Spelling.{gap_bytes, list_bytes, placed_bytes, run_bytes, runs_bytes}
-use Rattle.zst_list.specs.Standing.{list_length}
+use Rattle.zst_list.specs.StoredLists.{list_length}
 
 run_length : (run : Run) → length (run_bytes run) ≡ 24
 unfolding run_bytes

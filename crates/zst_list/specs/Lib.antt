@@ -1,3 +1,3 @@
-pub mod Reading
+pub mod RunReads
 pub mod Spelling
-pub mod Standing
+pub mod StoredLists

@@ -3,7 +3,7 @@ ghost use Rattle.std.specs.Prelude.{◌≡◌, ◌==◌, ◌%◌, ◌<◌, ◌^�
 ghost use Rattle.std.specs.Bool.{OnTrue};
 ghost use Rattle.zst_model.specs.declared.states.cell.Run.{Run};
 ghost use Rattle.zst_model.specs.fields.Lists.{Runs};
-ghost use Rattle.zst_list.specs.Reading.{FitsWords, ReadsRun, ReadsRuns};
+ghost use Rattle.zst_list.specs.RunReads.{FitsWords, ReadsRun, ReadsRuns};
 ghost use Rattle.zst_list.specs.Spelling.{IsList, list_bytes, placed_bytes};
 
 use std::alloc::{AllocError, Global};

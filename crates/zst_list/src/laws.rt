@@ -3,7 +3,7 @@ ghost use Rattle.zst_space.specs.FreeSectors.{FreeSectors};
 ghost use Rattle.zst_block.specs.Blocks.{Has};
 ghost use Rattle.zst_block.specs.declared.ptr.Ptr.{Ptr};
 ghost use Rattle.zst_model.specs.fields.Lists.{Runs};
-ghost use Rattle.zst_list.specs.Standing.{HasList};
+ghost use Rattle.zst_list.specs.StoredLists.{HasList};
 
 use zst_leaves::root_has_one_text;
 

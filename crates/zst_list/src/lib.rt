@@ -3,10 +3,10 @@
 
 mod coding;
 mod laws;
-mod reading;
+mod reads;
 #[cfg(test)]
 mod tests;
 
 pub use coding::{decode_list, encode_list};
 pub use laws::root_has_one_list;
-pub use reading::read_list;
+pub use reads::read_list;

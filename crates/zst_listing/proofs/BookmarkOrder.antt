@@ -9,7 +9,7 @@ use Rattle.std.proofs.lemmas.Bool.{true≢false, false_from_ne_true}
 use Rattle.std.proofs.lemmas.Bool.Decides.{eqb_tells, nat_tests}
 use Rattle.std.proofs.lemmas.List.Elements.{recursion_from_All}
 use Rattle.zst_names.specs.Names.{is_component_byte, IsBookmark, IsComponent, IsDataset, component_of, dataset_of, parts}
-use Rattle.zst_names.proofs.Marked.{joined, plain_onto, plain_parts, IsPlain}
+use Rattle.zst_names.proofs.MarkedNames.{joined, plain_onto, plain_parts, IsPlain}
 use Rattle.zst_model.specs.pools.Pool.{is_before}
 use Rattle.zst_model.proofs.OrderLaws.{before_trans, not_before_itself}
 use Rattle.zst_dir.specs.Rows.{IsBookmarkRow}

@@ -8,11 +8,11 @@ use Rattle.zst_block.specs.declared.ptr.Ptr.{Ptr}
 use Rattle.zst_block.proofs.BlocksLaws.{IsBlock-length}
 use Rattle.zst_dnode.specs.Dnode.{DnodeFits}
 use Rattle.zst_dnode.specs.declared.dnode.Dnode.{Dnode}
-use Rattle.zst_model.specs.pools.Lines.{object_line, object_lines, spill_word, word}
-use Rattle.zst_model.specs.states.Dated.{DatedState}
+use Rattle.zst_model.specs.pools.AnswerLines.{object_line, object_lines, spill_word, word}
+use Rattle.zst_model.specs.states.DatedState.{DatedState}
 use Rattle.zst_model.specs.states.State.{number_bound}
 use Rattle.zst_objset.specs.Dnodes.{IsThere, SpillIs}
-use Rattle.zst_objset.specs.Searching.{FindsNext}
+use Rattle.zst_objset.specs.Searches.{FindsNext}
 use Rattle.zst_tree.specs.Indices.{Blocks}
 use Rattle.zst_listing.specs.Listing.{dnode_line, pointer_word}
 use Rattle.zst_listing.proofs.ObjectWalk.{lines_from, no_lines, one_more}

@@ -1,7 +1,7 @@
 mod BookmarkOrder
 mod DnodeLines
-mod Matched
-mod Merging
+mod PoolLines
+mod MergedNames
 mod ObjectWalk
 mod RangeLaws
-mod Walked
+mod PartialWalk

@@ -1,11 +1,11 @@
 -- The lines of a state's objects from a number on: how a walk over the objects makes them.
 use Rattle.std.specs.Prelude.{pred, flat_map, Some, None}
 use Rattle.std.proofs.Common.{◌≡◌, ℕ, zero, suc, ◌+◌, ◌-◌, ◌^◌, ◌<◌, ◌≤◌, List, [], ◌∷◌, ◌++◌, refl, sym, ap, ◌∙◌, arith, append_assoc}
-use Rattle.zst_model.specs.pools.Lines.{line_of, object_line, object_lines}
+use Rattle.zst_model.specs.pools.AnswerLines.{line_of, object_line, object_lines}
 use Rattle.zst_model.specs.sends.Items.{rising}
-use Rattle.zst_model.specs.states.Dated.{DatedState}
+use Rattle.zst_model.specs.states.DatedState.{DatedState}
 use Rattle.zst_model.specs.states.State.{Object, number_bound}
-use Rattle.zst_objset.specs.Searching.{HasNone}
+use Rattle.zst_objset.specs.Searches.{HasNone}
 
 -- the line of what is at a number, or none
 abbrev pub line_at : DatedState → ℕ → List (List ℕ)

@@ -4,8 +4,8 @@ use Rattle.std.specs.List.{concat}
 use Rattle.zst_block.specs.declared.fault.BlockFault.{BlockFault}
 use Rattle.zst_block.specs.declared.ptr.Ptr.{Ptr}
 use Rattle.zst_dnode.specs.declared.dnode.Dnode.{Dnode}
-use Rattle.zst_model.specs.states.Dated.{DatedState}
-use Rattle.zst_model.specs.pools.Lines.{object_lines, word}
+use Rattle.zst_model.specs.states.DatedState.{DatedState}
+use Rattle.zst_model.specs.pools.AnswerLines.{object_lines, word}
 use Rattle.zst_objset.specs.Answers as sets
 use Rattle.zst_objset.specs.Damage.{DamageFact, IfSetDamaged}
 use Rattle.zst_listing.specs.declared.fault.ListFault.{ListFault}

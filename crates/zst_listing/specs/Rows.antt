@@ -3,7 +3,7 @@ use Rattle.std.specs.Prelude.{ℕ, List, [], ◌∷◌, ◌++◌, length, map, f
 use Rattle.std.specs.List.{concat}
 use Rattle.zst_names.specs.Names.{dataset_of}
 use Rattle.zst_model.specs.refusals.Texts.{guid_text}
-use Rattle.zst_model.specs.pools.Lines.{word, kind_word, name_or_none}
+use Rattle.zst_model.specs.pools.AnswerLines.{word, kind_word, name_or_none}
 use Rattle.zst_dir.specs.Rows.{Rows}
 use Rattle.zst_dir.specs.declared.rows.Dataset.{Dataset}
 use Rattle.zst_dir.specs.declared.rows.Snapshot.{Snapshot}

@@ -2,9 +2,9 @@
 #![tactic(auto)]
 
 mod fault;
-mod lines;
 mod objects;
 mod ranges;
+mod row_lines;
 mod rows;
 
 pub use fault::ListFault;

@@ -1,9 +1,9 @@
 //! The lines of the objects of a set.
 ghost use Rattle.std.specs.Prelude.{◌≡◌, [], ◌∷◌, ◌++◌, IfErr, IfOk, OnOk, string_bytes};
 ghost use Rattle.zst_block.specs.Blocks.{FitsDisk, Has};
-ghost use Rattle.zst_block.specs.Working.{Looks};
+ghost use Rattle.zst_block.specs.IoCalls.{Looks};
 ghost use Rattle.zst_listing.specs.Listing.{IfListDamaged, IsOfBlock, ListsObjects, dnode_line, pointer_word, stop_of};
-ghost use Rattle.zst_model.specs.states.Dated.{DatedState};
+ghost use Rattle.zst_model.specs.states.DatedState.{DatedState};
 ghost use Rattle.zst_objset.specs.Damage.{IsDamagedSet};
 ghost use Rattle.zst_objset.specs.Sets.{SetHolds};
 ghost use Rattle.zst_tree.specs.Damage.{IsSeen};

@@ -4,12 +4,12 @@ ghost use Rattle.std.specs.List.{flat_map};
 ghost use Rattle.zst_block.specs.Blocks.{Has};
 ghost use Rattle.zst_image.specs.Reads.{RunsBy};
 ghost use Rattle.zst_listing.specs.Rows.{bookmark_line, dataset_line, datasets_of, lines_of, partial_line, snapshot_line};
-ghost use Rattle.zst_model.specs.pools.Lines.{pool_lines};
+ghost use Rattle.zst_model.specs.pools.AnswerLines.{pool_lines};
 ghost use Rattle.zst_model.specs.pools.Pool.{Pool};
 ghost use Rattle.zst_space.specs.FreeSectors.{FreeSectors};
 
-use crate::lines::{bookmark_line, dataset_line, partial_line, snapshot_line};
 use crate::ranges::{bookmarks_of, datasets_of, partials_of, place_behind, snapshots_of};
+use crate::row_lines::{bookmark_line, dataset_line, partial_line, snapshot_line};
 use std::alloc::{AllocError, Global};
 use zst_dir::{Bookmark, Dataset, Dir, Partial, Snapshot};
 use zst_model::{Bytes, Reply};

@@ -1,7 +1,7 @@
-mod Appended
+mod SpacedTexts
 mod RunLists
 pub mod Sizes
-mod Rising
+mod RisingGuids
 pub mod OrderLaws
 pub mod InsertedLaws
-mod Fronts
+mod GuidFronts

@@ -1,10 +1,10 @@
-pub mod Before
-pub mod Held
-pub mod Kept
+pub mod Ancestry
+pub mod Sessions
+pub mod KeptPool
 pub mod Limits
-pub mod Lines
+pub mod AnswerLines
 pub mod Pool
 pub mod RedSet
 pub mod Rows
-pub mod Sound
+pub mod Soundness
 pub mod Step

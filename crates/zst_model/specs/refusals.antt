@@ -1,6 +1,6 @@
 pub mod ApplyWords
 pub mod Faults
-pub mod Named
+pub mod Subjects
 pub mod PlanFault
 pub mod Refusal
 pub mod StreamFault

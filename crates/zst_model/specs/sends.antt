@@ -1,12 +1,12 @@
 pub mod Features
 pub mod Headers
-pub mod Included
+pub mod Inclusion
 pub mod Items
-pub mod Places
-pub mod PartWay
+pub mod ItemRanges
+pub mod PartialProgress
 pub mod Points
-pub mod Received
+pub mod ReceivedRecords
 pub mod SendPlan
-pub mod StandsFor
+pub mod CutReceives
 pub mod Target
 pub mod View

@@ -1,3 +1,3 @@
-pub mod Apply
-pub mod Dated
+pub mod AppliedItems
+pub mod DatedState
 pub mod State

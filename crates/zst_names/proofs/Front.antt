@@ -10,7 +10,7 @@ use Rattle.zst_names.specs.Rest.{IsTail, AreLastParts, IsDatasetRest, IsRest, Is
 use Rattle.zst_names.specs.declared.scan.Position.{Position}
 use Rattle.zst_names.specs.declared.scan.Position.TheVariants.{InDataset, InComponent}
 use Rattle.zst_names.proofs.Parts.{tail_of_component, component_of_tail, parts_some}
-use Rattle.zst_names.proofs.Steps.{before_first-skip, after_first-skip}
+use Rattle.zst_names.proofs.NameEnds.{before_first-skip, after_first-skip}
 
 -- at the start all of a name is left
 pub last_parts : (ps : List (List ℕ)) → 0 < length ps → AllByRecursion IsComponent ps → length ps ≤ 8 → AreLastParts 1 0 ps

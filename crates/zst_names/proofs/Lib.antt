@@ -1,6 +1,6 @@
 pub mod Parts
-pub mod Steps
+pub mod NameEnds
 pub mod Front
-pub mod Marked
+pub mod MarkedNames
 pub mod Places
-pub mod Fitting
+pub mod SnapshotNames

@@ -4,9 +4,9 @@
 mod dataset;
 mod fault;
 mod laws;
+mod mark_split;
 mod marked_name;
 mod scan;
-mod split;
 #[cfg(test)]
 mod tests;
 

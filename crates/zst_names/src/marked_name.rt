@@ -7,8 +7,8 @@ ghost use Rattle.zst_names.specs.Names.{IsDataset, IsComponent, IsName, StopsAt,
 
 use crate::dataset::DatasetName;
 use crate::fault::NameFault;
+use crate::mark_split::split_at_mark;
 use crate::scan::scan;
-use crate::split::split_at_mark;
 use arrayvec::ArrayString;
 use std::cmp::Ordering;
 use std::marker::{Model, PhantomData};

@@ -11,7 +11,7 @@ use Rattle.zst_model.specs.declared.refusals.refusal.Refusal.{Refusal}
 use Rattle.zst_model.specs.declared.refusals.refusal.Refusal.TheVariants as refusals
 use Rattle.zst_model.specs.declared.states.cell.Cell.{Cell}
 use Rattle.zst_model.specs.declared.states.cell.Cell.TheVariants as cells
-use Rattle.zst_model.specs.states.Dated.{DatedState}
+use Rattle.zst_model.specs.states.DatedState.{DatedState}
 use Rattle.zst_model.specs.states.State.{Block, BlockFits, Hole, Redacted, Data, Object, IsObject, IsObjectOrNone, IsState, index_bound}
 use Rattle.zst_model.specs.pools.Step.{in_indices}
 use Rattle.zst_tree.specs.Indices.{Blocks, IsNoDamage}

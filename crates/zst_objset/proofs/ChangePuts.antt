@@ -4,16 +4,16 @@ use Rattle.std.proofs.lemmas.Bool.{true≢false}
 use Rattle.std.proofs.lemmas.Bool.Decides.{nat_tests}
 use Rattle.zst_dnode.specs.declared.dnode.Dnode.{Dnode}
 use Rattle.zst_dnode.specs.declared.slot.Slot.TheVariants.{There}
-use Rattle.zst_laws.specs.Dating.{AppliedIsState, IsLawfulItem}
+use Rattle.zst_laws.specs.Dates.{AppliedIsState, IsLawfulItem}
 use Rattle.zst_model.specs.declared.states.item.Change.{Change}
 use Rattle.zst_model.specs.declared.states.item.Item.TheVariants.{At}
 use Rattle.zst_model.specs.states.State.{Object, IsState, is_number, index_bound}
-use Rattle.zst_model.specs.states.Apply.{apply, apply_change, put_at}
-use Rattle.zst_model.specs.states.Dated.{DatedState, apply_dated, dates_index, dates_number}
+use Rattle.zst_model.specs.states.AppliedItems.{apply, apply_change, put_at}
+use Rattle.zst_model.specs.states.DatedState.{DatedState, apply_dated, dates_index, dates_number}
 use Rattle.zst_model.specs.pools.Step.{of_applying}
 use Rattle.zst_tree.specs.Indices.{Blocks, Map}
 use Rattle.zst_objset.specs.Dnodes.{ObjectIs, SlotIs}
-use Rattle.zst_objset.specs.Putting.{Alike, PutsSlot, MakesDnode, date_to, dates_to}
+use Rattle.zst_objset.specs.SlotPuts.{Alike, PutsSlot, MakesDnode, date_to, dates_to}
 use Rattle.zst_objset.specs.Changes.{changed}
 use Rattle.zst_objset.specs.Sets.{IsBounded}
 

@@ -9,8 +9,8 @@ use Rattle.zst_model.specs.declared.refusals.apply_fault.ApplyFault.{ApplyFault}
 use Rattle.zst_model.specs.declared.refusals.apply_fault.ApplyFault.TheVariants.{NoObject}
 use Rattle.zst_model.specs.sends.Items.{spill_change}
 use Rattle.zst_model.specs.states.State.{Block, Hole, Redacted, Data, Object, index_bound, number_bound}
-use Rattle.zst_model.specs.states.Apply.{◌>>=◌, unless}
-use Rattle.zst_model.specs.states.Dated.{DatedState, apply_dated, apply_all_dated, size_at}
+use Rattle.zst_model.specs.states.AppliedItems.{◌>>=◌, unless}
+use Rattle.zst_model.specs.states.DatedState.{DatedState, apply_dated, apply_all_dated, size_at}
 use Rattle.zst_model.specs.pools.Pool.{Pool}
 use Rattle.zst_model.specs.pools.Step.{answered, applied, block_read, cannot_apply, filled, in_numbers, of_applying, or_else, punched, written}
 use Rattle.zst_objset.specs.Changes.{block_found, block_lines, block_written, changed, found_at, holes_made, object_made, objects_freed, spill_put}

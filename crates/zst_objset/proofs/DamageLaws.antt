@@ -8,7 +8,7 @@ use Rattle.zst_outside.specs.Images.{DiskState}
 use Rattle.zst_space.specs.FreeSectors.{FreeSectors}
 use Rattle.zst_block.specs.Blocks.{FillsFree, Has, SparesTaken}
 use Rattle.zst_block.proofs.BlocksLaws.{IsBlock-length}
-use Rattle.zst_block.specs.Working.{Looks}
+use Rattle.zst_block.specs.IoCalls.{Looks}
 use Rattle.zst_block.specs.declared.fault.BlockFault.{BlockFault}
 use Rattle.zst_block.specs.declared.fault.BlockFault.TheVariants.{Full, Damaged, DiskFault}
 use Rattle.zst_block.specs.declared.ptr.Ptr.{Ptr}
@@ -17,8 +17,8 @@ use Rattle.zst_dnode.specs.declared.dnode.Dnode.{Dnode}
 use Rattle.zst_dnode.specs.declared.slot.Slot.{Slot}
 use Rattle.zst_dnode.specs.declared.slot.Slot.TheVariants.{Absent, There}
 use Rattle.zst_tree.proofs.Damage.{HangsBelow-grows, MayHave-more}
-use Rattle.zst_tree.proofs.Within.{block_same, block_whole}
-use Rattle.zst_tree.proofs.Told.{IsBelow-more, seen_spared, spares_before}
+use Rattle.zst_tree.proofs.ChangedTrees.{block_same, block_whole}
+use Rattle.zst_tree.proofs.LaterDamage.{IsBelow-more, seen_spared, spares_before}
 use Rattle.zst_tree.specs.Damage.{HangsBelow, HangsIn, IsSeen, IsWithin, MayHave, NamesNode, SumsUp, TellsNode}
 use Rattle.zst_tree.specs.declared.tree.ObjSet.{ObjSet}
 use Rattle.zst_objset.specs.Damage.{AreAbsent, HasAllSlots, IsSetWithin, DamageFact, HasSlot, IfDamage, IfDamaged, IfSetDamaged, IsDamagedLeaf, IsDamagedObject, IsDamagedSet, IsLoaded, IsNoLeaf, IsToldOf, LacksSlot, SlotStands, StandsIn, TellsLacking}

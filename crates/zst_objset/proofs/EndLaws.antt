@@ -4,14 +4,14 @@ use Rattle.std.proofs.Common.{◌≡◌, ◌⊎◌, inl, inr, ℕ, zero, suc, �
 use Rattle.std.proofs.lemmas.Bool.{cases_lt, true≢false}
 use Rattle.zst_block.specs.Ptr.{is_present}
 use Rattle.zst_block.specs.declared.ptr.Ptr.{Ptr}
-use Rattle.zst_model.specs.states.Apply.{within}
+use Rattle.zst_model.specs.states.AppliedItems.{within}
 use Rattle.zst_model.specs.states.State.{Block, Hole, Redacted, Data, Object, end_of, index_bound, is_hole, past_last}
-use Rattle.zst_tree.specs.Earlier.{FindsLast}
+use Rattle.zst_tree.specs.PresentIndices.{FindsLast}
 use Rattle.zst_tree.specs.Indices.{Blocks, Map}
 use Rattle.zst_dnode.specs.declared.dnode.Dnode.{Dnode}
 use Rattle.zst_objset.specs.Dnodes.{BlockIs, ObjectIs}
 use Rattle.zst_objset.specs.Ranges.{put_range, with_range}
-use Rattle.zst_objset.proofs.Within.{put_range-inside, put_range-outside}
+use Rattle.zst_objset.proofs.RangeIndices.{put_range-inside, put_range-outside}
 
 -- below a bound all from the end on are holes, and the index before it isn't one
 record IsEnd (blocks : ℕ → Block) (bound end : ℕ) : Type 0 where

@@ -8,19 +8,19 @@ use Rattle.zst_block.specs.declared.ptr.Ptr.{Ptr}
 use Rattle.zst_dnode.specs.declared.slot.Slot.TheVariants.{Absent}
 use Rattle.zst_model.specs.declared.refusals.faults.Quantity.TheVariants as quantities
 use Rattle.zst_model.specs.declared.refusals.refusal.Refusal.TheVariants as refusals
-use Rattle.zst_model.specs.states.Apply.{apply}
-use Rattle.zst_model.specs.states.Dated.{DatedState}
+use Rattle.zst_model.specs.states.AppliedItems.{apply}
+use Rattle.zst_model.specs.states.DatedState.{DatedState}
 use Rattle.zst_model.specs.states.State.{Object, IsObjectOrNone, IsState, is_number, index_bound, number_bound}
 use Rattle.zst_tree.specs.Indices.{Blocks, Map, Puts, TreeIs}
 use Rattle.zst_tree.specs.declared.tree.ObjSet.{ObjSet}
 use Rattle.zst_objset.specs.Changes.{objects_freed}
 use Rattle.zst_objset.specs.Dnodes.{IsAbsent}
-use Rattle.zst_objset.specs.Freeing.{freed, is_in}
-use Rattle.zst_objset.specs.Putting.{Alike, PutsSlot}
+use Rattle.zst_objset.specs.FreedNumbers.{freed, is_in}
+use Rattle.zst_objset.specs.SlotPuts.{Alike, PutsSlot}
 use Rattle.zst_objset.specs.Sets.{IsBounded, LeafIs, SetHolds}
 use Rattle.zst_objset.proofs.ChangePuts.{over, under}
-use Rattle.zst_objset.proofs.SetGrows.{LeafIs-grows}
-use Rattle.zst_objset.proofs.SetOnly.{dated_made}
+use Rattle.zst_objset.proofs.SetGrowth.{LeafIs-grows}
+use Rattle.zst_objset.proofs.OneState.{dated_made}
 use Rattle.zst_objset.proofs.SetPuts.{inside, outside, Sides, sides, LeafIs-alike}
 
 -- the definition accepts where the range ends at 2^48 at most, and makes this

@@ -9,8 +9,8 @@ use Rattle.zst_model.specs.declared.refusals.refusal.Refusal.{Refusal}
 use Rattle.zst_model.specs.declared.refusals.refusal.Refusal.TheVariants as refusals
 use Rattle.zst_model.specs.declared.states.item.Change.{Change}
 use Rattle.zst_model.specs.declared.states.item.Item.TheVariants.{At}
-use Rattle.zst_model.specs.states.Apply.{◌>>=◌, apply, apply_change, unless}
-use Rattle.zst_model.specs.states.Dated.{DatedState}
+use Rattle.zst_model.specs.states.AppliedItems.{◌>>=◌, apply, apply_change, unless}
+use Rattle.zst_model.specs.states.DatedState.{DatedState}
 use Rattle.zst_model.specs.states.State.{Object, index_bound}
 use Rattle.zst_model.specs.pools.Step.{in_indices, of_applying}
 use Rattle.zst_tree.specs.Indices.{Blocks}

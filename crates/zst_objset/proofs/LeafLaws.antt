@@ -7,7 +7,7 @@ use Rattle.zst_bytes.specs.Bytes.{bytes_at}
 use Rattle.zst_outside.specs.Images.{DiskState}
 use Rattle.zst_space.specs.FreeSectors.{FreeSectors}
 use Rattle.zst_block.specs.Blocks.{FillsFree, Has, KeepsBlocks}
-use Rattle.zst_block.specs.Working.{Looks}
+use Rattle.zst_block.specs.IoCalls.{Looks}
 use Rattle.zst_block.proofs.BlocksLaws.{KeepsBlocks-fills}
 use Rattle.zst_block.specs.declared.fault.BlockFault.{BlockFault}
 use Rattle.zst_block.specs.declared.ptr.Ptr.{Ptr}
@@ -15,12 +15,12 @@ use Rattle.zst_dnode.specs.Slot.{slot_bytes, SlotFits}
 use Rattle.zst_dnode.specs.declared.slot.Slot.{Slot}
 use Rattle.zst_dnode.specs.declared.slot.Slot.TheVariants.{Absent, There}
 use Rattle.zst_model.specs.states.State.{is_number, number_bound}
-use Rattle.zst_model.specs.states.Dated.{DatedState}
+use Rattle.zst_model.specs.states.DatedState.{DatedState}
 use Rattle.zst_tree.specs.Indices.{Blocks}
 use Rattle.zst_dnode.specs.declared.dnode.Dnode.{Dnode}
 use Rattle.zst_objset.specs.Dnodes.{DnodeIs, IsThere, SlotIs}
 use Rattle.zst_objset.specs.Sets.{any_there, HasSlots, IsHole, IsLeaf, LeafIs, Spells}
-use Rattle.zst_objset.proofs.SetOnly.{hole_kind}
+use Rattle.zst_objset.proofs.OneState.{hole_kind}
 
 -- what is so over what a read gives and what is free is so after a call that only reads, and was so before it
 module _ (P : List ℕ → FreeSectors → Type 0) (old : DiskState) (space : FreeSectors) (failed : Bool) (new : DiskState) (less : FreeSectors) (fails : Bool) (stop : Option BlockFault) (looks : Looks old space failed new less fails stop) where

@@ -10,13 +10,13 @@ pub mod LimitLaws
 pub mod ObjectLaws
 pub mod RangeLaws
 pub mod SearchLaws
-pub mod SetGrows
+pub mod SetGrowth
 pub mod SetLaws
-pub mod SetOnly
+pub mod OneState
 pub mod SetPuts
 pub mod SlotLaws
 pub mod SpillLaws
 pub mod TightLaws
 pub mod TreeFits
-pub mod Within
+pub mod RangeIndices
 pub mod WriteLaws

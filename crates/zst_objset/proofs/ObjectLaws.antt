@@ -15,15 +15,15 @@ use Rattle.zst_model.specs.declared.refusals.refusal.Refusal.TheVariants as refu
 use Rattle.zst_model.specs.declared.states.attr.ObjectHead.{ObjectHead}
 use Rattle.zst_model.specs.declared.states.item.Change.TheVariants.{Put}
 use Rattle.zst_model.specs.pools.Step.{filled, in_numbers}
-use Rattle.zst_model.specs.states.Apply.{apply_change, attr_with}
-use Rattle.zst_model.specs.states.Dated.{DatedState, makes_anew}
+use Rattle.zst_model.specs.states.AppliedItems.{apply_change, attr_with}
+use Rattle.zst_model.specs.states.DatedState.{DatedState, makes_anew}
 use Rattle.zst_model.specs.states.State.{Block, Hole, Object, IsBonus, IsHead, index_bound, is_number, is_odd_size, number_bound, past_last}
 use Rattle.zst_tree.specs.Indices.{Blocks, Map, TreeIs}
-use Rattle.zst_objset.specs.Allocating.{kept_blocks, kept_spill, no_blocks}
+use Rattle.zst_objset.specs.KeptBlocks.{kept_blocks, kept_spill, no_blocks}
 use Rattle.zst_objset.specs.Dnodes.{BlockIs, DnodeAt, DnodeIs, ObjectIs, SpillIs, tree_of}
-use Rattle.zst_objset.specs.Putting.{MakesDnode}
+use Rattle.zst_objset.specs.SlotPuts.{MakesDnode}
 use Rattle.zst_objset.specs.Sets.{date_in}
-use Rattle.zst_objset.specs.declared.allocating.BlockTree.{BlockTree}
+use Rattle.zst_objset.specs.declared.allocation.BlockTree.{BlockTree}
 use Rattle.zst_objset.proofs.SetLaws.{TreeIs-hole}
 
 -- a number below the bound is no limit, and E23 tells the bound of any other

@@ -8,28 +8,28 @@ use Rattle.zst_block.specs.Ptr.{hole_of, redacted_of}
 use Rattle.zst_block.specs.declared.ptr.Ptr.{Ptr}
 use Rattle.zst_dnode.specs.Dnode.{DnodeFits}
 use Rattle.zst_dnode.specs.declared.dnode.Dnode.{Dnode}
-use Rattle.zst_laws.specs.Dating.{IsLawfulItem}
+use Rattle.zst_laws.specs.Dates.{IsLawfulItem}
 use Rattle.zst_model.proofs.Sizes.{size_of_lawful}
 use Rattle.zst_model.specs.declared.refusals.apply_fault.ApplyFault.{ApplyFault}
 use Rattle.zst_model.specs.declared.refusals.apply_fault.ApplyFault.TheVariants.{NoObject, NotUserData, OddBlock, Unaligned}
 use Rattle.zst_model.specs.declared.states.item.Change.{Change}
 use Rattle.zst_model.specs.declared.states.item.Change.TheVariants.{Free, Redact}
 use Rattle.zst_model.specs.declared.states.item.Item.TheVariants.{At}
-use Rattle.zst_model.specs.states.Apply.{◌>>=◌, apply_change, is_unaligned, unless, within}
-use Rattle.zst_model.specs.states.Dated.{DatedState, dates_index, dates_number}
+use Rattle.zst_model.specs.states.AppliedItems.{◌>>=◌, apply_change, is_unaligned, unless, within}
+use Rattle.zst_model.specs.states.DatedState.{DatedState, dates_index, dates_number}
 use Rattle.zst_model.specs.states.State.{Block, Hole, Redacted, Object, IsObject, IsState, end_of, index_bound, is_number, is_odd_size}
 use Rattle.zst_tree.specs.Indices.{Blocks, Map, TreeIs}
 use Rattle.zst_tree.specs.declared.tree.Tree.{Tree}
 use Rattle.zst_objset.specs.Changes.{changed}
 use Rattle.zst_objset.specs.Dnodes.{BlockIs, IsThere, ObjectIs, tree_of}
-use Rattle.zst_objset.specs.Putting.{MakesDnode, date_to, dates_to}
+use Rattle.zst_objset.specs.SlotPuts.{MakesDnode, date_to, dates_to}
 use Rattle.zst_objset.specs.Ranges.{change_of, free_of, put_range, range_check, redact_of, redaction_check, with_range}
 use Rattle.zst_objset.specs.declared.ranges.RangeChange.{RangeChange}
 use Rattle.zst_objset.specs.declared.ranges.RangeChange.TheVariants as ranges
 use Rattle.zst_objset.proofs.AnswerLaws.{object_of}
 use Rattle.zst_objset.proofs.ChangePuts.{changed_to}
 use Rattle.zst_objset.proofs.IndicesChanged.{change_made}
-use Rattle.zst_objset.proofs.Within.{one_times, some_times, within_times}
+use Rattle.zst_objset.proofs.RangeIndices.{one_times, some_times, within_times}
 use Rattle.zst_objset.proofs.TreeFits.{with_tree}
 
 aligned : (size n : ℕ) → is_unaligned size (n * size) ≡ false

@@ -5,17 +5,17 @@ use Rattle.std.proofs.lemmas.Bool.{cases_lt, false≢true}
 use Rattle.zst_block.specs.declared.ptr.Ptr.{Ptr}
 use Rattle.zst_dnode.specs.declared.slot.Slot.{Slot}
 use Rattle.zst_dnode.specs.declared.slot.Slot.TheVariants.{Absent, There}
-use Rattle.zst_model.specs.states.Dated.{DatedState}
+use Rattle.zst_model.specs.states.DatedState.{DatedState}
 use Rattle.zst_model.specs.states.State.{number_bound}
-use Rattle.zst_tree.specs.Finding.{Shows}
+use Rattle.zst_tree.specs.Lookups.{Shows}
 use Rattle.zst_tree.specs.Indices.{Blocks}
 use Rattle.zst_tree.specs.declared.tree.ObjSet.{ObjSet}
 use Rattle.zst_objset.specs.Damage.{LacksSlot}
 use Rattle.zst_objset.specs.Dnodes.{SlotIs}
-use Rattle.zst_objset.specs.Searching.{AreEmpty, HasNone, ShowsAhead, ShowsSlots}
+use Rattle.zst_objset.specs.Searches.{AreEmpty, HasNone, ShowsAhead, ShowsSlots}
 use Rattle.zst_objset.specs.Sets.{is_there, HasSlots, LeafIs, SetHolds, Spells}
-use Rattle.zst_objset.specs.declared.searching.Ahead.{Ahead}
-use Rattle.zst_objset.specs.declared.searching.Ahead.TheVariants.{Object, Nothing}
+use Rattle.zst_objset.specs.declared.searches.SearchStep.{SearchStep}
+use Rattle.zst_objset.specs.declared.searches.SearchStep.TheVariants.{Object, Nothing}
 use Rattle.zst_objset.proofs.LeafLaws.{hole_of_leaf, is_number_at}
 
 -- a slot without an object stands for none
@@ -36,7 +36,7 @@ module _ (has : Blocks) (state : DatedState) (leaf : ℕ) (bytes : List ℕ) (sl
       (none_of has state (16 * leaf + place) (slots.slots place) (empty place (omega arith) (omega arith)) (slot_is place (omega arith) (omega arith)))
 
   -- what the slots show is so of the numbers
-  slots_shown : (from : ℕ) (ahead : Ahead) → from < 16 → 0 < 16 * leaf + from → ShowsSlots slots.slots leaf from ahead → ShowsAhead has state (16 * leaf + from) ahead
+  slots_shown : (from : ℕ) (ahead : SearchStep) → from < 16 → 0 < 16 * leaf + from → ShowsSlots slots.slots leaf from ahead → ShowsAhead has state (16 * leaf + from) ahead
   slots_shown from (Object number dnode) inside some first = subst (λ (n : ℕ). ShowsAhead has state (16 * leaf + from) (Object n dnode)) (sym first.number_is) (record {
     from_on = let over = first.from_on in omega arith;
     none_before = none_in from first.place (let under = first.under in omega arith) some first.none_before;
@@ -45,7 +45,7 @@ module _ (has : Blocks) (state : DatedState) (leaf : ℕ) (bytes : List ℕ) (sl
   slots_shown from (Nothing below) inside some empty = subst (λ (n : ℕ). HasNone state (16 * leaf + from) n) (sym empty.0) (none_in from 16 (omega arith) some empty.1)
 
 -- and so from each of its numbers on
-pub from_shown : (has : Blocks) (state : DatedState) (from : ℕ) (bytes : List ℕ) (slots : HasSlots has state (from / 16) bytes) (ahead : Ahead) → 0 < from → from < 2 ^ 48 → ShowsSlots slots.slots (from / 16) (from % 16) ahead → ShowsAhead has state from ahead
+pub from_shown : (has : Blocks) (state : DatedState) (from : ℕ) (bytes : List ℕ) (slots : HasSlots has state (from / 16) bytes) (ahead : SearchStep) → 0 < from → from < 2 ^ 48 → ShowsSlots slots.slots (from / 16) (from % 16) ahead → ShowsAhead has state from ahead
 from_shown has state from bytes slots ahead some less shows =
     let split : 16 * (from / 16) + from % 16 ≡ from = omega arith in
     subst (λ (n : ℕ). ShowsAhead has state n ahead) split (slots_shown has state (from / 16) bytes slots (omega arith) (from % 16) ahead (omega arith) (omega arith) shows)

@@ -5,14 +5,14 @@ use Rattle.zst_block.specs.Blocks.{Has, KeepsBlocks}
 use Rattle.zst_block.specs.Ptr.{hole_of}
 use Rattle.zst_block.specs.declared.ptr.Ptr.{Ptr}
 use Rattle.zst_model.specs.states.State.{IsState}
-use Rattle.zst_model.specs.states.Dated.{DatedState}
+use Rattle.zst_model.specs.states.DatedState.{DatedState}
 use Rattle.zst_model.specs.pools.Pool.{untouched}
 use Rattle.zst_tree.specs.Indices.{Blocks, Subtree, TreeIs, span}
 use Rattle.zst_tree.specs.Sets.{no_objects}
 use Rattle.zst_tree.specs.declared.tree.ObjSet.{ObjSet}
 use Rattle.zst_objset.specs.Sets.{SetHolds}
-use Rattle.zst_objset.proofs.SetGrows.{SetHolds-grows}
-use Rattle.zst_objset.proofs.SetOnly.{SetHolds-one}
+use Rattle.zst_objset.proofs.SetGrowth.{SetHolds-grows}
+use Rattle.zst_objset.proofs.OneState.{SetHolds-one}
 
 pub Has-one : (image : List ℕ) (space : FreeSectors) (ptr : Ptr) (a b : List ℕ) → Has image space ptr a → Has image space ptr b → a ≡ b
 Has-one image space ptr a b first second = sym first.block.bytes_are ∙ second.block.bytes_are

@@ -8,17 +8,17 @@ use Rattle.zst_dnode.specs.Slot.{slot_bytes, SlotFits}
 use Rattle.zst_dnode.specs.declared.slot.Slot.{Slot}
 use Rattle.zst_dnode.specs.declared.slot.Slot.TheVariants.{Absent, There}
 use Rattle.zst_model.specs.states.State.{is_number, number_bound}
-use Rattle.zst_model.specs.states.Dated.{DatedState}
+use Rattle.zst_model.specs.states.DatedState.{DatedState}
 use Rattle.zst_tree.specs.Indices.{Blocks, Map, Puts, TreeIs}
 use Rattle.zst_tree.specs.declared.tree.ObjSet.{ObjSet}
 use Rattle.zst_objset.specs.Dnodes.{IsAbsent, SlotIs}
-use Rattle.zst_objset.specs.Putting.{Alike, PutsSlot}
+use Rattle.zst_objset.specs.SlotPuts.{Alike, PutsSlot}
 use Rattle.zst_objset.specs.Sets.{HasSlots, IsLeaf, LeafIs, NamesSlots, SetHolds, Spells}
 use Rattle.zst_space.specs.FreeSectors.{FreeSectors}
 use Rattle.zst_block.specs.Blocks.{Has, KeepsBlocks}
 use Rattle.zst_tree.specs.declared.tree.Tree.{Tree}
 use Rattle.zst_tree.proofs.IndicesLaws.{TreeIs-grows}
-use Rattle.zst_objset.proofs.SetGrows.{LeafIs-grows, NamesSlots-grows, AreSlots-grows}
+use Rattle.zst_objset.proofs.SetGrowth.{LeafIs-grows, NamesSlots-grows, AreSlots-grows}
 
 module _ (has : Blocks) (old new : DatedState) (k : ℕ) (alike : Alike old new k) where
   IsAbsent-alike : (date : ℕ) → IsAbsent old k date → IsAbsent new k date

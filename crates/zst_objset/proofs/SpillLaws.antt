@@ -13,8 +13,8 @@ use Rattle.zst_model.specs.declared.refusals.refusal.Refusal.TheVariants as refu
 use Rattle.zst_model.specs.declared.states.item.Change.{Change}
 use Rattle.zst_model.specs.declared.states.item.Change.TheVariants.{Spill}
 use Rattle.zst_model.specs.declared.states.item.Item.TheVariants.{At}
-use Rattle.zst_model.specs.states.Apply.{apply, apply_change}
-use Rattle.zst_model.specs.states.Dated.{DatedState}
+use Rattle.zst_model.specs.states.AppliedItems.{apply, apply_change}
+use Rattle.zst_model.specs.states.DatedState.{DatedState}
 use Rattle.zst_model.specs.states.State.{IsSpill, Object, is_number, is_spill_size}
 use Rattle.zst_model.specs.pools.Step.{of_applying}
 use Rattle.zst_tree.specs.Indices.{Blocks, IsNoDamage}
@@ -23,7 +23,7 @@ use Rattle.zst_objset.specs.Changes.{changed}
 use Rattle.zst_objset.specs.Dnodes.{IsThere, ObjectIs}
 use Rattle.zst_objset.specs.declared.fault.ObjFault.{ObjFault}
 use Rattle.zst_objset.proofs.AnswerLaws.{none_refused}
-use Rattle.zst_objset.specs.Putting.{MakesDnode, date_to, dates_to}
+use Rattle.zst_objset.specs.SlotPuts.{MakesDnode, date_to, dates_to}
 use Rattle.zst_objset.proofs.ChangePuts.{changed_is, changed_to}
 
 changed_none : (number k : ℕ) (change : Change) (snap : DatedState) → apply_change change None ≡ Err NoObject → snap.state k ≡ None → changed number (At k change) snap ≡ Err (refusals.CannotApply 0 NoObject)

@@ -15,9 +15,9 @@ use Rattle.zst_dnode.specs.declared.slot.Slot.{Slot}
 use Rattle.zst_dnode.specs.declared.slot.Slot.TheVariants.{Absent, There}
 use Rattle.zst_model.specs.declared.states.item.Change.{Change}
 use Rattle.zst_model.specs.pools.Pool.{untouched}
-use Rattle.zst_model.specs.pools.Sound.{DatedUpTo}
-use Rattle.zst_model.specs.states.Apply.{within}
-use Rattle.zst_model.specs.states.Dated.{DatedState, dates_index, dates_number}
+use Rattle.zst_model.specs.pools.Soundness.{DatedUpTo}
+use Rattle.zst_model.specs.states.AppliedItems.{within}
+use Rattle.zst_model.specs.states.DatedState.{DatedState, dates_index, dates_number}
 use Rattle.zst_model.specs.states.State.{Object, index_bound, is_number}
 use Rattle.zst_tree.specs.Changes.{TreeDatedUpTo}
 use Rattle.zst_tree.specs.Indices.{Blocks, Map, Puts, Subtree, TreeIs, child, span}
@@ -28,15 +28,15 @@ use Rattle.zst_tree.proofs.IndicesLaws.{TreeIs-grows}
 use Rattle.zst_tree.specs.Damage.{IsSeen}
 use Rattle.zst_objset.specs.Damage.{IsLoaded}
 use Rattle.zst_objset.specs.Dnodes.{SlotIs, tree_of}
-use Rattle.zst_objset.specs.Freeing.{freed}
-use Rattle.zst_objset.specs.Putting.{Alike, PutsSlot, dates_to}
+use Rattle.zst_objset.specs.FreedNumbers.{freed}
+use Rattle.zst_objset.specs.SlotPuts.{Alike, PutsSlot, dates_to}
 use Rattle.zst_objset.specs.Sets.{date_in, AreSlots, HasSlots, LeafIs, NamesSlots, SetHolds, Spells}
-use Rattle.zst_objset.specs.Tight.{AreTight, IsTightDnode, IsTightLeaf, IsTightSlot, SetIsTight}
+use Rattle.zst_objset.specs.TightSets.{AreTight, IsTightDnode, IsTightLeaf, IsTightSlot, SetIsTight}
 use Rattle.zst_objset.proofs.ChangePuts.{changed_to, date_put, dates_put}
 use Rattle.zst_objset.proofs.FreeLaws.{SetHolds-holes, with_holes}
-use Rattle.zst_objset.proofs.SetGrows.{SetHolds-grows}
+use Rattle.zst_objset.proofs.SetGrowth.{SetHolds-grows}
 use Rattle.zst_objset.proofs.SetLaws.{Has-one, TreeIs-hole, empty}
-use Rattle.zst_objset.proofs.SetOnly.{TreeIs-one, find}
+use Rattle.zst_objset.proofs.OneState.{TreeIs-one, find}
 use Rattle.zst_objset.proofs.SetPuts.{InLeaf, IsPut, Puts-one, Sides, at_one, beside_one, inside, mended, outside, put_leaf, sides, with_one}
 use Rattle.zst_objset.proofs.LeafLaws.{is_number_at, leaf_of}
 

@@ -15,8 +15,8 @@ use Rattle.zst_model.specs.declared.refusals.refusal.Refusal.TheVariants as refu
 use Rattle.zst_model.specs.declared.states.item.Change.{Change}
 use Rattle.zst_model.specs.declared.states.item.Change.TheVariants.{Write}
 use Rattle.zst_model.specs.declared.states.item.Item.TheVariants.{At}
-use Rattle.zst_model.specs.states.Apply.{apply, apply_change, is_unaligned, unless}
-use Rattle.zst_model.specs.states.Dated.{DatedState, size_at}
+use Rattle.zst_model.specs.states.AppliedItems.{apply, apply_change, is_unaligned, unless}
+use Rattle.zst_model.specs.states.DatedState.{DatedState, size_at}
 use Rattle.zst_model.specs.states.State.{Block, Data, IsObject, IsState, Object, end_of, index_bound, is_block_size, is_hole, is_number, is_odd_size, past_last}
 use Rattle.zst_model.specs.pools.Step.{in_indices, of_applying}
 use Rattle.zst_tree.specs.Indices.{Blocks}
@@ -24,16 +24,16 @@ use Rattle.zst_tree.specs.declared.tree.Tree.{Tree}
 use Rattle.zst_objset.specs.Answers.{FindsThere, Refuses}
 use Rattle.zst_objset.specs.Changes.{block_written, changed, indices_changed}
 use Rattle.zst_objset.specs.Dnodes.{BlockIs, IsThere, ObjectIs, tree_of}
-use Rattle.zst_objset.specs.Putting.{MakesDnode, dates_to}
-use Rattle.zst_objset.specs.Writing.{PutsData, PutsDataRoot, write_judged}
+use Rattle.zst_objset.specs.SlotPuts.{MakesDnode, dates_to}
+use Rattle.zst_objset.specs.BlockWrites.{PutsData, PutsDataRoot, write_judged}
 use Rattle.zst_objset.specs.declared.fault.ObjFault.{ObjFault}
 use Rattle.zst_objset.specs.declared.fault.ObjFault.TheVariants as faults
 use Rattle.zst_objset.proofs.AnswerLaws.{none_refused, in_indices_far, in_indices_ok, object_of}
 use Rattle.zst_objset.proofs.ChangePuts.{changed_is, changed_to}
-use Rattle.zst_objset.proofs.SetGrows.{ObjectIs-grows}
-use Rattle.zst_objset.proofs.SetOnly.{under_bound}
+use Rattle.zst_objset.proofs.SetGrowth.{ObjectIs-grows}
+use Rattle.zst_objset.proofs.OneState.{under_bound}
 use Rattle.zst_objset.proofs.TreeFits.{data_fits, dnode_root, root_fits, with_tree, with_tree_fits}
-use Rattle.zst_objset.proofs.Within.{some_times}
+use Rattle.zst_objset.proofs.RangeIndices.{some_times}
 
 past_step : (hole : Bool) (bound rest : ℕ) → rest ≤ bound → (if hole then rest else suc bound) ≤ suc bound
 past_step true bound rest le = omega arith

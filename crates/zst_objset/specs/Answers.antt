@@ -10,7 +10,7 @@ use Rattle.zst_model.specs.declared.refusals.faults.Quantity.{Quantity}
 use Rattle.zst_model.specs.declared.refusals.refusal.Refusal.{Refusal}
 use Rattle.zst_model.specs.declared.refusals.refusal.Refusal.TheVariants as refusals
 use Rattle.zst_model.specs.states.State.{Block, Hole, Data}
-use Rattle.zst_model.specs.states.Dated.{DatedState}
+use Rattle.zst_model.specs.states.DatedState.{DatedState}
 use Rattle.zst_tree.specs.Indices.{Blocks}
 use Rattle.zst_model.specs.declared.refusals.apply_fault.ApplyFault.TheVariants.{NoObject}
 use Rattle.zst_objset.specs.Dnodes.{DnodeIs, IsThere, SlotIs}

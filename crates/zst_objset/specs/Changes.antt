@@ -8,9 +8,9 @@ use Rattle.zst_model.specs.declared.refusals.apply_fault.ApplyFault.TheVariants.
 use Rattle.zst_model.specs.declared.refusals.refusal.Refusal.{Refusal}
 use Rattle.zst_model.specs.declared.refusals.refusal.Refusal.TheVariants as refusals
 use Rattle.zst_model.specs.states.State.{Block, Hole, Redacted, Data}
-use Rattle.zst_model.specs.states.Apply.{◌>>=◌}
-use Rattle.zst_model.specs.states.Dated.{DatedState, apply_dated, size_at}
-use Rattle.zst_model.specs.pools.Lines.{data_line}
+use Rattle.zst_model.specs.states.AppliedItems.{◌>>=◌}
+use Rattle.zst_model.specs.states.DatedState.{DatedState, apply_dated, size_at}
+use Rattle.zst_model.specs.pools.AnswerLines.{data_line}
 use Rattle.zst_model.specs.pools.Pool.{Pool}
 use Rattle.zst_model.specs.pools.Step.{Stepped, answered, cannot_apply, in_indices, in_numbers, of_applying, or_else}
 

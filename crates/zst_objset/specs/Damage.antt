@@ -3,7 +3,7 @@ use Rattle.std.specs.Prelude.{◌≡◌, ◌≢◌, ◌⊎◌, ℕ, ◌*◌, ◌
 use Rattle.zst_bytes.specs.Bytes.{bytes_at}
 use Rattle.zst_fletcher.specs.WeightSum.{parts_of}
 use Rattle.zst_block.specs.Ptr.{is_flat}
-use Rattle.zst_block.specs.Reading.{IsDamage}
+use Rattle.zst_block.specs.ReadAnswers.{IsDamage}
 use Rattle.zst_block.specs.declared.fault.BlockFault.{BlockFault}
 use Rattle.zst_block.specs.declared.fault.BlockFault.TheVariants as blocks
 use Rattle.zst_block.specs.declared.ptr.Ptr.{Ptr}

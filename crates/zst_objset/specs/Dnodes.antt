@@ -5,7 +5,7 @@ use Rattle.zst_dnode.specs.declared.dnode.Dnode.{Dnode}
 use Rattle.zst_dnode.specs.declared.slot.Slot.{Slot}
 use Rattle.zst_dnode.specs.declared.slot.Slot.TheVariants.{Absent, There}
 use Rattle.zst_model.specs.states.State.{Block, Hole, Redacted, Data, Object, end_of, index_bound}
-use Rattle.zst_model.specs.states.Dated.{DatedState}
+use Rattle.zst_model.specs.states.DatedState.{DatedState}
 use Rattle.zst_tree.specs.Indices.{Blocks, Map, TreeIs}
 use Rattle.zst_tree.specs.declared.tree.Tree.{Tree}
 

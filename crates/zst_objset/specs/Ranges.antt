@@ -6,8 +6,8 @@ use Rattle.zst_model.specs.declared.refusals.apply_fault.ApplyFault.{ApplyFault}
 use Rattle.zst_model.specs.declared.refusals.apply_fault.ApplyFault.TheVariants.{OddBlock, NotUserData}
 use Rattle.zst_model.specs.declared.states.item.Change.{Change}
 use Rattle.zst_model.specs.declared.states.item.Change.TheVariants.{Free, Redact}
-use Rattle.zst_model.specs.states.Apply.{unless, within}
-use Rattle.zst_model.specs.states.Dated.{size_at}
+use Rattle.zst_model.specs.states.AppliedItems.{unless, within}
+use Rattle.zst_model.specs.states.DatedState.{size_at}
 use Rattle.zst_model.specs.states.State.{Block, Object, is_odd_size}
 use Rattle.zst_tree.specs.Damage.{NamesNode, SumsUp}
 use Rattle.zst_objset.specs.declared.ranges.RangeChange.{RangeChange}

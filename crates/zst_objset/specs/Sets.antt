@@ -6,7 +6,7 @@ use Rattle.zst_dnode.specs.Slot.{slot_bytes, SlotFits}
 use Rattle.zst_dnode.specs.declared.slot.Slot.{Slot}
 use Rattle.zst_dnode.specs.declared.slot.Slot.TheVariants.{Absent, There}
 use Rattle.zst_model.specs.states.State.{IsState, is_number, index_bound}
-use Rattle.zst_model.specs.states.Dated.{DatedState}
+use Rattle.zst_model.specs.states.DatedState.{DatedState}
 use Rattle.zst_tree.specs.Indices.{Blocks, Map, TreeIs}
 use Rattle.zst_tree.specs.declared.tree.ObjSet.{ObjSet}
 use Rattle.zst_objset.specs.Dnodes.{IsAbsent, SlotIs}

@@ -2,11 +2,11 @@
 ghost use Rattle.std.specs.Prelude.{◌≡◌, ◌+◌, ◌<◌, ◌≤◌, ◌^◌, false, IfErr, IfOk, IfSome, OnOk, List, ℕ, Some, length};
 ghost use Rattle.zst_block.specs.Blocks.{FitsDisk, Has};
 ghost use Rattle.zst_block.specs.Ptr.{is_flat};
-ghost use Rattle.zst_block.specs.Working.{Looks};
+ghost use Rattle.zst_block.specs.IoCalls.{Looks};
 ghost use Rattle.zst_dnode.specs.Dnode.{DnodeFits};
 ghost use Rattle.zst_dnode.specs.Slot.{SlotFits};
 ghost use Rattle.zst_dnode.specs.declared.slot.Slot.TheVariants.{There};
-ghost use Rattle.zst_model.specs.states.Dated.{DatedState};
+ghost use Rattle.zst_model.specs.states.DatedState.{DatedState};
 ghost use Rattle.zst_model.specs.declared.refusals.faults.Quantity.TheVariants as quantities;
 ghost use Rattle.zst_model.specs.states.State.{Block, BlockFits, Object, index_bound};
 ghost use Rattle.zst_tree.specs.Damage.{IsSeen};
@@ -15,10 +15,10 @@ ghost use Rattle.zst_objset.specs.Changes.{block_found, found_at};
 ghost use Rattle.zst_objset.specs.Damage.{IfSetDamaged, IsDamagedBlock, IsDamagedData, IsDamagedSet, StandsIn};
 ghost use Rattle.zst_objset.specs.Dnodes.{BlockIs};
 ghost use Rattle.zst_objset.specs.Sets.{SetHolds};
-ghost use Rattle.zst_objset.specs.Tight.{IsTightSlot, SetIsTight};
+ghost use Rattle.zst_objset.specs.TightSets.{IsTightSlot, SetIsTight};
 
 use crate::fault::ObjFault;
-use crate::reading::{dnode_at, slot_at};
+use crate::slot_reads::{dnode_at, slot_at};
 use crate::trees::{leaf_at, tree_of};
 use zst_block::{BlockFault, Io, Ptr, read};
 use zst_dnode::{Dnode, Slot};

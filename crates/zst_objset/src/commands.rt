@@ -4,7 +4,7 @@ ghost use Rattle.zst_model.specs.declared.states.item.Change.TheVariants.{Put};
 ghost use Rattle.zst_model.specs.declared.states.item.Item.TheVariants.{At, FreeObjects};
 ghost use Rattle.zst_model.specs.declared.refusals.apply_fault.ApplyFault.TheVariants.{NoObject};
 ghost use Rattle.zst_model.specs.sends.Items.{spill_change};
-ghost use Rattle.zst_model.specs.states.Dated.{DatedState, size_at};
+ghost use Rattle.zst_model.specs.states.DatedState.{DatedState, size_at};
 ghost use Rattle.zst_model.specs.pools.Pool.{Pool};
 ghost use Rattle.zst_model.specs.pools.Step.{applied, block_read, cannot_apply, filled, in_numbers, or_else, punched, written};
 ghost use Rattle.zst_objset.specs.Changes.{block_told, block_written, found_at, holes_made, object_made, objects_freed};

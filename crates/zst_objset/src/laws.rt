@@ -2,12 +2,12 @@ ghost use Rattle.std.specs.Prelude.{◌≡◌, ℕ, List};
 ghost use Rattle.zst_space.specs.FreeSectors.{FreeSectors};
 ghost use Rattle.zst_block.specs.Blocks.{Has, KeepsBlocks};
 ghost use Rattle.zst_model.specs.states.State.{IsState};
-ghost use Rattle.zst_model.specs.states.Dated.{DatedState};
+ghost use Rattle.zst_model.specs.states.DatedState.{DatedState};
 ghost use Rattle.zst_model.specs.pools.Pool.{untouched};
 ghost use Rattle.zst_tree.specs.Sets.{no_objects};
 ghost use Rattle.zst_tree.specs.declared.tree.ObjSet.{ObjSet};
 ghost use Rattle.zst_objset.specs.Sets.{SetHolds};
-ghost use Rattle.zst_objset.specs.Tight.{SetIsTight};
+ghost use Rattle.zst_objset.specs.TightSets.{SetIsTight};
 
 /// A set holds one lawful dated state, for as long as its blocks are there, and an empty one what
 /// nothing touched.

@@ -2,14 +2,14 @@
 ghost use Rattle.std.specs.Prelude.{◌≡◌, ◌⊎◌, ◌+◌, ◌*◌, ◌^◌, ◌<◌, ◌≤◌, true, ℕ, IfOk, OnOk, length};
 ghost use Rattle.zst_block.specs.Blocks.{FitsDisk, Has};
 ghost use Rattle.zst_block.specs.Ptr.{is_lawful};
-ghost use Rattle.zst_block.specs.Working.{Looks, Works, stop_of};
+ghost use Rattle.zst_block.specs.IoCalls.{Looks, Works, stop_of};
 ghost use Rattle.zst_dnode.specs.declared.slot.Slot.{Slot};
-ghost use Rattle.zst_model.specs.states.Dated.{DatedState};
+ghost use Rattle.zst_model.specs.states.DatedState.{DatedState};
 ghost use Rattle.zst_tree.specs.Damage.{HangsIn, IsSeen, MayHave};
 ghost use Rattle.zst_tree.specs.Indices.{Delivers};
 ghost use Rattle.zst_objset.specs.Damage.{HasAllSlots, IfDamaged, IsDamagedLeaf, IsDamagedSet, IsLoaded, TellsLacking};
 ghost use Rattle.zst_objset.specs.Sets.{HasSlots, LeafIs, NamesSlots, SetHolds, Spells};
-ghost use Rattle.zst_objset.specs.Tight.{AreTight, SetIsTight};
+ghost use Rattle.zst_objset.specs.TightSets.{AreTight, SetIsTight};
 
 use crate::slots::{put_slots, summed_up};
 use crate::trees::leaf_at;

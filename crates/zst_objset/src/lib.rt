@@ -1,25 +1,25 @@
 //! Object sets over trees of blocks: the objects of a head, of a snapshot or of a partial state.
 #![tactic(auto)]
 
-mod allocating;
+mod allocation;
 mod answers;
-mod changing;
+mod block_writes;
+mod changes;
 mod commands;
 mod fault;
-mod freeing;
+mod freed_numbers;
 mod laws;
 mod leaves;
 mod objects;
-mod putting;
 mod ranges;
-mod reading;
-mod searching;
+mod searches;
 mod set;
+mod slot_puts;
+mod slot_reads;
 mod slots;
 #[cfg(test)]
 mod tests;
 mod trees;
-mod writing;
 
 pub use commands::{changes_are_commands, reads_are_commands};
 pub use fault::ObjFault;

@@ -1,13 +1,13 @@
 ghost use Rattle.std.specs.Prelude.{◌≡◌, ◌/◌, ◌+◌, ◌<◌, ◌≤◌, ℕ, List, length, IfErr, IfOk, IfSome, OnErr, OnOk, Some};
 ghost use Rattle.zst_space.specs.FreeSectors.{FreeSectors};
 ghost use Rattle.zst_block.specs.Blocks.{FitsDisk, Has, SparesTaken};
-ghost use Rattle.zst_block.specs.Working.{Looks, Works};
+ghost use Rattle.zst_block.specs.IoCalls.{Looks, Works};
 ghost use Rattle.zst_block.specs.declared.ptr.Ptr.{Ptr};
 ghost use Rattle.zst_dnode.specs.Dnode.{DnodeFits};
 ghost use Rattle.zst_dnode.specs.Slot.{SlotFits};
 ghost use Rattle.zst_model.specs.pools.Pool.{untouched};
-ghost use Rattle.zst_model.specs.pools.Sound.{DatedUpTo};
-ghost use Rattle.zst_model.specs.states.Dated.{DatedState};
+ghost use Rattle.zst_model.specs.pools.Soundness.{DatedUpTo};
+ghost use Rattle.zst_model.specs.states.DatedState.{DatedState};
 ghost use Rattle.zst_model.specs.declared.refusals.faults.Quantity.TheVariants as quantities;
 ghost use Rattle.zst_model.specs.states.State.{Object, IsBonus, IsHead, IsSpill, index_bound, number_bound};
 ghost use Rattle.zst_tree.specs.Damage.{IsSeen, NamesNode, SumsUp};
@@ -15,7 +15,7 @@ ghost use Rattle.zst_tree.specs.Indices.{Blocks};
 ghost use Rattle.zst_objset.specs.Answers.{Changes, FindsObject, FindsSlot, IsOfBlock, LimitOnly, NotLimit, NotRedacted, ReadsBlock, stop_of};
 ghost use Rattle.zst_objset.specs.Changes.{block_written, found_at, holes_made, object_put, objects_freed, range_redacted, spill_put};
 ghost use Rattle.zst_objset.specs.Damage.{DamageFact, IfSetDamaged};
-ghost use Rattle.zst_objset.specs.Searching.{FindsNext};
+ghost use Rattle.zst_objset.specs.Searches.{FindsNext};
 
 use crate::fault::ObjFault;
 use zst_block::Io;

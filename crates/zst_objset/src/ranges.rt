@@ -1,14 +1,14 @@
 //! The calls that change a range of an object's indices.
 ghost use Rattle.std.specs.Prelude.{◌≡◌, ◌⊎◌, ◌+◌, ◌<◌, ◌≤◌, ◌^◌, ℕ, true, max, IfErr, IfOk, Ok, OnErr, OnOk};
 ghost use Rattle.zst_block.specs.Blocks.{FitsDisk, Has, SparesTaken};
-ghost use Rattle.zst_block.specs.Working.{Looks, Works, stop_of as block_stop};
+ghost use Rattle.zst_block.specs.IoCalls.{Looks, Works, stop_of as block_stop};
 ghost use Rattle.zst_dnode.specs.Dnode.{DnodeFits};
 ghost use Rattle.zst_dnode.specs.declared.slot.Slot.TheVariants.{There};
 ghost use Rattle.zst_model.specs.declared.refusals.faults.Quantity.TheVariants as quantities;
 ghost use Rattle.zst_model.specs.declared.states.item.Item.TheVariants.{At};
-ghost use Rattle.zst_model.specs.pools.Sound.{DatedUpTo};
-ghost use Rattle.zst_model.specs.states.Apply.{within};
-ghost use Rattle.zst_model.specs.states.Dated.{DatedState};
+ghost use Rattle.zst_model.specs.pools.Soundness.{DatedUpTo};
+ghost use Rattle.zst_model.specs.states.AppliedItems.{within};
+ghost use Rattle.zst_model.specs.states.DatedState.{DatedState};
 ghost use Rattle.zst_model.specs.states.State.{Object, Hole, Redacted, IsState, end_of, index_bound, is_number};
 ghost use Rattle.zst_tree.specs.Damage.{IsSeen, NamesDamage, NamesNode, SumsUp};
 ghost use Rattle.zst_tree.specs.Indices.{Delivers, Map};
@@ -17,14 +17,14 @@ ghost use Rattle.zst_objset.specs.Answers.{Changes, stop_of, LimitOnly, NotRedac
 ghost use Rattle.zst_objset.specs.Changes.{changed, indices_changed};
 ghost use Rattle.zst_objset.specs.Damage.{IfSetDamaged, IsDamagedObject};
 ghost use Rattle.zst_objset.specs.Dnodes.{IsThere, ObjectIs};
-ghost use Rattle.zst_objset.specs.Putting.{MakesDnode};
+ghost use Rattle.zst_objset.specs.SlotPuts.{MakesDnode};
 ghost use Rattle.zst_objset.specs.Ranges.{IsRightNode, change_of, free_of, range_check, redact_of, redaction_check, with_range};
 ghost use Rattle.zst_objset.specs.Sets.{SetHolds};
-ghost use Rattle.zst_objset.specs.Tight.{IsTightDnode, IsTightSlot, SetIsTight};
+ghost use Rattle.zst_objset.specs.TightSets.{IsTightDnode, IsTightSlot, SetIsTight};
 ghost use Rattle.zst_objset.specs.declared.fault.ObjFault.TheVariants as faults;
 
 use crate::answers::object_there;
-use crate::changing::{put_dnode, with_tree};
+use crate::changes::{put_dnode, with_tree};
 use crate::fault::ObjFault;
 use crate::trees::tree_of;
 use zst_block::{BlockFault, Io};

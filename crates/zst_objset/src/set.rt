@@ -1,13 +1,13 @@
 //! The object set over a tree of dnodes.
-use crate::allocating::put_object;
+use crate::allocation::put_object;
 use crate::answers::{attr, read_block, slot};
-use crate::changing::put_spill;
+use crate::block_writes::write_block;
+use crate::changes::put_spill;
 use crate::fault::ObjFault;
-use crate::freeing::free_objects;
+use crate::freed_numbers::free_objects;
 use crate::objects::Objects;
 use crate::ranges::{RangeChange, change_range};
-use crate::searching::next_object;
-use crate::writing::write_block;
+use crate::searches::next_object;
 use zst_block::Io;
 use zst_dnode::{Dnode, Slot};
 use zst_model::{Cell, ObjectHead};
@@ -17,7 +17,7 @@ use zst_tree::ObjSet;
 impl<D: Disk> Objects<D> for ObjSet {
     ghost use Rattle.zst_objset.specs.Damage.{IsDamagedBlock, IsDamagedObject, IsDamagedSet};
     ghost use Rattle.zst_objset.specs.Sets.{SetHolds};
-    ghost use Rattle.zst_objset.specs.Tight.{SetIsTight};
+    ghost use Rattle.zst_objset.specs.TightSets.{SetIsTight};
     ghost use Rattle.zst_tree.specs.Sets.{SetFits};
 
     ghost holds = { λ set has state. SetHolds has set state };

@@ -1,11 +1,11 @@
 //! Object sets beside a plain list of changes, over numbers and indices near and far.
-mod alike;
+mod checks;
 mod comparisons;
 mod costs;
 mod disks;
 mod figures;
 mod images;
-mod making;
-mod plain;
-mod random;
+mod plain_list;
+mod random_changes;
+mod set_changes;
 mod stops;

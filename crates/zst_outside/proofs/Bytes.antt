@@ -19,19 +19,19 @@ module _ (old : List ℕ) (place : ℕ) (bytes : List ℕ) (inside : place + len
   front : length (take place old) ≡ place
   front = length-take-le place old (omega arith)
 
-  head : length (take place old ++ bytes) ≡ place + length bytes
-  head = omega (arith, length-append (take place old) bytes, front)
+  front_length : length (take place old ++ bytes) ≡ place + length bytes
+  front_length = omega (arith, length-append (take place old) bytes, front)
 
   pub overwritten_below : (k : ℕ) → k < place → get_or (overwritten old place bytes) k 0 ≡ get_or old k 0
   unfolding overwritten
   overwritten_below k lt =
-      get_or-append (take place old ++ bytes) (drop (place + length bytes) old) 0 k (omega (arith, head))
+      get_or-append (take place old ++ bytes) (drop (place + length bytes) old) 0 k (omega (arith, front_length))
       ∙ get_or-append (take place old) bytes 0 k (omega (arith, front)) ∙ get_or-take place old k 0 lt
 
   pub overwritten_in : (k : ℕ) → place ≤ k → k < place + length bytes → get_or (overwritten old place bytes) k 0 ≡ get_or bytes (k - place) 0
   unfolding overwritten
   overwritten_in k le lt =
-      get_or-append (take place old ++ bytes) (drop (place + length bytes) old) 0 k (omega (arith, head))
+      get_or-append (take place old ++ bytes) (drop (place + length bytes) old) 0 k (omega (arith, front_length))
       ∙ get_or-append_right (take place old) bytes place k 0 front le
 
   pub overwritten_above : (k : ℕ) → place + length bytes ≤ k → get_or (overwritten old place bytes) k 0 ≡ get_or old k 0
@@ -39,7 +39,7 @@ module _ (old : List ℕ) (place : ℕ) (bytes : List ℕ) (inside : place + len
   overwritten_above k le =
       let end = place + length bytes in
       let same : end + (k - end) ≡ k = omega arith in
-      get_or-append_right (take place old ++ bytes) (drop end old) end k 0 head le ∙ get_or-drop end old (k - end) 0 ∙ ap (λ (j : ℕ). get_or old j 0) same
+      get_or-append_right (take place old ++ bytes) (drop end old) end k 0 front_length le ∙ get_or-drop end old (k - end) 0 ∙ ap (λ (j : ℕ). get_or old j 0) same
 
   pub alike-overwritten : AlikeOutside place (length bytes) old (overwritten old place bytes)
   alike-overwritten = record {

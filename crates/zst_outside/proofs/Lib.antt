@@ -1,4 +1,4 @@
 pub mod Copies
 pub mod Bytes
-pub mod Past
-pub mod Filling
+pub mod CallLogLemmas
+pub mod RangeLists

@@ -2,7 +2,7 @@
 use Rattle.std.proofs.Common.{◌≡◌, ℕ, zero, suc, ◌<◌, ◌≤◌, Bool, true, false, ◌||◌, if◌then◌else◌, nat_lt, Option, Some, None, refl, sym, ap, ◌∙◌, arith}
 use Rattle.std.specs.Option.{option_and_then, option_map_or}
 use Rattle.std.proofs.lemmas.Bool.Decides.{nat_tests}
-use Rattle.zst_model.specs.pools.Before.{Source}
+use Rattle.zst_model.specs.pools.Ancestry.{Source}
 use Rattle.zst_model.specs.pools.Pool.{Pool, Snapshot}
 use Rattle.zst_model.specs.sends.SendPlan.{comes_before, earlier_origin, is_before_in, is_earlier, marks, origin_of}
 

@@ -1,6 +1,6 @@
 -- Where a row stands in the directory, and what two look-ups find alike.
 use Rattle.std.specs.Prelude.{◌≡◌, ◌<◌, ℕ, List, length, Option, Some, None, Result, Ok, Err, slice_index_or}
-use Rattle.zst_dir.specs.Named.{StandAlike}
+use Rattle.zst_dir.specs.RowNames.{StandAlike}
 
 -- the row at this place stands where the other list has this
 pub record StandsAt {A B : Type 0} (rows : List A) (others : List B) (place : ℕ) (other : B) : Type 0 where

@@ -1,7 +1,7 @@
 -- Which send a plan is of.
 use Rattle.std.specs.Prelude.{◌≡◌, ◌<◌, length, Option, Some, None, IfSome, option_map}
 use Rattle.zst_dir.specs.Rows.{Rows}
-use Rattle.zst_model.specs.pools.Before.{Source, OfSnapshot, OfBookmark, number_of_source}
+use Rattle.zst_model.specs.pools.Ancestry.{Source, OfSnapshot, OfBookmark, number_of_source}
 use Rattle.zst_model.specs.pools.Pool.{Pool, Snapshot, Bookmark}
 use Rattle.zst_model.specs.sends.Headers.{Sent, from_guid, flags_of}
 use Rattle.zst_model.specs.sends.SendPlan.{kind_of}

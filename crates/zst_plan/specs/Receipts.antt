@@ -3,7 +3,7 @@ use Rattle.std.specs.Prelude.{◌≡◌, ◌<◌, ℕ, true, false, List, length
 use Rattle.std.specs.List.{position}
 use Rattle.std.specs.Str.{bytes_eq}
 use Rattle.zst_names.specs.Names.{IsSnapshot, dataset_of}
-use Rattle.zst_dir.specs.Named.{Match}
+use Rattle.zst_dir.specs.RowNames.{Match}
 use Rattle.zst_dir.specs.Rows.{Rows, HasSnapshot}
 use Rattle.zst_dir.specs.declared.rows.Dataset as rows
 use Rattle.zst_model.specs.declared.sends.header.Header.{Header}

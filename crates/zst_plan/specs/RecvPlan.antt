@@ -6,9 +6,9 @@ use Rattle.zst_names.specs.Names.{component_of, is_component_byte}
 use Rattle.zst_model.specs.declared.refusals.faults.Lack.TheVariants as lacks
 use Rattle.zst_model.specs.declared.refusals.faults.Quantity.{Quantity}
 use Rattle.zst_model.specs.declared.refusals.faults.Quantity.TheVariants as quantities
-use Rattle.zst_model.specs.declared.refusals.named.Holder.TheVariants as holders
-use Rattle.zst_model.specs.declared.refusals.named.Name.TheVariants as names
-use Rattle.zst_model.specs.declared.refusals.named.Present.TheVariants as present
+use Rattle.zst_model.specs.declared.refusals.subjects.Holder.TheVariants as holders
+use Rattle.zst_model.specs.declared.refusals.subjects.Name.TheVariants as names
+use Rattle.zst_model.specs.declared.refusals.subjects.PresentSubject.TheVariants as present
 use Rattle.zst_model.specs.declared.refusals.plan_fault.PlanFault.{PlanFault}
 use Rattle.zst_model.specs.declared.refusals.plan_fault.PlanFault.TheVariants as plans
 use Rattle.zst_model.specs.declared.sends.header.Header.{Header}
@@ -18,11 +18,11 @@ use Rattle.zst_model.specs.pools.Pool.{Pool, Dataset, Snapshot, Partial, dataset
 use Rattle.zst_model.specs.pools.Step.{count_datasets}
 use Rattle.zst_model.specs.sends.Features.{redacts, resuming}
 use Rattle.zst_model.specs.sends.Headers.{free_records}
-use Rattle.zst_model.specs.sends.Included.{any_below}
+use Rattle.zst_model.specs.sends.Inclusion.{any_below}
 use Rattle.zst_model.specs.sends.Items.{origin}
 use Rattle.zst_model.specs.sends.SendPlan.{find_snapshot, has_guids, kind_of}
-use Rattle.zst_model.specs.states.Apply.{unless, ◌>>=◌}
-use Rattle.zst_model.specs.states.Dated.{DatedState}
+use Rattle.zst_model.specs.states.AppliedItems.{unless, ◌>>=◌}
+use Rattle.zst_model.specs.states.DatedState.{DatedState}
 use Rattle.zst_model.specs.states.State.{number_bound, index_bound, is_number}
 use Rattle.zst_plan.specs.declared.receive.RecvAsk.{RecvAsk}
 

@@ -1,14 +1,14 @@
 -- What a send from a token is to give, or why it can't (zfs-send(8), -t): its checks in their order.
 use Rattle.std.specs.Prelude.{ℕ, ◌==◌, ◌&&◌, Bool, List, Option, Some, None, option_map, Result, Ok, if◌then◌else◌, bytes_eq, find}
 use Rattle.std.specs.Option.{ok_or, option_or}
-use Rattle.zst_model.specs.declared.refusals.named.Missing.TheVariants as missing
+use Rattle.zst_model.specs.declared.refusals.subjects.AbsentSubject.TheVariants as missing
 use Rattle.zst_model.specs.declared.refusals.plan_fault.PlanFault.{PlanFault}
 use Rattle.zst_model.specs.declared.refusals.plan_fault.PlanFault.TheVariants as plans
-use Rattle.zst_model.specs.pools.Before.{Source, OfSnapshot, OfBookmark}
+use Rattle.zst_model.specs.pools.Ancestry.{Source, OfSnapshot, OfBookmark}
 use Rattle.zst_model.specs.pools.Pool.{Pool, Snapshot, Bookmark}
 use Rattle.zst_model.specs.sends.Headers.{Sent, guid_of_source}
 use Rattle.zst_model.specs.sends.SendPlan.{comes_before, has_guids, sent_of}
-use Rattle.zst_model.specs.states.Apply.{◌>>=◌}
+use Rattle.zst_model.specs.states.AppliedItems.{◌>>=◌}
 use Rattle.zst_token.specs.declared.token.Token.{Token}
 
 -- E3: nothing has this guid and what else the token states

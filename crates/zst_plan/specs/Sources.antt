@@ -1,13 +1,13 @@
 -- Which source of a pool a row is.
 use Rattle.std.specs.Prelude.{◌<◌, length}
 use Rattle.std.specs.Borrow.{Bor}
-use Rattle.zst_dir.specs.Named.{NamesDataset, NamesSnapshot, NamesBookmark}
+use Rattle.zst_dir.specs.RowNames.{NamesDataset, NamesSnapshot, NamesBookmark}
 use Rattle.zst_dir.specs.Rows.{Rows}
 use Rattle.zst_dir.specs.declared.rows.Bookmark as bookmarks
 use Rattle.zst_dir.specs.declared.rows.Dataset as datasets
 use Rattle.zst_dir.specs.declared.rows.Snapshot as snapshots
-use Rattle.zst_model.specs.pools.Before.{OfSnapshot, OfBookmark}
-use Rattle.zst_model.specs.pools.Before as plain
+use Rattle.zst_model.specs.pools.Ancestry.{OfSnapshot, OfBookmark}
+use Rattle.zst_model.specs.pools.Ancestry as plain
 use Rattle.zst_model.specs.pools.Pool.{Pool}
 use Rattle.zst_model.specs.pools.Pool as pools
 use Rattle.zst_plan.specs.Places.{StandsAt}

@@ -1,14 +1,14 @@
 // What is checked of a send once its snapshot, its source and its bookmark are found.
 ghost use Rattle.std.specs.Prelude.{◌≡◌, Option, Result};
-ghost use Rattle.zst_dir.specs.Named.{AreNamed, NamesBookmark, NamesSnapshot};
-ghost use Rattle.zst_model.specs.pools.Before as plain;
+ghost use Rattle.zst_dir.specs.RowNames.{AreNamed, NamesBookmark, NamesSnapshot};
+ghost use Rattle.zst_model.specs.pools.Ancestry as plain;
 ghost use Rattle.zst_model.specs.pools.Pool.{Pool, Bookmark as PlainBookmark, Snapshot as PlainSnapshot};
 ghost use Rattle.zst_model.specs.sends.Headers.{Sent};
 ghost use Rattle.zst_model.specs.sends.SendPlan.{has_guids, if_before, if_no_relay, if_redaction, is_redacted, redacts_snapshot};
 ghost use Rattle.zst_plan.specs.Places.{FindAlike, Judges};
 ghost use Rattle.zst_plan.specs.Sources.{FoundBookmark, NamesSource};
 
-use crate::before::comes_before;
+use crate::origin_walk::comes_before;
 use crate::source::Source;
 use zst_dir::{Bookmark, Dir, Snapshot};
 use zst_model::{GuidSet, Lack, Name, PlanFault};

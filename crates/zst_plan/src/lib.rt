@@ -1,10 +1,10 @@
 //! What a send is to give and what a receive begins with, looked up in a pool's directory, or why it can't (zfs-send(8), zfs-receive(8)).
 #![tactic(auto)]
 
-mod before;
 mod checks;
-mod finding;
 mod flags;
+mod lookups;
+mod origin_walk;
 mod plan;
 mod receive;
 mod resume;

@@ -1,6 +1,6 @@
 ghost use Rattle.std.specs.Prelude.{◌≡◌, ◌+◌, ◌<◌, Option, length, IfSome, is_some};
-ghost use Rattle.zst_dir.specs.Named.{AreNamed, NamesSnapshot};
-ghost use Rattle.zst_model.specs.pools.Before as plain;
+ghost use Rattle.zst_dir.specs.RowNames.{AreNamed, NamesSnapshot};
+ghost use Rattle.zst_model.specs.pools.Ancestry as plain;
 ghost use Rattle.zst_model.specs.pools.Pool.{Pool, Bookmark as PlainBookmark, Snapshot as PlainSnapshot};
 ghost use Rattle.zst_model.specs.sends.Headers.{Sent, clone_part, features_of, free_records, header_of, redaction_guids, spill_block};
 ghost use Rattle.zst_model.specs.sends.SendPlan.{kind_of};
@@ -8,8 +8,8 @@ ghost use Rattle.zst_plan.specs.Places.{FindAlike, StandsAt};
 ghost use Rattle.zst_plan.specs.Plans.{IsInside, IsPlanOf};
 ghost use Rattle.zst_plan.specs.Sources.{NamesSource};
 
-use crate::finding::{bookmark_at, dataset_of};
 use crate::flags::{CLONE, FREE_RECORDS, SA_SPILL, SPILL_BLOCK};
+use crate::lookups::{bookmark_at, dataset_of};
 use crate::source::Source;
 use zst_dir::{Dir, Snapshot};
 use zst_model::features::REDACTED;

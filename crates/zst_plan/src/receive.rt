@@ -1,7 +1,7 @@
 ghost use Rattle.std.specs.Prelude.{◌≡◌, ◌<◌, ℕ, List, length, Some, IfOk};
 ghost use Rattle.std.specs.List.{position};
 ghost use Rattle.std.specs.Str.{bytes_eq};
-ghost use Rattle.zst_dir.specs.Named.{AreNamed};
+ghost use Rattle.zst_dir.specs.RowNames.{AreNamed};
 ghost use Rattle.zst_names.specs.Names.{dataset_of};
 ghost use Rattle.zst_model.specs.pools.Pool.{Pool, Partial as PlainPartial};
 ghost use Rattle.zst_plan.specs.Places.{AnswerAlike, StandsAt};
@@ -9,10 +9,10 @@ ghost use Rattle.zst_plan.specs.Receipts.{IsNewPlan, IsPlainPlan, IsRecvInside, 
 ghost use Rattle.zst_plan.specs.RecvPlan.{fresh_plan, recv_plan, resumed_plan, snapshot_name};
 ghost use Rattle.zst_plan.specs.declared.receive.RecvAsk.{RecvAsk as Ask};
 
-mod anew;
 mod base;
 mod containment;
 mod name;
+mod new_dataset;
 mod resume;
 mod room;
 

@@ -2,28 +2,28 @@
 ghost use Rattle.std.specs.Prelude.{◌≡◌, ◌<◌, ◌==◌, ◌&&◌, length, IfOk, IfSome};
 ghost use Rattle.std.specs.List.{position};
 ghost use Rattle.std.specs.Str.{bytes_eq};
-ghost use Rattle.zst_dir.specs.Named.{AreNamed, NamesSnapshot};
-ghost use Rattle.zst_model.specs.pools.Before as plain;
+ghost use Rattle.zst_dir.specs.RowNames.{AreNamed, NamesSnapshot};
+ghost use Rattle.zst_model.specs.pools.Ancestry as plain;
 ghost use Rattle.zst_model.specs.pools.Pool.{Pool, Snapshot as PlainSnapshot};
 ghost use Rattle.zst_plan.specs.Places.{AnswerAlike, FindAlike, StandsAt};
 ghost use Rattle.zst_plan.specs.Plans.{IsInside, IsPlanOf};
 ghost use Rattle.zst_plan.specs.ResumePlan.{find_from, find_marked, find_to, first_bookmark, first_from, first_snapshot, is_from, no_guid, resumed_send};
 ghost use Rattle.zst_plan.specs.Sources.{IsInRows, IsSource, NamesSource};
 
-use crate::before::comes_before;
 use crate::checks::has_guids;
+use crate::origin_walk::comes_before;
 use crate::plan::SendPlan;
 use crate::send::checked_plan;
 use crate::source::Source;
 use zst_dir::{Dir, Snapshot};
-use zst_model::{Missing, PlanFault};
+use zst_model::{AbsentSubject, PlanFault};
 use zst_token::Token;
 
 // E3: nothing has this guid and what else the token states.
 fn no_guid(guid: u64) -> PlanFault
     ensures { result ≡ no_guid guid }
 {
-    PlanFault::NoSuch(Missing::Guid(guid))
+    PlanFault::NoSuch(AbsentSubject::Guid(guid))
 }
 
 // The place of the snapshot that is sent: the first with the token's to guid.

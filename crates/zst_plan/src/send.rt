@@ -1,9 +1,9 @@
 ghost use Rattle.std.specs.Prelude.{◌≡◌, ◌<◌, length, Option, None, Some, IfOk, IfSome};
 ghost use Rattle.std.specs.List.{position};
 ghost use Rattle.std.specs.Str.{bytes_eq};
-ghost use Rattle.zst_dir.specs.Named.{AreNamed, NamesSnapshot};
+ghost use Rattle.zst_dir.specs.RowNames.{AreNamed, NamesSnapshot};
 ghost use Rattle.zst_dir.specs.Rows.{Rows};
-ghost use Rattle.zst_model.specs.pools.Before as plain;
+ghost use Rattle.zst_model.specs.pools.Ancestry as plain;
 ghost use Rattle.zst_model.specs.pools.Pool.{Pool, Bookmark as PlainBookmark, Snapshot as PlainSnapshot};
 ghost use Rattle.zst_model.specs.sends.Headers.{Sent};
 ghost use Rattle.zst_model.specs.sends.SendPlan.{kind_of, send_plan, sent_of};
@@ -12,7 +12,7 @@ ghost use Rattle.zst_plan.specs.Plans.{IsFrom, IsInside, IsPlanOf};
 ghost use Rattle.zst_plan.specs.Sources.{IsInRows, IsSource};
 
 use crate::checks::{check_before, check_no_relay, check_redaction};
-use crate::finding::{bookmark_at, find_redaction, find_snapshot, find_source};
+use crate::lookups::{bookmark_at, find_redaction, find_snapshot, find_source};
 use crate::plan::{SendPlan, flags_of};
 use crate::source::Source;
 use zst_dir::{Dir, Snapshot};

@@ -1,7 +1,7 @@
 ghost use Rattle.std.specs.Prelude.{◌≡◌};
-ghost use Rattle.zst_dir.specs.Named.{NamesSnapshot};
-ghost use Rattle.zst_model.specs.pools.Before as plain;
-ghost use Rattle.zst_model.specs.pools.Before.{dataset_of_source, number_of_source};
+ghost use Rattle.zst_dir.specs.RowNames.{NamesSnapshot};
+ghost use Rattle.zst_model.specs.pools.Ancestry as plain;
+ghost use Rattle.zst_model.specs.pools.Ancestry.{dataset_of_source, number_of_source};
 ghost use Rattle.zst_model.specs.pools.Pool as pools;
 ghost use Rattle.zst_model.specs.sends.Headers.{guid_of_source, is_elsewhere};
 ghost use Rattle.zst_model.specs.sends.SendPlan.{is_earlier, marks, name_of_source};

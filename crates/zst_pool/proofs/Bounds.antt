@@ -1,7 +1,7 @@
 -- What is known of sets up to a number is known up to each later one.
 use Rattle.std.proofs.Common.{ℕ, ◌≤◌, Bool, true, false, arith}
-use Rattle.zst_model.specs.states.Dated.{DatedState}
-use Rattle.zst_model.specs.pools.Sound.{DatedUpTo}
+use Rattle.zst_model.specs.states.DatedState.{DatedState}
+use Rattle.zst_model.specs.pools.Soundness.{DatedUpTo}
 use Rattle.zst_model.specs.pools.Pool.{Pool}
 use Rattle.zst_model.specs.pools.Pool as plain
 use Rattle.zst_tree.specs.Indices.{Blocks}
@@ -11,7 +11,7 @@ use Rattle.zst_dir.specs.declared.rows.Dataset.{Dataset}
 use Rattle.zst_dir.specs.declared.rows.Snapshot.{Snapshot}
 use Rattle.zst_dir.specs.declared.rows.Partial.{Partial}
 use Rattle.zst_image.specs.Reads.{DatasetIs, SnapshotIs, PartialIs, RunsBy, SetIs, bound_of}
-use Rattle.zst_image.proofs.Growing.{Match-weaker}
+use Rattle.zst_image.proofs.Growth.{Match-weaker}
 
 -- dates up to a number are up to each later one
 dated_later : (number more : ℕ) → number ≤ more → (state : DatedState) → DatedUpTo number state → DatedUpTo more state

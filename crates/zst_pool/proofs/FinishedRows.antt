@@ -14,12 +14,12 @@ use Rattle.zst_dir.specs.Rows.{Rows, HasDataset, with_objects, with_objects_at}
 use Rattle.zst_dir.specs.Rows as dir_rows
 use Rattle.zst_dir.specs.declared.rows.Dataset.{Dataset}
 use Rattle.zst_dir.specs.declared.rows.Partial.{Partial}
-use Rattle.zst_dir.specs.Named.{Match}
+use Rattle.zst_dir.specs.RowNames.{Match}
 use Rattle.zst_image.specs.Reads.{DatasetIs, SnapshotIs, PartialIs, RunsBy}
 use Rattle.zst_pool.specs.FinishedRows.{dataset_row_from, rows_with_finished, rows_with_target, snapshot_row_from}
 use Rattle.zst_pool.specs.Partials.{changed_at, dataset_from, head_from, snapshot_from, with_finished}
 use Rattle.zst_pool.proofs.LawfulPools.{stand_alike}
-use Rattle.zst_dir.proofs.Matching.{inserted-Match, is_some-position, list_any-Match, map-Match}
+use Rattle.zst_dir.proofs.Matches.{inserted-Match, is_some-position, list_any-Match, map-Match}
 use Rattle.zst_pool.proofs.PartialRows.{objects_at_is, others_match}
 
 -- where one is found that has a name, it is there

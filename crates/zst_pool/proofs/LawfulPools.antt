@@ -15,9 +15,9 @@ use Rattle.zst_tree.specs.Indices.{Blocks}
 use Rattle.zst_dir.specs.Rows.{Rows, HasDataset, HasSnapshot, IsDatasetRow, IsSnapshotRow, IsBookmarkRow, IsPartialRow, IsLawful}
 use Rattle.zst_dir.specs.Rows as dir_rows
 use Rattle.zst_dir.specs.declared.rows.Snapshot.{Snapshot}
-use Rattle.zst_dir.specs.Named.{Match}
+use Rattle.zst_dir.specs.RowNames.{Match}
 use Rattle.zst_image.specs.Reads.{RunsBy, DatasetIs, SnapshotIs, BookmarkIs, PartialIs}
-use Rattle.zst_image.proofs.One.{SetIs-holds}
+use Rattle.zst_image.proofs.OnePool.{SetIs-holds}
 
 -- what holds of all rows holds of all that they stand for
 All-Match : {A B : Type 0} (Is : A → B → Type 0) (P : A → Type 0) (Q : B → Type 0) → ((x : A) (y : B) → Is x y → P x → Q y) → (xs : List A) (ys : List B) → Match Is xs ys → All P xs → All Q ys

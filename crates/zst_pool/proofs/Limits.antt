@@ -6,7 +6,7 @@ use Rattle.zst_model.specs.pools.Limits.{most_partials}
 use Rattle.zst_model.specs.pools.Pool.{Pool}
 use Rattle.zst_model.specs.pools.Step.{count_datasets, last_number, most_datasets, most_snapshots}
 use Rattle.zst_pool.specs.Partials.{next_commit}
-use Rattle.zst_pool.proofs.Judging.{over, within}
+use Rattle.zst_pool.proofs.CheckLemmas.{over, within}
 
 -- the first limit that is passed, in their order, and no limit
 module _ (pool : Pool) where

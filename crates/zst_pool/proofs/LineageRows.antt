@@ -5,16 +5,16 @@ use Rattle.zst_model.specs.pools.Pool.{Pool, inserted, is_before}
 use Rattle.zst_model.specs.pools.Pool as plain
 use Rattle.zst_model.specs.pools.Step.{bookmark_of, clone_of}
 use Rattle.zst_tree.specs.Indices.{Blocks}
-use Rattle.zst_dir.specs.Going.{without}
+use Rattle.zst_dir.specs.Removal.{without}
 use Rattle.zst_dir.specs.Rows.{Rows}
-use Rattle.zst_dir.specs.declared.going.Going.{Going}
-use Rattle.zst_dir.specs.declared.going.Going.TheVariants as goes
+use Rattle.zst_dir.specs.declared.removal.Removal.{Removal}
+use Rattle.zst_dir.specs.declared.removal.Removal.TheVariants as goes
 use Rattle.zst_dir.specs.declared.rows.Dataset.{Dataset}
 use Rattle.zst_dir.specs.declared.rows.Snapshot.{Snapshot}
-use Rattle.zst_dir.specs.Named.{Match, StandAlike}
+use Rattle.zst_dir.specs.RowNames.{Match, StandAlike}
 use Rattle.zst_image.specs.Reads.{BookmarkIs, DatasetIs, RunsBy, SnapshotIs}
 use Rattle.zst_pool.specs.Lineage.{bookmark_row, clone_row, pool_without, with_marked}
-use Rattle.zst_dir.proofs.Matching.{Match-alike, filter-Match, inserted-Match}
+use Rattle.zst_dir.proofs.Matches.{Match-alike, filter-Match, inserted-Match}
 
 -- where all stay the list stays
 all_stay : {A : Type 0} (stays : A → Bool) (xs : List A) → ((x : A) → stays x ≡ true) → filter stays xs ≡ xs
@@ -31,7 +31,7 @@ module _ {bound : Option ℕ} (has : Blocks) (rows : Rows) (pool : Pool) (runs :
   all_match Is stays xs ys each m = subst (λ l. Match Is l ys) (sym (all_stay stays xs each)) m
 
   -- the rows without what goes stand for the pool without it
-  pub left_runs : (going : Going) → RunsBy bound has (without going rows) (pool_without going pool)
+  pub left_runs : (going : Removal) → RunsBy bound has (without going rows) (pool_without going pool)
   left_runs (goes.Dataset name) = record {
     datasets = filter-Match (DatasetIs bound has) (λ d. not (bytes_eq d.name name)) (λ d. not (bytes_eq d.name name))
         (λ x y is. ap (λ n. not (bytes_eq n name)) (sym is.named.name)) rows.datasets pool.datasets runs.datasets;
@@ -95,19 +95,19 @@ module _ {bound : Option ℕ} (has : Blocks) (rows : Rows) (pool : Pool) (runs :
       }
 
 -- what goes leaves the pool its id, its number and its guid counter
-pub same_id : (going : Going) (pool : Pool) → (pool_without going pool).id ≡ pool.id
+pub same_id : (going : Removal) (pool : Pool) → (pool_without going pool).id ≡ pool.id
 same_id (goes.Dataset name) pool = refl
 same_id (goes.Snapshot name) pool = refl
 same_id (goes.Bookmark name) pool = refl
 same_id (goes.Newer name number) pool = refl
 
-pub same_number : (going : Going) (pool : Pool) → (pool_without going pool).number ≡ pool.number
+pub same_number : (going : Removal) (pool : Pool) → (pool_without going pool).number ≡ pool.number
 same_number (goes.Dataset name) pool = refl
 same_number (goes.Snapshot name) pool = refl
 same_number (goes.Bookmark name) pool = refl
 same_number (goes.Newer name number) pool = refl
 
-pub same_guids : (going : Going) (pool : Pool) → (pool_without going pool).guids ≡ pool.guids
+pub same_guids : (going : Removal) (pool : Pool) → (pool_without going pool).guids ≡ pool.guids
 same_guids (goes.Dataset name) pool = refl
 same_guids (goes.Snapshot name) pool = refl
 same_guids (goes.Bookmark name) pool = refl

@@ -8,20 +8,20 @@ use Rattle.std.proofs.lemmas.List.Folds.{list_any_at}
 use Rattle.std.proofs.lemmas.Slice.Eq.{bytes_eq-Decides}
 use Rattle.zst_names.specs.Names.{dataset_of}
 use Rattle.zst_names.specs.Marks.{at_is_mark}
-use Rattle.zst_names.proofs.Marked.{join_is_name}
+use Rattle.zst_names.proofs.MarkedNames.{join_is_name}
 use Rattle.zst_uber.specs.declared.uber.Uber.{Uber}
-use Rattle.zst_model.specs.states.Dated.{DatedState}
+use Rattle.zst_model.specs.states.DatedState.{DatedState}
 use Rattle.zst_model.specs.pools.Pool.{Pool, is_before, snapshot_is_before, inserted, untouched}
 use Rattle.zst_model.specs.pools.Pool as plain
 use Rattle.zst_model.specs.pools.Step.{new_dataset, with_head_at, snapshot_of}
 use Rattle.zst_tree.specs.Sets as sets
 use Rattle.zst_tree.specs.declared.tree.ObjSet.{ObjSet}
 use Rattle.zst_pool.specs.Checks.{with_head_of, with_new, with_taken}
-use Rattle.zst_pool.specs.Making.{RunsAs}
+use Rattle.zst_pool.specs.RowChanges.{RunsAs}
 use Rattle.zst_dir.specs.Rows.{Rows, IsPartialRow}
 use Rattle.zst_dir.specs.Rows as dir_rows
 use Rattle.zst_image.specs.Reads.{DatasetIs, RunsBy, SetIs, SnapshotIs, bound_of}
-use Rattle.zst_image.specs.declared.kept.Kept.{Kept}
+use Rattle.zst_image.specs.declared.pool_state.PoolState.{PoolState}
 use Rattle.zst_tree.specs.Indices.{Blocks}
 use Rattle.zst_objset.proofs.SetLaws.{empty}
 use Rattle.zst_objset.proofs.TightLaws.{tight_empty}
@@ -30,7 +30,7 @@ use Rattle.zst_block.specs.Blocks.{Has}
 use Rattle.zst_dir.specs.declared.rows.Dataset.{Dataset}
 use Rattle.zst_dir.specs.declared.rows.Partial.{Partial}
 use Rattle.zst_dir.specs.declared.rows.Snapshot.{Snapshot}
-use Rattle.zst_dir.proofs.Matching.{inserted-Match, map-Match}
+use Rattle.zst_dir.proofs.Matches.{inserted-Match, map-Match}
 
 -- the row of a new dataset
 abbrev pub new_row : ℕ → List ℕ → Dataset
@@ -67,7 +67,7 @@ taken_row uber now name row = record { name = name; guid = uber.id * 2 ^ 32 + (u
 stands_before : List ℕ → ℕ → List ℕ → ℕ → Bool
 stands_before n k m l = is_before (dataset_of 64 n) (dataset_of 64 m) || (bytes_eq (dataset_of 64 n) (dataset_of 64 m) && nat_lt k l)
 
-taken_row_is_taken : {tight : Bool} (has : Blocks) (kept : Kept) (running : Pool) (now : ℕ) (name : List ℕ) (row : Dataset) (dataset : plain.Dataset)
+taken_row_is_taken : {tight : Bool} (has : Blocks) (kept : PoolState) (running : Pool) (now : ℕ) (name : List ℕ) (row : Dataset) (dataset : plain.Dataset)
     → RunsAs tight has kept running → DatasetIs (bound_of tight running.number) has row dataset → SnapshotIs (bound_of tight running.number) has (taken_row kept.body now name row) (snapshot_of now name running dataset)
 taken_row_is_taken has kept running now name row dataset is matches = record {
   named = record {
@@ -89,7 +89,7 @@ taken_stands_alike has uber pool now name row dataset x y number is =
     ∙ ap (λ (k : ℕ). stands_before name (pool.number + 1) y.name k) (sym is.named.number)
 
 -- the rows with that of a new snapshot
-pub snapshot_runs : {tight : Bool} (has : Blocks) (kept : Kept) (running : Pool) (now : ℕ) (name : List ℕ) (row : Dataset) (dataset : plain.Dataset) → RunsAs tight has kept running → DatasetIs (bound_of tight running.number) has row dataset
+pub snapshot_runs : {tight : Bool} (has : Blocks) (kept : PoolState) (running : Pool) (now : ℕ) (name : List ℕ) (row : Dataset) (dataset : plain.Dataset) → RunsAs tight has kept running → DatasetIs (bound_of tight running.number) has row dataset
     → RunsBy (bound_of tight running.number) has (record kept.dir { snapshots = inserted dir_rows.snapshot_is_before (taken_row kept.body now name row) kept.dir.snapshots }) (with_taken now name dataset running)
 snapshot_runs {tight = tight} has kept running now name row dataset is matches = record {
   datasets = is.runs_by.datasets;

@@ -8,7 +8,7 @@ use Rattle.std.proofs.lemmas.Slice.Eq.{bytes_eq-Decides}
 use Rattle.zst_names.specs.Names.{dataset_of}
 use Rattle.zst_model.specs.pools.Pool.{Pool, is_before, inserted}
 use Rattle.zst_model.specs.pools.Pool as plain
-use Rattle.zst_model.specs.pools.Kept.{kept_of}
+use Rattle.zst_model.specs.pools.KeptPool.{kept_of}
 use Rattle.zst_tree.specs.Indices.{Blocks}
 use Rattle.zst_dir.specs.Rows.{Rows, HasSnapshot, is_for, is_unkept_for, with_objects_at, with_partial}
 use Rattle.zst_dir.specs.declared.rows.Dataset.{Dataset}
@@ -17,10 +17,10 @@ use Rattle.zst_dir.specs.declared.rows.Partial.{Partial}
 use Rattle.zst_pool.specs.PartialRows.{latest_row, rolled_rows, rows_with_partial}
 use Rattle.zst_pool.specs.Partials.{changed_at, latest_snapshot, partials_of_others, rolled, rolled_back, rolled_to}
 use Rattle.zst_pool.specs.Partials as plains
-use Rattle.zst_dir.specs.Named.{Match}
+use Rattle.zst_dir.specs.RowNames.{Match}
 use Rattle.zst_image.specs.Reads.{DatasetIs, SnapshotIs, PartialIs, RunsBy}
-use Rattle.zst_pool.proofs.Latest.{MatchIf, last-Match}
-use Rattle.zst_dir.proofs.Matching.{filter-Match, inserted-Match, map-Match}
+use Rattle.zst_pool.proofs.LastElements.{MatchIf, last-Match}
+use Rattle.zst_dir.proofs.Matches.{filter-Match, inserted-Match, map-Match}
 
 -- once those of a target are left out, none has it
 pub none_for : (target : List ℕ) (partials : List Partial) → All (λ other. other.target ≢ target) (filter (λ other. not (is_for target other)) partials)

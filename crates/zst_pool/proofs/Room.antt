@@ -4,7 +4,7 @@ use Rattle.std.proofs.Common.{◌≡◌, inl, ℕ, ◌+◌, ◌*◌, ◌/◌, �
 use Rattle.zst_outside.specs.Images.{DiskState}
 use Rattle.zst_space.specs.FreeSectors.{FreeSectors}
 use Rattle.zst_block.specs.Blocks.{FillsFree}
-use Rattle.zst_block.specs.Working.{TakesAtMost}
+use Rattle.zst_block.specs.IoCalls.{TakesAtMost}
 use Rattle.zst_block.specs.declared.fault.BlockFault.{BlockFault}
 use Rattle.zst_model.specs.states.State.{is_block_size, largest_block}
 use Rattle.zst_dir.specs.Rows.{Rows}
@@ -13,11 +13,11 @@ use Rattle.zst_pool.specs.Calls.{IsCallFull}
 use Rattle.zst_pool.specs.Cost.{Grows, HasNoRoom, Spends, most_sectors}
 use Rattle.zst_pool.specs.Heads.{Stops, Works}
 use Rattle.zst_image.specs.Reads.{dir_sectors, free_by}
-use Rattle.zst_image.specs.Committing.{IsDirFull}
-use Rattle.zst_pool.specs.Runs.{as_kept}
+use Rattle.zst_image.specs.Commits.{IsDirFull}
+use Rattle.zst_pool.specs.CommandRuns.{as_kept}
 use Rattle.zst_pool.specs.declared.fault.PoolFault.{PoolFault}
-use Rattle.zst_image.specs.declared.kept.Kept.{Kept}
-use Rattle.zst_pool.proofs.Taking.{ends_later, takes_more, takes_then, was_free}
+use Rattle.zst_image.specs.declared.pool_state.PoolState.{PoolState}
+use Rattle.zst_pool.proofs.TakenSectors.{ends_later, takes_more, takes_then, was_free}
 
 -- a block of data has 256 sectors at most
 pub block-sectors : (size : ℕ) → is_block_size size ≡ true → size / 512 ≤ 256
@@ -41,7 +41,7 @@ call_full space left dir rows need largest longer takes full =
       before = omega (arith, full.before, more);
     }
 
-module _ (kept : Kept) (cells block : ℕ) {old : DiskState} {old_failed : Bool} {new : DiskState} {less : FreeSectors} {new_failed : Bool} where
+module _ (kept : PoolState) (cells block : ℕ) {old : DiskState} {old_failed : Bool} {new : DiskState} {less : FreeSectors} {new_failed : Bool} where
   -- what a command spends that stopped at a block's fault, or at none
   pub spends_fell : {stop : Option BlockFault} (fault : PoolFault) → Stops stop fault → Works cells block old (free_by kept.body) old_failed new less new_failed stop
       → Spends cells block kept less as_kept (Err fault)
@@ -64,7 +64,7 @@ module _ (kept : Kept) (cells block : ℕ) {old : DiskState} {old_failed : Bool}
         let taken_more = takes_more (block + 640 * cells + dir_sectors (length (dir_bytes dir))) (most_sectors cells block kept.dir) (free_by kept.body) least (omega (arith, more)) (takes_then (free_by kept.body) less least works.takes takes) in
         record { taken = taken_more; shorter = told.shorter; needed = inl told.needed; is_longest = told.is_longest; was_free = omega (arith, told.is_longest, was); room = omega (arith, told.before, works.takes.longest, more) }
 
-    pub spends_grows : (next : Kept) → kept.body.end ≤ kept.body.sectors → next.body.end ≤ next.body.sectors → next.body.end ≡ least.end → next.body.sectors ≡ kept.body.sectors
+    pub spends_grows : (next : PoolState) → kept.body.end ≤ kept.body.sectors → next.body.end ≤ next.body.sectors → next.body.end ≡ least.end → next.body.sectors ≡ kept.body.sectors
         → Grows (most_sectors cells block kept.dir) kept.body next.body
     spends_grows next inside within end sectors =
         let more = dir-more (length (dir_bytes dir)) (length (dir_bytes kept.dir) + 1024) grows in

@@ -3,21 +3,21 @@ use Rattle.std.specs.Prelude.{◌≡◌, ◌⊎◌, ◌+◌, ◌<◌, ◌≤◌,
 use Rattle.zst_outside.specs.Images.{DiskState, Leaves}
 use Rattle.zst_space.specs.FreeSectors.{FreeSectors, largest_of}
 use Rattle.zst_block.specs.Blocks.{FillsFree, FitsDisk, Has}
-use Rattle.zst_block.specs.Working.{TakesAtMost}
+use Rattle.zst_block.specs.IoCalls.{TakesAtMost}
 use Rattle.zst_uber.specs.declared.uber.Uber.{Uber}
 use Rattle.zst_model.specs.declared.refusals.faults.Quantity.{Quantity}
 use Rattle.zst_model.specs.declared.refusals.plan_fault.PlanFault.TheVariants.{Limit}
 use Rattle.zst_model.specs.declared.refusals.refusal.Refusal.{Refusal}
 use Rattle.zst_model.specs.refusals.Refusal.{refusal_of}
-use Rattle.zst_model.specs.pools.Kept.{kept_of}
+use Rattle.zst_model.specs.pools.KeptPool.{kept_of}
 use Rattle.zst_model.specs.pools.Pool.{Pool, IsPool}
 use Rattle.zst_dir.specs.Rows.{Rows}
 use Rattle.zst_dir.specs.Spelling.{dir_bytes}
 use Rattle.zst_image.specs.Reads.{Reads, Rests, RunsBy, bound_of, dir_sectors, free_by}
-use Rattle.zst_image.specs.Committing.{Ready}
+use Rattle.zst_image.specs.Commits.{Ready}
 use Rattle.zst_pool.specs.declared.fault.PoolFault.{PoolFault}
 use Rattle.zst_pool.specs.declared.fault.PoolFault.TheVariants.{Plan, CannotApply, Redacted, Full, Damaged, DiskFault, Failed, OutOfMemory}
-use Rattle.zst_image.specs.declared.kept.Kept.{Kept}
+use Rattle.zst_image.specs.declared.pool_state.PoolState.{PoolState}
 
 -- over these free sectors the next commit can be made
 pub record CanCommit (disk : DiskState) (space : FreeSectors) (body : Uber) : Type 0 where
@@ -32,14 +32,14 @@ pub record ListsAnew (running next : Pool) : Type 0 where
   pub guids : next.guids ≡ running.guids
 
 -- between its events: the disk rests, by its rows, as what is kept of this pool, and the rows in memory stand for the lawful pool that runs, by tight sets where that is said
-pub record IsAtRest (tight : Bool) (now : DiskState) (kept : Kept) (running : Pool) : Type 0 where
+pub record IsAtRest (tight : Bool) (now : DiskState) (kept : PoolState) (running : Pool) : Type 0 where
   pub rows : Rows
   pub rests : Rests tight now kept.body rows (kept_of running)
   pub runs_by : RunsBy (bound_of tight running.number) (Has now.seen (free_by kept.body)) kept.dir running
   pub lawful : IsPool running
 
 -- within an event: at a start the pool was at rest, and since then blocks alone were written
-pub record IsUnderWay (tight : Bool) (start now : DiskState) (space : FreeSectors) (kept : Kept) (running : Pool) : Type 0 where
+pub record IsUnderWay (tight : Bool) (start now : DiskState) (space : FreeSectors) (kept : PoolState) (running : Pool) : Type 0 where
   pub rested : IsAtRest tight start kept running
   pub fills : FillsFree start (free_by kept.body) now space
 
@@ -66,21 +66,21 @@ IsCallFault Failed = ⊥
 IsCallFault OutOfMemory = Unit {0}
 
 -- what stands after a call's answer: what the definition makes of the pool, or the pool as it was
-abbrev pub CallAnswer : (tight : Bool) → DiskState → Kept → Pool → Result Pool Refusal → Result Kept PoolFault → Type 0
+abbrev pub CallAnswer : (tight : Bool) → DiskState → PoolState → Pool → Result Pool Refusal → Result PoolState PoolFault → Type 0
 CallAnswer tight now old running definition (Ok kept) = (next : Pool) × (definition ≡ Ok next) × (kept.body.number ≡ next.number) × IsAtRest tight now kept next
 CallAnswer tight now old running definition (Err fault) = CallFault (IsAtRest tight now old running) definition fault
 
 -- a call that commits: inside it each image reads as what is kept of the pool before, or of the one that the definition makes, and then by its answer
-pub record CallDid (tight : Bool) (start now : DiskState) (kept : Kept) (running : Pool) (definition : Result Pool Refusal) (result : Result Kept PoolFault) : Type 0 where
+pub record CallDid (tight : Bool) (start now : DiskState) (kept : PoolState) (running : Pool) (definition : Result Pool Refusal) (result : Result PoolState PoolFault) : Type 0 where
   pub moments : Leaves start now (λ c. Reads tight (kept_of running) c ⊎ ((next : Pool) × (definition ≡ Ok next) × Reads tight (kept_of next) c))
   pub answer : CallAnswer tight now kept running definition result
 
 -- a call's answer with what the pool then keeps
-abbrev pub keeping : Kept → Result ℕ PoolFault → Result Kept PoolFault
+abbrev pub keeping : PoolState → Result ℕ PoolFault → Result PoolState PoolFault
 keeping kept (Ok number) = Ok kept
 keeping kept (Err fault) = Err fault
 
--- E24 of a call: the 16 sectors of a block of a directory are longer than the longest run of those that are left then; at most so many were taken as a directory with 2,048 bytes more takes, and before it no run was free of as many
+-- E24 of a call: the 16 sectors of a block of a directory are longer than the longest extent of those that are left then; at most so many were taken as a directory with 2,048 bytes more takes, and before it no free extent had as many
 pub record IsCallFull (space left : FreeSectors) (rows : Rows) (need largest : ℕ) : Type 0 where
   pub taken : TakesAtMost (dir_sectors (length (dir_bytes rows) + 2048)) space left
   pub shorter : largest < need
@@ -89,7 +89,7 @@ pub record IsCallFull (space left : FreeSectors) (rows : Rows) (need largest : �
   pub before : largest_of space < dir_sectors (length (dir_bytes rows) + 2048)
 
 -- what a call of a receive committed over these free sectors: the directory has at most 2,048 bytes more; the body has as many sectors, and where all that is free stands behind the end, it ends no later than such a directory may
-pub record CallGrows (space : FreeSectors) (before after : Kept) : Type 0 where
+pub record CallGrows (space : FreeSectors) (before after : PoolState) : Type 0 where
   pub directory : length (dir_bytes after.dir) ≤ length (dir_bytes before.dir) + 2048
   pub sectors : after.body.sectors ≡ before.body.sectors
   pub end : space.free ≡ [] → after.body.end ≤ space.end + dir_sectors (length (dir_bytes before.dir) + 2048)

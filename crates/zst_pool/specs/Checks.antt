@@ -8,10 +8,10 @@ use Rattle.zst_model.specs.sends.Items.{spill_change}
 use Rattle.zst_model.specs.declared.refusals.plan_fault.PlanFault.{PlanFault}
 use Rattle.zst_model.specs.declared.refusals.refusal.Refusal.{Refusal}
 use Rattle.zst_model.specs.declared.refusals.faults.Quantity.TheVariants as quantities
-use Rattle.zst_model.specs.declared.refusals.named.Name.TheVariants as names
-use Rattle.zst_model.specs.states.Apply.{unless, ◌>>=◌}
-use Rattle.zst_model.specs.states.Dated.{DatedState}
-use Rattle.zst_model.specs.pools.Lines.{ok_line}
+use Rattle.zst_model.specs.declared.refusals.subjects.Name.TheVariants as names
+use Rattle.zst_model.specs.states.AppliedItems.{unless, ◌>>=◌}
+use Rattle.zst_model.specs.states.DatedState.{DatedState}
+use Rattle.zst_model.specs.pools.AnswerLines.{ok_line}
 use Rattle.zst_model.specs.pools.Pool.{Pool, is_before, snapshot_is_before, inserted, snapshot_named}
 use Rattle.zst_model.specs.pools.Pool as plain
 use Rattle.zst_model.specs.refusals.Refusal.{refusal_of}
@@ -19,7 +19,7 @@ use Rattle.zst_model.specs.pools.Step.{Stepped, exists_already, limited, last_gu
 use Rattle.zst_tree.specs.declared.tree.ObjSet.{ObjSet}
 use Rattle.zst_dir.specs.Rows.{Rows}
 use Rattle.zst_dir.specs.declared.rows.Dataset.{Dataset}
-use Rattle.zst_dir.specs.Named.{StandAlike}
+use Rattle.zst_dir.specs.RowNames.{StandAlike}
 
 -- a check that passes leaves what comes next of the definition, and one that refuses gives the definition's refusal
 abbrev pub Judges : {T : Type 0} → Result Stepped Refusal → Result Stepped Refusal → Result T PlanFault → Type 0

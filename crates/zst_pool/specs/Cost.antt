@@ -4,16 +4,16 @@ use Rattle.zst_space.specs.FreeSectors.{FreeSectors, largest_of}
 use Rattle.zst_uber.specs.declared.uber.Uber.{Uber}
 use Rattle.zst_model.specs.declared.pools.command.Command.{Command}
 use Rattle.zst_model.specs.declared.pools.command.Command.TheVariants as commands
-use Rattle.zst_model.specs.states.Dated.{size_at}
+use Rattle.zst_model.specs.states.DatedState.{size_at}
 use Rattle.zst_model.specs.pools.Pool.{Pool, dataset_named}
 use Rattle.zst_model.specs.pools.Pool as plain
 use Rattle.zst_dir.specs.Rows.{Rows}
 use Rattle.zst_dir.specs.Spelling.{dir_bytes}
-use Rattle.zst_block.specs.Working.{TakesAtMost}
+use Rattle.zst_block.specs.IoCalls.{TakesAtMost}
 use Rattle.zst_image.specs.Reads.{dir_sectors, free_by}
 use Rattle.zst_pool.specs.declared.fault.PoolFault.{PoolFault}
 use Rattle.zst_pool.specs.declared.fault.PoolFault.TheVariants.{Full}
-use Rattle.zst_image.specs.declared.kept.Kept.{Kept}
+use Rattle.zst_image.specs.declared.pool_state.PoolState.{PoolState}
 
 -- what a change of an object set costs: so many cells that it touches, and so many sectors of data or of a spill block, in a pool, and at most whatever is there
 pub record Cost : Type 0 where
@@ -68,7 +68,7 @@ cost_of (commands.ListObjects name) = cells_only 0
 abbrev pub most_sectors : ℕ → ℕ → Rows → ℕ
 most_sectors cells block rows = block + 640 * cells + dir_sectors (length (dir_bytes rows) + 1024)
 
--- E24: what is to be written, a block of a tree or the data, is longer than the longest run of the sectors that are left then, which were free before; and before, fewer sectors were free than the event takes at most
+-- E24: what is to be written, a block of a tree or the data, is longer than the longest extent of the sectors that are left then, which were free before; and before, fewer sectors were free than the event takes at most
 pub record HasNoRoom (cells block : ℕ) (uber : Uber) (rows : Rows) (left : FreeSectors) (need largest : ℕ) : Type 0 where
   pub taken : TakesAtMost (most_sectors cells block rows) (free_by uber) left
   pub shorter : largest < need
@@ -78,7 +78,7 @@ pub record HasNoRoom (cells block : ℕ) (uber : Uber) (rows : Rows) (left : Fre
   pub room : uber.sectors - uber.end < most_sectors cells block rows
 
 -- E24 comes only so
-abbrev pub FindsNoRoom : ℕ → ℕ → Kept → FreeSectors → PoolFault → Type 0
+abbrev pub FindsNoRoom : ℕ → ℕ → PoolState → FreeSectors → PoolFault → Type 0
 FindsNoRoom cells block kept left fault = (need largest : ℕ) → fault ≡ Full need largest → HasNoRoom cells block kept.body kept.dir left need largest
 
 -- a body of as many sectors, in which so many more are taken at most
@@ -87,6 +87,6 @@ pub record Grows (most : ℕ) (before after : Uber) : Type 0 where
   pub end : after.end ≤ before.end + most
 
 -- what an event takes of the sectors, at Ok and where it finds no room
-pub record Spends {T : Type 0} (cells block : ℕ) (kept : Kept) (left : FreeSectors) (after : T → Kept) (result : Result T PoolFault) : Type 0 where
+pub record Spends {T : Type 0} (cells block : ℕ) (kept : PoolState) (left : FreeSectors) (after : T → PoolState) (result : Result T PoolFault) : Type 0 where
   pub full : IfErr result (FindsNoRoom cells block kept left)
   pub grows : IfOk result (λ value. let next = after value in Grows (most_sectors cells block kept.dir) kept.body next.body)

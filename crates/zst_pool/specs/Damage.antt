@@ -8,10 +8,10 @@ use Rattle.zst_tree.specs.declared.tree.ObjSet.{ObjSet}
 use Rattle.zst_objset.specs.Damage.{DamageFact, IfSetDamaged, IsDamagedBlock, IsDamagedObject, IsDamagedSet}
 use Rattle.zst_model.specs.declared.pools.command.Command.{Command}
 use Rattle.zst_model.specs.declared.pools.command.Command.TheVariants as commands
-use Rattle.zst_model.specs.declared.refusals.named.Name.{Name}
+use Rattle.zst_model.specs.declared.refusals.subjects.Name.{Name}
 use Rattle.zst_dir.specs.Rows.{Rows}
 use Rattle.zst_dir.specs.declared.rows.Dataset.{Dataset}
-use Rattle.zst_pool.specs.Finding.{set_named}
+use Rattle.zst_pool.specs.Lookups.{set_named}
 use Rattle.zst_pool.specs.declared.fault.PoolFault.{PoolFault}
 use Rattle.zst_pool.specs.declared.fault.PoolFault.TheVariants.{Damaged}
 use Rattle.zst_pool.specs.declared.head_fault.HeadFault.{HeadFault}

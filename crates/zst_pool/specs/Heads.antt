@@ -3,12 +3,12 @@ use Rattle.std.specs.Prelude.{◌≡◌, ◌+◌, ◌*◌, ◌≤◌, ℕ, Bool,
 use Rattle.zst_outside.specs.Images.{DiskState}
 use Rattle.zst_space.specs.FreeSectors.{FreeSectors}
 use Rattle.zst_block.specs.Blocks.{Has}
-use Rattle.zst_block.specs.Working as blocks
+use Rattle.zst_block.specs.IoCalls as blocks
 use Rattle.zst_block.specs.declared.fault.BlockFault.{BlockFault}
 use Rattle.zst_block.specs.declared.fault.BlockFault.TheVariants as block_faults
 use Rattle.zst_model.specs.declared.refusals.refusal.Refusal.{Refusal}
-use Rattle.zst_model.specs.states.Apply.{◌>>=◌}
-use Rattle.zst_model.specs.states.Dated.{DatedState}
+use Rattle.zst_model.specs.states.AppliedItems.{◌>>=◌}
+use Rattle.zst_model.specs.states.DatedState.{DatedState}
 use Rattle.zst_model.specs.pools.Pool.{Pool}
 use Rattle.zst_model.specs.pools.Step.{committed, on_head}
 use Rattle.zst_tree.specs.Indices.{Blocks}
@@ -25,7 +25,7 @@ use Rattle.zst_pool.specs.declared.fault.PoolFault.{PoolFault}
 use Rattle.zst_pool.specs.declared.fault.PoolFault.TheVariants as faults
 use Rattle.zst_pool.specs.declared.head_fault.HeadFault.{HeadFault}
 use Rattle.zst_pool.specs.declared.head_fault.HeadFault.TheVariants.{Set, Memory}
-use Rattle.zst_image.specs.declared.kept.Kept.{Kept}
+use Rattle.zst_image.specs.declared.pool_state.PoolState.{PoolState}
 
 -- a head's fault as a pool's
 abbrev pub of_head : HeadFault → PoolFault
@@ -93,7 +93,7 @@ abbrev pub Works : ℕ → ℕ → DiskState → FreeSectors → Bool → DiskSt
 Works cells block old old_space old_failed new new_space new_failed stop = blocks.Works (block + 640 * cells) block old old_space old_failed new new_space new_failed stop
 
 -- Since a start at which a pool was at rest a command changed the head of a dataset as `make` says, or could not: what stands then, and what was answered.
-pub record ChangedHead (kept : Kept) (name : List ℕ) (make : Pool → DatedState → Result DatedState Refusal) (cost : Cost) (start : DiskState) (start_failed : Bool) (now : DiskState) (space : FreeSectors) (failed : Bool) (set : ObjSet) (changed : Result (Unit {0}) HeadFault) : Type 0 where
+pub record ChangedHead (kept : PoolState) (name : List ℕ) (make : Pool → DatedState → Result DatedState Refusal) (cost : Cost) (start : DiskState) (start_failed : Bool) (now : DiskState) (space : FreeSectors) (failed : Bool) (set : ObjSet) (changed : Result (Unit {0}) HeadFault) : Type 0 where
   pub made : {tight : Bool} (running : Pool) → now.honest → IsAtRest tight start kept running
       → (head : DatedState) × ChangesHead (bound_of tight (running.number + 1)) (Has now.seen space) set (make running head) changed
       × (on_head name running (make running) ≡ (make running head >>= λ after. committed (with_head_of name after running)))

@@ -3,24 +3,24 @@ use Rattle.std.specs.Prelude.{◌≡◌, ◌+◌, ◌&&◌, ℕ, Bool, false, Li
 use Rattle.std.specs.Borrow.{Bor}
 use Rattle.zst_names.specs.Names.{dataset_of}
 use Rattle.zst_block.specs.Ptr.{hole_of}
-use Rattle.zst_model.specs.declared.refusals.named.Name.{Name}
-use Rattle.zst_model.specs.declared.refusals.named.Name.TheVariants as names
+use Rattle.zst_model.specs.declared.refusals.subjects.Name.{Name}
+use Rattle.zst_model.specs.declared.refusals.subjects.Name.TheVariants as names
 use Rattle.zst_model.specs.declared.refusals.plan_fault.PlanFault.{PlanFault}
 use Rattle.zst_model.specs.declared.refusals.refusal.Refusal.{Refusal}
 use Rattle.zst_model.specs.refusals.Refusal.{refusal_of}
 use Rattle.zst_model.specs.declared.refusals.faults.Quantity.TheVariants as quantities
-use Rattle.zst_model.specs.states.Apply.{unless}
+use Rattle.zst_model.specs.states.AppliedItems.{unless}
 use Rattle.zst_model.specs.pools.Pool.{Pool, bookmark_named, dataset_named, dataset_of_bookmark, dataset_of_snapshot, inserted, is_before, partial_of, snapshot_named}
 use Rattle.zst_model.specs.pools.Pool as plain
 use Rattle.zst_model.specs.pools.Step.{Stepped, bookmark_of, clone_of, committed, exists_already, is_one_of, limited, most_bookmarks, no_partial, no_such, not_ancestor, or_else, unless_used, with_bookmark, with_clone, with_destroyed, with_rollback, destroyed_by, rolled_back, unless_newer, without_bookmark, without_dataset, without_snapshot}
-use Rattle.zst_dir.specs.Going.{names_going, without}
+use Rattle.zst_dir.specs.Removal.{names_going, without}
 use Rattle.zst_dir.specs.Rows.{Rows, with_objects}
-use Rattle.zst_dir.specs.declared.going.Going.{Going}
-use Rattle.zst_dir.specs.declared.going.Going.TheVariants as goes
+use Rattle.zst_dir.specs.declared.removal.Removal.{Removal}
+use Rattle.zst_dir.specs.declared.removal.Removal.TheVariants as goes
 use Rattle.zst_dir.specs.declared.rows.Bookmark.{Bookmark}
 use Rattle.zst_dir.specs.declared.rows.Dataset.{Dataset}
 use Rattle.zst_dir.specs.declared.rows.Snapshot.{Snapshot}
-use Rattle.zst_dir.specs.Named.{StandAlike}
+use Rattle.zst_dir.specs.RowNames.{StandAlike}
 use Rattle.zst_pool.specs.Checks.{next_of, with_new}
 
 -- whether there is a row of this name
@@ -30,31 +30,31 @@ is_there (names.Snapshot name) rows = is_some (position (λ snapshot. bytes_eq s
 is_there (names.Bookmark name) rows = is_some (position (λ bookmark. bytes_eq bookmark.name name) rows.bookmarks)
 
 -- what goes where this name is destroyed
-abbrev pub going_of : Name → Going
+abbrev pub going_of : Name → Removal
 going_of (names.Dataset name) = goes.Dataset name
 going_of (names.Snapshot name) = goes.Snapshot name
 going_of (names.Bookmark name) = goes.Bookmark name
 
 -- whether a partial state of this target is one of a dataset that goes, or that loses what is newer
-abbrev pub is_on : Going → List ℕ → Bool
+abbrev pub is_on : Removal → List ℕ → Bool
 is_on (goes.Dataset name) target = bytes_eq target name
 is_on (goes.Snapshot name) target = false
 is_on (goes.Bookmark name) target = false
 is_on (goes.Newer name number) target = bytes_eq target name
 
 -- whether a snapshot of this name may go
-abbrev pub may_go : Going → List ℕ → Bool
+abbrev pub may_go : Removal → List ℕ → Bool
 may_go (goes.Dataset dataset) name = bytes_eq (dataset_of 64 name) dataset
 may_go (goes.Snapshot snapshot) name = bytes_eq name snapshot
 may_go (goes.Bookmark bookmark) name = false
 may_go (goes.Newer dataset number) name = bytes_eq (dataset_of 64 name) dataset
 
 -- these are the snapshots that go, by their names
-abbrev pub AreGoing : Going → Rows → List plain.Snapshot → Type 0
+abbrev pub AreGoing : Removal → Rows → List plain.Snapshot → Type 0
 AreGoing going rows gone = (name : Option (List ℕ)) → is_one_of gone name ≡ names_going going rows name
 
 -- a pool without what goes
-abbrev pub pool_without : Going → Pool → Pool
+abbrev pub pool_without : Removal → Pool → Pool
 pool_without (goes.Dataset name) pool = without_dataset name pool
 pool_without (goes.Snapshot name) pool = without_snapshot name pool
 pool_without (goes.Bookmark name) pool = without_bookmark name pool
@@ -64,14 +64,14 @@ pool_without (goes.Newer name number) pool = record pool {
 }
 
 -- what goes where a name is destroyed, and what is left of the definition; or that there is none of this name
-abbrev pub FindsGoing : Name → Rows → Pool → Result Going PlanFault → Type 0
+abbrev pub FindsGoing : Name → Rows → Pool → Result Removal PlanFault → Type 0
 FindsGoing name rows pool (Ok going) =
     (gone : List plain.Snapshot) × AreGoing going rows gone
     × (with_destroyed [] name pool ≡ unless_used (λ partial. is_on going partial.target) gone pool (committed (pool_without going pool)))
 FindsGoing name rows pool (Err fault) = with_destroyed [] name pool ≡ Err (refusal_of fault)
 
 -- what goes where a name is destroyed is what the definition leaves out; or its refusal
-abbrev pub JudgesDestroyed : Name → Pool → Result Going PlanFault → Type 0
+abbrev pub JudgesDestroyed : Name → Pool → Result Removal PlanFault → Type 0
 JudgesDestroyed name pool (Ok going) = with_destroyed [] name pool ≡ Ok (next_of (pool_without going pool))
 JudgesDestroyed name pool (Err fault) = with_destroyed [] name pool ≡ Err (refusal_of fault)
 
@@ -125,10 +125,10 @@ JudgesBookmark rows snapshot name pool (Ok row) =
 JudgesBookmark rows snapshot name pool (Err fault) = with_bookmark snapshot name pool ≡ Err (refusal_of fault)
 
 -- what is newer than a snapshot, by its row and by itself
-abbrev pub newer_than : Snapshot → Going
+abbrev pub newer_than : Snapshot → Removal
 newer_than snapshot = goes.Newer (dataset_of 64 snapshot.name) snapshot.number
 
-abbrev pub newer_in_pool : plain.Snapshot → Going
+abbrev pub newer_in_pool : plain.Snapshot → Removal
 newer_in_pool snapshot = goes.Newer (dataset_of_snapshot snapshot) snapshot.number
 
 -- what comes next, where a rollback to this snapshot loses nothing that is held

@@ -2,10 +2,10 @@
 use Rattle.std.specs.Prelude.{◌≡◌, ◌≢◌, ℕ, List, [], ◌∷◌, Option, Some, None, Result, Ok, Err, find, bytes_eq, IfSome}
 use Rattle.zst_block.specs.declared.fault.BlockFault.TheVariants as blocks
 use Rattle.zst_leaves.specs.declared.fault.LeavesFault.TheVariants as leaves
-use Rattle.zst_list.specs.Standing.{HasList, TellsList}
+use Rattle.zst_list.specs.StoredLists.{HasList, TellsList}
 use Rattle.zst_model.specs.fields.Lists.{Runs}
-use Rattle.zst_model.specs.declared.refusals.named.Missing.TheVariants as missing
-use Rattle.zst_model.specs.declared.refusals.named.Name.TheVariants as names
+use Rattle.zst_model.specs.declared.refusals.subjects.AbsentSubject.TheVariants as missing
+use Rattle.zst_model.specs.declared.refusals.subjects.Name.TheVariants as names
 use Rattle.zst_model.specs.declared.refusals.plan_fault.PlanFault.TheVariants as plans
 use Rattle.zst_model.specs.pools.Pool as plain
 use Rattle.zst_tree.specs.Indices.{Blocks}

@@ -20,7 +20,7 @@ use Rattle.zst_dir.specs.declared.rows.Snapshot.{Snapshot}
 use Rattle.zst_image.specs.Reads.{IsNamedBy}
 use Rattle.zst_pool.specs.declared.fault.PoolFault.{PoolFault}
 use Rattle.zst_pool.specs.declared.fault.PoolFault.TheVariants.{Plan}
-use Rattle.zst_image.specs.declared.kept.Kept.{Kept}
+use Rattle.zst_image.specs.declared.pool_state.PoolState.{PoolState}
 
 -- whether a quantity is counted in the directory and the latest body
 abbrev pub is_counted : Quantity → Bool
@@ -67,7 +67,7 @@ abbrev pub IsLimitOf : (numbers indices : ℕ) → Uber → PlanFault → Type 0
 IsLimitOf numbers indices uber fault = IsPast numbers indices fault ⊎ IsLast uber.number fault
 
 -- what a command's plan refuses: what the directory and the body tell exactly where the definition says so, of each pool that they name; and else only what passes a limit
-pub record Plans {T : Type 0} (definition : Pool → Result Stepped Refusal) (numbers indices : ℕ) (kept : Kept) (result : Result T PoolFault) : Type 0 where
+pub record Plans {T : Type 0} (definition : Pool → Result Stepped Refusal) (numbers indices : ℕ) (kept : PoolState) (result : Result T PoolFault) : Type 0 where
   pub exact : (pool : Pool) (fault : PlanFault) → IsNamedBy kept.body kept.dir pool → is_by_rows fault ≡ true → (definition pool ≡ Err (refusal_of fault)) ↔ (result ≡ Err (Plan fault))
   pub limits : (fault : PlanFault) → result ≡ Err (Plan fault) → (is_by_rows fault ≡ true) ⊎ IsLimitOf numbers indices kept.body fault
 

@@ -1,9 +1,9 @@
 // What a command makes of the object set of a head.
 ghost use Rattle.std.specs.Prelude.{◌≡◌, ◌+◌, ◌/◌, ◌<◌, ◌≤◌, ℕ, Bool, true, length, Err, IfErr, IfOk, IfSome, OnOk};
 ghost use Rattle.zst_block.specs.Blocks.{FitsDisk, Has};
-ghost use Rattle.zst_block.specs.Working.{Looks};
+ghost use Rattle.zst_block.specs.IoCalls.{Looks};
 ghost use Rattle.zst_model.specs.declared.refusals.plan_fault.PlanFault.{PlanFault};
-ghost use Rattle.zst_model.specs.states.Dated.{DatedState, size_at};
+ghost use Rattle.zst_model.specs.states.DatedState.{DatedState, size_at};
 ghost use Rattle.zst_model.specs.states.State.{is_block_size, IsHead, IsBonus, IsSpill};
 ghost use Rattle.zst_model.specs.pools.Pool.{Pool};
 ghost use Rattle.zst_model.specs.pools.Step.{filled, punched, written};

@@ -8,12 +8,12 @@ ghost use Rattle.zst_model.specs.pools.Step.{Stepped, committed, with_dataset, c
 ghost use Rattle.zst_pool.specs.Checks.{Judges, FindsDataset, if_guid_left, if_new_snapshot, JudgesSnapshot, next_of, with_new};
 ghost use Rattle.zst_dir.specs.Rows.{HasDataset, HasSnapshot, IsLawful};
 ghost use Rattle.zst_pool.specs.Plans.{IsLast, is_by_rows};
-ghost use Rattle.zst_dir.specs.Named.{AreNamed};
+ghost use Rattle.zst_dir.specs.RowNames.{AreNamed};
 
 use zst_dir::{Dataset, Dir};
-use zst_image::Kept;
+use zst_image::PoolState;
 use zst_model::limits::{LAST_GUID, LAST_NUMBER, MOST_DATASETS, MOST_SNAPSHOTS};
-use zst_model::{Holder, Missing, Name, PlanFault, Present, Quantity};
+use zst_model::{AbsentSubject, Holder, Name, PlanFault, PresentSubject, Quantity};
 use zst_names::{DatasetName, SnapName};
 
 /// E4 where the name is taken, and E23 where there are too many snapshots; partial states count as
@@ -24,7 +24,7 @@ pub fn check_new_snapshot(dir: &Dir, name: &SnapName) -> Result<(), PlanFault>
     ensures judged { (pool : Pool) (rest : Result Stepped Refusal) → AreNamed dir.now pool → Judges (if_new_snapshot name.now pool rest) rest result }
 {
     if dir.snapshot(name).is_some() {
-        return Err(PlanFault::Exists(Present::Named(Name::Snapshot(name.duplicate()))));
+        return Err(PlanFault::Exists(PresentSubject::Named(Name::Snapshot(name.duplicate()))));
     }
     if dir.snapshots().len() + dir.partials().len() >= MOST_SNAPSHOTS {
         return Err(PlanFault::Limit {
@@ -78,9 +78,9 @@ pub fn open_dataset<'a>(dir: &'a Dir, name: &DatasetName) -> Result<&'a Dataset,
 
 /// E3 of a dataset.
 pub fn no_such(name: &DatasetName) -> PlanFault
-    ensures { result ≡ PlanFault.NoSuch (Missing.Named (Name.Dataset name.now)) }
+    ensures { result ≡ PlanFault.NoSuch (AbsentSubject.Named (Name.Dataset name.now)) }
 {
-    PlanFault::NoSuch(Missing::Named(Name::Dataset(name.duplicate())))
+    PlanFault::NoSuch(AbsentSubject::Named(Name::Dataset(name.duplicate())))
 }
 
 /// E5 of a partial state of this target.
@@ -131,9 +131,9 @@ pub fn check_new_dataset(dir: &Dir, name: &DatasetName) -> Result<(), PlanFault>
 }
 
 fn exists_already(name: &DatasetName) -> PlanFault
-    ensures { result ≡ PlanFault.Exists (Present.Named (Name.Dataset name.now)) }
+    ensures { result ≡ PlanFault.Exists (PresentSubject.Named (Name.Dataset name.now)) }
 {
-    PlanFault::Exists(Present::Named(Name::Dataset(name.duplicate())))
+    PlanFault::Exists(PresentSubject::Named(Name::Dataset(name.duplicate())))
 }
 
 /// E23 where the last commit was made.
@@ -152,7 +152,7 @@ pub fn check_number(number: u64) -> Result<(), PlanFault>
 }
 
 /// The dataset of a new snapshot, or the first refusal of its definition.
-pub fn plan_snapshot<'a>(kept: &'a Kept, name: &SnapName) -> Result<&'a Dataset, PlanFault>
+pub fn plan_snapshot<'a>(kept: &'a PoolState, name: &SnapName) -> Result<&'a Dataset, PlanFault>
     ensures lawful { IsLawful kept.now.dir }
     ensures there { IfOk result (λ row. Contains kept.now.dir.datasets row.now × (row.now.name ≡ dataset_of 64 name.now)) }
     ensures free { OnOk result (list_any (λ partial. bytes_eq partial.target (dataset_of 64 name.now)) kept.now.dir.partials ≡ false) }

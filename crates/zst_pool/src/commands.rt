@@ -10,20 +10,20 @@ ghost use Rattle.zst_model.specs.pools.Step.{Stepped, new_dataset, with_dataset,
 ghost use Rattle.zst_tree.specs.Sets.{no_objects};
 ghost use Rattle.zst_dir.specs.Rows.{HasDataset, HasSnapshot, IsDatasetRow, IsLawful, IsSnapshotRow, snapshot_is_before};
 ghost use Rattle.zst_dir.specs.Spelling.{dir_bytes};
-ghost use Rattle.zst_pool.specs.Making.{MakesOfEach};
+ghost use Rattle.zst_pool.specs.RowChanges.{MakesOfEach};
 ghost use Rattle.zst_pool.specs.Plans.{Plans};
 ghost use Rattle.zst_image.specs.Reads.{free_by};
 ghost use Rattle.zst_pool.specs.Cost.{cells_only};
 ghost use Rattle.zst_pool.specs.Damage.{NoDamage};
-ghost use Rattle.zst_pool.specs.Runs.{Runs};
-ghost use Rattle.zst_image.specs.Committing.{Ready};
+ghost use Rattle.zst_pool.specs.CommandRuns.{Runs};
+ghost use Rattle.zst_image.specs.Commits.{Ready};
 
 use crate::checks::{check_new_dataset, check_number, plan_snapshot};
 use crate::fault::{PoolFault, of_committed};
 use std::alloc::{AllocError, Global};
 use zst_block::Io;
 use zst_dir::{Dataset, Dir, Snapshot};
-use zst_image::{Kept, commit_dir};
+use zst_image::{PoolState, commit_dir};
 use zst_model::GuidSet;
 use zst_names::{DatasetName, SnapName};
 use zst_outside::Disk;
@@ -49,10 +49,10 @@ fn new_dataset(kind: u32, name: &DatasetName) -> Dataset
 pub fn commit_rows<D: Disk>(
     io: &mut Io<'_, D>,
     alloc: Global,
-    kept: &Kept,
+    kept: &PoolState,
     guids: u64,
     dir: Dir,
-) -> Result<Kept, PoolFault>
+) -> Result<PoolState, PoolFault>
     requires space { io.old.space ≡ free_by kept.now.body }
     requires ready { Ready (D.state io.old.disk.now) kept.now.body }
     requires number { kept.now.body.number < 2 ^ 63 }
@@ -71,10 +71,10 @@ pub fn commit_rows<D: Disk>(
 pub fn make_dataset<D: Disk>(
     io: &mut Io<'_, D>,
     alloc: Global,
-    kept: &Kept,
+    kept: &PoolState,
     kind: u32,
     name: &DatasetName,
-) -> Result<Kept, PoolFault>
+) -> Result<PoolState, PoolFault>
     requires kind { (kind ≡ 2) ⊎ (kind ≡ 3) }
     requires space { io.old.space ≡ free_by kept.now.body }
     requires ready { Ready (D.state io.old.disk.now) kept.now.body }
@@ -127,10 +127,10 @@ fn dir_with_snapshot(alloc: Global, dir: &Dir, snapshot: Snapshot) -> Result<Dir
 pub fn take_snapshot<D: Disk>(
     io: &mut Io<'_, D>,
     alloc: Global,
-    kept: &Kept,
+    kept: &PoolState,
     now: u64,
     name: &SnapName,
-) -> Result<Kept, PoolFault>
+) -> Result<PoolState, PoolFault>
     requires space { io.old.space ≡ free_by kept.now.body }
     requires ready { Ready (D.state io.old.disk.now) kept.now.body }
     ensures runs { Runs (with_snapshot now name.now) (cells_only 0) NoDamage kept.now (D.state io.old.disk.now) io.old.failed (D.state io.new.disk.now) io.new.space io.new.failed result }

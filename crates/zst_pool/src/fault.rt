@@ -4,7 +4,7 @@ ghost use Rattle.zst_pool.specs.Faults.{of_committed};
 use crate::head_fault::HeadFault;
 use std::alloc::AllocError;
 use zst_block::BlockFault;
-use zst_image::{CommitFault, Kept};
+use zst_image::{CommitFault, PoolState};
 use zst_leaves::LeavesFault;
 use zst_listing::ListFault;
 use zst_model::{ApplyFault, PlanFault, Refusal};
@@ -22,7 +22,7 @@ pub enum PoolFault {
         object: u64,
         block: u64,
     },
-    /// E24: no run of `need` sectors is free: the longest one has `largest`.
+    /// E24: no free extent has `need` sectors: the longest one has `largest`.
     Full {
         need: u64,
         largest: u64,
@@ -163,7 +163,7 @@ impl From<CommitFault> for PoolFault {
 }
 
 /// What a commit answers, as a pool's answer.
-pub(crate) fn of_committed(made: Result<Kept, CommitFault>) -> Result<Kept, PoolFault>
+pub(crate) fn of_committed(made: Result<PoolState, CommitFault>) -> Result<PoolState, PoolFault>
     ensures { result ≡ of_committed made }
 {
     match made {

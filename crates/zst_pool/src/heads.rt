@@ -6,20 +6,20 @@ ghost use Rattle.zst_names.specs.Names.{IsDataset};
 ghost use Rattle.zst_model.specs.declared.refusals.plan_fault.PlanFault.{PlanFault};
 ghost use Rattle.zst_model.specs.declared.refusals.refusal.Refusal.{Refusal};
 ghost use Rattle.zst_model.specs.states.State.{IsHead, IsBonus, IsSpill};
-ghost use Rattle.zst_model.specs.states.Dated.{DatedState};
+ghost use Rattle.zst_model.specs.states.DatedState.{DatedState};
 ghost use Rattle.zst_model.specs.pools.Pool.{Pool};
 ghost use Rattle.zst_model.specs.pools.Step.{on_head, punched, written};
 ghost use Rattle.zst_tree.specs.Sets.{SetFits};
 ghost use Rattle.zst_tree.specs.declared.tree.ObjSet.{ObjSet as ObjectSet};
 ghost use Rattle.zst_pool.specs.Checks.{FindsHead, freed, put_in};
 ghost use Rattle.zst_pool.specs.Heads.{ChangedHead, ChangesHead, JudgesHead, Stops, is_accepted, of_change, stop_of};
-ghost use Rattle.zst_dir.specs.Named.{AreNamed};
+ghost use Rattle.zst_dir.specs.RowNames.{AreNamed};
 ghost use Rattle.zst_image.specs.Reads.{free_by};
 ghost use Rattle.zst_pool.specs.Cost.{Cost, cells_only, object_cost, write_cost};
-ghost use Rattle.zst_pool.specs.Runs.{Runs, Ran};
+ghost use Rattle.zst_pool.specs.CommandRuns.{Runs, Ran};
 ghost use Rattle.zst_pool.specs.Plans.{IsLast, Plans, is_by_rows};
 ghost use Rattle.zst_pool.specs.Damage.{HasHead, OfHead, block_damage, range_damage, slots_damage};
-ghost use Rattle.zst_image.specs.Committing.{Ready};
+ghost use Rattle.zst_image.specs.Commits.{Ready};
 
 use crate::changes::{change_block, change_holes, change_numbers, change_object};
 use crate::checks::{check_number, open_dataset};
@@ -28,7 +28,7 @@ use crate::head_fault::HeadFault;
 use std::alloc::Global;
 use zst_block::{BlockFault, Io};
 use zst_dir::Dir;
-use zst_image::{Kept, commit_dir};
+use zst_image::{PoolState, commit_dir};
 use zst_model::{Bytes, ObjectHead, PlanFault};
 use zst_names::DatasetName;
 use zst_objset::ObjFault;
@@ -100,11 +100,11 @@ fn judge(number: u64, changed: Result<(), HeadFault>) -> Result<(), PoolFault>
 fn commit_head<D: Disk>(
     io: &mut Io<'_, D>,
     alloc: Global,
-    kept: &Kept,
+    kept: &PoolState,
     name: &DatasetName,
     set: ObjSet,
     changed: Result<(), HeadFault>,
-) -> Result<Kept, PoolFault>
+) -> Result<PoolState, PoolFault>
     requires fits { FitsDisk (D.state io.old.disk.now).size io.old.space }
     requires sectors { io.old.space.sectors ≡ kept.now.body.sectors }
     requires ready { Ready (D.state io.old.disk.now) kept.now.body }
@@ -128,13 +128,13 @@ fn commit_head<D: Disk>(
 pub fn put_object<D: Disk>(
     io: &mut Io<'_, D>,
     alloc: Global,
-    kept: &Kept,
+    kept: &PoolState,
     name: &DatasetName,
     object: u64,
     head: ObjectHead,
     bonus: Bytes,
     spill: Option<Bytes>,
-) -> Result<Kept, PoolFault>
+) -> Result<PoolState, PoolFault>
     requires object { 0 < object }
     requires head { IsHead head }
     requires bonus { IsBonus bonus }
@@ -155,12 +155,12 @@ pub fn put_object<D: Disk>(
 pub fn write_block<D: Disk>(
     io: &mut Io<'_, D>,
     alloc: Global,
-    kept: &Kept,
+    kept: &PoolState,
     name: &DatasetName,
     object: u64,
     index: u64,
     bytes: &[u8],
-) -> Result<Kept, PoolFault>
+) -> Result<PoolState, PoolFault>
     requires object { 0 < object }
     requires some { 0 < length bytes.now }
     requires small { length bytes.now ≤ 2 ^ 20 }
@@ -180,12 +180,12 @@ pub fn write_block<D: Disk>(
 pub fn punch<D: Disk>(
     io: &mut Io<'_, D>,
     alloc: Global,
-    kept: &Kept,
+    kept: &PoolState,
     name: &DatasetName,
     object: u64,
     first: u64,
     count: u64,
-) -> Result<Kept, PoolFault>
+) -> Result<PoolState, PoolFault>
     requires object { 0 < object }
     requires some { 0 < count }
     requires space { io.old.space ≡ free_by kept.now.body }
@@ -204,11 +204,11 @@ pub fn punch<D: Disk>(
 pub fn free_objects<D: Disk>(
     io: &mut Io<'_, D>,
     alloc: Global,
-    kept: &Kept,
+    kept: &PoolState,
     name: &DatasetName,
     first: u64,
     count: u64,
-) -> Result<Kept, PoolFault>
+) -> Result<PoolState, PoolFault>
     requires first { 0 < first }
     requires some { 0 < count }
     requires space { io.old.space ≡ free_by kept.now.body }

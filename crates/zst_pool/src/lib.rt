@@ -1,26 +1,26 @@
 //! The commands on the pool of an image: each is checked, carried out and committed.
 #![tactic(auto)]
 
-mod aborting;
-mod branching;
-mod calls;
+mod aborts;
+mod block_reads;
 mod changes;
 mod checks;
 mod commands;
 mod fault;
-mod finishing;
+mod finished_partials;
 mod head_fault;
 mod heads;
 mod laws;
 mod lineage;
-mod listing;
+mod lineage_commands;
 mod lists;
+mod lookups;
+mod partial_commits;
 mod partials;
 mod pool;
-mod reading;
-mod receiving;
-mod reopening;
-mod rolling;
+mod queries;
+mod reopened_pools;
+mod rollbacks;
 #[cfg(test)]
 mod tests;
 

@@ -5,19 +5,19 @@ ghost use Rattle.zst_model.specs.pools.Pool.{Pool};
 ghost use Rattle.zst_model.specs.pools.Pool as plain;
 ghost use Rattle.zst_model.specs.declared.refusals.refusal.Refusal.{Refusal};
 ghost use Rattle.zst_model.specs.pools.Step.{Stepped, unless_used};
-ghost use Rattle.zst_dir.specs.Going.{AreUnused, names_going, takes_snapshot};
+ghost use Rattle.zst_dir.specs.Removal.{AreUnused, names_going, takes_snapshot};
 ghost use Rattle.zst_dir.specs.Rows.{HasDataset, HasSnapshot, IsBookmarkRow, IsDatasetRow, IsSnapshotRow};
-ghost use Rattle.zst_dir.specs.Named.{AreNamed};
+ghost use Rattle.zst_dir.specs.RowNames.{AreNamed};
 ghost use Rattle.zst_pool.specs.Checks.{Judges};
 ghost use Rattle.zst_pool.specs.Lineage.{AreGoing, FindsGoing, FindsSnapshot, FindsSource, JudgesBookmark, JudgesClone, JudgesDestroyed, bookmark_row, clone_row, going_of, if_new_bookmark, if_of_dataset, is_on, is_there, may_go};
 ghost use Rattle.zst_pool.specs.Plans.{IsLast, is_by_rows};
 
 use crate::checks::{check_new_dataset, check_number, no_such};
 use zst_block::Ptr;
-use zst_dir::{Bookmark, Dataset, Dir, Going, Snapshot};
-use zst_image::Kept;
+use zst_dir::{Bookmark, Dataset, Dir, Removal, Snapshot};
+use zst_image::PoolState;
 use zst_model::limits::MOST_BOOKMARKS;
-use zst_model::{GuidSet, Holder, Missing, Name, PlanFault, Present, Quantity};
+use zst_model::{AbsentSubject, GuidSet, Holder, Name, PlanFault, PresentSubject, Quantity};
 use zst_names::{BookName, DatasetName, SnapName};
 
 // Whether there is a row of this name.
@@ -32,53 +32,53 @@ fn is_there(dir: &Dir, name: &Name) -> bool
 }
 
 // What goes where this name is destroyed.
-fn going_of(name: Name) -> Going
+fn going_of(name: Name) -> Removal
     ensures { result ≡ going_of name }
 {
     match name {
-        Name::Dataset(name) => Going::Dataset(name),
-        Name::Snapshot(name) => Going::Snapshot(name),
-        Name::Bookmark(name) => Going::Bookmark(name),
+        Name::Dataset(name) => Removal::Dataset(name),
+        Name::Snapshot(name) => Removal::Snapshot(name),
+        Name::Bookmark(name) => Removal::Bookmark(name),
     }
 }
 
 // What goes where this name is destroyed: E3 where there is none.
-fn find_going(dir: &Dir, name: Name) -> Result<Going, PlanFault>
+fn find_going(dir: &Dir, name: Name) -> Result<Removal, PlanFault>
     ensures rows { IfErr result (λ fault. is_by_rows fault ≡ true) }
     ensures found { (pool : Pool) → AreNamed dir.now pool → FindsGoing name dir.now pool result }
 {
     if !is_there(dir, &name) {
-        return Err(PlanFault::NoSuch(Missing::Named(name)));
+        return Err(PlanFault::NoSuch(AbsentSubject::Named(name)));
     }
     Ok(going_of(name))
 }
 
 // Whether a partial state of this target is one of a dataset that goes, or that loses what is newer.
-fn is_on(going: &Going, target: &DatasetName) -> bool
+fn is_on(going: &Removal, target: &DatasetName) -> bool
     ensures { result ≡ is_on going.now target.now }
 {
     match going {
-        Going::Dataset(name) => *target == *name,
-        Going::Newer { dataset, .. } => *target == *dataset,
-        Going::Snapshot(_) | Going::Bookmark(_) => false,
+        Removal::Dataset(name) => *target == *name,
+        Removal::Newer { dataset, .. } => *target == *dataset,
+        Removal::Snapshot(_) | Removal::Bookmark(_) => false,
     }
 }
 
 // Whether a snapshot of this name may go.
-fn may_go(going: &Going, name: &SnapName) -> bool
+fn may_go(going: &Removal, name: &SnapName) -> bool
     ensures { result ≡ may_go going.now name.now }
 {
     match going {
-        Going::Dataset(dataset) => name.dataset() == *dataset,
-        Going::Snapshot(snapshot) => *name == *snapshot,
-        Going::Bookmark(_) => false,
-        Going::Newer { dataset, .. } => name.dataset() == *dataset,
+        Removal::Dataset(dataset) => name.dataset() == *dataset,
+        Removal::Snapshot(snapshot) => *name == *snapshot,
+        Removal::Bookmark(_) => false,
+        Removal::Newer { dataset, .. } => name.dataset() == *dataset,
     }
 }
 
 // Whether the snapshot of this name goes. Its row is looked for only where it may.
-#[tactic(auto, using(crate::proofs::MayGo::going_may_go))]
-fn is_going(dir: &Dir, going: &Going, name: &SnapName) -> bool
+#[tactic(auto, using(crate::proofs::SnapshotRemovals::going_may_go))]
+fn is_going(dir: &Dir, going: &Removal, name: &SnapName) -> bool
     ensures { result ≡ list_any (λ snapshot. takes_snapshot going.now snapshot && bytes_eq snapshot.name name.now) dir.now.snapshots }
 {
     may_go(going, name)
@@ -87,7 +87,7 @@ fn is_going(dir: &Dir, going: &Going, name: &SnapName) -> bool
 }
 
 // Whether a name that may be none is that of a snapshot that goes.
-fn names_going(dir: &Dir, going: &Going, name: &Option<SnapName>) -> bool
+fn names_going(dir: &Dir, going: &Removal, name: &Option<SnapName>) -> bool
     ensures { result ≡ names_going going.now dir.now name.now }
 {
     match name {
@@ -97,7 +97,7 @@ fn names_going(dir: &Dir, going: &Going, name: &Option<SnapName>) -> bool
 }
 
 // The target of the first partial state that holds what goes.
-fn holding_partial(dir: &Dir, going: &Going) -> Option<DatasetName>
+fn holding_partial(dir: &Dir, going: &Removal) -> Option<DatasetName>
     ensures { result ≡ option_map (λ partial. partial.target) (find (λ partial. is_on going.now partial.target || names_going going.now dir.now partial.base) dir.now.partials) }
 {
     dir.partials()
@@ -107,7 +107,7 @@ fn holding_partial(dir: &Dir, going: &Going) -> Option<DatasetName>
 }
 
 // The first clone of what goes.
-fn holding_clone(dir: &Dir, going: &Going) -> Option<DatasetName>
+fn holding_clone(dir: &Dir, going: &Removal) -> Option<DatasetName>
     ensures { result ≡ option_map (λ dataset. dataset.name) (find (λ dataset. names_going going.now dir.now dataset.origin) dir.now.datasets) }
 {
     dir.datasets()
@@ -117,7 +117,7 @@ fn holding_clone(dir: &Dir, going: &Going) -> Option<DatasetName>
 }
 
 /// E5 where a partial state or a clone holds what goes.
-pub fn check_unused(dir: &Dir, going: &Going) -> Result<(), PlanFault>
+pub fn check_unused(dir: &Dir, going: &Removal) -> Result<(), PlanFault>
     ensures unused { OnOk result (AreUnused going.now dir.now) }
     ensures rows { IfErr result (λ fault. is_by_rows fault ≡ true) }
     ensures judged { (pool : Pool) (gone : List plain.Snapshot) (rest : Result Stepped Refusal) → AreNamed dir.now pool → AreGoing going.now dir.now gone
@@ -133,7 +133,7 @@ pub fn check_unused(dir: &Dir, going: &Going) -> Result<(), PlanFault>
 }
 
 /// What goes where this name is destroyed, or the first refusal of its definition.
-pub fn plan_destroy(kept: &Kept, name: Name) -> Result<Going, PlanFault>
+pub fn plan_destroy(kept: &PoolState, name: Name) -> Result<Removal, PlanFault>
     ensures unused { IfOk result (λ going. AreUnused going kept.now.dir) }
     ensures number { OnOk result (kept.now.body.number < 2 ^ 63) }
     ensures refused { IfErr result (λ fault. (is_by_rows fault ≡ true) ⊎ IsLast kept.now.body.number fault) }
@@ -146,9 +146,9 @@ pub fn plan_destroy(kept: &Kept, name: Name) -> Result<Going, PlanFault>
 }
 
 fn no_snapshot(name: &SnapName) -> PlanFault
-    ensures { result ≡ PlanFault.NoSuch (Missing.Named (Name.Snapshot name.now)) }
+    ensures { result ≡ PlanFault.NoSuch (AbsentSubject.Named (Name.Snapshot name.now)) }
 {
-    PlanFault::NoSuch(Missing::Named(Name::Snapshot(name.duplicate())))
+    PlanFault::NoSuch(AbsentSubject::Named(Name::Snapshot(name.duplicate())))
 }
 
 /// The snapshot of this name: E3 where there is none.
@@ -196,7 +196,11 @@ fn clone_row(name: &DatasetName, source: &Dataset, snapshot: &Snapshot) -> Datas
 }
 
 /// The row of a clone of a snapshot, or the first refusal of its definition.
-pub fn plan_clone(kept: &Kept, origin: &SnapName, name: &DatasetName) -> Result<Dataset, PlanFault>
+pub fn plan_clone(
+    kept: &PoolState,
+    origin: &SnapName,
+    name: &DatasetName,
+) -> Result<Dataset, PlanFault>
     ensures row { IfOk result IsDatasetRow }
     ensures named { IfOk result (λ row. row.name ≡ name.now) }
     ensures absent { OnOk result (HasDataset kept.now.dir name.now → ⊥) }
@@ -233,7 +237,7 @@ fn check_new_bookmark(dir: &Dir, name: &BookName) -> Result<(), PlanFault>
     ensures judged { (pool : Pool) (rest : Result Stepped Refusal) → AreNamed dir.now pool → Judges (if_new_bookmark name.now pool rest) rest result }
 {
     if dir.bookmark(name).is_some() {
-        return Err(PlanFault::Exists(Present::Named(Name::Bookmark(name.duplicate()))));
+        return Err(PlanFault::Exists(PresentSubject::Named(Name::Bookmark(name.duplicate()))));
     }
     if dir.bookmarks().len() >= MOST_BOOKMARKS {
         return Err(PlanFault::Limit {
@@ -264,7 +268,7 @@ fn bookmark_row(name: &BookName, snapshot: &Snapshot) -> Bookmark
 
 /// The row of a bookmark of a snapshot, or the first refusal of its definition.
 pub fn plan_bookmark(
-    kept: &Kept,
+    kept: &PoolState,
     snapshot: &SnapName,
     name: &BookName,
 ) -> Result<Bookmark, PlanFault>

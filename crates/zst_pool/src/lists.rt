@@ -4,7 +4,7 @@ ghost use Rattle.zst_outside.specs.Images.{OnlyReads};
 ghost use Rattle.zst_block.specs.Blocks.{FitsDisk, Has};
 ghost use Rattle.zst_model.specs.fields.Lists.{Runs};
 ghost use Rattle.zst_model.specs.pools.Pool.{Pool as Plain, bookmark_named};
-ghost use Rattle.zst_list.specs.Standing.{HasList};
+ghost use Rattle.zst_list.specs.StoredLists.{HasList};
 ghost use Rattle.zst_dir.specs.declared.rows.Bookmark.{Bookmark as Row};
 ghost use Rattle.zst_image.specs.Reads.{RunsBy};
 ghost use Rattle.zst_pool.specs.Faults.{HasDiskCause, is_disk_fault};
@@ -16,7 +16,7 @@ use std::alloc::Global;
 use zst_block::Io;
 use zst_dir::{Bookmark, Dir};
 use zst_list::read_list;
-use zst_model::{List, Missing, Name, PlanFault};
+use zst_model::{AbsentSubject, List, Name, PlanFault};
 use zst_names::BookName;
 use zst_outside::Disk;
 
@@ -68,9 +68,9 @@ fn row_of(dir: &Dir, book: &BookName) -> Option<Bookmark>
 }
 
 fn no_such(book: &BookName) -> PlanFault
-    ensures { result ≡ PlanFault.NoSuch (Missing.Named (Name.Bookmark book.now)) }
+    ensures { result ≡ PlanFault.NoSuch (AbsentSubject.Named (Name.Bookmark book.now)) }
 {
-    PlanFault::NoSuch(Missing::Named(Name::Bookmark(book.duplicate())))
+    PlanFault::NoSuch(AbsentSubject::Named(Name::Bookmark(book.duplicate())))
 }
 
 // The list of the bookmark that has this row.

@@ -8,7 +8,7 @@ ghost use Rattle.zst_dir.specs.Rows.{HasSnapshot, IsLawful, IsPartialRow, IsSnap
 ghost use Rattle.zst_dir.specs.Spelling.{dir_bytes};
 ghost use Rattle.zst_dir.specs.declared.rows.Snapshot.{Snapshot as Row};
 ghost use Rattle.zst_pool.specs.PartialRows.{JudgesLimits, latest_row, rolled_rows, rows_with_partial};
-ghost use Rattle.zst_dir.specs.Named.{AreNamed};
+ghost use Rattle.zst_dir.specs.RowNames.{AreNamed};
 
 use crate::checks::count_datasets;
 use std::alloc::{AllocError, Global};

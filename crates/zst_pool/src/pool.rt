@@ -1,29 +1,29 @@
 ghost use Rattle.std.specs.Prelude.{◌≡◌, ◌≤◌, ◌∷◌, ◌||◌, [], ℕ, Bool, false, true, IfErr, IfOk, OnErr, Err};
 ghost use Rattle.zst_outside.specs.Images.{Leaves, OnlyReads};
 ghost use Rattle.zst_block.specs.Blocks.{SparesTaken};
-ghost use Rattle.zst_model.specs.pools.Lines.{ok_line};
+ghost use Rattle.zst_model.specs.pools.AnswerLines.{ok_line};
 ghost use Rattle.zst_model.specs.pools.Pool.{Pool as Plain};
-ghost use Rattle.zst_model.specs.pools.Sound.{Sound};
+ghost use Rattle.zst_model.specs.pools.Soundness.{Sound};
 ghost use Rattle.zst_model.specs.pools.Step.{Stepped, commits, stepped, IsCommand};
 ghost use Rattle.zst_pool.specs.Faults.{HasDiskCause, is_disk_fault, is_full};
 ghost use Rattle.zst_pool.specs.Plans.{Plans, indices_end, numbers_end};
 ghost use Rattle.zst_image.specs.Reads.{free_by};
 ghost use Rattle.zst_pool.specs.Calls.{CanCommit, IsAtRest, keeping};
-ghost use Rattle.zst_pool.specs.Stepping.{BeforeOrAfter, StepAnswer};
+ghost use Rattle.zst_pool.specs.StepAnswers.{BeforeOrAfter, StepAnswer};
 ghost use Rattle.zst_pool.specs.Cost.{Spends, cost_of};
 ghost use Rattle.zst_pool.specs.Damage.{IsOf, TellsDamage};
-ghost use Rattle.zst_pool.specs.Runs.{Runs};
-ghost use Rattle.zst_image.specs.Committing.{Ready};
+ghost use Rattle.zst_pool.specs.CommandRuns.{Runs};
+ghost use Rattle.zst_image.specs.Commits.{Ready};
 
-use crate::aborting::abort;
-use crate::branching::{destroy, make_bookmark, make_clone, roll_back};
+use crate::aborts::abort;
 use crate::commands::{make_dataset, take_snapshot};
 use crate::fault::PoolFault;
 use crate::heads::{free_objects, punch, put_object, write_block};
-use crate::listing::tell;
+use crate::lineage_commands::{destroy, make_bookmark, make_clone, roll_back};
+use crate::queries::tell;
 use std::alloc::{AllocError, Global};
 use zst_block::{Io, Node};
-use zst_image::Kept;
+use zst_image::PoolState;
 use zst_laws::steps_keep_sound;
 use zst_model::{Bytes, Command, Reply};
 use zst_outside::Disk;
@@ -35,12 +35,12 @@ pub struct Pool<'d, D: Disk> {
     /// The disk, and the sectors that are free.
     pub io: Io<'d, D>,
     /// The latest body, and the directory.
-    pub kept: Kept,
+    pub kept: PoolState,
 }
 
 impl<'d, D: Disk> Pool<'d, D> {
     /// The pool of which this was kept when it was made or opened on this disk.
-    pub fn new(alloc: Global, disk: &'d mut D, kept: Kept) -> Pool<'d, D>
+    pub fn new(alloc: Global, disk: &'d mut D, kept: PoolState) -> Pool<'d, D>
         ensures same { result.io.disk.ghost_name ≡ disk.entry.ghost_name }
         ensures disk { result.io.disk.now ≡ disk.old }
         ensures kept { result.kept ≡ kept }
@@ -138,7 +138,7 @@ impl<'d, D: Disk> Pool<'d, D> {
     pub(crate) fn settle_command(
         &mut self,
         alloc: Global,
-        ran: Result<Kept, PoolFault>,
+        ran: Result<PoolState, PoolFault>,
     ) -> Result<u64, PoolFault>
         ensures kept { keeping self.new.kept result ≡ ran }
         ensures number { IfOk result (λ number. number ≡ self.new.kept.body.number) }
@@ -157,7 +157,7 @@ impl<'d, D: Disk> Pool<'d, D> {
 }
 
 /// Whether a command found the disk full.
-fn is_full(ran: &Result<Kept, PoolFault>) -> bool
+fn is_full(ran: &Result<PoolState, PoolFault>) -> bool
     ensures { result ≡ is_full ran.now }
 {
     matches!(ran, Err(PoolFault::Full { .. }))
@@ -178,10 +178,10 @@ fn committed(alloc: Global, number: u64) -> Result<Reply, AllocError>
 fn run<D: Disk>(
     io: &mut Io<'_, D>,
     alloc: Global,
-    kept: &Kept,
+    kept: &PoolState,
     now: u64,
     command: Command,
-) -> Result<Kept, PoolFault>
+) -> Result<PoolState, PoolFault>
     requires command { IsCommand command }
     requires commits { commits command ≡ true }
     requires space { io.old.space ≡ free_by kept.now.body }

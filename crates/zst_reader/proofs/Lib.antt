@@ -1,5 +1,5 @@
 mod Windows
-mod Judged
+mod VerdictLemmas
 mod Places
-mod Turns
-mod Stands
+mod ReadingSteps
+mod StandsForLemmas

@@ -3,7 +3,7 @@ use Rattle.std.proofs.Common.{◌≡◌, ℕ, ◌+◌, ◌/◌, ◌%◌, ◌^◌
 use Rattle.std.proofs.lemmas.List.{take-append-drop, take-append-le, nil_from_length, length-take-le}
 use Rattle.zst_bytes.specs.Bytes.{bytes_at, number_at}
 use Rattle.zst_fletcher.specs.WeightSum.{weight_sum}
-use Rattle.zst_record.specs.Decode.{features_in}
+use Rattle.zst_record.specs.Decoding.{features_in}
 use Rattle.zst_stream.proofs.Growth.{number-grown}
 use Rattle.zst_reader.specs.Place.{IsPlaceAfter, IsAhead, IsWithin}
 use Rattle.zst_reader.specs.declared.place.Place.{Place}

@@ -3,5 +3,5 @@ pub mod Place
 pub mod Mark
 pub mod Verdict
 pub mod StandsFor
-pub mod Stepping
-pub mod Filling
+pub mod Steps
+pub mod InputReads

@@ -2,12 +2,12 @@
 use Rattle.std.specs.Prelude.{ℕ, ◌≡◌, ◌≤◌, ◌%◌, List, ◌++◌, length, take}
 use Rattle.zst_bytes.specs.Bytes.{number_at}
 use Rattle.zst_fletcher.specs.WeightSum.{weight_sum, IsWhole}
-use Rattle.zst_record.specs.Decode.{features_in}
-use Rattle.zst_reader.specs.declared.place.Ahead.{Ahead}
+use Rattle.zst_record.specs.Decoding.{features_in}
+use Rattle.zst_reader.specs.declared.place.LeadingSum.{LeadingSum}
 use Rattle.zst_reader.specs.declared.place.Place.{Place}
 
 -- the sum has gone so far into the rest, behind these bytes
-pub record IsAhead (before rest : List ℕ) (ahead : Ahead) : Type 0 where
+pub record IsAhead (before rest : List ℕ) (ahead : LeadingSum) : Type 0 where
   pub there : ahead.count ≤ length rest
   pub sum : ahead.sum ≡ weight_sum (before ++ take ahead.count rest)
 

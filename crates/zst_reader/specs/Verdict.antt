@@ -1,6 +1,6 @@
 -- What the code's verdict says.
 use Rattle.std.specs.Prelude.{ℕ, ◌+◌, ◌*◌, ◌<◌, ◌≤◌, ◌≡◌, Bool, true, false, Option, Some, None, List, ◌++◌, length, take, drop, Result, Ok, Err}
-use Rattle.zst_record.specs.Decode.{Decoded, decoded}
+use Rattle.zst_record.specs.Decoding.{Decoded, decoded}
 use Rattle.zst_record.specs.Formats.{record_len, longest_payload}
 use Rattle.zst_record.specs.Heads.{payload_len, size_of}
 use Rattle.zst_record.specs.declared.head.Head.{Head}
@@ -11,8 +11,8 @@ use Rattle.zst_reader.specs.Mark.{mark_after}
 use Rattle.zst_reader.specs.declared.mark.Mark.{Mark}
 use Rattle.zst_reader.specs.declared.mark.Mark.TheVariants.{Open, Ended}
 use Rattle.zst_reader.specs.declared.place.Place.{Place}
-use Rattle.zst_reader.specs.declared.judging.Verdict.{Verdict}
-use Rattle.zst_reader.specs.declared.judging.Verdict.TheVariants as verdicts
+use Rattle.zst_reader.specs.declared.verdict.Verdict.{Verdict}
+use Rattle.zst_reader.specs.declared.verdict.Verdict.TheVariants as verdicts
 
 -- the head is that of the record at the front of these bytes, which passes the checks of its 312 bytes
 pub record IsHeadOf (place : Place) (held : List ℕ) (head : Head) : Type 0 where

@@ -1,10 +1,10 @@
 //! Reads a stream in whatever pieces it comes, and hands out its covered records.
 #![tactic(auto)]
 
-mod judging;
 mod mark;
 mod place;
 mod reader;
+mod verdict;
 mod window;
 
 pub use reader::{Reader, Step};

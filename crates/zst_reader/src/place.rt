@@ -6,7 +6,7 @@ use zst_fletcher::Sum;
 
 /// A sum that has gone some bytes into a record.
 #[derive(Clone, Copy)]
-pub(crate) struct Ahead {
+pub(crate) struct LeadingSum {
     pub(crate) sum: Sum,
     pub(crate) count: usize,
     ghost short: { count ≤ summed_len },
@@ -19,7 +19,7 @@ pub(crate) struct Place {
     pub(crate) at: u64,
     pub(crate) sum: Sum,
     /// The record's first bytes were summed when the record before it was covered, and are summed but once.
-    pub(crate) ahead: Ahead,
+    pub(crate) ahead: LeadingSum,
     pub(crate) features: u32,
     pub(crate) to: u64,
     ghost begun: { 0 < at → record_len ≤ at },
@@ -38,7 +38,7 @@ impl Place {
         Place {
             at: 0,
             sum: Sum::zero(),
-            ahead: Ahead {
+            ahead: LeadingSum {
                 sum: Sum::zero(),
                 count: 0,
             },
@@ -59,7 +59,7 @@ impl Place {
     }
 
     /// The place behind the record of this size at the front of the held bytes, where the sum is that of the text with it.
-    pub(crate) fn after(&self, held: &[u8], size: usize, sum: Sum, ahead: Ahead) -> Place
+    pub(crate) fn after(&self, held: &[u8], size: usize, sum: Sum, ahead: LeadingSum) -> Place
         requires header { record_len ≤ size }
         requires within { IsWithin (length held.now) size }
         requires bounded { self.now.at + length held.now ≤ 2 ^ 62 }

@@ -3,9 +3,9 @@ ghost use Rattle.zst_reader.specs.Window.{items};
 ghost use Rattle.zst_record.specs.Formats.{record_len};
 ghost use Rattle.zst_reader.specs.Verdict.{IsHeadOf};
 
-use crate::judging::{Verdict, judge, read_head};
 use crate::mark::Mark;
 use crate::place::Place;
+use crate::verdict::{Verdict, judge, read_head};
 use crate::window::Window;
 use crate::{CAPACITY, STREAM_LIMIT};
 use std::alloc::{AllocError, Global};
@@ -29,7 +29,7 @@ pub enum Step<'a> {
 
 /// What `find` found. The record's head is the reader's, and its payload stands behind its 312 bytes, at the window's front.
 #[derive(Clone, Copy)]
-pub(crate) enum Found {
+pub(crate) enum ReadResult {
     Record { at: u64, index: u64 },
     NeedMore,
     End,
@@ -64,9 +64,9 @@ impl Reader {
     ghost use Rattle.zst_reader.specs.Mark.{finish_of};
     ghost use Rattle.zst_reader.specs.Place.{IsPlaceAfter, IsWithin};
     ghost use Rattle.zst_reader.specs.StandsFor.{StandsFor, held, pushed_of, handed_of, room_of, mark_of, place_of};
-    ghost use Rattle.zst_reader.specs.Filling.{Fills, stream_limit};
+    ghost use Rattle.zst_reader.specs.InputReads.{Fills, stream_limit};
     ghost use Rattle.zst_reader.specs.Verdict.{ruled, LeadsOn, FitsIn};
-    ghost use Rattle.zst_reader.specs.Stepping.{StepsOn, Counts, Finds, FindsIn, covered_in, IsSameBut};
+    ghost use Rattle.zst_reader.specs.Steps.{StepsOn, Counts, Finds, FindsIn, covered_in, IsSameBut};
 
     /// A reader of the empty text.
     pub fn open(alloc: Global) -> Result<Reader, AllocError>
@@ -219,30 +219,30 @@ impl Reader {
     }
 
     // Finds the next covered record, and takes it as handed out.
-    fn find(&mut self) -> Result<Found, StreamFault>
+    fn find(&mut self) -> Result<ReadResult, StreamFault>
         ensures moves { Finds self.old self.new result }
         ensures finds { (text : List ℕ) (handed : List Covered) → StandsFor self.old text handed → FindsIn self.new text handed result }
     {
         match self.mark {
             Mark::Failed(fault) => return Err(fault),
-            Mark::Ended => return Ok(Found::End),
+            Mark::Ended => return Ok(ReadResult::End),
             Mark::Open => {}
         }
         self.settle();
         let (at, index) = (self.place.at, self.handed);
         match self.judge() {
-            Verdict::Wait => Ok(Found::NeedMore),
+            Verdict::Wait => Ok(ReadResult::NeedMore),
             Verdict::Refuse(fault) => {
                 self.mark = Mark::Failed(fault);
                 Err(fault)
             }
             Verdict::Last(place) => {
                 self.advance(place, Mark::Ended);
-                Ok(Found::Record { at, index })
+                Ok(ReadResult::Record { at, index })
             }
             Verdict::More(place) => {
                 self.advance(place, Mark::Open);
-                Ok(Found::Record { at, index })
+                Ok(ReadResult::Record { at, index })
             }
         }
     }
@@ -266,9 +266,9 @@ impl Reader {
         ensures* steps { sem 𝓛 (StepsOn self.entry result) }
     {
         match self.find() {
-            Ok(Found::Record { at, index }) => Ok(Step::Record(self.lent(at, index))),
-            Ok(Found::NeedMore) => Ok(Step::NeedMore),
-            Ok(Found::End) => Ok(Step::End),
+            Ok(ReadResult::Record { at, index }) => Ok(Step::Record(self.lent(at, index))),
+            Ok(ReadResult::NeedMore) => Ok(Step::NeedMore),
+            Ok(ReadResult::End) => Ok(Step::End),
             Err(fault) => Err(fault),
         }
     }

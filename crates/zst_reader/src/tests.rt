@@ -1,8 +1,8 @@
-mod filling;
+mod input_reads;
 mod inputs;
 mod payloads;
 mod readers;
-mod resumed;
+mod resumed_streams;
 mod streams;
 
 use crate::tests::readers::{

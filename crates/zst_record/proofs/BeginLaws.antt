@@ -9,8 +9,8 @@ use Rattle.zst_bytes.proofs.FieldsLaws.{number-back, text-back}
 use Rattle.zst_model.specs.declared.sends.header.Header.{Header}
 use Rattle.zst_record.specs.declared.head.Head.TheVariants as heads
 use Rattle.zst_record.specs.Table.{fields_of, head_bytes, padded}
-use Rattle.zst_record.specs.Decode.{Decoded, decoded, begin_of, begin_with, snapshot_with, named, name_in, header_with, is_payload_len, needs_payload}
-use Rattle.zst_record.specs.Fits.{BeginFits}
+use Rattle.zst_record.specs.Decoding.{Decoded, decoded, begin_of, begin_with, snapshot_with, named, name_in, header_with, is_payload_len, needs_payload}
+use Rattle.zst_record.specs.RecordValues.{BeginFits}
 use Rattle.zst_record.proofs.TableLaws.{length-padded}
 
 -- the first zero byte after a name

@@ -1,11 +1,11 @@
-pub mod Padded
+pub mod PaddedTexts
 pub mod TableLaws
 pub mod SizeLaws
 pub mod BeginLaws
-pub mod DecodeLaws
-mod Gives
-pub mod FitsLaws
-pub mod StatedLaws
+pub mod DecodingLaws
+mod CheckedHeads
+pub mod RecordValueLaws
+pub mod StatedHeaders
 pub mod PayloadNumbers
 pub mod PayloadFields
 pub mod PayloadWrites

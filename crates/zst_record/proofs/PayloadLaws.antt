@@ -11,12 +11,12 @@ use Rattle.zst_model.specs.declared.sends.header.Header.{Header}
 use Rattle.zst_model.specs.declared.sends.header.Point.{Point}
 use Rattle.zst_model.specs.sends.Features.{redacts, resuming}
 use Rattle.zst_model.specs.states.State.{number_bound}
-use Rattle.zst_record.specs.Decode.{is_payload_len, needs_payload}
+use Rattle.zst_record.specs.Decoding.{is_payload_len, needs_payload}
 use Rattle.zst_record.specs.Laws.{AreBytes, HasPayload, PayloadFits}
 use Rattle.zst_record.specs.Payload.{StatesPayload, StatesResume, bare, begin_payload, behind_magic, content_of, content_with, foreign, goes_with_redacted, goes_with_resuming, goes_with_source, has_magic, has_payload, numbers_in, opened, payload_bytes, payload_fields, payload_magic, said_beside, stated_point, wrong}
 use Rattle.zst_record.proofs.PayloadFields.{IsRight, content_found, content_right, require-ok, require-true}
 use Rattle.zst_record.proofs.PayloadNumbers.{length-words, numbers-read, numbers-small, words-back}
-use Rattle.zst_record.proofs.StatedLaws.{no_guids, not-redacted, not-resumed}
+use Rattle.zst_record.proofs.StatedHeaders.{no_guids, not-redacted, not-resumed}
 
 abbrev Small : ℕ → Type 0
 Small n = n < 2 ^ 64

@@ -8,9 +8,9 @@ use Rattle.zst_record.specs.declared.head.Head.{Head}
 use Rattle.zst_record.specs.declared.head.Head.TheVariants as heads
 use Rattle.zst_model.specs.sends.Features.{redacts}
 use Rattle.zst_record.specs.Formats.{stream_magic, reversed_magic, large_blocks}
-use Rattle.zst_record.specs.Decode.{Decoded, is_object, is_range, is_payload_len, needs_payload, others_of, decoded, begin_of, begin_with, snapshot_with, header_with, name_in, typed, object_with, write_with, free_with, spill_with, redact_with}
+use Rattle.zst_record.specs.Decoding.{Decoded, is_object, is_range, is_payload_len, needs_payload, others_of, decoded, begin_of, begin_with, snapshot_with, header_with, name_in, typed, object_with, write_with, free_with, spill_with, redact_with}
 use Rattle.zst_record.specs.Laws.{IsBounded}
-use Rattle.zst_record.proofs.Gives.{Gives, gives-err, gives-ok, gives-check, gives-if, gives-named}
+use Rattle.zst_record.proofs.CheckedHeads.{Gives, gives-err, gives-ok, gives-check, gives-if, gives-named}
 
 pub block-bounded : (size : ℕ) → is_block_size size ≡ true → (size % 4 ≡ 0) × (size ≤ 131072)
 unfolding is_block_size largest_block

@@ -10,8 +10,8 @@ use Rattle.zst_model.specs.declared.sends.header.Header.{Header}
 use Rattle.zst_record.specs.declared.head.Head.{Head}
 use Rattle.zst_record.specs.declared.head.Head.TheVariants as heads
 use Rattle.zst_record.specs.Table.{sum_fields, fields_of, head_bytes, sealed_bytes, padded}
-use Rattle.zst_record.specs.Decode.{sums_at, features_in}
-use Rattle.zst_record.specs.Fits.{Fits, SumsFit, BeginFits}
+use Rattle.zst_record.specs.Decoding.{sums_at, features_in}
+use Rattle.zst_record.specs.RecordValues.{Fits, SumsFit, BeginFits}
 
 -- a padded name fills its field
 pub length-padded : (width : ℕ) (bytes : List ℕ) → length bytes ≤ width → length (padded width bytes) ≡ width

@@ -7,8 +7,8 @@ use Rattle.zst_record.specs.declared.head.Head.TheVariants as heads
 use Rattle.zst_record.specs.Formats.{longest_payload}
 use Rattle.zst_record.specs.Heads.{payload_len}
 use Rattle.zst_record.specs.Table.{head_bytes, sealed_bytes}
-use Rattle.zst_record.specs.Decode.{decoded, features_in, is_payload_len}
-use Rattle.zst_record.specs.Fits.{Fits, IsLater, BeginFits}
+use Rattle.zst_record.specs.Decoding.{decoded, features_in, is_payload_len}
+use Rattle.zst_record.specs.RecordValues.{Fits, IsLater, BeginFits}
 use Rattle.zst_record.specs.Payload.{StatesPayload, bare, begin_payload, has_payload, opened, payload_bytes}
 
 -- the record of a BEGIN says that BEGIN

@@ -1,7 +1,7 @@
 pub mod Formats
 pub mod Heads
 pub mod Table
-pub mod Decode
-pub mod Fits
+pub mod Decoding
+pub mod RecordValues
 pub mod Payload
 pub mod Laws

@@ -12,7 +12,7 @@ use Rattle.zst_model.specs.fields.Guids.{is_rising, IsGuidSet}
 use Rattle.zst_model.specs.sends.Features.{redacts, resuming}
 use Rattle.zst_model.specs.states.State.{number_bound}
 use Rattle.zst_record.specs.Formats.{record_len}
-use Rattle.zst_record.specs.Decode.{needs_payload}
+use Rattle.zst_record.specs.Decoding.{needs_payload}
 
 -- ---- what is written
 

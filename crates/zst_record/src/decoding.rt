@@ -2,7 +2,7 @@ ghost use Rattle.std.specs.Prelude.{◌≡◌, ◌+◌, ◌/◌, ◌%◌, ◌≤
 ghost use Rattle.std.specs.Int.{w32, trailing_zeros};
 ghost use Rattle.zst_bytes.specs.Bytes.{number_at, bytes_at};
 ghost use Rattle.zst_model.specs.declared.refusals.stream_fault.StreamFault.TheVariants.{Grammar, Unsupported};
-ghost use Rattle.zst_record.specs.Decode.{decoded, typed, begin_of, snapshot_of, header_with, object_of, write_of, free_of, spill_of, redact_of, is_object, is_range, is_payload_len, needs_payload, name_in, sums_at, lack_of_feature};
+ghost use Rattle.zst_record.specs.Decoding.{decoded, typed, begin_of, snapshot_of, header_with, object_of, write_of, free_of, spill_of, redact_of, is_object, is_range, is_payload_len, needs_payload, name_in, sums_at, lack_of_feature};
 
 use crate::features::{
     COMPRESSED_BIT, DEDUP_BIT, DEDUP_PROPS_BIT, EMBED_DATA_BIT, LARGE_BLOCKS, LZ4_BIT,
@@ -28,14 +28,14 @@ pub fn get_sums(bytes: &[u8], at: usize) -> [u64; 4]
     ]
 }
 
-#[tactic(auto, unfolding(crate::specs::Decode::is_object, zst_model::specs::states::State::number_bound))]
+#[tactic(auto, unfolding(crate::specs::Decoding::is_object, zst_model::specs::states::State::number_bound))]
 fn names_object(object: u64) -> bool
     ensures { result ≡ is_object object }
 {
     0 < object && object < NUMBER_BOUND
 }
 
-#[tactic(auto, unfolding(crate::specs::Decode::is_range))]
+#[tactic(auto, unfolding(crate::specs::Decoding::is_range))]
 fn fits_range(offset: u64, length: u64) -> bool
     ensures { result ≡ is_range offset length }
 {
@@ -54,7 +54,7 @@ fn unsupported(at: u64, lack: Lack) -> Result<Head, StreamFault>
     Err(StreamFault::Unsupported { at, lack })
 }
 
-#[tactic(auto, unfolding(crate::specs::Decode::object_with))]
+#[tactic(auto, unfolding(crate::specs::Decoding::object_with))]
 fn decode_object(bytes: &[u8; RECORD_LEN], at: u64) -> Result<Head, StreamFault>
     requires { at ≤ 2 ^ 62 }
     ensures { result ≡ object_of at bytes.now }
@@ -92,7 +92,7 @@ fn decode_object(bytes: &[u8; RECORD_LEN], at: u64) -> Result<Head, StreamFault>
     })
 }
 
-#[tactic(auto, unfolding(crate::specs::Decode::write_with))]
+#[tactic(auto, unfolding(crate::specs::Decoding::write_with))]
 fn decode_write(bytes: &[u8; RECORD_LEN], at: u64) -> Result<Head, StreamFault>
     requires { at ≤ 2 ^ 62 }
     ensures { result ≡ write_of at bytes.now }
@@ -117,7 +117,7 @@ fn decode_write(bytes: &[u8; RECORD_LEN], at: u64) -> Result<Head, StreamFault>
     })
 }
 
-#[tactic(auto, unfolding(crate::specs::Decode::free_with))]
+#[tactic(auto, unfolding(crate::specs::Decoding::free_with))]
 fn decode_free(bytes: &[u8; RECORD_LEN], at: u64) -> Result<Head, StreamFault>
     requires { at ≤ 2 ^ 62 }
     ensures { result ≡ free_of at bytes.now }
@@ -139,7 +139,7 @@ fn decode_free(bytes: &[u8; RECORD_LEN], at: u64) -> Result<Head, StreamFault>
     })
 }
 
-#[tactic(auto, unfolding(crate::specs::Decode::spill_with))]
+#[tactic(auto, unfolding(crate::specs::Decoding::spill_with))]
 fn decode_spill(bytes: &[u8; RECORD_LEN], at: u64) -> Result<Head, StreamFault>
     requires { at ≤ 2 ^ 62 }
     ensures { result ≡ spill_of at bytes.now }
@@ -162,7 +162,7 @@ fn decode_spill(bytes: &[u8; RECORD_LEN], at: u64) -> Result<Head, StreamFault>
     })
 }
 
-#[tactic(auto, unfolding(crate::specs::Decode::redact_with, zst_model::specs::sends::Features::redacts))]
+#[tactic(auto, unfolding(crate::specs::Decoding::redact_with, zst_model::specs::sends::Features::redacts))]
 fn decode_redact(bytes: &[u8; RECORD_LEN], at: u64, features: u32) -> Result<Head, StreamFault>
     requires { at ≤ 2 ^ 62 }
     ensures { result ≡ redact_of at features bytes.now }
@@ -187,7 +187,7 @@ fn decode_redact(bytes: &[u8; RECORD_LEN], at: u64, features: u32) -> Result<Hea
     })
 }
 
-#[tactic(auto, unfolding(crate::specs::Decode::typed))]
+#[tactic(auto, unfolding(crate::specs::Decoding::typed))]
 fn decode_typed(
     record_type: u32,
     bytes: &[u8; RECORD_LEN],
@@ -240,7 +240,7 @@ fn first_zero(field: &[u8]) -> Option<usize>
     field.iter().position(|b| *b == 0)
 }
 
-#[tactic(auto, unfolding(crate::specs::Decode::name_in, zst_bytes::specs::Bytes::bytes_at))]
+#[tactic(auto, unfolding(crate::specs::Decoding::name_in, zst_bytes::specs::Bytes::bytes_at))]
 fn get_name(bytes: &[u8; RECORD_LEN]) -> Option<NameText>
     ensures { result ≡ name_in (bytes_at bytes.now 56 256) }
 {
@@ -249,21 +249,21 @@ fn get_name(bytes: &[u8; RECORD_LEN]) -> Option<NameText>
     Some(NameText::new(&field[..len]))
 }
 
-#[tactic(auto, unfolding(crate::specs::Decode::is_payload_len))]
+#[tactic(auto, unfolding(crate::specs::Decoding::is_payload_len))]
 fn sizes_payload(len: u32) -> bool
     ensures { result ≡ is_payload_len len }
 {
     len == 0 || (40 <= len && len <= 296 && len % 8 == 0)
 }
 
-#[tactic(auto, unfolding(crate::specs::Decode::needs_payload, zst_model::specs::sends::Features::resuming, zst_model::specs::sends::Features::redacts))]
+#[tactic(auto, unfolding(crate::specs::Decoding::needs_payload, zst_model::specs::sends::Features::resuming, zst_model::specs::sends::Features::redacts))]
 pub(crate) fn wants_payload(features: u32) -> bool
     ensures { result ≡ needs_payload features }
 {
     features & (RESUMING | REDACTED) != 0
 }
 
-#[tactic(auto, unfolding(crate::specs::Decode::header_with))]
+#[tactic(auto, unfolding(crate::specs::Decoding::header_with))]
 fn get_header(bytes: &[u8; RECORD_LEN], features: u32, name: NameText) -> Header
     ensures { result ≡
         header_with features (number_at bytes.now 32 4) (number_at bytes.now 36 4)
@@ -283,7 +283,7 @@ fn get_header(bytes: &[u8; RECORD_LEN], features: u32, name: NameText) -> Header
     }
 }
 
-#[tactic(auto, unfolding(crate::specs::Decode::snapshot_with, crate::specs::Decode::named))]
+#[tactic(auto, unfolding(crate::specs::Decoding::snapshot_with, crate::specs::Decoding::named))]
 fn decode_snapshot(bytes: &[u8; RECORD_LEN], features: u32) -> Result<Head, StreamFault>
     ensures { result ≡ snapshot_of features bytes.now }
 {
@@ -311,7 +311,7 @@ fn decode_snapshot(bytes: &[u8; RECORD_LEN], features: u32) -> Result<Head, Stre
     })
 }
 
-#[tactic(auto, unfolding(crate::specs::Decode::begin_of, crate::specs::Decode::begin_with, zst_model::specs::sends::Features::sa_spill, zst_model::specs::sends::Features::resuming, zst_model::specs::sends::Features::redacts))]
+#[tactic(auto, unfolding(crate::specs::Decoding::begin_of, crate::specs::Decoding::begin_with, zst_model::specs::sends::Features::sa_spill, zst_model::specs::sends::Features::resuming, zst_model::specs::sends::Features::redacts))]
 fn decode_begin(bytes: &[u8; RECORD_LEN]) -> Result<Head, StreamFault>
     ensures { result ≡ begin_of bytes.now }
 {
@@ -347,7 +347,7 @@ fn decode_begin(bytes: &[u8; RECORD_LEN]) -> Result<Head, StreamFault>
 ///
 /// The checks are those that need neither a checksum nor BEGIN's guid, in the order in which
 /// `dmu_recv.c` meets the fields; the first that fails is the answer. A place of 0 is BEGIN's.
-#[tactic(auto, unfolding(crate::specs::Decode::decoded))]
+#[tactic(auto, unfolding(crate::specs::Decoding::decoded))]
 pub fn decode(bytes: &[u8; RECORD_LEN], at: u64, features: u32) -> Result<Head, StreamFault>
     requires { at ≤ 2 ^ 62 }
     ensures { result ≡ decoded at features bytes.now }

@@ -2,7 +2,7 @@
 use Rattle.std.proofs.Common.{◌≡◌, ℕ, suc, Bool, true, false, cond, List, [], ◌∷◌, Option, Some, None, Result, Ok, Err, if◌then◌else◌, bytes_eq, refl, sym, ap, subst, arith, ◌∙◌}
 use Rattle.std.specs.List.{All, find}
 use Rattle.zst_block.specs.Blocks.{Has}
-use Rattle.zst_dir.specs.Named.{AreNamed, Match, NamesPartial}
+use Rattle.zst_dir.specs.RowNames.{AreNamed, Match, NamesPartial}
 use Rattle.zst_dir.specs.Rows.{IsLawful, IsPartialRow, Rows, is_for}
 use Rattle.zst_dir.specs.declared.rows.Partial.{Partial as Row}
 use Rattle.zst_model.specs.declared.refusals.plan_fault.PlanFault.{PlanFault}
@@ -12,7 +12,7 @@ use Rattle.zst_model.specs.declared.sends.header.Point.{Point}
 use Rattle.zst_model.specs.pools.Pool.{Partial, Pool}
 use Rattle.zst_space.specs.FreeSectors.{FreeSectors}
 use Rattle.zst_image.specs.Reads.{PartialIs, RunsBy}
-use Rattle.zst_token.specs.ForPartial.{token_for}
+use Rattle.zst_token.specs.PartialToken.{token_for}
 use Rattle.zst_token.specs.declared.token.Token.{Token}
 use Rattle.zst_recv.specs.Tokens.{token_of_partial, token_told}
 

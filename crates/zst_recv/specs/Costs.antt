@@ -1,13 +1,13 @@
 -- What a piece of a stream costs of the free sectors, and where it finds no room.
 use Rattle.std.specs.Prelude.{◌≡◌, ◌⊎◌, ◌+◌, ◌-◌, ◌<◌, ◌≤◌, ℕ, List, [], ◌∷◌, drop, length, sum_by, Option, Some}
 use Rattle.zst_space.specs.FreeSectors.{FreeSectors, largest_of}
-use Rattle.zst_block.specs.Working.{TakesAtMost}
+use Rattle.zst_block.specs.IoCalls.{TakesAtMost}
 use Rattle.zst_block.specs.declared.fault.BlockFault.{BlockFault}
 use Rattle.zst_block.specs.declared.fault.BlockFault.TheVariants.{Full}
 use Rattle.zst_dir.specs.Rows.{Rows}
 use Rattle.zst_dir.specs.Spelling.{dir_bytes}
 use Rattle.zst_image.specs.Reads.{dir_sectors, free_by}
-use Rattle.zst_image.specs.declared.kept.Kept.{Kept}
+use Rattle.zst_image.specs.declared.pool_state.PoolState.{PoolState}
 use Rattle.zst_record.specs.Heads.{Covered}
 use Rattle.zst_stream.specs.Reading.{reading}
 use Rattle.zst_apply.specs.Costs.{record_block, record_cost}
@@ -30,15 +30,15 @@ abbrev pub IsNeeded : (need : ℕ) → List Covered → Type 0
 IsNeeded need [] = need ≡ 16
 IsNeeded need (c ∷ rest) = (need ≡ record_block c.head) ⊎ IsNeeded need rest
 
--- These records took no more sectors than they cost. One found no room only where before them no run was free of as many sectors.
+-- These records took no more sectors than they cost. One found no room only where before them no free extent had as many sectors.
 pub record Spends (records : List Covered) (old new : FreeSectors) (stop : Option BlockFault) : Type 0 where
   pub takes : TakesAtMost (records_cost records) old new
   pub before : (need largest : ℕ) → stop ≡ Some (Full need largest) → largest_of old < records_cost records
   pub needed : (need largest : ℕ) → stop ≡ Some (Full need largest) → IsNeeded need records
 
--- E24 of a piece that covers these records, in a pool of this body and directory: what is to be written is longer than the longest run of the sectors
+-- E24 of a piece that covers these records, in a pool of this body and directory: what is to be written is longer than the longest extent of the sectors
 -- that are left then; and before the piece, fewer sectors were free than it costs
-pub record PieceIsShort (records : List Covered) (kept : Kept) (left : FreeSectors) (need largest : ℕ) : Type 0 where
+pub record PieceIsShort (records : List Covered) (kept : PoolState) (left : FreeSectors) (need largest : ℕ) : Type 0 where
   pub taken : TakesAtMost (piece_cost records kept.dir) (free_by kept.body) left
   pub shorter : largest < need
   pub needed : IsNeeded need records
@@ -46,7 +46,7 @@ pub record PieceIsShort (records : List Covered) (kept : Kept) (left : FreeSecto
   pub room : kept.body.sectors - kept.body.end < piece_cost records kept.dir
 
 -- what a piece that covers these records made of what the pool keeps: the directory has at most 2,048 bytes more, and the body as many sectors, of which no more are taken than the piece costs
-pub record PieceGrows (records : List Covered) (before after : Kept) : Type 0 where
+pub record PieceGrows (records : List Covered) (before after : PoolState) : Type 0 where
   pub directory : length (dir_bytes after.dir) ≤ length (dir_bytes before.dir) + 2048
   pub sectors : after.body.sectors ≡ before.body.sectors
   pub end : after.body.end ≤ before.body.end + piece_cost records before.dir

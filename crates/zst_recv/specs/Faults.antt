@@ -3,7 +3,7 @@ use Rattle.std.specs.Prelude.{◌≡◌, ◌<◌, ◌||◌, ◌^◌, ℕ, Bool, 
 use Rattle.zst_outside.specs.Images.{DiskState}
 use Rattle.zst_space.specs.FreeSectors.{FreeSectors, largest_of}
 use Rattle.zst_block.specs.Blocks.{FillsFree, FitsDisk}
-use Rattle.zst_block.specs.Working.{HasCause, fails}
+use Rattle.zst_block.specs.IoCalls.{HasCause, fails}
 use Rattle.zst_block.specs.declared.fault.BlockFault.{BlockFault}
 use Rattle.zst_block.specs.declared.fault.BlockFault.TheVariants as blocks
 use Rattle.zst_model.specs.declared.refusals.faults.Quantity.TheVariants as quantities
@@ -87,7 +87,7 @@ abbrev pub cut_of : (live : Bool) → ℕ → Result (Unit {0}) StreamFault
 cut_of true pushed = Err (Truncated pushed)
 cut_of false pushed = Ok tt
 
--- Blocks alone are written, into free sectors, whatever is there: the disk is full only where the longest run is shorter than what is
+-- Blocks alone are written, into free sectors, whatever is there: the disk is full only where the longest extent is shorter than what is
 -- needed, and failed only where its count of faults rose.
 pub record Fills (old : DiskState) (old_space : FreeSectors) (old_failed : Bool) (new : DiskState) (new_space : FreeSectors) (new_failed : Bool) (stop : Option BlockFault) : Type 0 where
   pub fills : FillsFree old old_space new new_space

@@ -6,7 +6,7 @@ use Rattle.zst_model.specs.pools.Pool.{Pool}
 use Rattle.zst_plan.specs.declared.receive.RecvAsk.{RecvAsk}
 use Rattle.zst_record.specs.Heads.{Covered, size_of}
 use Rattle.zst_stream.specs.Reading.{Outcome, waiting, faulty, complete, reading}
-use Rattle.zst_recv.specs.Receiving.{Stage, Waits, Fed, Goes, Stops, fed}
+use Rattle.zst_recv.specs.ReceiveSteps.{Stage, Waits, Fed, Goes, Stops, fed}
 
 -- the fault that a reading ends with
 abbrev pub fault_of : Outcome → Option Refusal

@@ -1,10 +1,10 @@
-pub mod Receiving
+pub mod ReceiveSteps
 pub mod Feeds
 pub mod Stages
-pub mod Planning
+pub mod Plans
 pub mod Faults
-pub mod Taking
-pub mod Settling
+pub mod TakenRecords
+pub mod Commits
 pub mod Answers
 pub mod Damage
 pub mod Costs

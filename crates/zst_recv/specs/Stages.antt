@@ -16,11 +16,11 @@ use Rattle.zst_record.specs.declared.head.Head.TheVariants as heads
 use Rattle.zst_record.specs.Laws.{AreBytes}
 use Rattle.zst_stream.specs.Reading.{waiting}
 use Rattle.zst_tree.specs.Indices.{Blocks}
-use Rattle.zst_recv.specs.Receiving.{Stage, Waits, Lives, Ends, Work}
+use Rattle.zst_recv.specs.ReceiveSteps.{Stage, Waits, Lives, Ends, Work}
 use Rattle.zst_recv.specs.declared.stage.Stage as coded
 use Rattle.zst_recv.specs.declared.stage.Stage.TheVariants as stages
 use Rattle.zst_recv.specs.declared.batch.Batch as batches
-use Rattle.zst_recv.specs.declared.received.Received.{Received}
+use Rattle.zst_recv.specs.declared.received_snapshot.ReceivedSnapshot.{ReceivedSnapshot}
 use Rattle.zst_recv.specs.declared.recv.Recv.{Recv}
 
 -- over the blocks that are there, the code's stage is this one, whose set is known so well
@@ -99,7 +99,7 @@ is_live (stages.Done received) = false
 is_live stages.Over = false
 
 -- the snapshot that a partial state becomes
-abbrev pub received_row : Row → Received
+abbrev pub received_row : Row → ReceivedSnapshot
 received_row row = record { target = row.target; component = row.snapshot; guid = row.header.to }
 
 -- where it stands once all of a piece was committed: with END the snapshot stands
@@ -111,7 +111,7 @@ stage_behind (stages.Done received) = stages.Done received
 stage_behind stages.Over = stages.Over
 
 -- the snapshot that was made, once END was received
-abbrev pub received_at : coded.Stage → Option Received
+abbrev pub received_at : coded.Stage → Option ReceivedSnapshot
 received_at stages.Waits = None
 received_at (stages.Lives flags row) = None
 received_at (stages.Ends row) = None
@@ -119,7 +119,7 @@ received_at (stages.Done received) = Some received
 received_at stages.Over = None
 
 -- the same of a receive
-abbrev pub received_by : Recv → Option Received
+abbrev pub received_by : Recv → Option ReceivedSnapshot
 received_by recv = received_at recv.stage
 
 -- how many bytes it was fed

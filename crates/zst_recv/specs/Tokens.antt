@@ -3,7 +3,7 @@ use Rattle.std.specs.Prelude.{ℕ, List, Option, Some, None, Result, Ok, Err, if
 use Rattle.zst_model.specs.declared.refusals.plan_fault.PlanFault.{PlanFault}
 use Rattle.zst_model.specs.declared.refusals.plan_fault.PlanFault.TheVariants.{NoPartial}
 use Rattle.zst_model.specs.pools.Pool.{Partial, Pool, partial_of}
-use Rattle.zst_token.specs.ForPartial.{token_for}
+use Rattle.zst_token.specs.PartialToken.{token_for}
 use Rattle.zst_token.specs.declared.token.Token.{Token}
 
 -- the token of a partial state of this dataset, where there is one that stays where its session ends; E14 otherwise

@@ -3,7 +3,7 @@ ghost use Rattle.std.specs.Prelude.{◌≡◌, ◌+◌, ℕ, Bool, false, true, 
 ghost use Rattle.zst_apply.specs.Damage.{apply_damage};
 ghost use Rattle.zst_block.specs.Blocks.{FitsDisk, Has, SparesTaken};
 ghost use Rattle.zst_space.specs.FreeSectors.{FreeSectors};
-ghost use Rattle.zst_dir.specs.Named.{AreNamed};
+ghost use Rattle.zst_dir.specs.RowNames.{AreNamed};
 ghost use Rattle.zst_dir.specs.Rows.{Rows};
 ghost use Rattle.zst_image.specs.Reads.{PartialIs, RunsBy, bound_of};
 ghost use Rattle.zst_model.specs.declared.refusals.plan_fault.PlanFault.{PlanFault};
@@ -11,30 +11,30 @@ ghost use Rattle.zst_model.specs.declared.sends.header.Header.{Header as PlainHe
 ghost use Rattle.zst_model.specs.pools.Pool.{Partial as PlainPartial, Pool as Plain};
 ghost use Rattle.zst_plan.specs.Receipts.{TellsNeeded};
 ghost use Rattle.zst_plan.specs.RecvPlan.{recv_plan};
-ghost use Rattle.zst_stream.specs.Passed.{StatesBegin};
+ghost use Rattle.zst_stream.specs.PassedRecords.{StatesBegin};
 ghost use Rattle.zst_plan.specs.declared.receive.RecvAsk.{RecvAsk as Ask};
 ghost use Rattle.zst_pool.specs.Calls.{IsUnderWay};
-ghost use Rattle.zst_record.specs.Fits.{IsLater};
+ghost use Rattle.zst_record.specs.RecordValues.{IsLater};
 ghost use Rattle.zst_record.specs.Heads.{Covered, covered_of};
 ghost use Rattle.zst_record.specs.declared.head.Head.TheVariants as heads;
 ghost use Rattle.zst_stream.specs.Reading.{closing};
 ghost use Rattle.zst_recv.specs.Costs.{Spends};
 ghost use Rattle.zst_recv.specs.Damage.{IsDamagedState};
 ghost use Rattle.zst_recv.specs.Faults.{Fills, IsRecordFault, stop_of};
-ghost use Rattle.zst_recv.specs.Planning.{IsPlannedBy, is_planned};
-ghost use Rattle.zst_recv.specs.Receiving.{Stage as PlainStage, Work, at_stage, moved_by, taken};
+ghost use Rattle.zst_recv.specs.Plans.{IsPlannedBy, is_planned};
+ghost use Rattle.zst_recv.specs.ReceiveSteps.{Stage as PlainStage, Work, at_stage, moved_by, taken};
 ghost use Rattle.zst_recv.specs.Stages.{CanPut, IsStage, IsWork, StageFits, TellsBefore, has_partial, is_begin, is_end, is_live, waits_at};
-ghost use Rattle.zst_recv.specs.Taking.{IsRead, Makes, Takes};
+ghost use Rattle.zst_recv.specs.TakenRecords.{IsRead, Makes, Takes};
 
 use crate::fault::{RecvFault, of_record};
-use crate::opening::open;
+use crate::first_partial::open;
 use crate::point::point_behind;
 use crate::stage::Stage;
 use std::mem;
 use zst_apply::apply;
 use zst_block::Io;
 use zst_dir::{Dir, Partial};
-use zst_image::Kept;
+use zst_image::PoolState;
 use zst_model::Header;
 use zst_outside::Disk;
 use zst_plan::RecvAsk;
@@ -102,7 +102,7 @@ impl Batch {
     pub fn take<D: Disk>(
         &mut self,
         io: &mut Io<'_, D>,
-        kept: &Kept,
+        kept: &PoolState,
         ask: &RecvAsk,
         covered: &Record<'_>,
     ) -> Result<(), RecvFault>

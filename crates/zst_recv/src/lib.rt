@@ -2,20 +2,20 @@
 #![tactic(auto)]
 
 mod batch;
+mod commits;
 mod fault;
-mod opening;
+mod first_partial;
+mod pieces;
 mod point;
-mod reading;
-mod received;
+mod received_snapshot;
 mod recv;
-mod settling;
 mod stage;
-mod telling;
 #[cfg(test)]
 mod tests;
+mod tokens;
 
 pub use fault::RecvFault;
-pub use received::Received;
-pub use recv::{Fed, Recv};
-pub use telling::token;
+pub use received_snapshot::ReceivedSnapshot;
+pub use recv::{FeedReport, Recv};
+pub use tokens::token;
 pub use zst_plan::RecvAsk;

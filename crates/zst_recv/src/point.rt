@@ -2,7 +2,7 @@
 ghost use Rattle.std.specs.Prelude.{◌≡◌, ◌<◌, ◌+◌, ◌^◌, ◌==◌, ℕ, List, length, if◌then◌else◌};
 ghost use Rattle.zst_model.specs.sends.Points.{point_of};
 ghost use Rattle.zst_record.specs.Heads.{payload_len};
-ghost use Rattle.zst_recv.specs.Taking.{EndFits};
+ghost use Rattle.zst_recv.specs.TakenRecords.{EndFits};
 ghost use Rattle.zst_stream.specs.Items.{items_by};
 
 use zst_model::Point;

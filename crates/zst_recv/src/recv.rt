@@ -2,10 +2,10 @@ ghost use Rattle.std.specs.Prelude.{◌≡◌};
 ghost use Rattle.zst_recv.specs.Faults.{stream_limit};
 
 use crate::batch::Batch;
+use crate::commits::{keeps_before, put};
 use crate::fault::RecvFault;
-use crate::reading::read;
-use crate::received::Received;
-use crate::settling::{keeps_before, put};
+use crate::pieces::read;
+use crate::received_snapshot::ReceivedSnapshot;
 use crate::stage::Stage;
 use std::alloc::Global;
 use std::mem;
@@ -17,7 +17,7 @@ use zst_reader::{Reader, STREAM_LIMIT};
 
 /// What a feed tells.
 #[derive(Clone, Copy, Debug, PartialEq, Eq)]
-pub struct Fed {
+pub struct FeedReport {
     /// How many bytes of the piece are of the stream: all, or those up to its END.
     pub used: usize,
     /// How many records between BEGIN and END it applied.
@@ -39,13 +39,13 @@ pub struct Recv {
 impl Recv {
     ghost use Rattle.std.specs.Prelude.{◌≡◌, ◌+◌, ◌<◌, ◌≤◌, ◌||◌, ◌-◌, ℕ, Bool, List, [], length, Option, IfErr, IfOk, IsSome, OnOk, Err, false, true, not, sum_by, if◌then◌else◌, ◌++◌};
     ghost use Rattle.zst_block.specs.Blocks.{Has, KeepsBlocks};
-    ghost use Rattle.zst_block.specs.Working.{HasCause, fails};
-    ghost use Rattle.zst_image.specs.Committing.{Ready};
+    ghost use Rattle.zst_block.specs.IoCalls.{HasCause, fails};
+    ghost use Rattle.zst_image.specs.Commits.{Ready};
     ghost use Rattle.zst_image.specs.Reads.{bound_of, free_by};
     ghost use Rattle.zst_model.specs.declared.refusals.plan_fault.PlanFault.{PlanFault as PlainPlanFault};
     ghost use Rattle.zst_model.specs.declared.refusals.stream_fault.StreamFault.{StreamFault as PlainFault};
     ghost use Rattle.zst_model.specs.declared.sends.header.Point.{Point as PlainPoint};
-    ghost use Rattle.zst_model.specs.pools.Kept.{kept_of};
+    ghost use Rattle.zst_model.specs.pools.KeptPool.{kept_of};
     ghost use Rattle.zst_model.specs.pools.Pool.{Pool as Plain};
     ghost use Rattle.zst_outside.specs.Images.{OnlyReads};
     ghost use Rattle.zst_pool.specs.Calls.{IsAtRest};
@@ -58,8 +58,8 @@ impl Recv {
     ghost use Rattle.zst_recv.specs.Costs.{PieceGrows, PieceIsShort, records_behind};
     ghost use Rattle.zst_recv.specs.Damage.{IsDamagedFeed};
     ghost use Rattle.zst_recv.specs.Faults.{IsFeedFault, cut_of, stop_of, stream_limit};
-    ghost use Rattle.zst_recv.specs.Planning.{RefusesEach, RefusesOne, is_planned};
-    ghost use Rattle.zst_recv.specs.Receiving.{Stage as PlainStage, Waits, left_by};
+    ghost use Rattle.zst_recv.specs.Plans.{RefusesEach, RefusesOne, is_planned};
+    ghost use Rattle.zst_recv.specs.ReceiveSteps.{Stage as PlainStage, Waits, left_by};
     ghost use Rattle.zst_recv.specs.Stages.{Receives, RecvFits, TellsBefore, fed_of, is_live, is_waiting, point_in, received_by, stage_behind};
 
     /// Begins a receive, and takes all of its memory. Nothing is read or committed.
@@ -108,7 +108,7 @@ impl Recv {
     }
 
     /// The snapshot that it made, once END was received.
-    pub fn received(&self) -> Option<Received>
+    pub fn received(&self) -> Option<ReceivedSnapshot>
         ensures { result ≡ received_by self.now }
     {
         self.stage.received()
@@ -121,7 +121,7 @@ impl Recv {
         pool: &mut Pool<'_, D>,
         alloc: Global,
         piece: &[u8],
-    ) -> Result<Fed, RecvFault>
+    ) -> Result<FeedReport, RecvFault>
         requires live { is_live self.old.stage ≡ true }
         requires recv { RecvFits pool.old.kept.dir self.old }
         requires ready { pool.old.io.failed ≡ false → Ready (D.state pool.old.io.disk.now) pool.old.kept.body }
@@ -130,7 +130,7 @@ impl Recv {
             → IsAtRest tight (D.state pool.old.io.disk.now) pool.old.kept running → TellsBefore self.old.ask stage pool.old.kept.dir running
             → Receives (bound_of tight running.number) (Has (D.state pool.old.io.disk.now).seen (free_by pool.old.kept.body)) self.old text stage
             → Feeds tight (D.state pool.old.io.disk.now) (D.state pool.new.io.disk.now) pool.new.kept self.new text piece.now stage running result }
-        // Whatever the image, E24 comes only where the longest run that is then free is shorter than what is needed.
+        // Whatever the image, E24 comes only where the longest extent that is then free is shorter than what is needed.
         ensures full { (need largest : ℕ) → result ≡ Err (RecvFault.Pool (PoolFault.Full need largest)) → (largest < need) × (largest ≡ largest_of pool.new.io.space) }
         // Whatever the image and the text: fewer sectors were free before it than the piece costs, by what it covers behind what was handed out.
         ensures short { (text : List ℕ) (handed : List Covered) (need largest : ℕ) → StandsFor self.old.reader text handed → result ≡ Err (RecvFault.Pool (PoolFault.Full need largest))
@@ -232,7 +232,7 @@ impl Recv {
     }
 
     // Goes on behind what was committed, and tells of it.
-    fn go_on(&mut self, batch: Batch, started: u64, len: usize) -> Fed
+    fn go_on(&mut self, batch: Batch, started: u64, len: usize) -> FeedReport
         ensures ask { self.new.ask ≡ self.old.ask }
         ensures reader { self.new.reader ≡ self.old.reader }
         ensures stage { self.new.stage ≡ stage_behind batch.stage }
@@ -250,7 +250,7 @@ impl Recv {
         };
         let applied = batch.applied;
         self.stage = batch.stage.settled();
-        Fed {
+        FeedReport {
             used,
             applied,
             point,

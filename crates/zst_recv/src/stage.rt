@@ -1,7 +1,7 @@
 ghost use Rattle.std.specs.Prelude.{◌≡◌};
 ghost use Rattle.zst_recv.specs.Stages.{has_partial, is_live, keeps_partial, point_in, received_at, stage_behind};
 
-use crate::received::Received;
+use crate::received_snapshot::ReceivedSnapshot;
 use zst_dir::Partial;
 use zst_model::Point;
 
@@ -15,7 +15,7 @@ pub(crate) enum Stage {
     /// END was covered: this becomes the snapshot.
     Ends { partial: Partial },
     /// END was received, and the snapshot stands.
-    Done { received: Received },
+    Done { received: ReceivedSnapshot },
     /// It is over without END.
     Over,
 }
@@ -59,7 +59,7 @@ impl Stage {
     }
 
     /// The snapshot that it made, once END was received.
-    pub fn received(&self) -> Option<Received>
+    pub fn received(&self) -> Option<ReceivedSnapshot>
         ensures { result ≡ received_at self.now }
     {
         match self {
@@ -74,7 +74,7 @@ impl Stage {
     {
         match self {
             Stage::Ends { partial } => Stage::Done {
-                received: Received::of(&partial),
+                received: ReceivedSnapshot::of(&partial),
             },
             stage => stage,
         }

@@ -5,7 +5,7 @@ mod images;
 mod pools;
 mod records;
 mod refusals;
-mod resumed;
+mod resumed_receives;
 mod stops;
 mod streams;
 mod tokens;

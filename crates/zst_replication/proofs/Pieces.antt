@@ -1,13 +1,13 @@
 -- What the pieces of an input cover is what a receive has applied of them.
 use Rattle.std.proofs.Common.{subst}
 use Rattle.std.specs.List.{concat}
-use Rattle.zst_laws.specs.Receiving.{ReceivedIsApplied}
+use Rattle.zst_laws.specs.ReceivedRecords.{ReceivedIsApplied}
 use Rattle.zst_stream.specs.Laws.{FrontsAgree}
 use Rattle.zst_stream.specs.Reading.{reading}
-use Rattle.zst_recv.specs.Receiving.{Fed}
+use Rattle.zst_recv.specs.ReceiveSteps.{Fed}
 use Rattle.zst_replication.specs.Resumption.{PiecesAreApplied}
-use Rattle.zst_replication.proofs.Going.{Way, receives_way}
-use Rattle.zst_replication.proofs.Stopped.{living_partial}
+use Rattle.zst_replication.proofs.FeedSequences.{Way, receives_way}
+use Rattle.zst_replication.proofs.StoppedReceives.{living_partial}
 
 pub pieces_applied : FrontsAgree → ReceivedIsApplied → PiecesAreApplied
 pieces_applied fronts law ask pool now flags partial pieces e =

@@ -2,9 +2,9 @@
 use Rattle.std.proofs.Common.{◌≡◌, ℕ, Bool, true, false, Some, Result, Ok, Err, refl}
 use Rattle.zst_model.specs.declared.refusals.apply_fault.ApplyFault.{ApplyFault}
 use Rattle.zst_model.specs.declared.refusals.plan_fault.PlanFault.{PlanFault}
-use Rattle.zst_model.specs.sends.Received.{of_record}
-use Rattle.zst_model.specs.states.Apply.{unless, ◌>>=◌}
-use Rattle.zst_recv.specs.Receiving.{of_plan}
+use Rattle.zst_model.specs.sends.ReceivedRecords.{of_record}
+use Rattle.zst_model.specs.states.AppliedItems.{unless, ◌>>=◌}
+use Rattle.zst_recv.specs.ReceiveSteps.{of_plan}
 
 pub ok_parts : {A E : Type 0} (x y : A) → ◌≡◌ {A = Result A E} (Ok x) (Ok y) → x ≡ y
 ok_parts x y e = cc

@@ -1,30 +1,30 @@
 -- A receive of whatever is read leaves a sound pool sound, and what a source remembers in it.
 use Rattle.std.proofs.Common.{◌≡◌, ℕ, List, Contains, refl, sym, ap, subst}
 use Rattle.zst_names.specs.Names.{IsDataset}
-use Rattle.zst_laws.specs.Receiving.{ReceivedIsApplied}
-use Rattle.zst_laws.specs.Remembering.{OwnIsRemembered, RememberedIsBase, StepsRemember}
-use Rattle.zst_laws.specs.Stepping.{StepsKeepPools, StepsKeepSound}
+use Rattle.zst_laws.specs.ReceivedRecords.{ReceivedIsApplied}
+use Rattle.zst_laws.specs.RememberedStates.{OwnIsRemembered, RememberedIsBase, StepsRemember}
+use Rattle.zst_laws.specs.StepInvariants.{StepsKeepPools, StepsKeepSound}
 use Rattle.zst_model.proofs.InsertedLaws.{inserted_has_rest, inserted_has_row}
-use Rattle.zst_model.specs.pools.Before.{Source, OfSnapshot, OfBookmark, number_of_source, IsIn, IsBeforePartial}
-use Rattle.zst_model.specs.pools.Kept.{kept_of}
+use Rattle.zst_model.specs.pools.Ancestry.{Source, OfSnapshot, OfBookmark, number_of_source, IsIn, IsBeforePartial}
+use Rattle.zst_model.specs.pools.KeptPool.{kept_of}
 use Rattle.zst_model.specs.pools.Pool.{Pool, IsPool, IsLinked, Snapshot, Bookmark, Partial, inserted, snapshot_is_before}
 use Rattle.zst_model.specs.pools.Rows.{partial_row}
-use Rattle.zst_model.specs.pools.Sound.{Agrees, Sound}
+use Rattle.zst_model.specs.pools.Soundness.{Agrees, Sound}
 use Rattle.zst_model.specs.sends.Target.{Remembers}
 use Rattle.zst_model.specs.states.State.{State}
 use Rattle.zst_plan.specs.RecvPlan.{snapshot_name}
 use Rattle.zst_plan.specs.declared.receive.RecvAsk.{RecvAsk}
 use Rattle.zst_recv.specs.Feeds.{receives}
-use Rattle.zst_recv.specs.Receiving.{Ends, Fed, Goes, Stops, pool_of}
+use Rattle.zst_recv.specs.ReceiveSteps.{Ends, Fed, Goes, Stops, pool_of}
 use Rattle.zst_replication.specs.Histories.{ByCommand, ByReceive, EventsAreHistory, Here, LeadsOn, ReceivedRemembers, ReceivesRemember, StillRemembers}
 use Rattle.zst_replication.specs.Soundness.{ReceivesKeepSound}
-use Rattle.zst_replication.proofs.Coming.{FedWell, HoldsAll, cleared, receive_well, some, well_holds}
-use Rattle.zst_replication.proofs.Grown.{AreOrdered}
-use Rattle.zst_replication.proofs.Planned.{filtered_there}
-use Rattle.zst_replication.proofs.Running.{finished_snapshot}
-use Rattle.zst_replication.proofs.SoundFinished.{finished, finished_remembers, finished_sound}
-use Rattle.zst_replication.proofs.SoundUnder.{under, under_remembers, under_sound}
-use Rattle.zst_replication.proofs.Standing.{PartialRow, fewer_before_partial, fewer_linked, fewer_remembers, fewer_sound, has_row, sound_agrees}
+use Rattle.zst_replication.proofs.PoolInvariants.{FedWell, HoldsAll, cleared, receive_well, some, well_holds}
+use Rattle.zst_replication.proofs.GrownPartials.{AreOrdered}
+use Rattle.zst_replication.proofs.ReceivePlans.{filtered_there}
+use Rattle.zst_replication.proofs.RunningPools.{finished_snapshot}
+use Rattle.zst_replication.proofs.SoundSnapshots.{finished, finished_remembers, finished_sound}
+use Rattle.zst_replication.proofs.SoundPartials.{under, under_remembers, under_sound}
+use Rattle.zst_replication.proofs.Ancestry.{PartialRow, fewer_before_partial, fewer_linked, fewer_remembers, fewer_sound, has_row, sound_agrees}
 
 -- a source is in a pool that has all snapshots and bookmarks of one that it is in
 some_in : (pool other : Pool) (source : Source) → ((snapshot : Snapshot) → Contains pool.snapshots snapshot → Contains other.snapshots snapshot) → pool.bookmarks ≡ other.bookmarks

@@ -1,7 +1,7 @@
 -- What the laws of a received send rest on.
-use Rattle.zst_laws.specs.Receiving.{ReceivedIsApplied}
-use Rattle.zst_laws.specs.Resuming.{CutStands, PointsRise, ResumeIsExact, StartStands}
-use Rattle.zst_laws.specs.Sending.{SendIsExact, SnapshotHasView}
+use Rattle.zst_laws.specs.ReceivedRecords.{ReceivedIsApplied}
+use Rattle.zst_laws.specs.ResumedSends.{CutStands, PointsRise, ResumeIsExact, StartStands}
+use Rattle.zst_laws.specs.ExactSends.{SendIsExact, SnapshotHasView}
 use Rattle.zst_stream.specs.Items.{ViewIsRead, ViewIsStream}
 use Rattle.zst_stream.specs.Laws.{CoversArePieces, FrontsAgree, ImageIsRead}
 

@@ -2,21 +2,21 @@
 use Rattle.std.specs.Prelude.{ℕ, ◌≡◌, ◌^◌, ◌<◌, List, Ok, Contains}
 use Rattle.zst_names.specs.Names.{IsDataset}
 use Rattle.zst_model.specs.declared.pools.command.Command.{Command}
-use Rattle.zst_model.specs.pools.Before.{Source, OfSnapshot, number_of_source, IsIn, IsBefore}
-use Rattle.zst_model.specs.pools.Held.{Held}
-use Rattle.zst_model.specs.pools.Kept.{kept_of}
+use Rattle.zst_model.specs.pools.Ancestry.{Source, OfSnapshot, number_of_source, IsIn, IsBefore}
+use Rattle.zst_model.specs.pools.Sessions.{Held}
+use Rattle.zst_model.specs.pools.KeptPool.{kept_of}
 use Rattle.zst_model.specs.pools.Pool.{Pool, Partial, Snapshot, IsPool}
 use Rattle.zst_model.specs.pools.Rows.{Row, rows}
-use Rattle.zst_model.specs.pools.Sound.{Sound}
+use Rattle.zst_model.specs.pools.Soundness.{Sound}
 use Rattle.zst_model.specs.pools.Step.{Stepped, stepped, IsCommand}
-use Rattle.zst_model.specs.sends.Included.{Pairs}
+use Rattle.zst_model.specs.sends.Inclusion.{Pairs}
 use Rattle.zst_model.specs.sends.Target.{BaseOk}
 use Rattle.zst_model.specs.states.State.{State, IsState}
-use Rattle.zst_laws.specs.Remembering.{SourceRemembers, increment}
+use Rattle.zst_laws.specs.RememberedStates.{SourceRemembers, increment}
 use Rattle.zst_plan.specs.RecvPlan.{snapshot_name}
 use Rattle.zst_plan.specs.declared.receive.RecvAsk.{RecvAsk}
 use Rattle.zst_recv.specs.Feeds.{receives}
-use Rattle.zst_recv.specs.Receiving.{Ends, Goes, pool_of}
+use Rattle.zst_recv.specs.ReceiveSteps.{Ends, Goes, pool_of}
 
 -- a source stands in a pool, and remembers this state there
 pub record StillRemembers (pool : Pool) (source : Source) (state : State) : Type 0 where

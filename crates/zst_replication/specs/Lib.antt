@@ -1,7 +1,7 @@
-pub mod Counting
+pub mod RecordCounts
 pub mod Grounds
 pub mod Histories
-pub mod Matching
+pub mod MatchingBases
 pub mod Outcomes
 pub mod Replicas
 pub mod Resumption

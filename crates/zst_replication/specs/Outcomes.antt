@@ -1,15 +1,15 @@
 -- What a receive may have made of a pool: nothing yet, a partial state on its way to the target, or one snapshot more.
 use Rattle.std.specs.Prelude.{ℕ, ◌≡◌, ◌<◌, ◌≤◌, ◌⊎◌, true, false, List, Option, Some, None, Ok, bytes_eq, option_map}
 use Rattle.std.specs.Option.{option_map_or}
-use Rattle.zst_laws.specs.Resuming.{IsAtOrAfter}
+use Rattle.zst_laws.specs.ResumedSends.{IsAtOrAfter}
 use Rattle.zst_model.specs.declared.sends.header.Header.{Header}
 use Rattle.zst_model.specs.declared.sends.header.Point.{Point}
 use Rattle.zst_model.specs.pools.Pool.{Pool, Dataset, Snapshot, Partial, dataset_named, snapshot_named, partial_of, inserted, snapshot_is_before, untouched}
 use Rattle.zst_model.specs.sends.Items.{origin}
-use Rattle.zst_model.specs.sends.StandsFor.{StandsFor}
+use Rattle.zst_model.specs.sends.CutReceives.{StandsFor}
 use Rattle.zst_model.specs.sends.Target.{target}
 use Rattle.zst_model.specs.sends.View.{View}
-use Rattle.zst_model.specs.states.Dated.{DatedState}
+use Rattle.zst_model.specs.states.DatedState.{DatedState}
 use Rattle.zst_model.specs.states.State.{State}
 use Rattle.zst_plan.specs.RecvPlan.{Base, snapshot_name}
 use Rattle.zst_plan.specs.declared.receive.RecvAsk.{RecvAsk}

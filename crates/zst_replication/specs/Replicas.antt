@@ -3,10 +3,10 @@ use Rattle.std.specs.Prelude.{ℕ, ◌≡◌, ◌++◌, ◌<◌, false, List, le
 use Rattle.std.specs.List.{concat}
 use Rattle.zst_model.specs.declared.refusals.refusal.Refusal.{Refusal}
 use Rattle.zst_model.specs.declared.sends.header.Point.{Point}
-use Rattle.zst_model.specs.pools.Kept.{kept_of}
+use Rattle.zst_model.specs.pools.KeptPool.{kept_of}
 use Rattle.zst_model.specs.pools.Pool.{Pool, Partial, IsPool, partial_of}
 use Rattle.zst_model.specs.sends.Headers.{Sent, header_of, choice_of, sent_view}
-use Rattle.zst_model.specs.sends.Included.{no_pairs}
+use Rattle.zst_model.specs.sends.Inclusion.{no_pairs}
 use Rattle.zst_model.specs.sends.Target.{BaseOk, CanRedact}
 use Rattle.zst_plan.specs.RecvPlan.{Base, Begins, recv_plan}
 use Rattle.zst_plan.specs.declared.receive.RecvAsk.{RecvAsk}
@@ -15,7 +15,7 @@ use Rattle.zst_stream.specs.Items.{CanSend}
 use Rattle.zst_send.specs.Sends.{begun, begun_text}
 use Rattle.zst_recv.specs.Answers.{is_done}
 use Rattle.zst_recv.specs.Feeds.{receives}
-use Rattle.zst_recv.specs.Receiving.{Stage, Ends, Fed, Goes, Stops, left_by, pool_of}
+use Rattle.zst_recv.specs.ReceiveSteps.{Stage, Ends, Fed, Goes, Stops, left_by, pool_of}
 use Rattle.zst_replication.specs.Outcomes.{HasNothing, HasOneMore, Progress, base_name, base_objects, course_from}
 
 -- a stream can state what is sent, from its beginning or from a point, of which nothing is to be redacted, and what is redacted already is user data

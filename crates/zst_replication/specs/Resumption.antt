@@ -4,13 +4,13 @@ use Rattle.std.specs.List.{concat}
 use Rattle.zst_model.specs.declared.sends.header.Header.{Header}
 use Rattle.zst_model.specs.declared.sends.header.Point.{Point}
 use Rattle.zst_model.specs.declared.states.item.Item.{Item}
-use Rattle.zst_model.specs.pools.Kept.{kept_of}
+use Rattle.zst_model.specs.pools.KeptPool.{kept_of}
 use Rattle.zst_model.specs.pools.Pool.{Pool, Partial, IsPool, partial_of}
 use Rattle.zst_model.specs.sends.Headers.{Sent, header_of, choice_of, sent_view}
-use Rattle.zst_model.specs.sends.PartWay.{IsPartWay}
+use Rattle.zst_model.specs.sends.PartialProgress.{IsPartWay}
 use Rattle.zst_model.specs.sends.Points.{point_of}
 use Rattle.zst_model.specs.sends.Target.{BaseOk, target}
-use Rattle.zst_model.specs.states.Apply.{apply_all}
+use Rattle.zst_model.specs.states.AppliedItems.{apply_all}
 use Rattle.zst_model.specs.states.State.{State, IsState}
 use Rattle.zst_plan.specs.RecvPlan.{Base, RecvPlan, Begins, Resumes, component_for, recv_plan}
 use Rattle.zst_plan.specs.declared.receive.RecvAsk.{RecvAsk}
@@ -18,9 +18,9 @@ use Rattle.zst_stream.specs.Items.{items_of}
 use Rattle.zst_stream.specs.Reading.{reading}
 use Rattle.zst_send.specs.Sends.{begun}
 use Rattle.zst_recv.specs.Feeds.{receives}
-use Rattle.zst_recv.specs.Receiving.{Lives, Ends, Goes, opened, pool_of}
+use Rattle.zst_recv.specs.ReceiveSteps.{Lives, Ends, Goes, opened, pool_of}
 use Rattle.zst_recv.specs.Tokens.{token_told}
-use Rattle.zst_token.specs.ForPartial.{token_for}
+use Rattle.zst_token.specs.PartialToken.{token_for}
 use Rattle.zst_replication.specs.Outcomes.{HasOneMore, Progress, base_name, base_objects, course_on}
 use Rattle.zst_replication.specs.Replicas.{AreOfStream, IsSendable, MatchesBase}
 

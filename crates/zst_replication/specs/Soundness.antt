@@ -1,12 +1,12 @@
 -- What a receive makes of a sound pool.
 use Rattle.std.specs.Prelude.{ℕ, List}
 use Rattle.zst_names.specs.Names.{IsDataset}
-use Rattle.zst_model.specs.pools.Kept.{kept_of}
+use Rattle.zst_model.specs.pools.KeptPool.{kept_of}
 use Rattle.zst_model.specs.pools.Pool.{Pool, IsPool}
-use Rattle.zst_model.specs.pools.Sound.{Sound}
+use Rattle.zst_model.specs.pools.Soundness.{Sound}
 use Rattle.zst_plan.specs.declared.receive.RecvAsk.{RecvAsk}
 use Rattle.zst_recv.specs.Feeds.{receives}
-use Rattle.zst_recv.specs.Receiving.{pool_of}
+use Rattle.zst_recv.specs.ReceiveSteps.{pool_of}
 
 -- Whatever is read, and however it is cut into pieces, a receive into a target with a dataset's name leaves a sound pool sound: the one that
 -- runs, and what the image keeps of it.

@@ -1,7 +1,7 @@
-ghost use Rattle.zst_replication.specs.Counting.{RecordsAreCounted};
+ghost use Rattle.zst_replication.specs.RecordCounts.{RecordsAreCounted};
 ghost use Rattle.zst_replication.specs.Grounds.{Grounds};
 ghost use Rattle.zst_replication.specs.Histories.{EventsAreHistory, ReceivedRemembers, ReceivesRemember};
-ghost use Rattle.zst_replication.specs.Matching.{BasesMatch, FullMatches, OneMoreIsKept, PlainCanBeSent, RestCanBeSent, SourceIsKnown};
+ghost use Rattle.zst_replication.specs.MatchingBases.{BasesMatch, FullMatches, OneMoreIsKept, PlainCanBeSent, RestCanBeSent, SourceIsKnown};
 ghost use Rattle.zst_replication.specs.Replicas.{CutLeavesNothing, LeftIsKept, SentIsReceived, StopsAreProgress};
 ghost use Rattle.zst_replication.specs.Resumption.{ChainsAreUnderway, ChainsComplete, FitRestIsReceived, PiecesAreApplied, RestIsReceived, ResumedStopsAreProgress, TokensGoOn};
 ghost use Rattle.zst_replication.specs.Soundness.{ReceivesKeepSound};

@@ -14,14 +14,14 @@ use Rattle.zst_model.specs.declared.refusals.stream_fault.StreamFault.TheVariant
 use Rattle.zst_stream.specs.Reading.{Reading, Outcome, waiting, faulty, complete, reading}
 use Rattle.zst_stream.specs.Findings.{FindsAtEnd}
 use Rattle.zst_stream.proofs.FindingLaws.{Finds-reading}
-use Rattle.zst_reader.specs.Filling.{stream_limit}
+use Rattle.zst_reader.specs.InputReads.{stream_limit}
 use Rattle.zst_reader.specs.StandsFor.{StandsFor, HandsOut, pushed_of}
 use Rattle.zst_reader.specs.declared.reader.Reader.{Reader}
-use Rattle.zst_dump.specs.Lines.{line_text, lines_of}
+use Rattle.zst_dump.specs.RecordLines.{line_text, lines_of}
 use Rattle.zst_dump.specs.Summary.{counts_of, summary_text}
 use Rattle.zst_dump.specs.declared.counts.Counts.{Counts}
 use Rattle.zst_run.specs.Dumps.{Dumps, Ends, WroteAll, NoFault, IsWithin, dump_text, ending_of}
-use Rattle.zst_run.specs.Dumping.{Dumping, IsAtEnd, IsFailed, IsLast, IsTooLong, TookMore, progress_of}
+use Rattle.zst_run.specs.DumpTurns.{Dumping, IsAtEnd, IsFailed, IsLast, IsTooLong, TookMore, progress_of}
 use Rattle.zst_run.specs.Replies.{HandsOn}
 
 -- ---- readings

@@ -6,14 +6,14 @@ use Rattle.std.proofs.Math.Nat.{eq-or-lt_of_le}
 use Rattle.std.proofs.Math.Seq.{take-append_seam, take-length}
 use Rattle.std.proofs.lemmas.List.{append-nil, take-append-le, take_min}
 use Rattle.zst_image.specs.Reads.{Reads}
-use Rattle.zst_model.specs.pools.Kept.{kept_of}
+use Rattle.zst_model.specs.pools.KeptPool.{kept_of}
 use Rattle.zst_model.specs.pools.Pool.{Pool}
 use Rattle.zst_plan.specs.declared.receive.RecvAsk.{RecvAsk}
 use Rattle.zst_recv.specs.Answers.{is_done}
 use Rattle.zst_recv.specs.Feeds.{and_feed, fed_piece, feeds, receives}
-use Rattle.zst_recv.specs.Receiving.{Fed, Stage, Waits, Lives, Ends, Goes, Stops, pool_of}
+use Rattle.zst_recv.specs.ReceiveSteps.{Fed, Stage, Waits, Lives, Ends, Goes, Stops, pool_of}
 use Rattle.zst_run.specs.Receives.{IsOpen}
-use Rattle.zst_run.specs.Underway.{Along, Wanted, WentOn, with_piece}
+use Rattle.zst_run.specs.ReceiveTurns.{ReadsAlong, Wanted, WentOn, with_piece}
 use Rattle.zst_run.proofs.Pieces.{with_some}
 
 pub open_live : (stage : Stage) → IsOpen stage → is_done stage ≡ false
@@ -80,15 +80,15 @@ wanted_then ask pool pieces (byte ∷ rest) went wanted =
 
 -- ---- images
 
-along_at : (tight : Bool) (ask : RecvAsk) (pool : Pool) (one other : List (List ℕ)) (image : List ℕ) (n m : ℕ) → take m other ≡ take n one → Reads tight (kept_of (pool_of (receives ask pool (take n one)))) image → Along tight ask pool other image
+along_at : (tight : Bool) (ask : RecvAsk) (pool : Pool) (one other : List (List ℕ)) (image : List ℕ) (n m : ℕ) → take m other ≡ take n one → Reads tight (kept_of (pool_of (receives ask pool (take n one)))) image → ReadsAlong tight ask pool other image
 along_at tight ask pool one other image n m same reads = (m, subst (λ (l : List (List ℕ)). Reads tight (kept_of (pool_of (receives ask pool l))) image) (sym same) reads)
 
-pub along_then : (tight : Bool) (ask : RecvAsk) (pool : Pool) (pieces : List (List ℕ)) (piece : List ℕ) (image : List ℕ) → Along tight ask pool pieces image → Along tight ask pool (with_piece pieces piece) image
+pub along_then : (tight : Bool) (ask : RecvAsk) (pool : Pool) (pieces : List (List ℕ)) (piece : List ℕ) (image : List ℕ) → ReadsAlong tight ask pool pieces image → ReadsAlong tight ask pool (with_piece pieces piece) image
 along_then tight ask pool pieces [] image along = along
 along_then tight ask pool pieces (byte ∷ rest) image along =
     along_at tight ask pool pieces (pieces ++ (byte ∷ rest) ∷ []) image along.0 (min along.0 (length pieces)) (took_before pieces ((byte ∷ rest) ∷ []) along.0) along.1
 
 -- an image that reads as what stands after all of the pieces
-pub along_all : (tight : Bool) (ask : RecvAsk) (pool : Pool) (pieces : List (List ℕ)) (fed : Fed) (image : List ℕ) → receives ask pool pieces ≡ fed → Reads tight (kept_of (pool_of fed)) image → Along tight ask pool pieces image
+pub along_all : (tight : Bool) (ask : RecvAsk) (pool : Pool) (pieces : List (List ℕ)) (fed : Fed) (image : List ℕ) → receives ask pool pieces ≡ fed → Reads tight (kept_of (pool_of fed)) image → ReadsAlong tight ask pool pieces image
 along_all tight ask pool pieces fed image is reads =
     (length pieces, subst (λ (f : Fed). Reads tight (kept_of (pool_of f)) image) (sym (ap (receives ask pool) (take-length pieces) ∙ is)) reads)

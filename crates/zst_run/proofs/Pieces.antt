@@ -6,7 +6,7 @@ use Rattle.std.proofs.lemmas.List.Elements.{All-append, All-cons, All-head, All-
 use Rattle.std.proofs.lemmas.List.Folds.{concat-append}
 use Rattle.zst_record.specs.Laws.{AreBytes}
 use Rattle.zst_run.specs.Receives.{ArePieces, piece_size}
-use Rattle.zst_run.specs.Underway.{with_piece}
+use Rattle.zst_run.specs.ReceiveTurns.{with_piece}
 
 abbrev pub AreWhole : List (List ℕ) → Type 0
 AreWhole pieces = All (λ (piece : List ℕ). length piece ≡ piece_size) pieces

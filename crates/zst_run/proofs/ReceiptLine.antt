@@ -7,7 +7,7 @@ use Rattle.zst_outside.specs.Printing.{Prints}
 use Rattle.zst_outside.specs.States.{SinkState}
 use Rattle.zst_model.specs.refusals.Texts.{guid_text}
 use Rattle.zst_plan.specs.RecvPlan.{snapshot_name}
-use Rattle.zst_run.specs.Underway.{line_of}
+use Rattle.zst_run.specs.ReceiveTurns.{line_of}
 use Rattle.zst_run.specs.declared.receive.Receipt.{Receipt}
 
 -- what is written, call by call

@@ -2,9 +2,9 @@
 use Rattle.std.proofs.Common.{◌≡◌, Result, Ok, Err, refl, sym, ap}
 use Rattle.zst_model.specs.declared.refusals.plan_fault.PlanFault.{PlanFault}
 use Rattle.zst_model.specs.sends.Headers.{Sent}
-use Rattle.zst_model.specs.states.Apply.{◌>>=◌}
+use Rattle.zst_model.specs.states.AppliedItems.{◌>>=◌}
 use Rattle.zst_plan.specs.Places.{AnswerAlike}
-use Rattle.zst_send.specs.Opening.{built}
+use Rattle.zst_send.specs.Openings.{built}
 
 -- what was planned is of what is to be given, and what was refused is refused
 pub plan_is : {A : Type 0} (Is : A → Sent → Type 0) (plan : A) (planned : Result Sent PlanFault) → AnswerAlike Is (Ok plan) planned → (sent : Sent) × (planned ≡ Ok sent) × Is plan sent

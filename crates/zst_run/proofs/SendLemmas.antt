@@ -19,23 +19,23 @@ use Rattle.zst_tree.specs.declared.tree.ObjSet.{ObjSet}
 use Rattle.zst_objset.specs.Damage.{DamageFact}
 use Rattle.zst_pool.specs.Damage.{IsOf}
 use Rattle.zst_pool.specs.Faults.{pool_refusal}
-use Rattle.zst_pool.specs.Telling.{stop_of}
+use Rattle.zst_pool.specs.Queries.{stop_of}
 use Rattle.zst_block.specs.declared.fault.BlockFault.TheVariants as blocks
 use Rattle.zst_pool.specs.declared.fault.PoolFault.{PoolFault}
 use Rattle.zst_pool.specs.declared.fault.PoolFault.TheVariants as faults
-use Rattle.zst_reader.specs.Filling.{stream_limit}
-use Rattle.zst_send.proofs.Knowing.{send_more}
+use Rattle.zst_reader.specs.InputReads.{stream_limit}
+use Rattle.zst_send.proofs.KnownPointers.{send_more}
 use Rattle.zst_send.specs.Damage.{IsDamagedSend}
-use Rattle.zst_send.specs.Knowing.{IsAmong}
+use Rattle.zst_send.specs.KnownPointers.{IsAmong}
 use Rattle.zst_send.specs.Sends as given
 use Rattle.zst_send.specs.Sends.{begun_text}
 use Rattle.zst_send.specs.declared.send.Send.{Send}
 use Rattle.zst_tree.specs.Indices.{Blocks}
 use Rattle.zst_run.specs.Replies.{HandsOn}
-use Rattle.zst_run.specs.declared.send.Asked.{Asked}
+use Rattle.zst_run.specs.declared.send.SendRequest.{SendRequest}
 use Rattle.zst_run.specs.Sends.{HasSet, IsSendRefusal, OfAsked, OfGiving, RefusalEnds, SendsBy, TellsOf, TextEnds, send_damage}
-use Rattle.zst_run.specs.Sending.{IfUnplanned, IsOpenRefusal, OpensBy, Passed, PieceWritten, PlansOpen, Sending, WritesPiece}
-use Rattle.zst_run.proofs.Commanded.{damaged_only, disk_fault, failed_before, full_only, of_plan, plan_named}
+use Rattle.zst_run.specs.SendPieces.{IfUnplanned, IsOpenRefusal, OpensBy, Passed, PieceWritten, PlansOpen, Sending, WritesPiece}
+use Rattle.zst_run.proofs.CommandLemmas.{damaged_only, disk_fault, failed_before, full_only, of_plan, plan_named}
 
 -- ---- refusals
 
@@ -281,7 +281,7 @@ is_one seen image among = go among.0 among.1 among.2
     go (suc k) below is = absurd (omega (arith, below))
 
 -- the damage of the set of what is asked is told of that
-pub set_damage : (rows : Rows) (asked : Asked) (disk : DiskState) (set : ObjSet) (result : Result (Unit {0}) Refusal) → HasSet asked rows set
+pub set_damage : (rows : Rows) (asked : SendRequest) (disk : DiskState) (set : ObjSet) (result : Result (Unit {0}) Refusal) → HasSet asked rows set
     → TellsOf (IsDamagedSend (IsAmong (disk.seen ∷ [])) disk.size set) result → TellsOf (OfAsked asked rows (send_damage disk)) result
 set_damage rows asked disk set result named told = λ sector stated found is.
     (set, named, send_more (IsAmong (disk.seen ∷ [])) (IsSeen disk.seen) (is_one disk.seen) disk.size set sector stated found (told sector stated found is))

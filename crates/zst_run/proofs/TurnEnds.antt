@@ -6,7 +6,7 @@ use Rattle.zst_outside.specs.Images.{DiskState}
 use Rattle.zst_outside.specs.States.{SourceState, Gave}
 use Rattle.zst_block.specs.Blocks.{Has}
 use Rattle.zst_image.specs.Reads.{bound_of, free_by}
-use Rattle.zst_image.specs.declared.kept.Kept.{Kept}
+use Rattle.zst_image.specs.declared.pool_state.PoolState.{PoolState}
 use Rattle.zst_model.specs.declared.refusals.refusal.Refusal.TheVariants as refusals
 use Rattle.zst_model.specs.declared.refusals.stream_fault.StreamFault.{StreamFault}
 use Rattle.zst_model.specs.pools.Pool.{Pool}
@@ -20,25 +20,25 @@ use Rattle.zst_record.specs.Laws.{AreBytes}
 use Rattle.zst_stream.specs.Reading.{complete, faulty, reading, waiting}
 use Rattle.zst_recv.specs.Answers.{Feeds}
 use Rattle.zst_recv.specs.Faults.{IsFeedFault, recv_refusal}
-use Rattle.zst_recv.specs.Receiving.{Stage}
+use Rattle.zst_recv.specs.ReceiveSteps.{Stage}
 use Rattle.zst_recv.specs.Stages as standing
 use Rattle.zst_recv.specs.Stages.{TellsBefore, fed_of, is_live, is_waiting}
 use Rattle.zst_recv.specs.declared.fault.RecvFault.{RecvFault}
 use Rattle.zst_recv.specs.declared.fault.RecvFault.TheVariants as faults
-use Rattle.zst_recv.specs.declared.recv.Fed as coded
+use Rattle.zst_recv.specs.declared.recv.FeedReport as coded
 use Rattle.zst_recv.specs.declared.recv.Recv.{Recv}
-use Rattle.zst_replication.specs.Counting.{RecordsAreCounted}
+use Rattle.zst_replication.specs.RecordCounts.{RecordsAreCounted}
 use Rattle.zst_run.specs.Receives.{piece_size}
-use Rattle.zst_run.specs.Underway.{Fills, HasFed, HasHanded, IsInputOf, IsPieceOf, Turned, TurnLeaves, TurnReads, TurnSpends, Turns, Underway, turn_behind, with_piece}
+use Rattle.zst_run.specs.ReceiveTurns.{Fills, HasFed, HasHanded, IsInputOf, IsPieceOf, Turned, TurnLeaves, TurnReads, TurnSpends, Turns, WaitsForMore, turn_behind, with_piece}
 use Rattle.zst_run.specs.declared.receive.End.{End}
 use Rattle.zst_run.specs.declared.receive.End.TheVariants.{Ended, Failed}
 use Rattle.zst_run.specs.declared.receive.Turn.TheVariants as turns
-use Rattle.zst_run.proofs.Commanded.{of_plan}
+use Rattle.zst_run.proofs.CommandLemmas.{of_plan}
 use Rattle.zst_recv.specs.Costs.{PieceGrows}
 use Rattle.zst_recv.specs.Feeds.{new_records}
-use Rattle.zst_run.proofs.Receiving.{recv_full}
-use Rattle.zst_run.proofs.Shorts.{IsShortBehind}
-use Rattle.zst_run.proofs.Turning.{turn_without, turned_more, turned_over, turned_received, turned_refused}
+use Rattle.zst_run.proofs.ReceiveLemmas.{recv_full}
+use Rattle.zst_run.proofs.PieceCosts.{IsShortBehind}
+use Rattle.zst_run.proofs.TurnLemmas.{turn_without, turned_more, turned_over, turned_received, turned_refused}
 
 -- ---- faults of the stream
 
@@ -82,8 +82,8 @@ module _ (input input' : SourceState) (room : List ℕ) (count : ℕ) (end : Opt
   input_is (Some Failed) is = is
 
   -- nothing more was there
-  module _ (none : count ≡ 0) (now : DiskState) (kept : Kept) (recv : Recv) (items : ℕ) where
-    without : (e : Option End) → Fills input input' (length room) count e → (tight : Bool) (pool : Pool) (pieces : List (List ℕ)) → now.honest → Underway tight now kept recv recv.ask pool pieces items
+  module _ (none : count ≡ 0) (now : DiskState) (kept : PoolState) (recv : Recv) (items : ℕ) where
+    without : (e : Option End) → Fills input input' (length room) count e → (tight : Bool) (pool : Pool) (pieces : List (List ℕ)) → now.honest → WaitsForMore tight now kept recv recv.ask pool pieces items
         → Turned tight now now kept recv recv.ask pool (with_piece pieces (take count room)) items (turn_behind e)
     without None is tight pool pieces honest u = absurd (let full = is.0 in omega (arith, full, none, size))
     without (Some e) is tight pool pieces honest u = turn_without tight now kept recv recv.ask pool pieces (take count room) items e (long ∙ none) u
@@ -117,19 +117,19 @@ module _ (input input' : SourceState) (room : List ℕ) (count : ℕ) (end : Opt
     leaves_without failed live works = leaves_by end fills failed live works
 
   -- a piece was there, and was fed
-  module _ (law : RecordsAreCounted) (some : count ≢ 0) (bytes : AreBytes (take count room)) (old now : DiskState) (kept kept' : Kept) (recv recv' : Recv) (items : ℕ) (same : recv'.ask ≡ recv.ask) where
+  module _ (law : RecordsAreCounted) (some : count ≢ 0) (bytes : AreBytes (take count room)) (old now : DiskState) (kept kept' : PoolState) (recv recv' : Recv) (items : ℕ) (same : recv'.ask ≡ recv.ask) where
     has_some : 0 < length (take count room)
     has_some = omega (arith, long, some)
 
     -- what a feed says of it
-    abbrev pub FedSo : Result coded.Fed RecvFault → Type 0
+    abbrev pub FedSo : Result coded.FeedReport RecvFault → Type 0
     FedSo result =
         (tight : Bool) (running : Pool) (text : List ℕ) (stage : Stage) → now.honest → IsAtRest tight old kept running → TellsBefore recv.ask stage kept.dir running
         → standing.Receives (bound_of tight running.number) (Has old.seen (free_by kept.body)) recv text stage → Feeds tight old now kept' recv' text (take count room) stage running result
 
-    module _ (told : coded.Fed) (items' : ℕ) (adds : items' ≡ min (items + told.applied) (2 ^ 64 - 1)) (feeds : FedSo (Ok told)) where
+    module _ (told : coded.FeedReport) (items' : ℕ) (adds : items' ≡ min (items + told.applied) (2 ^ 64 - 1)) (feeds : FedSo (Ok told)) where
       behind : (e : Option End) → told.done ≡ false → (is_waiting recv' ≡ true → kept' ≡ kept) → (tight : Bool) (pool : Pool) (pieces : List (List ℕ)) → now.honest
-          → Underway tight old kept recv recv.ask pool pieces items → Turned tight old now kept' recv' recv.ask pool (with_piece pieces (take count room)) items' (turn_behind e)
+          → WaitsForMore tight old kept recv recv.ask pool pieces items → Turned tight old now kept' recv' recv.ask pool (with_piece pieces (take count room)) items' (turn_behind e)
       behind None not still tight pool pieces honest u =
           turned_more law tight old now kept kept' recv recv' recv.ask pool pieces (take count room) items u has_some same told (feeds tight u.after _ u.stage honest u.rests u.tells u.fed) bytes most items' adds not still
       behind (Some e) not still tight pool pieces honest u =

@@ -9,25 +9,25 @@ use Rattle.zst_block.specs.Blocks.{SparesTaken}
 use Rattle.zst_uber.specs.Slots.{latest}
 use Rattle.zst_uber.specs.declared.TheConstants.{VERSION}
 use Rattle.zst_uber.specs.declared.uber.Uber.{Uber}
-use Rattle.zst_model.specs.pools.Lines.{ok_line}
+use Rattle.zst_model.specs.pools.AnswerLines.{ok_line}
 use Rattle.zst_model.specs.pools.Pool.{Pool}
 use Rattle.zst_model.specs.pools.Step.{Stepped, commits, stepped}
 use Rattle.zst_model.specs.refusals.Refusal.{refusal_of}
 use Rattle.zst_model.specs.declared.pools.command.Command.{Command}
 use Rattle.zst_model.specs.declared.refusals.faults.Quantity.TheVariants as quantities
-use Rattle.zst_model.specs.declared.refusals.named.Present.TheVariants as present
+use Rattle.zst_model.specs.declared.refusals.subjects.PresentSubject.TheVariants as present
 use Rattle.zst_model.specs.declared.refusals.plan_fault.PlanFault.{PlanFault}
 use Rattle.zst_model.specs.declared.refusals.plan_fault.PlanFault.TheVariants as plans
 use Rattle.zst_model.specs.declared.refusals.refusal.Refusal.{Refusal}
 use Rattle.zst_model.specs.declared.refusals.refusal.Refusal.TheVariants as refusals
 use Rattle.zst_dir.specs.Rows.{Rows}
 use Rattle.zst_image.specs.Faults.{create_refusal, open_refusal}
-use Rattle.zst_image.specs.Creating.{IsNew}
-use Rattle.zst_image.specs.Opening.{IsOpened, TellsBody, TellsDir}
+use Rattle.zst_image.specs.CreateAnswers.{IsNew}
+use Rattle.zst_image.specs.OpenAnswers.{IsOpened, TellsBody, TellsDir}
 use Rattle.zst_image.specs.Reads.{IsNamedBy, Reads, ReadsAs, Rests, free_by, kept_rows, new_pool}
 use Rattle.zst_image.specs.declared.create_fault.CreateFault.{CreateFault}
 use Rattle.zst_image.specs.declared.open_fault.OpenFault.{OpenFault}
-use Rattle.zst_image.specs.declared.kept.Kept.{Kept}
+use Rattle.zst_image.specs.declared.pool_state.PoolState.{PoolState}
 use Rattle.zst_pool.specs.Cost.{Grows, HasNoRoom, cost_of, most_sectors}
 use Rattle.zst_pool.specs.Damage.{TellsDamage}
 use Rattle.zst_pool.specs.Faults.{pool_refusal}
@@ -153,7 +153,7 @@ pub record Steps (now : ℕ) (command : Command) (here here' : DiskState) (out o
 
 -- an empty pool with this id and so many sectors stands, by tight sets too
 abbrev pub HasNew : ℕ → ℕ → DiskState → Type 0
-HasNew sectors id here' = (kept : Kept) × IsNew sectors kept × ((tight : Bool) → Rests tight here' kept.body kept.dir (new_pool id))
+HasNew sectors id here' = (kept : PoolState) × IsNew sectors kept × ((tight : Bool) → Rests tight here' kept.body kept.dir (new_pool id))
 
 -- What stands after making a pool, and why it is refused: E4 where one is there, also a damaged one or one of another
 -- version; E23 where the disk is too small. Both change nothing, and without memory there still is no pool.

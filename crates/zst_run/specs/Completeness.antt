@@ -15,9 +15,9 @@ use Rattle.zst_model.specs.sends.Headers.{Sent}
 use Rattle.zst_dir.specs.Rows.{Rows}
 use Rattle.zst_image.specs.Reads.{Reads, ReadsAs, kept_rows}
 use Rattle.zst_plan.specs.declared.receive.RecvAsk.{RecvAsk}
-use Rattle.zst_reader.specs.Filling.{stream_limit}
+use Rattle.zst_reader.specs.InputReads.{stream_limit}
 use Rattle.zst_recv.specs.Feeds.{receives}
-use Rattle.zst_recv.specs.Receiving.{Stops}
+use Rattle.zst_recv.specs.ReceiveSteps.{Stops}
 use Rattle.zst_recv.specs.Stages.{TellsTarget}
 use Rattle.zst_recv.specs.Tokens.{token_told}
 use Rattle.zst_send.specs.Sends.{begun_text}
@@ -27,7 +27,7 @@ use Rattle.zst_run.specs.Commands.{Creates, Opens, Steps, most_of}
 use Rattle.zst_run.specs.Dumps.{Dumps}
 use Rattle.zst_run.specs.Receives.{ArePieces, CostMore, Receives}
 use Rattle.zst_run.specs.Runs.{Told}
-use Rattle.zst_run.specs.declared.send.Asked.{Asked}
+use Rattle.zst_run.specs.declared.send.SendRequest.{SendRequest}
 use Rattle.zst_run.specs.Sends.{Sends, start_of, to_send}
 use Rattle.zst_run.specs.Tokens.{Tokens}
 
@@ -49,7 +49,7 @@ DoneIsTold = (note note' : SinkState) (status : ℕ) (result : Result (Unit {0})
 -- the disk nor the output counted a fault, it is done, or no memory was left.
 abbrev pub SendsComplete : (here here' : DiskState) → Type 0
 SendsComplete here here' =
-    (asked : Asked) (pool : Pool) (sent : Sent) (out out' : SinkState) (result : Result (Unit {0}) Refusal)
+    (asked : SendRequest) (pool : Pool) (sent : Sent) (out out' : SinkState) (result : Result (Unit {0}) Refusal)
     → here'.honest → Reads false pool here.seen → to_send asked pool ≡ Ok sent → length (begun_text sent (start_of asked)) ≤ stream_limit
     → NoneCounted here.faults here'.faults → NoneCounted out.faults out'.faults
     → Sends asked here here' out out' result → DoneOrNoMemory result

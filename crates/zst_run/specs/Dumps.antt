@@ -9,8 +9,8 @@ use Rattle.zst_model.specs.declared.refusals.refusal.Refusal.TheVariants as refu
 use Rattle.zst_record.specs.Heads.{Covered}
 use Rattle.zst_model.specs.declared.refusals.stream_fault.StreamFault.TheVariants as faults
 use Rattle.zst_stream.specs.Reading.{Reading, Outcome, waiting, faulty, complete, reading}
-use Rattle.zst_reader.specs.Filling.{stream_limit}
-use Rattle.zst_dump.specs.Lines.{lines_of}
+use Rattle.zst_reader.specs.InputReads.{stream_limit}
+use Rattle.zst_dump.specs.RecordLines.{lines_of}
 use Rattle.zst_dump.specs.Summary.{counts_of, summary_text}
 
 -- the two last lines stand only after END

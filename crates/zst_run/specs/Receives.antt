@@ -10,23 +10,23 @@ use Rattle.zst_uber.specs.Slots.{latest}
 use Rattle.zst_uber.specs.declared.uber.Uber.{Uber}
 use Rattle.zst_names.specs.Names.{dataset_of}
 use Rattle.zst_model.specs.declared.refusals.faults.Quantity.TheVariants.{Stream}
-use Rattle.zst_model.specs.declared.refusals.named.Name.{Name}
-use Rattle.zst_model.specs.declared.refusals.named.Name.TheVariants as names
+use Rattle.zst_model.specs.declared.refusals.subjects.Name.{Name}
+use Rattle.zst_model.specs.declared.refusals.subjects.Name.TheVariants as names
 use Rattle.zst_model.specs.declared.refusals.plan_fault.PlanFault.{PlanFault}
 use Rattle.zst_model.specs.declared.refusals.refusal.Refusal.{Refusal}
 use Rattle.zst_model.specs.declared.refusals.refusal.Refusal.TheVariants as refusals
 use Rattle.zst_model.specs.declared.refusals.stream_fault.StreamFault.{StreamFault}
 use Rattle.zst_model.specs.declared.refusals.stream_fault.StreamFault.TheVariants.{Truncated}
-use Rattle.zst_model.specs.pools.Kept.{kept_of}
+use Rattle.zst_model.specs.pools.KeptPool.{kept_of}
 use Rattle.zst_model.specs.pools.Pool.{Pool, Partial}
 use Rattle.zst_model.specs.refusals.Refusal.{refusal_of}
 use Rattle.zst_model.specs.refusals.Texts.{guid_text}
 use Rattle.zst_dir.specs.Rows.{Rows}
 use Rattle.zst_dir.specs.Spelling.{dir_bytes}
 use Rattle.zst_image.specs.Faults.{open_refusal}
-use Rattle.zst_image.specs.Opening.{TellsBody, TellsDir}
+use Rattle.zst_image.specs.OpenAnswers.{TellsBody, TellsDir}
 use Rattle.zst_image.specs.Reads.{Reads, ReadsAs, Rests, RunsBy, bound_of, free_by, kept_rows, dir_sectors}
-use Rattle.zst_image.specs.declared.kept.Kept.{Kept}
+use Rattle.zst_image.specs.declared.pool_state.PoolState.{PoolState}
 use Rattle.zst_image.specs.declared.open_fault.OpenFault.{OpenFault}
 use Rattle.zst_plan.specs.RecvPlan.{snapshot_name}
 use Rattle.zst_plan.specs.declared.receive.RecvAsk.{RecvAsk}
@@ -36,8 +36,8 @@ use Rattle.zst_recv.specs.Costs.{PieceIsShort, records_cost}
 use Rattle.zst_recv.specs.Faults.{IsFeedFault, recv_refusal, stream_limit}
 use Rattle.zst_recv.specs.Feeds.{new_records, receives}
 use Rattle.zst_recv.specs.Damage.{IsDamagedState}
-use Rattle.zst_recv.specs.Planning.{RefusesEach, RefusesOne}
-use Rattle.zst_recv.specs.Receiving.{Stage, Waits, Lives, Ends, Goes, Stops, left_by, pool_of}
+use Rattle.zst_recv.specs.Plans.{RefusesEach, RefusesOne}
+use Rattle.zst_recv.specs.ReceiveSteps.{Stage, Waits, Lives, Ends, Goes, Stops, left_by, pool_of}
 use Rattle.zst_recv.specs.Stages.{TellsTarget}
 use Rattle.zst_recv.specs.declared.fault.RecvFault.{RecvFault}
 use Rattle.zst_run.specs.Commands.{HasVersion, IsPoolRefusal, Opens}
@@ -137,7 +137,7 @@ pieces_cost count text [] = 0
 pieces_cost count text (piece ∷ rest) = records_cost (new_records text piece) + dir_sectors (count + 2048) + pieces_cost (count + 2048) (text ++ piece) rest
 
 -- fewer sectors were free by what was opened than the pieces cost together
-abbrev pub CostMore : Kept → List (List ℕ) → Type 0
+abbrev pub CostMore : PoolState → List (List ℕ) → Type 0
 CostMore kept pieces = kept.body.sectors - kept.body.end < pieces_cost (length (dir_bytes kept.dir)) [] pieces
 
 -- The last of the pieces found no room: those before it left the receive waiting, and a pool whose rows in memory stood for it then, by a body by
@@ -149,7 +149,7 @@ pub record LastFindsNoRoom (tight : Bool) (ask : RecvAsk) (pool : Pool) (pieces 
   pub after : Pool
   pub stage : Stage
   pub is : receives ask pool before ≡ Goes after stage
-  pub kept : Kept
+  pub kept : PoolState
   pub image : List ℕ
   pub runs_by : RunsBy (bound_of tight after.number) (Has image (free_by kept.body)) kept.dir after
   pub rows : Rows
@@ -200,7 +200,7 @@ pub record SaysOfPlan (rows : Rows) (ask : RecvAsk) (text : List ℕ) (answer : 
 pub record IsDamagedReceive (here : DiskState) (uber : Uber) (target : List ℕ) (sector : ℕ) (stated found : List ℕ) : Type 0 where
   pub before : List ℕ
   pub size : ℕ
-  pub kept : Kept
+  pub kept : PoolState
   pub blocks : KeepsBlocks here.seen (free_by uber) before (free_by kept.body)
   pub seen : List ℕ
   pub free : FreeSectors
@@ -208,7 +208,7 @@ pub record IsDamagedReceive (here : DiskState) (uber : Uber) (target : List ℕ)
   pub state : IsDamagedState (SparesTaken free seen) size kept.dir target sector stated found
 
 -- a receive of what is asked, by these pieces, into a pool that was opened by this body and these rows, whether or not the image reads as a pool: E24 comes only
--- where the longest run is shorter than what is needed
+-- where the longest extent is shorter than what is needed
 pub record ReceiveRan (ask : RecvAsk) (pieces : List (List ℕ)) (here : DiskState) (answer : Result (List (List ℕ)) Refusal) (uber : Uber) (rows : Rows) : Type 0 where
   pub opens : Opens here uber rows
   pub full : (need largest : ℕ) → answer ≡ Err (refusals.Full need largest) → largest < need

@@ -9,11 +9,11 @@ use Rattle.zst_model.specs.declared.refusals.plan_fault.PlanFault.{PlanFault}
 use Rattle.zst_model.specs.declared.refusals.plan_fault.PlanFault.TheVariants as plans
 use Rattle.zst_model.specs.declared.refusals.refusal.Refusal.{Refusal}
 use Rattle.zst_model.specs.declared.refusals.refusal.Refusal.TheVariants as refusals
-use Rattle.zst_line.specs.Lines.{LineAnswers}
+use Rattle.zst_line.specs.Line.{LineAnswers}
 use Rattle.zst_line.specs.declared.line.Line.{Line}
 use Rattle.zst_line.specs.declared.line.LineFault.{LineFault}
 use Rattle.zst_run.specs.Devices.{Devices}
-use Rattle.zst_run.specs.Lines.{Does}
+use Rattle.zst_run.specs.LineEffects.{Does}
 
 -- the status that a plan's fault ends the program with
 abbrev pub plan_status : PlanFault → ℕ

@@ -8,8 +8,8 @@ use Rattle.zst_uber.specs.Slots.{latest}
 use Rattle.zst_uber.specs.declared.uber.Uber.{Uber}
 use Rattle.zst_model.specs.declared.refusals.faults.Lack.TheVariants as lacks
 use Rattle.zst_model.specs.declared.refusals.faults.Quantity.TheVariants.{Stream}
-use Rattle.zst_model.specs.declared.refusals.named.Name.{Name}
-use Rattle.zst_model.specs.declared.refusals.named.Name.TheVariants as names
+use Rattle.zst_model.specs.declared.refusals.subjects.Name.{Name}
+use Rattle.zst_model.specs.declared.refusals.subjects.Name.TheVariants as names
 use Rattle.zst_model.specs.declared.refusals.plan_fault.PlanFault.{PlanFault}
 use Rattle.zst_model.specs.declared.refusals.plan_fault.PlanFault.TheVariants as plans
 use Rattle.zst_model.specs.declared.refusals.refusal.Refusal.{Refusal}
@@ -21,26 +21,26 @@ use Rattle.zst_model.specs.declared.sends.header.Point.{Point}
 use Rattle.zst_model.specs.pools.Pool.{Pool}
 use Rattle.zst_model.specs.refusals.Refusal.{refusal_of}
 use Rattle.zst_model.specs.sends.Headers.{Sent, sent_view}
-use Rattle.zst_model.specs.states.Apply.{unless, ◌>>=◌}
+use Rattle.zst_model.specs.states.AppliedItems.{unless, ◌>>=◌}
 use Rattle.zst_tree.specs.Damage.{IsSeen}
 use Rattle.zst_tree.specs.declared.tree.ObjSet.{ObjSet}
 use Rattle.zst_objset.specs.Damage.{DamageFact}
 use Rattle.zst_dir.specs.Rows.{Rows}
 use Rattle.zst_image.specs.Faults.{open_refusal}
-use Rattle.zst_image.specs.Opening.{TellsBody, TellsDir}
+use Rattle.zst_image.specs.OpenAnswers.{TellsBody, TellsDir}
 use Rattle.zst_image.specs.Reads.{IsNamedBy, Reads, kept_rows}
 use Rattle.zst_image.specs.declared.open_fault.OpenFault.{OpenFault}
 use Rattle.zst_plan.specs.ResumePlan.{resumed_send}
-use Rattle.zst_pool.specs.Finding.{set_named}
+use Rattle.zst_pool.specs.Lookups.{set_named}
 use Rattle.zst_pool.specs.Faults.{pool_refusal}
 use Rattle.zst_pool.specs.declared.fault.PoolFault.{PoolFault}
-use Rattle.zst_reader.specs.Filling.{stream_limit}
+use Rattle.zst_reader.specs.InputReads.{stream_limit}
 use Rattle.zst_send.specs.Damage.{IsDamagedSend}
-use Rattle.zst_send.specs.Opening.{built, opening, set_with}
+use Rattle.zst_send.specs.Openings.{built, opening, set_with}
 use Rattle.zst_send.specs.Sends.{begun_text}
 use Rattle.zst_token.specs.declared.token.Token.{Token}
-use Rattle.zst_run.specs.declared.send.Asked.{Asked}
-use Rattle.zst_run.specs.declared.send.Asked.TheVariants.{Named, Rest}
+use Rattle.zst_run.specs.declared.send.SendRequest.{SendRequest}
+use Rattle.zst_run.specs.declared.send.SendRequest.TheVariants.{Named, Rest}
 use Rattle.zst_run.specs.Commands.{HasVersion, IsPoolRefusal, Opens}
 
 -- ---- what is asked
@@ -66,22 +66,22 @@ abbrev pub rest_of : Token → Pool → Result Sent PlanFault
 rest_of token pool = unless token.large (plans.Unsupported lacks.LargeBlocks) (resumed_send token pool)
 
 -- what is to be sent, or why it can't: the refusals of its plan, and then that it isn't built
-abbrev pub to_send : Asked → Pool → Result Sent PlanFault
+abbrev pub to_send : SendRequest → Pool → Result Sent PlanFault
 to_send (Named ask) pool = opening ask pool
 to_send (Rest token) pool = rest_of token pool >>= built
 
 -- the point that a send begins at: a token's, and none of a send from the beginning
-abbrev pub start_of : Asked → Option Point
+abbrev pub start_of : SendRequest → Option Point
 start_of (Named ask) = None
 start_of (Rest token) = Some token.point
 
 -- the object set is that of the asked name; a token's is that of the first snapshot with its to guid
-abbrev pub HasSet : Asked → Rows → ObjSet → Type 0
+abbrev pub HasSet : SendRequest → Rows → ObjSet → Type 0
 HasSet (Named ask) rows set = set_named (names.Snapshot ask.snap) rows ≡ Some set
 HasSet (Rest token) rows set = set_with token.to rows ≡ Some set
 
 -- a damage of such an object set
-abbrev pub OfAsked : Asked → Rows → (ObjSet → DamageFact) → DamageFact
+abbrev pub OfAsked : SendRequest → Rows → (ObjSet → DamageFact) → DamageFact
 OfAsked asked rows Is sector stated found = (set : ObjSet) × HasSet asked rows set × Is set sector stated found
 
 -- ---- how a send of a pool ends
@@ -147,7 +147,7 @@ TellsOf Is result = (sector : ℕ) (stated found : List ℕ) → result ≡ Err 
 -- tells alone: E3, E6, E7 and E19 come exactly where the definition refuses the plan of a pool that the body and the rows name,
 -- whatever its object sets hold, and then nothing is written. E25 comes only of a block of the asked snapshot's own object set, or,
 -- where a token asks, of that of the first snapshot with its to guid.
-pub record SendRan (asked : Asked) (here : DiskState) (out out' : SinkState) (result : Result (Unit {0}) Refusal) (uber : Uber) (rows : Rows) : Type 0 where
+pub record SendRan (asked : SendRequest) (here : DiskState) (out out' : SinkState) (result : Result (Unit {0}) Refusal) (uber : Uber) (rows : Rows) : Type 0 where
   pub opens : Opens here uber rows
   pub planned : (pool : Pool) (fault : PlanFault) → IsNamedBy uber (kept_rows rows) pool → to_send asked pool ≡ Err fault
       → (result ≡ Err (refusal_of fault)) × (out' ≡ out)
@@ -158,7 +158,7 @@ pub record SendRan (asked : Asked) (here : DiskState) (out out' : SinkState) (re
 -- What an answer says of any image. E26 comes where there is no latest body, E27 where it has another version, E25 where it
 -- or its directory isn't of the layout: then nothing is written. Any other answer comes where both are, but for E28 and E32
 -- before anything is written.
-abbrev pub SendOpened : Asked → DiskState → SinkState → SinkState → Result (Unit {0}) Refusal → Type 0
+abbrev pub SendOpened : SendRequest → DiskState → SinkState → SinkState → Result (Unit {0}) Refusal → Type 0
 SendOpened asked here out out' (Err refusals.NoPool) = (latest here.seen ≡ None) × (out' ≡ out)
 SendOpened asked here out out' (Err (refusals.BadVersion number)) = HasVersion here number × (out' ≡ out)
 SendOpened asked here out out' (Err (refusals.Damaged sector stated found)) =
@@ -182,7 +182,7 @@ pub record IsSendRefusal (Is : Refusal → Type 0) (here here' : DiskState) (out
   pub cause : refusal ≡ refusals.SinkFault → Rose out.faults out'.faults
 
 -- A send of what is asked, from an image, which is only read. Of a pool a front of the text of its plan is written.
-pub record Sends (asked : Asked) (here here' : DiskState) (out out' : SinkState) (result : Result (Unit {0}) Refusal) : Type 0 where
+pub record Sends (asked : SendRequest) (here here' : DiskState) (out out' : SinkState) (result : Result (Unit {0}) Refusal) : Type 0 where
   pub reads : OnlyReads here here'
   pub sends : (pool : Pool) → here'.honest → Reads false pool here.seen → SendsBy (start_of asked) (to_send asked pool) here.faults here'.faults out out' result
   pub opened : here'.honest → SendOpened asked here out out' result
@@ -193,7 +193,7 @@ pub record Sends (asked : Asked) (here here' : DiskState) (out out' : SinkState)
 
 -- a pool that reads of an image as this send was asked, from its beginning or from a point, with what is sent of it
 pub record SendsOf (sent : Sent) (start : Option Point) (here here' : DiskState) (out out' : SinkState) (result : Result (Unit {0}) Refusal) : Type 0 where
-  pub asked : Asked
+  pub asked : SendRequest
   pub begins : start_of asked ≡ start
   pub pool : Pool
   pub honest : here'.honest

@@ -1,9 +1,9 @@
 ghost use Rattle.std.specs.Prelude.{◌<◌, ◌≤◌};
 ghost use Rattle.zst_outside.specs.States.{SourceState, SinkState};
-ghost use Rattle.zst_reader.specs.Filling.{stream_limit};
+ghost use Rattle.zst_reader.specs.InputReads.{stream_limit};
 ghost use Rattle.zst_reader.specs.StandsFor.{pushed_of, room_of};
 ghost use Rattle.zst_run.specs.Dumps.{Dumps, HasOneAnswer};
-ghost use Rattle.zst_run.specs.Dumping.{Dumping, IsLast, TakesMore, Turned};
+ghost use Rattle.zst_run.specs.DumpTurns.{Dumping, IsLast, TakesMore, Turned};
 
 use crate::reply::hand_on;
 use std::alloc::Global;

@@ -1,8 +1,8 @@
 // How the program opens the image that a line names.
 ghost use Rattle.std.specs.Prelude.{◌≡◌, IfOk, [], map, string_bytes};
 ghost use Rattle.zst_file.specs.FileDisk.{history_of};
-ghost use Rattle.zst_run.specs.Lines.{IsInRange};
-ghost use Rattle.zst_run.specs.Openings.{OpensBy, image_in, way_of};
+ghost use Rattle.zst_run.specs.LineEffects.{IsInRange};
+ghost use Rattle.zst_run.specs.OpenMode.{OpensBy, image_in, way_of};
 
 use std::alloc::{AllocError, Global};
 use std::fs::{self, File};
@@ -16,7 +16,7 @@ const SECTOR: u64 = 512;
 
 /// How the image of a line is opened.
 #[derive(Clone, Copy)]
-pub enum Opening {
+pub enum OpenMode {
     /// It is only read, beside others that only read it.
     Shared,
     /// It is read and written, with nobody beside.
@@ -27,19 +27,19 @@ pub enum Opening {
 
 /// How a line opens its image: one that commits nothing needs no leave to write. None where it names no image, or asks
 /// for what isn't built.
-fn opening_for(line: &Line) -> Option<Opening>
+fn opening_for(line: &Line) -> Option<OpenMode>
     requires { IsInRange line.now }
     ensures { result ≡ way_of line.now }
 {
     match line {
         Line::Create { sectors, .. } => {
             let bytes = *sectors * SECTOR;
-            Some(Opening::Made { bytes })
+            Some(OpenMode::Made { bytes })
         }
-        Line::Step { command, .. } if command.commits() => Some(Opening::Alone),
-        Line::Receive { .. } => Some(Opening::Alone),
+        Line::Step { command, .. } if command.commits() => Some(OpenMode::Alone),
+        Line::Receive { .. } => Some(OpenMode::Alone),
         Line::Step { .. } | Line::Send { .. } | Line::Resume { .. } | Line::Token { .. } => {
-            Some(Opening::Shared)
+            Some(OpenMode::Shared)
         }
         _ => None,
     }
@@ -62,7 +62,7 @@ fn image_of(line: Line) -> Option<Text>
 
 /// The image that the words name, and how it is opened; None where they name none, are no line, or ask for what isn't
 /// built.
-pub fn opening_of(alloc: Global, words: &[String]) -> Result<Option<(Text, Opening)>, AllocError>
+pub fn opening_of(alloc: Global, words: &[String]) -> Result<Option<(Text, OpenMode)>, AllocError>
     ensures { IfOk result (OpensBy (map string_bytes words.now)) }
 {
     let line = match parse(alloc, words) {
@@ -115,10 +115,10 @@ fn make(rt: &HostRuntime, path: &str, bytes: u64) -> io::Result<File> {
 
 /// Takes the lock that keeps an image from being written by two. It goes with the last descriptor of this opening, also
 /// where the program is killed.
-fn lock(file: &File, opening: Opening) -> io::Result<()> {
+fn lock(file: &File, opening: OpenMode) -> io::Result<()> {
     match opening {
-        Opening::Shared => file.try_lock_shared()?,
-        Opening::Alone | Opening::Made { .. } => file.try_lock()?,
+        OpenMode::Shared => file.try_lock_shared()?,
+        OpenMode::Alone | OpenMode::Made { .. } => file.try_lock()?,
     }
     Ok(())
 }
@@ -130,15 +130,15 @@ fn lock(file: &File, opening: Opening) -> io::Result<()> {
 pub fn open<S: Start>(
     rt: &HostRuntime,
     path: &str,
-    opening: Opening,
+    opening: OpenMode,
     start: S,
 ) -> io::Result<FileDisk<S>>
     ensures { IfOk result (λ disk. history_of disk ≡ []) }
 {
-    let writes = !matches!(opening, Opening::Shared);
+    let writes = !matches!(opening, OpenMode::Shared);
     let there = File::options().read(true).write(writes).open(rt, path);
     let file = match (there, opening) {
-        (Err(error), Opening::Made { bytes }) if error.kind() == ErrorKind::NotFound => {
+        (Err(error), OpenMode::Made { bytes }) if error.kind() == ErrorKind::NotFound => {
             make(rt, path, bytes)?
         }
         (there, _) => {

@@ -3,28 +3,28 @@
 
 mod completeness;
 mod dump;
+mod file_runs;
 mod image;
 mod note;
-mod on_file;
 mod pools;
 mod receive;
-mod replicated;
+mod replication;
 mod reply;
-mod running;
+mod runs;
 mod send;
-mod telling;
+mod tokens;
 
 pub use completeness::{
     creates_complete, done_is_told, dumps_complete, receives_complete, sends_complete,
     steps_complete, tokens_complete,
 };
 pub use dump::dumps_have_one_answer;
-pub use image::{Opening, open, opening_of};
+pub use file_runs::run_on_file;
+pub use image::{OpenMode, open, opening_of};
 pub use note::status_of;
-pub use on_file::run_on_file;
-pub use replicated::{
+pub use replication::{
     chains_of_runs_complete, refused_leaves_nothing, rests_are_progress, sent_rest_stands,
     sent_snapshot_stands, sound_stays_sound, sources_still_remember, stops_are_progress,
 };
-pub use running::run;
+pub use runs::run;
 pub use send::equal_views_are_written_alike;

@@ -5,7 +5,7 @@ ghost use Rattle.zst_run.specs.Commands.{Creates, Stepping, Steps};
 
 use crate::reply::{print_line, print_reply};
 use std::alloc::Global;
-use zst_image::{Kept, images_keep_partials, reads_are_kept, reads_as_one};
+use zst_image::{PoolState, images_keep_partials, reads_are_kept, reads_as_one};
 use zst_laws::steps_keep_partials;
 use zst_model::{Command, Refusal, Reply};
 use zst_outside::{Disk, Sink};
@@ -23,7 +23,7 @@ pub(crate) fn create_pool<D: Disk, K: Sink>(
     requires id { (0 < id) × (id < 2 ^ 31) }
     ensures { Creates sectors id (D.state here.old) (D.state here.new) (K.state out.old) (K.state out.new) result }
 {
-    Kept::create(alloc, here, sectors, id)?;
+    PoolState::create(alloc, here, sectors, id)?;
     match print_line(b"ok 1", out) {
         Ok(()) => Ok(()),
         Err(_) => Err(Refusal::SinkFault),
@@ -45,7 +45,7 @@ fn step_image<D: Disk>(
     reads_are_kept();
     reads_as_one();
     opened_is_at_rest::<D>();
-    let kept = Kept::open(alloc, here)?;
+    let kept = PoolState::open(alloc, here)?;
     let mut pool = Pool::new(alloc, here, kept);
     let reply = pool.step(alloc, now, command);
     // Only of a disk that was given back is it known what stands on it.

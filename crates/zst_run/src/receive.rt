@@ -5,7 +5,7 @@ ghost use Rattle.zst_outside.specs.Printing.{Prints};
 ghost use Rattle.zst_outside.specs.States.{Gave, HandedOn};
 ghost use Rattle.zst_space.specs.FreeSectors.{FreeSectors};
 ghost use Rattle.zst_block.specs.Blocks.{Has, KeepsBlocks};
-ghost use Rattle.zst_image.specs.Committing.{Ready};
+ghost use Rattle.zst_image.specs.Commits.{Ready};
 ghost use Rattle.zst_image.specs.Reads.{free_by};
 ghost use Rattle.zst_model.specs.pools.Pool.{Pool as Plain};
 ghost use Rattle.zst_plan.specs.RecvPlan.{snapshot_name};
@@ -14,21 +14,21 @@ ghost use Rattle.zst_reader.specs.StandsFor.{StandsFor};
 ghost use Rattle.zst_record.specs.Laws.{AreBytes};
 ghost use Rattle.zst_recv.specs.Damage.{IsDamagedFeed};
 ghost use Rattle.zst_recv.specs.Faults.{stream_limit};
-ghost use Rattle.zst_recv.specs.Receiving.{Stage, left_by};
+ghost use Rattle.zst_recv.specs.ReceiveSteps.{Stage, left_by};
 ghost use Rattle.zst_recv.specs.Stages.{Receives as HasTaken, RecvFits, fed_of, is_live, received_by};
 ghost use Rattle.zst_dir.specs.Rows.{Rows};
 ghost use Rattle.zst_run.specs.Receives.{IsDamagedReceive, IsTarget, Receives, Receiving, SaysOfPlan, piece_size, receipt_of, snapshot_of, target_of};
 ghost use Rattle.zst_run.specs.Replies.{reply_text};
-ghost use Rattle.zst_run.specs.Underway.{Fed, Fills, IsEnd, IsReady, PlansOn, TurnLeaves, TurnPlans, Turns, Underway, cut_refusal, line_of, told, turn_behind, HasHanded};
+ghost use Rattle.zst_run.specs.ReceiveTurns.{Fed, Fills, IsEnd, IsReady, PlansOn, TurnLeaves, TurnPlans, Turns, WaitsForMore, cut_refusal, line_of, told, turn_behind, HasHanded};
 
 use itoa::Buffer;
 use std::alloc::Global;
-use zst_image::{Kept, images_keep_partials};
+use zst_image::{PoolState, images_keep_partials};
 use zst_model::{Name, Refusal, guid_text};
 use zst_names::{DatasetName, SnapName};
 use zst_outside::{Disk, Fault, Sink, Source, write_all};
 use zst_pool::{Pool, opened_is_at_rest};
-use zst_recv::{Received, Recv, RecvAsk};
+use zst_recv::{ReceivedSnapshot, Recv, RecvAsk};
 use zst_replication::records_are_counted;
 use zst_stream::fronts_agree;
 
@@ -219,7 +219,7 @@ fn cut<D: Disk>(pool: &mut Pool<'_, D>, recv: Recv, end: End) -> Refusal
 /// What a receive has made.
 #[derive(Drop)]
 struct Receipt {
-    snapshot: Received,
+    snapshot: ReceivedSnapshot,
     /// How many records stood between BEGIN and END.
     items: u64,
 }
@@ -254,7 +254,7 @@ fn feed_all<D: Disk, S: Source>(
     ensures plans { (rows : Rows) (text : List ℕ) → Gave (S.state input.old) (S.state input.new) text → PlansOn rows pool.old.kept recv [] → SaysOfPlan rows recv.ask text (told result) }
     ensures damaged { (sector : ℕ) (stated found : List ℕ) → (D.state pool.new.io.disk.now).honest → result ≡ Err (Refusal.Damaged sector stated found)
         → IsDamagedReceive (D.state pool.old.io.disk.now) pool.old.kept.body recv.ask.target sector stated found }
-    ensures fed { Fed (λ tight start. Underway tight (D.state pool.old.io.disk.now) pool.old.kept recv recv.ask start [] 0) pool.old.kept (D.state pool.old.io.disk.now) (D.state pool.new.io.disk.now) recv.ask (S.state input.old) (S.state input.new) (told result) }
+    ensures fed { Fed (λ tight start. WaitsForMore tight (D.state pool.old.io.disk.now) pool.old.kept recv recv.ask start [] 0) pool.old.kept (D.state pool.old.io.disk.now) (D.state pool.new.io.disk.now) recv.ask (S.state input.old) (S.state input.new) (told result) }
     ensures refused { IfErr result (IsEnd (D.state pool.old.io.disk.now) (D.state pool.new.io.disk.now) (S.state input.old) (S.state input.new)) }
     ensures later { (D.state pool.old.io.disk.now).faults ≤ (D.state pool.new.io.disk.now).faults }
     ensures input_later { (S.state input.old).faults ≤ (S.state input.new).faults }
@@ -309,7 +309,7 @@ fn receive_image<D: Disk, S: Source>(
 {
     images_keep_partials();
     opened_is_at_rest::<D>();
-    let kept = Kept::open(alloc, here)?;
+    let kept = PoolState::open(alloc, here)?;
     let mut pool = Pool::new(alloc, here, kept);
     let result = receive_into(alloc, &mut pool, ask, input);
     // Only of a disk that was given back is it known what stands on it.
@@ -318,7 +318,7 @@ fn receive_image<D: Disk, S: Source>(
 }
 
 // Writes the name of a snapshot.
-fn write_name<K: Sink>(snapshot: &Received, out: &mut K) -> Result<(), Fault>
+fn write_name<K: Sink>(snapshot: &ReceivedSnapshot, out: &mut K) -> Result<(), Fault>
     ensures { Prints (K.state out.old) (K.state out.new) (snapshot_name snapshot.now.target snapshot.now.component) result }
 {
     write_all(out, snapshot.target.text().as_bytes())?;

@@ -5,7 +5,7 @@ ghost use Rattle.zst_outside.specs.Images.{OnlyReads};
 ghost use Rattle.zst_outside.specs.States.{SinkState};
 ghost use Rattle.zst_space.specs.FreeSectors.{FreeSectors};
 ghost use Rattle.zst_block.specs.Blocks.{FitsDisk, Has};
-ghost use Rattle.zst_dir.specs.Named.{AreNamed};
+ghost use Rattle.zst_dir.specs.RowNames.{AreNamed};
 ghost use Rattle.zst_image.specs.Reads.{RunsBy};
 ghost use Rattle.zst_model.specs.pools.Pool.{Pool as Plain};
 ghost use Rattle.zst_model.specs.declared.refusals.plan_fault.PlanFault.{PlanFault};
@@ -13,19 +13,19 @@ ghost use Rattle.zst_model.specs.declared.sends.header.Point.{Point};
 ghost use Rattle.zst_model.specs.sends.Headers.{Sent};
 ghost use Rattle.zst_plan.specs.Places.{AnswerAlike};
 ghost use Rattle.zst_plan.specs.Plans.{IsInside, IsPlanOf};
-ghost use Rattle.zst_reader.specs.Filling.{stream_limit};
+ghost use Rattle.zst_reader.specs.InputReads.{stream_limit};
 ghost use Rattle.zst_send.specs.Damage.{IsDamagedSend};
-ghost use Rattle.zst_send.specs.Knowing.{IsAmong, Knows};
-ghost use Rattle.zst_send.specs.Opening.{opening};
+ghost use Rattle.zst_send.specs.KnownPointers.{IsAmong, Knows};
+ghost use Rattle.zst_send.specs.Openings.{opening};
 ghost use Rattle.zst_send.specs.Sends.{SendFits, sent_set};
-ghost use Rattle.zst_run.specs.declared.send.Asked.TheVariants.{Named, Rest};
+ghost use Rattle.zst_run.specs.declared.send.SendRequest.TheVariants.{Named, Rest};
 ghost use Rattle.zst_run.specs.Sends.{HasSet, IsSendRefusal, IsSource, OfAsked, OfGiving, Sends, SendsBy, SentAlike, TellsOf, ask_of, rest_of, send_damage, source_of, start_of, to_send};
-ghost use Rattle.zst_run.specs.Sending.{Advances, IfUnplanned, IsOpenRefusal, OpensBy, Passed, PlansOpen, Sending, WritesPiece};
+ghost use Rattle.zst_run.specs.SendPieces.{Advances, IfUnplanned, IsOpenRefusal, OpensBy, Passed, PlansOpen, Sending, WritesPiece};
 
 use crate::reply::hand_on;
 use std::alloc::Global;
 use zst_dir::Dir;
-use zst_image::Kept;
+use zst_image::PoolState;
 use zst_model::{Lack, Name, PlanFault, Quantity, Refusal};
 use zst_names::{BookName, SnapName};
 use zst_outside::{Disk, Sink, write_all};
@@ -40,7 +40,7 @@ const PIECE: usize = 262_144;
 
 /// What is asked to be sent.
 #[derive(Drop)]
-pub(crate) enum Asked {
+pub(crate) enum SendRequest {
     /// A snapshot, by the names of the line.
     Named(SendAsk),
     /// The rest of what a token is of.
@@ -61,11 +61,15 @@ fn source_of(from: &Option<Name>) -> Option<FromName>
 }
 
 /// What the names of a line ask for.
-pub(crate) fn ask_of(from: &Option<Name>, redacts: &Option<BookName>, snapshot: &SnapName) -> Asked
+pub(crate) fn ask_of(
+    from: &Option<Name>,
+    redacts: &Option<BookName>,
+    snapshot: &SnapName,
+) -> SendRequest
     requires { IfSome from.now IsSource }
     ensures { result ≡ Named (ask_of from.now redacts.now snapshot.now) }
 {
-    Asked::Named(SendAsk {
+    SendRequest::Named(SendAsk {
         snap: snapshot.duplicate(),
         from: source_of(from),
         redact: match redacts {
@@ -76,10 +80,10 @@ pub(crate) fn ask_of(from: &Option<Name>, redacts: &Option<BookName>, snapshot: 
 }
 
 /// What a token asks for.
-pub(crate) fn ask_rest(token: &Token) -> Asked
+pub(crate) fn ask_rest(token: &Token) -> SendRequest
     ensures { result ≡ Rest token.now }
 {
-    Asked::Rest(Token {
+    SendRequest::Rest(Token {
         large: token.large,
         to: token.to,
         from: token.from,
@@ -247,7 +251,11 @@ fn open_rest<D: Disk>(alloc: Global, pool: &mut Pool<'_, D>, token: &Token) -> R
 }
 
 // Opens a send. That reads nothing, so that it is refused by its plan or for want of memory alone.
-fn open<D: Disk>(alloc: Global, pool: &mut Pool<'_, D>, asked: &Asked) -> Result<Send, Refusal>
+fn open<D: Disk>(
+    alloc: Global,
+    pool: &mut Pool<'_, D>,
+    asked: &SendRequest,
+) -> Result<Send, Refusal>
     requires { pool.old.io.failed ≡ false }
     ensures opens { (image : List ℕ) (space : FreeSectors) (running : Plain) → RunsBy None (Has image space) pool.old.kept.dir running
         → OpensBy (Has image space) (start_of asked.now) (to_send asked.now running) result }
@@ -262,8 +270,8 @@ fn open<D: Disk>(alloc: Global, pool: &mut Pool<'_, D>, asked: &Asked) -> Result
     ensures same { pool.new.io.disk.ghost_name ≡ pool.old.io.disk.ghost_name }
 {
     match asked {
-        Asked::Named(ask) => open_named(alloc, pool, ask),
-        Asked::Rest(token) => open_rest(alloc, pool, token),
+        SendRequest::Named(ask) => open_named(alloc, pool, ask),
+        SendRequest::Rest(token) => open_rest(alloc, pool, token),
     }
 }
 
@@ -271,7 +279,7 @@ fn open<D: Disk>(alloc: Global, pool: &mut Pool<'_, D>, asked: &Asked) -> Result
 fn send_from<D: Disk, K: Sink>(
     alloc: Global,
     pool: &mut Pool<'_, D>,
-    asked: &Asked,
+    asked: &SendRequest,
     out: &mut K,
 ) -> Result<(), Refusal>
     requires fits { FitsDisk (D.state pool.old.io.disk.now).size pool.old.io.space }
@@ -297,12 +305,12 @@ fn send_from<D: Disk, K: Sink>(
 pub(crate) fn send<D: Disk, K: Sink>(
     alloc: Global,
     here: &mut D,
-    asked: &Asked,
+    asked: &SendRequest,
     out: &mut K,
 ) -> Result<(), Refusal>
     ensures { Sends asked.now (D.state here.old) (D.state here.new) (K.state out.old) (K.state out.new) result }
 {
-    let kept = Kept::open(alloc, here)?;
+    let kept = PoolState::open(alloc, here)?;
     let mut pool = Pool::new(alloc, here, kept);
     let result = send_from(alloc, &mut pool, asked, out);
     // Only of a disk that was given back is it known what stands on it.

@@ -1,15 +1,15 @@
-mod Costing
-mod Damaging
-mod Filling
-mod Giving
-mod Joining
-pub mod Knowing
-mod Passing
-mod Paying
-mod Planning
-mod Putting
+mod LookCosts
+mod BlockDamage
+mod GivenRecords
+mod RecordPieces
+mod ItemRuns
+pub mod KnownPointers
+mod WalkGaps
+mod ItemCosts
+mod PlanRows
+mod ItemRecords
 mod Sizes
-mod Staying
-mod Steps
-mod Touching
-mod Telling
+mod KeptBlocks
+mod WalkSteps
+mod TouchedItems
+mod SetDates

@@ -7,7 +7,7 @@ use Rattle.zst_dnode.specs.declared.dnode.Dnode.{Dnode}
 use Rattle.zst_model.specs.states.State.{BlockFits, Data, IsObject, IsObjectOrNone, IsSpill, IsState, Object, index_bound, is_block_size, is_spill_size, largest_block}
 use Rattle.std.specs.Prelude.{IsTrue, List, length, Option, Some, None, IfSome}
 use Rattle.zst_model.proofs.Sizes.{block_size_over_none, spill_is_block}
-use Rattle.zst_model.specs.states.Dated.{DatedState}
+use Rattle.zst_model.specs.states.DatedState.{DatedState}
 use Rattle.zst_send.specs.Places.{PlaceFits}
 use Rattle.zst_send.specs.declared.place.Place.{Place}
 

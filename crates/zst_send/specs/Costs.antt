@@ -8,18 +8,18 @@ use Rattle.zst_model.specs.declared.sends.header.Point.{Point}
 use Rattle.zst_model.specs.sends.Headers.{Sent}
 use Rattle.zst_model.specs.sends.Items.{items}
 use Rattle.zst_model.specs.sends.View.{View}
-use Rattle.zst_model.specs.states.Dated.{DatedState, size_at}
+use Rattle.zst_model.specs.states.DatedState.{DatedState, size_at}
 use Rattle.zst_model.specs.states.State.{number_bound}
 use Rattle.zst_record.specs.Payload.{stated_point}
 use Rattle.zst_stream.specs.Image.{front_of}
 use Rattle.zst_tree.specs.Indices.{Blocks}
 use Rattle.zst_send.specs.Records.{AreLeft, HasPut, reads_of, sizes_of, touched}
 use Rattle.zst_send.specs.Sends.{begun, begun_view}
-use Rattle.zst_send.specs.declared.due.Due.{Due}
-use Rattle.zst_send.specs.declared.due.Due.TheVariants.{Absent, Object, Spill, Tail, Holes, Redacted, Block}
+use Rattle.zst_send.specs.declared.due_items.DueItems.{DueItems}
+use Rattle.zst_send.specs.declared.due_items.DueItems.TheVariants.{Absent, Object, Spill, Tail, Holes, Redacted, Block}
 use Rattle.zst_send.specs.declared.place.Place.{Place}
 use Rattle.zst_send.specs.declared.send.Send.{Send}
-use Rattle.zst_send.specs.declared.stand.Stand.{Stand}
+use Rattle.zst_send.specs.declared.send_state.SendState.{SendState}
 use Rattle.zst_send.specs.declared.walk.Walk.{Walk}
 use Rattle.zst_send.specs.declared.work.Payload.{Payload}
 use Rattle.zst_send.specs.declared.work.Payload.TheVariants as payloads
@@ -27,7 +27,7 @@ use Rattle.zst_send.specs.declared.work.Payload.TheVariants as payloads
 -- ---- looks
 
 -- so many included numbers and pairs are due with a first record: each number of a run, an object's number, each index of a run, and a block's. A spill block and a tail have none of their own
-abbrev pub cells_due : DatedState → Due → ℕ
+abbrev pub cells_due : DatedState → DueItems → ℕ
 cells_due snap (Absent first count) = count
 cells_due snap (Object k dnode) = 1
 cells_due snap (Spill k ptr tail) = 0
@@ -37,7 +37,7 @@ cells_due snap (Redacted k offset length) = length / size_at (snap.state k)
 cells_due snap (Block k type offset ptr) = 1
 
 -- so many come next, where anything does
-abbrev pub cells_next : DatedState → Option Due → ℕ
+abbrev pub cells_next : DatedState → Option DueItems → ℕ
 cells_next snap None = 0
 cells_next snap (Some due) = cells_due snap due
 
@@ -56,7 +56,7 @@ looks_ahead snap walk = min 1 (cells_next snap walk.held) + ended walk.place
 -- ---- reads
 
 -- 1 where the first record of what is due has a block
-abbrev pub reads_due : Due → ℕ
+abbrev pub reads_due : DueItems → ℕ
 reads_due (Absent first count) = 0
 reads_due (Object k dnode) = 0
 reads_due (Spill k ptr tail) = 1
@@ -102,7 +102,7 @@ abbrev pub most_calls : Sent → List Item → ℕ
 most_calls sent items = 64 * (cells_in sent.snapshot.objects items + 2) + blocks_in items
 
 -- some items were put and the others are left, for no more calls than those items and the looks take that the walk is further ahead
-pub record Pays (has : Blocks) (snap : DatedState) (view : View) (left : List Item) (old new : Stand) (before after : ℕ) : Type 0 where
+pub record Pays (has : Blocks) (snap : DatedState) (view : View) (left : List Item) (old new : SendState) (before after : ℕ) : Type 0 where
   pub put : List Item
   pub later : List Item
   pub are : left ≡ put ++ later
@@ -117,7 +117,7 @@ listed None = []
 listed (Some item) = item ∷ []
 
 -- a step puts the next item, whose block the room has then, or END, or nothing, for no more calls than the item and the looks take that the walk is further ahead, where the set is tight
-pub record Puts (has : Blocks) (snap : DatedState) (view : View) (tight : Type 0) (point : Point) (front : ℕ) (put : List Item) (place : ℕ) (old new : Stand) (was holds : Option Ptr) (before after : ℕ) : Type 0 where
+pub record Puts (has : Blocks) (snap : DatedState) (view : View) (tight : Type 0) (point : Point) (front : ℕ) (put : List Item) (place : ℕ) (old new : SendState) (was holds : Option Ptr) (before after : ℕ) : Type 0 where
   pub next : Option Item
   pub now : HasPut has snap view point front (put ++ listed next) place new
   pub begins : IfSome next (λ item. place ≡ front + sizes_of put)
@@ -125,7 +125,7 @@ pub record Puts (has : Blocks) (snap : DatedState) (view : View) (tight : Type 0
   pub few : tight → after + 64 * looks_ahead snap old.walk ≤ before + calls_for snap (listed next) + 64 * looks_ahead snap new.walk
 
 -- while it gives `count` bytes a send puts some items, for no more calls than these and the looks take, and one where the block of the record in work is read again: all of them are for items that have a byte among those
-pub record PutsIn (has : Blocks) (snap : DatedState) (view : View) (tight : Type 0) (point : Point) (front : ℕ) (put : List Item) (place count : ℕ) (old new : Stand) (before after : ℕ) : Type 0 where
+pub record PutsIn (has : Blocks) (snap : DatedState) (view : View) (tight : Type 0) (point : Point) (front : ℕ) (put : List Item) (place count : ℕ) (old new : SendState) (before after : ℕ) : Type 0 where
   pub more : List Item
   pub now : HasPut has snap view point front (put ++ more) (place + count) new
   pub again : ℕ

@@ -3,12 +3,12 @@ use Rattle.std.specs.Prelude.{◌⊎◌, ℕ, ◌<◌, List}
 use Rattle.zst_block.specs.declared.ptr.Ptr.{Ptr}
 use Rattle.zst_dnode.specs.declared.dnode.Dnode.{Dnode}
 use Rattle.zst_objset.specs.Damage.{DamageFact, IsToldOf, StandsIn}
-use Rattle.zst_traverse.specs.Standing.{IsDataOf}
-use Rattle.zst_traverse.specs.Telling.{IsDamagedCell}
+use Rattle.zst_traverse.specs.StandingEntries.{IsDataOf}
+use Rattle.zst_traverse.specs.Damage.{IsDamagedCell}
 use Rattle.zst_tree.specs.declared.tree.ObjSet.{ObjSet}
-use Rattle.zst_send.specs.Due.{longest_payload}
-use Rattle.zst_send.specs.declared.due.Due.{Due}
-use Rattle.zst_send.specs.declared.due.Due.TheVariants.{Absent, Object, Spill, Tail, Holes, Redacted, Block}
+use Rattle.zst_send.specs.DueItems.{longest_payload}
+use Rattle.zst_send.specs.declared.due_items.DueItems.{DueItems}
+use Rattle.zst_send.specs.declared.due_items.DueItems.TheVariants.{Absent, Object, Spill, Tail, Holes, Redacted, Block}
 use Rattle.zst_send.specs.declared.work.Payload.{Payload}
 use Rattle.zst_send.specs.declared.work.Payload.TheVariants as payloads
 
@@ -21,7 +21,7 @@ abbrev pub IsDamagedLoad : (List ℕ → Type 0) → ℕ → Ptr → DamageFact
 IsDamagedLoad images size ptr sector stated found = IsToldOf images size (longest_payload < ptr.length) ptr sector stated found
 
 -- what may be told of what is due: of the block that its first record has
-abbrev pub IsDamagedDue : (List ℕ → Type 0) → ℕ → Due → DamageFact
+abbrev pub IsDamagedDue : (List ℕ → Type 0) → ℕ → DueItems → DamageFact
 IsDamagedDue images size (Absent first count) sector stated found = ⊥
 IsDamagedDue images size (Object k dnode) sector stated found = ⊥
 IsDamagedDue images size (Spill k ptr tail) sector stated found = IsDamagedRead images size ptr sector stated found

@@ -1,10 +1,10 @@
 pub mod Costs
 pub mod Damage
-pub mod Due
-pub mod Knowing
-pub mod Opening
+pub mod DueItems
+pub mod KnownPointers
+pub mod Openings
 pub mod Places
 pub mod Records
 pub mod Sends
-pub mod Standing
-pub mod Working
+pub mod SendState
+pub mod Work

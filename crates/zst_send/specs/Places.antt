@@ -3,21 +3,21 @@ use Rattle.std.specs.Prelude.{◌≡◌, ◌+◌, ◌*◌, ◌<◌, ◌≤◌, �
 use Rattle.zst_model.specs.declared.states.item.Item.{Item}
 use Rattle.zst_model.specs.sends.Items.{joined}
 use Rattle.zst_model.specs.sends.View.{View}
-use Rattle.zst_model.specs.states.Dated.{DatedState}
+use Rattle.zst_model.specs.states.DatedState.{DatedState}
 use Rattle.zst_model.specs.states.State.{Object as Plain}
 use Rattle.zst_laws.specs.Walk.{walk_left}
-use Rattle.zst_traverse.specs.declared.found.Found.{Found}
-use Rattle.zst_traverse.specs.declared.found.Found.TheVariants.{Object, Gone, Pairs}
+use Rattle.zst_traverse.specs.declared.walk_entry.WalkEntry.{WalkEntry}
+use Rattle.zst_traverse.specs.declared.walk_entry.WalkEntry.TheVariants.{Object, Gone, Pairs}
 use Rattle.zst_tree.specs.Indices.{Blocks}
-use Rattle.zst_send.specs.Due.{AreDue, AreHeld, DueFits, IsFirst, longest_payload}
-use Rattle.zst_send.specs.declared.due.Due.{Due}
+use Rattle.zst_send.specs.DueItems.{AreDue, AreHeld, DueFits, IsFirst, longest_payload}
+use Rattle.zst_send.specs.declared.due_items.DueItems.{DueItems}
 use Rattle.zst_send.specs.declared.place.Place.{Place}
 use Rattle.zst_send.specs.declared.walk.Walk.{Walk}
 
 -- ---- moving on
 
 -- the place behind what was found: in an object behind its opening or its run, and behind a run of numbers at the next number
-abbrev pub place_after : Place → Found → Place
+abbrev pub place_after : Place → WalkEntry → Place
 place_after place (Object number dnode) = record {
   point = record { object = number; offset = if number == place.point.object then place.point.offset else 0 };
   slot = false;
@@ -45,7 +45,7 @@ abbrev pub left_behind : View → Place → List Item
 left_behind view place = walk_left view place.point place.slot
 
 -- what is found at a place comes first of what is left there, and what is left behind it comes next; where nothing is found, nothing is left
-abbrev pub GoesTo : Blocks → DatedState → View → Place → Place → Option Due → Type 0
+abbrev pub GoesTo : Blocks → DatedState → View → Place → Place → Option DueItems → Type 0
 GoesTo has snap view old new None = (left_behind view old ≡ []) × (left_behind view new ≡ []) × IsPlaceOf snap new
 GoesTo has snap view old new (Some due) =
     (items : List Item) × AreDue has due items × (joined (left_behind view old) ≡ joined (items ++ left_behind view new)) × IsPlaceOf snap new
@@ -62,12 +62,12 @@ abbrev pub items_left : View → Walk → List Item → List Item
 items_left view walk held = joined (held ++ left_behind view walk.place)
 
 -- what is due comes first of the items that are left, then those behind the place; where nothing is due, none is left
-abbrev pub ComesFirst : Blocks → DatedState → View → List Item → Place → Option Due → Type 0
+abbrev pub ComesFirst : Blocks → DatedState → View → List Item → Place → Option DueItems → Type 0
 ComesFirst has snap view left new None = (left ≡ []) × IsPlaceOf snap new
 ComesFirst has snap view left new (Some due) = (items : List Item) × AreDue has due items × (left ≡ joined (items ++ left_behind view new)) × IsPlaceOf snap new
 
 -- what comes next is the first item that is left, and where nothing comes, none is left
-abbrev pub Gives : Blocks → DatedState → View → List Item → Walk → Option Due → Type 0
+abbrev pub Gives : Blocks → DatedState → View → List Item → Walk → Option DueItems → Type 0
 Gives has snap view left new None = (left ≡ []) × IsWalk has snap new []
 Gives has snap view left new (Some due) =
     (first : Item) × (held : List Item) × IsFirst has due first × IsWalk has snap new held × (left ≡ first ∷ items_left view new held)

@@ -6,13 +6,13 @@ use Rattle.zst_model.specs.declared.states.item.Item.TheVariants.{At, FreeObject
 use Rattle.zst_model.specs.declared.sends.header.Point.{Point}
 use Rattle.zst_model.specs.sends.Items.{items}
 use Rattle.zst_model.specs.sends.View.{View}
-use Rattle.zst_model.specs.states.Dated.{DatedState}
+use Rattle.zst_model.specs.states.DatedState.{DatedState}
 use Rattle.zst_record.specs.Formats.{record_len}
 use Rattle.zst_stream.specs.Records.{item_payload}
 use Rattle.zst_tree.specs.Indices.{Blocks}
 use Rattle.zst_send.specs.Places.{IsWalk, items_left}
-use Rattle.zst_send.specs.Working.{payload_size}
-use Rattle.zst_send.specs.declared.stand.Stand.{Stand}
+use Rattle.zst_send.specs.Work.{payload_size}
+use Rattle.zst_send.specs.declared.send_state.SendState.{SendState}
 use Rattle.zst_send.specs.declared.walk.Walk.{Walk}
 use Rattle.zst_send.specs.declared.work.Payload.{Payload}
 use Rattle.zst_send.specs.declared.work.Payload.TheVariants.{Nothing, Bonus, Block}
@@ -80,7 +80,7 @@ IsInWork put ended (Bonus field count) = Unit {0}
 IsInWork put ended (Block ptr) = (first : List Item) × (last : Item) × (put ≡ first ++ last ∷ []) × IsOfItem last (Block ptr) × (ended ≡ false)
 
 -- a send from a point on, whose BEGIN has `front` bytes with its payload, and that has given `place` bytes, has put the records of these first items of its view, and END where it says so; the others are left
-pub record HasPut (has : Blocks) (snap : DatedState) (view : View) (point : Point) (front : ℕ) (put : List Item) (place : ℕ) (stand : Stand) : Type 0 where
+pub record HasPut (has : Blocks) (snap : DatedState) (view : View) (point : Point) (front : ℕ) (put : List Item) (place : ℕ) (stand : SendState) : Type 0 where
   pub later : List Item
   pub are : items view point ≡ put ++ later
   pub are_left : AreLeft has snap view stand.walk stand.ended later

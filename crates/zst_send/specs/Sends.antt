@@ -18,8 +18,8 @@ use Rattle.zst_traverse.specs.Cells.{choice_after}
 use Rattle.zst_tree.specs.Indices.{Blocks}
 use Rattle.zst_tree.specs.declared.tree.ObjSet.{ObjSet}
 use Rattle.zst_send.specs.Records.{HasPut}
-use Rattle.zst_send.specs.Standing.{StandFits, StandsAt}
-use Rattle.zst_send.specs.Working.{IsLoaded, RoomFits}
+use Rattle.zst_send.specs.SendState.{StandFits, StandsAt}
+use Rattle.zst_send.specs.Work.{IsLoaded, RoomFits}
 use Rattle.zst_send.specs.declared.send.Send.{Send}
 
 -- what BEGIN says of a send, from its beginning or from a token's point

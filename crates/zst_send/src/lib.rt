@@ -1,13 +1,13 @@
 //! The bytes of a send: a walk over what a snapshot's view shows, and the records of what it finds.
 #![tactic(auto)]
 
-mod built;
-mod due;
+mod due_items;
 mod laws;
 mod place;
 mod room;
 mod send;
-mod stand;
+mod send_state;
+mod support;
 #[cfg(test)]
 mod tests;
 mod walk;

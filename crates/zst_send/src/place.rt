@@ -1,24 +1,24 @@
 ghost use Rattle.std.specs.Prelude.{◌≡◌, ◌*◌, ◌+◌, ◌<◌, ◌≤◌, true, Contains, IfOk, IfSome, List, None, Ok, ℕ};
 ghost use Rattle.zst_block.specs.Blocks.{FitsDisk, Has};
-ghost use Rattle.zst_block.specs.Working.{Looks, stop_of};
+ghost use Rattle.zst_block.specs.IoCalls.{Looks, stop_of};
 ghost use Rattle.zst_model.specs.declared.sends.header.Header.{Header};
 ghost use Rattle.zst_model.specs.sends.View.{view_of};
-ghost use Rattle.zst_model.specs.states.Dated.{DatedState};
+ghost use Rattle.zst_model.specs.states.DatedState.{DatedState};
 ghost use Rattle.zst_model.specs.states.State.{number_bound};
 ghost use Rattle.zst_objset.specs.Damage.{IfDamaged};
 ghost use Rattle.zst_objset.specs.Sets.{SetHolds};
 ghost use Rattle.zst_send.specs.Costs.{cells_due, ended, is_ended};
-ghost use Rattle.zst_send.specs.Due.{DueFits};
-ghost use Rattle.zst_send.specs.Knowing.{DueStands, IsAmong};
+ghost use Rattle.zst_send.specs.DueItems.{DueFits};
+ghost use Rattle.zst_send.specs.KnownPointers.{DueStands, IsAmong};
 ghost use Rattle.zst_send.specs.Places.{GoesTo, IsPlaceOf, PlaceFits, place_after};
 ghost use Rattle.zst_traverse.specs.Cells.{FoundFits, IsNextCell, choice_after};
-ghost use Rattle.zst_traverse.specs.Standing.{FoundStands};
-ghost use Rattle.zst_traverse.specs.Telling.{IsDamagedCell};
-ghost use Rattle.zst_objset.specs.Tight.{SetIsTight};
+ghost use Rattle.zst_traverse.specs.StandingEntries.{FoundStands};
+ghost use Rattle.zst_traverse.specs.Damage.{IsDamagedCell};
+ghost use Rattle.zst_objset.specs.TightSets.{SetIsTight};
 ghost use Rattle.zst_tree.specs.Damage.{IsSeen};
 ghost use Rattle.zst_tree.specs.Indices.{Delivers};
 
-use crate::due::{Due, due_of};
+use crate::due_items::{DueItems, due_of};
 use std::marker::Brand;
 use std::sync::ledger::{Blank, Ledger};
 use zst_block::{BlockFault, Io};
@@ -26,7 +26,7 @@ use zst_laws::{block_run_is_next, gone_run_is_next, object_is_next, walk_ends};
 use zst_model::Point;
 use zst_model::limits::NUMBER_BOUND;
 use zst_outside::Disk;
-use zst_traverse::{Found, next_cell};
+use zst_traverse::{WalkEntry, next_cell};
 use zst_tree::{ObjSet, Steps};
 
 /// Where a walk stands.
@@ -42,14 +42,14 @@ pub(crate) struct Place {
 }
 
 // The place behind what was found.
-fn place_after(place: &Place, found: &Found) -> Place
+fn place_after(place: &Place, found: &WalkEntry) -> Place
     requires place { PlaceFits place.now }
     requires found { FoundFits place.now.point found.now }
     ensures place { result ≡ place_after place.now found.now }
     ensures fits { PlaceFits result }
 {
     match *found {
-        Found::Object { number, dnode } => Place {
+        WalkEntry::Object { number, dnode } => Place {
             point: Point {
                 object: number,
                 offset: if number == place.point.object {
@@ -62,7 +62,7 @@ fn place_after(place: &Place, found: &Found) -> Place
             type_: dnode.type_,
             block_size: dnode.block_size,
         },
-        Found::Gone { first, count } => Place {
+        WalkEntry::Gone { first, count } => Place {
             point: Point {
                 object: first + count,
                 offset: 0,
@@ -70,7 +70,7 @@ fn place_after(place: &Place, found: &Found) -> Place
             slot: true,
             ..*place
         },
-        Found::Pairs {
+        WalkEntry::Pairs {
             object,
             first,
             count,
@@ -133,7 +133,7 @@ impl Place {
         io: &mut Io<'_, D>,
         set: &ObjSet,
         source: Option<u64>,
-    ) -> Result<Option<Due>, BlockFault>
+    ) -> Result<Option<DueItems>, BlockFault>
         requires place { PlaceFits self.old }
         requires fits { FitsDisk (D.state io.old.disk.now).size io.old.space }
 
@@ -181,7 +181,7 @@ fn next_found<D: Disk>(
     set: &ObjSet,
     source: Option<u64>,
     place: &Place,
-) -> Result<Option<Found>, BlockFault>
+) -> Result<Option<WalkEntry>, BlockFault>
     requires fits { FitsDisk (D.state io.old.disk.now).size io.old.space }
     ensures found { (snap : DatedState) → (D.state io.new.disk.now).honest → SetHolds (Has (D.state io.old.disk.now).seen io.old.space) set.now snap
         → Delivers (IsNextCell (Has (D.state io.new.disk.now).seen io.new.space) snap (choice_after source) place.now.point place.now.slot) result }
@@ -207,7 +207,7 @@ fn counted<D: Disk, L: Ledger>(
     source: Option<u64>,
     place: &Place,
     blank: Blank,
-) -> Result<Option<Found>, BlockFault>
+) -> Result<Option<WalkEntry>, BlockFault>
     requires name { blank.name ≡ L.name }
     requires parts { blank.parts ≡ L.parts }
     requires some { 0 < blank.parts }

@@ -2,9 +2,9 @@ ghost use Rattle.std.specs.Prelude.{◌≡◌};
 ghost use Rattle.zst_model.specs.sends.View.{header_from};
 ghost use Rattle.zst_record.specs.Payload.{stated_point};
 
-use crate::built::check_built;
 use crate::room::Room;
-use crate::stand::{Stand, Subject};
+use crate::send_state::{SendState, Subject};
+use crate::support::check_built;
 use std::alloc::Global;
 use zst_dir::Dir;
 use zst_model::features::RESUMING;
@@ -17,7 +17,7 @@ use zst_pool::{Pool, PoolFault};
 #[derive(Drop)]
 pub struct Send {
     subject: Subject,
-    stand: Stand,
+    stand: SendState,
     room: Room,
 }
 
@@ -26,27 +26,27 @@ impl Send {
     ghost use Rattle.std.specs.List.{position};
     ghost use Rattle.zst_space.specs.FreeSectors.{FreeSectors};
     ghost use Rattle.zst_block.specs.Blocks.{FitsDisk, Has};
-    ghost use Rattle.zst_block.specs.Working.{Looks};
-    ghost use Rattle.zst_dir.specs.Named.{AreNamed};
+    ghost use Rattle.zst_block.specs.IoCalls.{Looks};
+    ghost use Rattle.zst_dir.specs.RowNames.{AreNamed};
     ghost use Rattle.zst_dir.specs.declared.rows.Snapshot.{Snapshot as SnapshotRow};
     ghost use Rattle.zst_image.specs.Reads.{RunsBy};
     ghost use Rattle.zst_model.specs.pools.Pool.{Pool as Plain};
-    ghost use Rattle.zst_model.specs.declared.refusals.named.Name.TheVariants as names;
+    ghost use Rattle.zst_model.specs.declared.refusals.subjects.Name.TheVariants as names;
     ghost use Rattle.zst_model.specs.declared.refusals.plan_fault.PlanFault.{PlanFault};
     ghost use Rattle.zst_model.specs.declared.states.item.Item.{Item};
     ghost use Rattle.zst_model.specs.declared.sends.header.Point.{Point};
     ghost use Rattle.zst_model.specs.sends.Headers.{Sent};
-    ghost use Rattle.zst_objset.specs.Tight.{SetIsTight};
+    ghost use Rattle.zst_objset.specs.TightSets.{SetIsTight};
     ghost use Rattle.zst_plan.specs.Plans.{IsInside, IsPlanOf};
     ghost use Rattle.zst_pool.specs.Damage.{IsOf};
-    ghost use Rattle.zst_pool.specs.Finding.{set_named};
-    ghost use Rattle.zst_pool.specs.Telling.{stop_of};
+    ghost use Rattle.zst_pool.specs.Lookups.{set_named};
+    ghost use Rattle.zst_pool.specs.Queries.{stop_of};
     ghost use Rattle.zst_send.specs.Costs.{AreToCome, PaysFor, items_in, most_calls};
     ghost use Rattle.zst_send.specs.Damage.{IsDamagedSend};
-    ghost use Rattle.zst_send.specs.Knowing.{IsAmong, Knows};
-    ghost use Rattle.zst_send.specs.Opening.{IsPlanned, Opens, Resumes, built, is_plain, opening, set_where, set_with};
+    ghost use Rattle.zst_send.specs.KnownPointers.{IsAmong, Knows};
+    ghost use Rattle.zst_send.specs.Openings.{IsPlanned, Opens, Resumes, built, is_plain, opening, set_where, set_with};
     ghost use Rattle.zst_send.specs.Sends.{SendFits, Sends, SendsFrom, Takes, TakesFrom, begun_text, sent_set};
-    ghost use Rattle.zst_send.specs.Working.{RoomFits};
+    ghost use Rattle.zst_send.specs.Work.{RoomFits};
 
     /// Plans a send and takes all of its memory. Nothing is read.
     pub fn open<D: Disk>(
@@ -202,7 +202,7 @@ impl Send {
         };
         Send {
             subject,
-            stand: Stand::start(header, point),
+            stand: SendState::start(header, point),
             room,
         }
     }

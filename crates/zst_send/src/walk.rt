@@ -1,23 +1,23 @@
 ghost use Rattle.std.specs.Prelude.{◌≡◌, ◌*◌, ◌+◌, ◌≤◌, true, Contains, List, None, Some, IfOk, IfSome, OnOk, min, ℕ};
 ghost use Rattle.zst_block.specs.Blocks.{FitsDisk, Has};
-ghost use Rattle.zst_block.specs.Working.{Looks, stop_of};
+ghost use Rattle.zst_block.specs.IoCalls.{Looks, stop_of};
 ghost use Rattle.zst_model.specs.declared.sends.header.Header.{Header};
 ghost use Rattle.zst_model.specs.declared.states.item.Item.{Item};
 ghost use Rattle.zst_model.specs.sends.View.{view_of};
-ghost use Rattle.zst_model.specs.states.Dated.{DatedState};
+ghost use Rattle.zst_model.specs.states.DatedState.{DatedState};
 ghost use Rattle.zst_objset.specs.Damage.{IfDamaged};
 ghost use Rattle.zst_objset.specs.Sets.{SetHolds};
 ghost use Rattle.zst_send.specs.Costs.{cells_due, cells_next, ended, looks_ahead};
-ghost use Rattle.zst_send.specs.Due.{DueFits, is_run};
-ghost use Rattle.zst_send.specs.Knowing.{DueStands, IsAmong, WalkStands};
+ghost use Rattle.zst_send.specs.DueItems.{DueFits, is_run};
+ghost use Rattle.zst_send.specs.KnownPointers.{DueStands, IsAmong, WalkStands};
 ghost use Rattle.zst_send.specs.Places.{ComesFirst, Gives, IsPlaceOf, IsWalk, WalkFits, items_left};
 ghost use Rattle.zst_traverse.specs.Cells.{choice_after};
-ghost use Rattle.zst_traverse.specs.Telling.{IsDamagedCell};
-ghost use Rattle.zst_objset.specs.Tight.{SetIsTight};
+ghost use Rattle.zst_traverse.specs.Damage.{IsDamagedCell};
+ghost use Rattle.zst_objset.specs.TightSets.{SetIsTight};
 ghost use Rattle.zst_tree.specs.Damage.{IsSeen};
 ghost use Rattle.zst_tree.specs.Indices.{Delivers};
 
-use crate::due::{Due, joined};
+use crate::due_items::{DueItems, joined};
 use crate::place::Place;
 use zst_block::{BlockFault, Io};
 use zst_laws::held_goes_on;
@@ -29,7 +29,7 @@ use zst_tree::ObjSet;
 #[derive(Clone, Copy, Debug, PartialEq, Eq)]
 pub(crate) struct Walk {
     pub place: Place,
-    pub held: Option<Due>,
+    pub held: Option<DueItems>,
 }
 
 impl Walk {
@@ -52,7 +52,7 @@ impl Walk {
         io: &mut Io<'_, D>,
         set: &ObjSet,
         source: Option<u64>,
-    ) -> Result<Option<Due>, BlockFault>
+    ) -> Result<Option<DueItems>, BlockFault>
         requires walk { WalkFits self.old }
         requires fits { FitsDisk (D.state io.old.disk.now).size io.old.space }
 
@@ -93,7 +93,7 @@ impl Walk {
         io: &mut Io<'_, D>,
         set: &ObjSet,
         source: Option<u64>,
-    ) -> Result<Option<Due>, BlockFault>
+    ) -> Result<Option<DueItems>, BlockFault>
         requires walk { WalkFits self.old }
         requires fits { FitsDisk (D.state io.old.disk.now).size io.old.space }
         ensures goes { (header : Header) (snap : DatedState) (held : List Item) → (D.state io.new.disk.now).honest → SetHolds (Has (D.state io.old.disk.now).seen io.old.space) set.now snap
@@ -127,8 +127,8 @@ impl Walk {
         io: &mut Io<'_, D>,
         set: &ObjSet,
         source: Option<u64>,
-        run: Due,
-    ) -> Result<Due, BlockFault>
+        run: DueItems,
+    ) -> Result<DueItems, BlockFault>
         requires walk { WalkFits self.old }
         requires run { (is_run run ≡ true) × DueFits run }
         requires fits { FitsDisk (D.state io.old.disk.now).size io.old.space }

@@ -1,6 +1,6 @@
 ghost use Rattle.std.specs.Prelude.{◌≡◌, ◌⊎◌, ◌==◌, ◌+◌, ◌-◌, ◌%◌, ◌<◌, ◌≤◌, ◌++◌, false, List, [], ℕ, IfOk, OnErr, OnOk, drop, length, min, pred, take};
 ghost use Rattle.zst_block.specs.Blocks.{FitsDisk, Has};
-ghost use Rattle.zst_block.specs.Working.{Looks, stop_of};
+ghost use Rattle.zst_block.specs.IoCalls.{Looks, stop_of};
 ghost use Rattle.zst_dnode.specs.Dnode.{DnodeFits};
 ghost use Rattle.zst_model.specs.declared.states.item.Change.TheVariants.{Put};
 ghost use Rattle.zst_model.specs.declared.states.item.Item.{Item};
@@ -11,17 +11,17 @@ ghost use Rattle.zst_record.specs.Payload.{begin_payload};
 ghost use Rattle.zst_objset.specs.Damage.{IfDamaged};
 ghost use Rattle.zst_send.specs.Costs.{IsHeld, reads_due};
 ghost use Rattle.zst_send.specs.Damage.{IsDamagedDue, IsDamagedPayload};
-ghost use Rattle.zst_send.specs.Due.{DueFits, IsFirst, head_in};
+ghost use Rattle.zst_send.specs.DueItems.{DueFits, IsFirst, head_in};
 ghost use Rattle.zst_send.specs.Records.{IsOfItem, blocks_behind};
-ghost use Rattle.zst_send.specs.Working.{HasBlockOf, IsLoaded, IsPut, IsWork, RoomFits, WorkFits, payload_size};
-ghost use Rattle.zst_stream.specs.Found.{HasBonus, found_item};
+ghost use Rattle.zst_send.specs.Work.{HasBlockOf, IsLoaded, IsPut, IsWork, RoomFits, WorkFits, payload_size};
+ghost use Rattle.zst_stream.specs.FoundItems.{HasBonus, found_item};
 ghost use Rattle.zst_stream.specs.Image.{front_of, piece_after};
 ghost use Rattle.zst_stream.specs.Records.{item_head, item_payload, padded_bonus, piece_for};
 ghost use Rattle.zst_tree.specs.Damage.{IsSeen};
 ghost use Rattle.zst_tree.specs.Indices.{Delivers};
 ghost use Rattle.zst_writer.specs.Writes.{HasWritten, bytes_after};
 
-use crate::due::Due;
+use crate::due_items::DueItems;
 use crate::room::Room;
 use zst_block::{BlockFault, Io, Ptr};
 use zst_dnode::Dnode;
@@ -116,7 +116,7 @@ impl Work {
         writer: &mut Writer,
         room: &mut Room,
         io: &mut Io<'_, D>,
-        due: &Due,
+        due: &DueItems,
         to: u64,
     ) -> Result<Work, BlockFault>
         requires due { DueFits due.now }
@@ -145,23 +145,23 @@ impl Work {
         ensures same { io.new.disk.ghost_name ≡ io.old.disk.ghost_name }
     {
         match *due {
-            Due::Absent { first, count } => Ok(Work::of(
+            DueItems::Absent { first, count } => Ok(Work::of(
                 writer,
                 &ItemRef::Absent { first, count },
                 to,
             )),
-            Due::Object { object, dnode } => Ok(Work::of_object(writer, object, &dnode, to)),
-            Due::Spill { object, ptr, .. } => {
+            DueItems::Object { object, dnode } => Ok(Work::of_object(writer, object, &dnode, to)),
+            DueItems::Spill { object, ptr, .. } => {
                 room.load(io, &ptr)?;
                 let bytes = room.block(ptr.length);
                 Ok(Work::of_block(writer, &ItemRef::Spill { object, bytes }, bytes, ptr, to))
             }
-            Due::Tail { object, offset } => Ok(Work::of(
+            DueItems::Tail { object, offset } => Ok(Work::of(
                 writer,
                 &ItemRef::Tail { object, offset },
                 to,
             )),
-            Due::Holes {
+            DueItems::Holes {
                 object,
                 offset,
                 length,
@@ -174,7 +174,7 @@ impl Work {
                 },
                 to,
             )),
-            Due::Redacted {
+            DueItems::Redacted {
                 object,
                 offset,
                 length,
@@ -187,7 +187,7 @@ impl Work {
                 },
                 to,
             )),
-            Due::Block {
+            DueItems::Block {
                 object,
                 type_,
                 offset,

@@ -1,3 +1,3 @@
-pub mod Fit
-pub mod Taken
+pub mod FirstFit
+pub mod TakenExtentLemmas
 pub mod FreeSectorsLaws

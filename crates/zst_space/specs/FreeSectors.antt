@@ -41,7 +41,7 @@ abbrev pub greatest : List Extent → ℕ → ℕ
 greatest [] least = least
 greatest (extent ∷ extents) least = max extent.count (greatest extents least)
 
--- how long a run of sectors can be taken
+-- how many sectors in a row can be taken
 abbrev pub largest_of : FreeSectors → ℕ
 largest_of space = greatest space.free (space.sectors - space.end)
 

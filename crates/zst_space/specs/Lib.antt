@@ -1,2 +1,2 @@
 pub mod FreeSectors
-pub mod Taking
+pub mod TakenExtents

@@ -1,9 +1,9 @@
-//! The free sectors of a pool, from which runs of sectors are taken.
+//! The free sectors of a pool, from which extents are taken.
 #![tactic(auto)]
 
 mod space;
 
-pub use space::{Extent, Full, Space};
+pub use space::{Extent, Space, SpaceFault};
 
 #[cfg(test)]
 mod tests;

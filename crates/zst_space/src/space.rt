@@ -12,9 +12,9 @@ pub struct Extent {
     pub count: u64,
 }
 
-/// No run of `need` sectors is free: the longest one has `largest`.
+/// No free extent has `need` sectors: the longest one has `largest`.
 #[derive(Clone, Copy, Debug, PartialEq, Eq)]
-pub struct Full {
+pub struct SpaceFault {
     pub need: u64,
     pub largest: u64,
 }
@@ -40,7 +40,7 @@ impl Space {
     ghost use Rattle.std.specs.List.{position, remove};
     ghost use Rattle.std.specs.Prelude.{slice_set, if◌then◌else◌};
     ghost use Rattle.zst_space.specs.FreeSectors.{FreeSectors, IsSpace, IsSpaceFrom, largest_of, room};
-    ghost use Rattle.zst_space.specs.Taking.{Takes, place_of, without};
+    ghost use Rattle.zst_space.specs.TakenExtents.{Takes, place_of, without};
 
     /// The sectors of a pool of so many, of which those of the free extents and all from `end` on
     /// are free.
@@ -57,7 +57,7 @@ impl Space {
         self.end
     }
 
-    /// How many sectors the longest run has that is free, in an extent or from `end` on.
+    /// How many sectors in a row are free at most, in an extent or from `end` on.
     pub fn largest(&self) -> u64
         requires { IsSpace self.now }
         ensures { result ≡ largest_of self.now }
@@ -65,12 +65,12 @@ impl Space {
         greatest_of(&self.free, self.sectors - self.end)
     }
 
-    /// Takes a run of `count` sectors and gives its first one. It stands in the first free extent
+    /// Takes `count` sectors in a row and gives the first one. They stand in the first free extent
     /// that has so many, and else at `end`.
-    pub fn take(&mut self, count: u64) -> Result<u64, Full>
+    pub fn take(&mut self, count: u64) -> Result<u64, SpaceFault>
         requires { IsSpace self.old }
 
-        // The run is the first one that is long enough, and is no longer free.
+        // They are the first so many in a row that are free, and are free no longer.
         ensures first { IfOk result (λ first. first ≡ place_of self.old count) }
         ensures after { OnOk result (self.new ≡ without self.old count) }
         ensures takes { IfOk result (λ first. Takes self.old self.new first count) }
@@ -84,7 +84,7 @@ impl Space {
     {
         let largest = self.largest();
         if largest < count {
-            return Err(Full {
+            return Err(SpaceFault {
                 need: count,
                 largest,
             });

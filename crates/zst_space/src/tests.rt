@@ -1,14 +1,14 @@
-use crate::{Extent, Full, Space};
+use crate::{Extent, Space, SpaceFault};
 use std::alloc::AllocError;
 
 #[test]
-fn what_is_left_past_the_end_bounds_a_run(rt: HostRuntime) {
+fn what_is_left_past_the_end_bounds_an_extent(rt: HostRuntime) {
     let mut space = Space::new(10, 16, Vec::new(rt.alloc()));
     assert_eq!(rt; space.take(6), Ok(10));
     assert_eq!(rt; space.end(), 16);
     assert_eq!(rt;
         space.take(1),
-        Err(Full {
+        Err(SpaceFault {
             need: 1,
             largest: 0
         })
@@ -16,7 +16,9 @@ fn what_is_left_past_the_end_bounds_a_run(rt: HostRuntime) {
 }
 
 #[test]
-fn runs_stand_in_the_first_extent_that_is_long_enough(rt: HostRuntime) -> Result<(), AllocError> {
+fn sectors_are_taken_from_the_first_extent_that_is_long_enough(
+    rt: HostRuntime,
+) -> Result<(), AllocError> {
     let low = Extent { first: 8, count: 3 };
     let high = Extent {
         first: 20,
@@ -28,7 +30,7 @@ fn runs_stand_in_the_first_extent_that_is_long_enough(rt: HostRuntime) -> Result
     assert_eq!(rt; space.take(2), Ok(8));
     assert_eq!(rt;
         space.take(5),
-        Err(Full {
+        Err(SpaceFault {
             need: 5,
             largest: 2
         })

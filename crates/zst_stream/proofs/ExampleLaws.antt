@@ -6,8 +6,8 @@ use Rattle.zst_model.specs.sends.Headers.{spill_block}
 use Rattle.zst_model.specs.sends.Items.{origin}
 use Rattle.zst_model.specs.sends.Features.{sa_spill, resuming, redacts}
 use Rattle.zst_model.specs.states.State.{number_bound, is_block_size, largest_block}
-use Rattle.zst_record.specs.Decode.{is_object, is_range, is_payload_len, needs_payload}
-use Rattle.zst_record.specs.Fits.{BeginFits, ObjectFits, WriteFits, FreeFits}
+use Rattle.zst_record.specs.Decoding.{is_object, is_range, is_payload_len, needs_payload}
+use Rattle.zst_record.specs.RecordValues.{BeginFits, ObjectFits, WriteFits, FreeFits}
 use Rattle.zst_model.specs.fields.Guids.{IsGuidSet}
 use Rattle.zst_record.specs.Payload.{bare, begin_payload, has_payload}
 use Rattle.zst_record.specs.Table.{padded}
@@ -15,7 +15,7 @@ use Rattle.zst_stream.specs.Reading.{opened}
 use Rattle.zst_stream.specs.Image.{CanBegin, PiecesFit}
 use Rattle.zst_stream.specs.Example.{example_header, example_items, example_pieces, no_snapshot, full_choice, ExampleIsStream, ExampleCanBeSent}
 use Rattle.zst_stream.specs.Items.{Says}
-use Rattle.zst_stream.proofs.Plain.{plain_allowed}
+use Rattle.zst_stream.proofs.PlainStreams.{plain_allowed}
 
 begins-bare : BeginFits (bare example_header) (length (begin_payload example_header))
 unfolding is_payload_len needs_payload sa_spill resuming redacts bare begin_payload has_payload

@@ -3,7 +3,7 @@ use Rattle.std.specs.Prelude.{ℕ, zero, suc, ◌+◌, ◌==◌, Bool, true, fal
 use Rattle.zst_bytes.specs.Bytes.{number_at}
 use Rattle.zst_fletcher.specs.WeightSum.{weight_sum, parts_of}
 use Rattle.zst_record.specs.Heads.{payload_len, size_of}
-use Rattle.zst_record.specs.Decode.{Decoded, decoded, sums_at, features_in}
+use Rattle.zst_record.specs.Decoding.{Decoded, decoded, sums_at, features_in}
 use Rattle.zst_record.specs.declared.head.Head.{Head}
 use Rattle.zst_model.specs.declared.refusals.stream_fault.StreamFault.TheVariants as faults
 use Rattle.zst_stream.specs.Reading.{Reading, Ruling, Closing, wait, refuse, last, more, unless, same_sums, sum_fault, is_built, not_built, opened, sealed_next, next_by, cover, finish, rule_by, closing, judged, ruling, after, reading_from, reading}

@@ -5,7 +5,7 @@ use Rattle.std.proofs.lemmas.Bool.{cases_lt, lt-ltb, le-ltb}
 use Rattle.byteorder.specs.Endian.{little_number}
 use Rattle.zst_bytes.specs.Bytes.{bytes_at, number_at}
 use Rattle.zst_record.specs.Heads.{Covered, payload_len, size_of}
-use Rattle.zst_record.specs.Decode.{Decoded, decoded, features_in}
+use Rattle.zst_record.specs.Decoding.{Decoded, decoded, features_in}
 use Rattle.zst_record.specs.declared.head.Head.{Head}
 use Rattle.zst_model.specs.declared.refusals.stream_fault.StreamFault.{StreamFault}
 use Rattle.zst_stream.specs.Reading.{Reading, Ruling, Closing, FrontOf, wait, refuse, last, more, sum_fault, not_built, is_built, cover, finish, rule_by, judged, ruling, closing, opened, covered_at, after, reading_from, reading, prepend, unless, sealed_next, next_by}

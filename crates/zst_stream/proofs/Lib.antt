@@ -1,8 +1,8 @@
-mod Carried
+mod CarriedItems
 pub mod ExampleLaws
 pub mod FindingLaws
 pub mod Growth
-pub mod Whole
-mod Said
-mod Plain
-pub mod Passing
+pub mod ImageReadings
+mod ItemStreams
+mod PlainStreams
+pub mod PassedRecords

@@ -5,8 +5,8 @@ use Rattle.zst_model.specs.declared.states.item.Change.TheVariants.{Put, FreeFro
 use Rattle.zst_model.specs.declared.states.item.Item.{Item}
 use Rattle.zst_model.specs.declared.states.item.Item.TheVariants.{FreeObjects, At}
 use Rattle.zst_model.specs.states.State.{no_objects}
-use Rattle.zst_model.specs.states.Dated.{DatedState}
-use Rattle.zst_model.specs.sends.Included.{Choice, no_pairs}
+use Rattle.zst_model.specs.states.DatedState.{DatedState}
+use Rattle.zst_model.specs.sends.Inclusion.{Choice, no_pairs}
 use Rattle.zst_model.specs.sends.Items.{origin}
 use Rattle.zst_stream.specs.Image.{Piece, IsStream}
 use Rattle.zst_stream.specs.Items.{CanSend, Says}

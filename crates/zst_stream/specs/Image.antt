@@ -8,7 +8,7 @@ use Rattle.zst_record.specs.Formats.{summed_len}
 use Rattle.zst_record.specs.Heads.{Covered, payload_len}
 use Rattle.zst_record.specs.Payload.{StatesPayload, bare, begin_payload}
 use Rattle.zst_record.specs.Table.{head_bytes, sealed_bytes}
-use Rattle.zst_record.specs.Fits.{Fits, IsLater, BeginFits}
+use Rattle.zst_record.specs.RecordValues.{Fits, IsLater, BeginFits}
 use Rattle.zst_stream.specs.Reading.{closing, is_built, opened}
 
 -- a record and its payload

@@ -8,14 +8,14 @@ use Rattle.zst_model.specs.declared.states.item.Change.TheVariants.{Put, Spill, 
 use Rattle.zst_model.specs.declared.states.item.Item.{Item}
 use Rattle.zst_model.specs.declared.states.item.Item.TheVariants.{FreeObjects, At}
 use Rattle.zst_model.specs.states.State.{Redacted, Object, State, IsState}
-use Rattle.zst_model.specs.states.Dated.{DatedState}
+use Rattle.zst_model.specs.states.DatedState.{DatedState}
 use Rattle.zst_model.specs.sends.Headers.{spill_block}
-use Rattle.zst_model.specs.sends.Included.{Choice}
+use Rattle.zst_model.specs.sends.Inclusion.{Choice}
 use Rattle.zst_model.specs.sends.Items.{items}
 use Rattle.zst_model.specs.sends.View.{view_of}
 use Rattle.zst_record.specs.declared.head.Head.{Head}
 use Rattle.zst_record.specs.declared.head.Head.TheVariants as heads
-use Rattle.zst_record.specs.Fits.{Fits}
+use Rattle.zst_record.specs.RecordValues.{Fits}
 use Rattle.zst_record.specs.Formats.{to_end}
 use Rattle.zst_record.specs.Heads.{Covered, payload_len}
 use Rattle.zst_stream.specs.Image.{CanBegin, IsStream, image}

@@ -4,6 +4,6 @@ pub mod Laws
 pub mod Findings
 pub mod Records
 pub mod Items
-pub mod Found
+pub mod FoundItems
 pub mod Example
-pub mod Passed
+pub mod PassedRecords

@@ -6,7 +6,7 @@ use Rattle.zst_model.specs.declared.refusals.faults.Lack.TheVariants as lacks
 use Rattle.zst_model.specs.sends.Features.{redacts, resuming}
 use Rattle.zst_record.specs.Formats.{record_len, summed_len}
 use Rattle.zst_record.specs.Heads.{Covered, payload_len, size_of}
-use Rattle.zst_record.specs.Decode.{Decoded, sums_at, decoded, features_in}
+use Rattle.zst_record.specs.Decoding.{Decoded, sums_at, decoded, features_in}
 use Rattle.zst_record.specs.Payload as payloads
 use Rattle.zst_record.specs.Payload.{Opened}
 use Rattle.zst_record.specs.declared.head.Head.{Head}

@@ -2,7 +2,7 @@ ghost use Rattle.std.specs.Prelude.{◌≡◌, ◌≤◌, ◌+◌, ◌*◌, ◌/
 ghost use Rattle.zst_model.specs.declared.states.item.Change.TheVariants.{Put};
 ghost use Rattle.zst_model.specs.declared.states.item.Item.TheVariants.{At};
 ghost use Rattle.zst_record.specs.declared.head.Head.TheVariants.{Free};
-ghost use Rattle.zst_stream.specs.Found.{HasBonus, found_item};
+ghost use Rattle.zst_stream.specs.FoundItems.{HasBonus, found_item};
 ghost use Rattle.zst_stream.specs.Records.{item_head, padded_bonus};
 ghost use Rattle.zst_model.specs.states.State.{IsBonus, largest_bonus};
 

@@ -5,7 +5,7 @@ ghost use Rattle.zst_stream.specs.Example.{ExampleCanBeSent, ExampleIsStream};
 ghost use Rattle.zst_stream.specs.Records.{ItemsFit};
 ghost use Rattle.zst_stream.specs.Items.{ItemsAreRead, PayloadsFit, PlainIsAllowed, ViewIsStream, ViewIsRead, FirstItems};
 ghost use Rattle.zst_stream.specs.Laws.{FrontsAgree, FaultsAreFound, ImageIsRead, FrontIsRead, CoversArePieces, FirstPieces, PieceGoesOn};
-ghost use Rattle.zst_stream.specs.Passed.{CoveredFit, CoveredInOrder};
+ghost use Rattle.zst_stream.specs.PassedRecords.{CoveredFit, CoveredInOrder};
 
 mod forms;
 mod item_ref;

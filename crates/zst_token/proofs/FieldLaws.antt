@@ -6,7 +6,7 @@ use Rattle.std.proofs.lemmas.List.Elements.{All-drop, All-get_or, All-take}
 use Rattle.std.specs.List.{All}
 use Rattle.zst_model.specs.fields.Guids.{is_rising, IsGuidSet}
 use Rattle.zst_model.specs.states.State.{number_bound}
-use Rattle.zst_token.specs.Reading.{token_of_numbers, is_lawful, is_set, token_with_counts}
+use Rattle.zst_token.specs.Parser.{token_of_numbers, is_lawful, is_set, token_with_counts}
 use Rattle.zst_token.specs.Spelling.{IsToken, flags_of, numbers_of}
 use Rattle.zst_token.specs.declared.token.Token.{Token}
 

@@ -2,5 +2,5 @@ pub mod FieldLaws
 pub mod Fronts
 pub mod Numbers
 pub mod Payload
-pub mod Sixteen
+pub mod SixteenDigits
 pub mod Texts

@@ -9,7 +9,7 @@ use Rattle.zst_bytes.proofs.BytesLaws.{length-number_bytes}
 use Rattle.zst_bytes.specs.Bytes.{number_bytes}
 use Rattle.zst_bytes.specs.Words.{word}
 use Rattle.zst_fletcher.specs.WeightSum.{IsWhole}
-use Rattle.zst_token.specs.Reading.{number_of, numbers_in}
+use Rattle.zst_token.specs.Parser.{number_of, numbers_in}
 
 -- numbers are eight bytes each
 pub length-words : (numbers : List ℕ) → length (flat_map word numbers) ≡ 8 * length numbers

@@ -11,12 +11,12 @@ use Rattle.zst_bytes.specs.Words.{word}
 use Rattle.zst_fletcher.specs.WeightSum.{weight_sum}
 use Rattle.zst_model.specs.refusals.Texts.{guid_text}
 use Rattle.zst_model.specs.states.State.{number_bound}
-use Rattle.zst_token.specs.Reading.{is_digit, number_of, numbers_in, token_of_digits}
+use Rattle.zst_token.specs.Parser.{is_digit, number_of, numbers_in, token_of_digits}
 use Rattle.zst_token.specs.Spelling.{IsToken, check_text, numbers_of, payload_text, token_bytes}
 use Rattle.zst_token.specs.declared.token.Token.{Token}
 use Rattle.zst_token.proofs.FieldLaws.{fields_exact, fields_found, flags_le}
 use Rattle.zst_token.proofs.Numbers.{encode-append, length-digits, word-to_le_bytes}
-use Rattle.zst_token.proofs.Sixteen.{IsBytes-big, IsBytes-word, digits-encoded, digits-of_number, number_of-small, number_of-word}
+use Rattle.zst_token.proofs.SixteenDigits.{IsBytes-big, IsBytes-word, digits-encoded, digits-of_number, number_of-small, number_of-word}
 
 abbrev Small : ℕ → Type 0
 Small n = n < 2 ^ 64

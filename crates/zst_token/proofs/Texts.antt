@@ -5,7 +5,7 @@ use Rattle.std.proofs.lemmas.Bool.{and_from, and_parts, cases_lt, cond-false, co
 use Rattle.std.proofs.lemmas.List.{append-nil, drop_all, drop_at, drop_more, get_or_past, take-append-drop, take_all, take_at}
 use Rattle.std.proofs.lemmas.Slice.Eq.{bytes_eq-Decides}
 use Rattle.std.specs.List.{AllPass, common_prefix_len}
-use Rattle.zst_token.specs.Reading.{token_behind_dash, digits_in_front, is_digit, verdict_on, token_of_digits, token_behind_front, stops, token_of}
+use Rattle.zst_token.specs.Parser.{token_behind_dash, digits_in_front, is_digit, verdict_on, token_of_digits, token_behind_front, stops, token_of}
 use Rattle.zst_token.specs.Spelling.{IsToken, check_text, payload_text, token_text}
 use Rattle.zst_token.specs.declared.fault.TokenFault.{TokenFault}
 use Rattle.zst_token.specs.declared.token.Token.{Token}

@@ -1,3 +1,3 @@
-pub mod ForPartial
-pub mod Reading
+pub mod PartialToken
+pub mod Parser
 pub mod Spelling

@@ -5,7 +5,7 @@ ghost use Rattle.hex.specs.Hex.{encode_lower};
 ghost use Rattle.zst_bytes.specs.Words.{word};
 ghost use Rattle.zst_fletcher.specs.WeightSum.{weight_sum};
 ghost use Rattle.zst_model.specs.refusals.Texts.{guid_text};
-ghost use Rattle.zst_token.specs.Reading.{number_of};
+ghost use Rattle.zst_token.specs.Parser.{number_of};
 
 use arrayvec::ArrayString;
 use hex::FromHex;
@@ -44,7 +44,7 @@ pub(crate) fn push_digits(text: &mut ArrayString<646>, numbers: &[u64])
 }
 
 /// The number of sixteen digits, its lowest byte first.
-#[tactic(auto, unfolding(crate::specs::Reading::number_of))]
+#[tactic(auto, unfolding(crate::specs::Parser::number_of))]
 pub(crate) fn number_of(digits: &[u8]) -> u64
     requires { length digits.now ≡ 16 }
     ensures { result ≡ number_of digits.now }

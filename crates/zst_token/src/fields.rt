@@ -1,7 +1,7 @@
 //! The fields of a token, from the digits of its numbers.
 ghost use Rattle.std.specs.Prelude.{◌≡◌, ◌*◌, ◌<◌, ◌≤◌, ◌↔◌, length, IsTrue};
 ghost use Rattle.zst_model.specs.states.State.{number_bound};
-ghost use Rattle.zst_token.specs.Reading.{token_of_numbers, numbers_in, token_of_digits};
+ghost use Rattle.zst_token.specs.Parser.{token_of_numbers, numbers_in, token_of_digits};
 
 use crate::digits::number_of;
 use crate::token::{MOST_NUMBERS, Token};
@@ -69,7 +69,7 @@ fn numbers_in(count: usize, digits: &[u8]) -> ArrayVec<u64, MOST_NUMBERS>
 }
 
 /// The token whose bytes these digits are.
-#[tactic(auto, unfolding(crate::specs::Reading::token_of_digits))]
+#[tactic(auto, unfolding(crate::specs::Parser::token_of_digits))]
 pub(crate) fn token_of_digits(digits: &[u8]) -> Option<Token>
     ensures { result ≡ token_of_digits digits.now }
 {

@@ -5,7 +5,7 @@
 mod digits;
 mod fault;
 mod fields;
-mod reading;
+mod parser;
 #[cfg(test)]
 mod tests;
 mod token;

@@ -1,7 +1,7 @@
 ghost use Rattle.std.specs.Prelude.{◌≡◌, ◌≤◌};
 ghost use Rattle.zst_model.specs.pools.Pool.{IsStated};
 ghost use Rattle.zst_model.specs.states.State.{number_bound};
-ghost use Rattle.zst_token.specs.ForPartial.{token_for};
+ghost use Rattle.zst_token.specs.PartialToken.{token_for};
 ghost use Rattle.zst_token.specs.Spelling.{IsToken, numbers_of, check_text, token_text};
 
 use crate::digits::{checksum_of, push_digits};
@@ -33,7 +33,7 @@ pub struct Token {
 
 impl Token {
     /// The token of a partial state with this header, whose stream goes on at this point. Takes no memory.
-    #[tactic(auto, unfolding(crate::specs::ForPartial::token_for))]
+    #[tactic(auto, unfolding(crate::specs::PartialToken::token_for))]
     pub fn of(header: &Header, point: Point) -> Token
         ensures same { result ≡ token_for header.now point }
         ensures token { IsStated header.now → point.object ≤ number_bound → IsToken result }

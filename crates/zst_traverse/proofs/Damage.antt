@@ -12,7 +12,7 @@ use Rattle.zst_dnode.specs.declared.slot.Slot.TheVariants as slots
 use Rattle.zst_objset.proofs.DamageLaws.{lacking_told}
 use Rattle.zst_objset.specs.Damage.{IfDamage, IsDamagedLeaf, HasSlot, IsLoaded, IsNoData, LacksSlot, StandsIn}
 use Rattle.zst_objset.specs.Dnodes.{tree_of}
-use Rattle.zst_traverse.specs.Telling.{IsDamagedCell}
+use Rattle.zst_traverse.specs.Damage.{IsDamagedCell}
 
 module _ (images : List ℕ → Type 0) (size : ℕ) (set : ObjSet) where
   -- a node of the set's tree

@@ -10,10 +10,10 @@ use Rattle.zst_dnode.specs.declared.dnode.Dnode.{Dnode}
 use Rattle.zst_model.specs.declared.sends.header.Point.{Point}
 use Rattle.zst_model.specs.declared.states.cell.Cell.{Cell}
 use Rattle.zst_model.specs.declared.states.cell.Cell.TheVariants as cells
-use Rattle.zst_model.specs.sends.Included.{includes_pair, is_after}
-use Rattle.zst_model.specs.states.Dated.{DatedState, size_at}
+use Rattle.zst_model.specs.sends.Inclusion.{includes_pair, is_after}
+use Rattle.zst_model.specs.states.DatedState.{DatedState, size_at}
 use Rattle.zst_model.specs.states.State.{Block, BlockFits, Hole, IsObject, Redacted, Data, Object, end_at, index_bound, is_block_size, largest_block}
-use Rattle.zst_tree.specs.Finding.{Shows}
+use Rattle.zst_tree.specs.Lookups.{Shows}
 use Rattle.zst_tree.specs.Indices.{Blocks, Map}
 use Rattle.zst_tree.specs.Damage.{HangsIn, MayHave}
 use Rattle.zst_tree.specs.declared.tree.ObjSet.{ObjSet}
@@ -22,9 +22,9 @@ use Rattle.zst_objset.specs.Dnodes.{BlockIs, IsThere, ObjectIs, tree_of}
 use Rattle.zst_traverse.specs.Cells.{CellIs, choice_after, IsNextPairs}
 use Rattle.zst_traverse.specs.Dates.{IsFirstLate, NoneLate}
 use Rattle.zst_traverse.specs.Runs.{cell_of, IsRun}
-use Rattle.zst_traverse.specs.Standing.{CellStands}
+use Rattle.zst_traverse.specs.StandingEntries.{CellStands}
 use Rattle.zst_traverse.specs.declared.pairs.Run.{Run}
-use Rattle.zst_traverse.proofs.Including.{pair_early, pair_included, pair_past}
+use Rattle.zst_traverse.proofs.Inclusion.{pair_early, pair_included, pair_past}
 
 -- what a pointer of a kind stands for is told
 hole_cell : (ptr : Ptr) (size : ℕ) (what : Cell) → cell_of ptr size ≡ Some what → ptr.kind ≡ 0 → what ≡ cells.Hole

@@ -1,9 +1,9 @@
-mod Including
+mod Inclusion
 mod SlotDates
 mod Numbers
-mod Glancing
-mod Looking
-mod Judging
+mod Glances
+mod LeafLooks
+mod LateObjects
 mod Damage
 mod Indices
-mod Nexts
+mod NextCells

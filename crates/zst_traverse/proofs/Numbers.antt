@@ -7,10 +7,10 @@ use Rattle.zst_block.specs.declared.ptr.Ptr.{Ptr}
 use Rattle.zst_dnode.specs.declared.dnode.Dnode.{Dnode}
 use Rattle.zst_dnode.specs.declared.slot.Slot.{Slot}
 use Rattle.zst_dnode.specs.declared.slot.Slot.TheVariants as slots
-use Rattle.zst_model.specs.sends.Included.{includes_number, is_after}
-use Rattle.zst_model.specs.states.Dated.{DatedState}
+use Rattle.zst_model.specs.sends.Inclusion.{includes_number, is_after}
+use Rattle.zst_model.specs.states.DatedState.{DatedState}
 use Rattle.zst_model.specs.states.State.{number_bound}
-use Rattle.zst_tree.specs.Finding.{Shows}
+use Rattle.zst_tree.specs.Lookups.{Shows}
 use Rattle.zst_tree.specs.Indices.{Blocks}
 use Rattle.zst_tree.specs.declared.tree.ObjSet.{ObjSet}
 use Rattle.zst_objset.proofs.LeafLaws.{hole_of_leaf, is_number_at}
@@ -20,15 +20,15 @@ use Rattle.zst_traverse.specs.Cells.{choice_after, IsNextGone, NoNumber}
 use Rattle.zst_traverse.specs.Dates.{NoneLate}
 use Rattle.zst_traverse.specs.Leaves.{ShowsAhead, StandsFor}
 use Rattle.zst_traverse.specs.Slots.{AreEarly, AreGone, IsFirstSlot, ShowsAbsent}
-use Rattle.zst_traverse.specs.declared.found.Found.TheVariants as found
-use Rattle.zst_traverse.specs.declared.leaves.Ahead.{Ahead}
-use Rattle.zst_traverse.specs.declared.leaves.Ahead.TheVariants as ahead
+use Rattle.zst_traverse.specs.declared.walk_entry.WalkEntry.TheVariants as found
+use Rattle.zst_traverse.specs.declared.leaves.WalkStep.{WalkStep}
+use Rattle.zst_traverse.specs.declared.leaves.WalkStep.TheVariants as ahead
 use Rattle.zst_traverse.specs.declared.leaves.Leaf.{Leaf}
-use Rattle.zst_traverse.proofs.Including.{early_before, no_number}
+use Rattle.zst_traverse.proofs.Inclusion.{early_before, no_number}
 use Rattle.zst_traverse.proofs.SlotDates.{absent_late, latest-bounds, latest_late, slot_early}
 
 -- where no number before one is included, what is shown from that one on is shown from the first on
-pub ahead_behind : (has : Blocks) (snap : DatedState) (source : Option ℕ) (from number : ℕ) (shown : Ahead) → from ≤ number → NoNumber snap (choice_after source) from number
+pub ahead_behind : (has : Blocks) (snap : DatedState) (source : Option ℕ) (from number : ℕ) (shown : WalkStep) → from ≤ number → NoNumber snap (choice_after source) from number
     → ShowsAhead has snap (choice_after source) number shown → ShowsAhead has snap (choice_after source) from shown
 ahead_behind has snap source from number (ahead.Next (found.Object at dnode)) over none next = record {
   from_on = let on = next.from_on in omega arith;

@@ -6,19 +6,19 @@ use Rattle.zst_block.specs.declared.ptr.Ptr.{Ptr}
 use Rattle.zst_dnode.specs.declared.dnode.Dnode.{Dnode}
 use Rattle.zst_dnode.specs.declared.slot.Slot.{Slot}
 use Rattle.zst_dnode.specs.declared.slot.Slot.TheVariants as slots
-use Rattle.zst_model.specs.sends.Included.{includes_number, is_after}
-use Rattle.zst_model.specs.states.Dated.{DatedState}
+use Rattle.zst_model.specs.sends.Inclusion.{includes_number, is_after}
+use Rattle.zst_model.specs.states.DatedState.{DatedState}
 use Rattle.zst_model.specs.states.State.{index_bound, is_number}
 use Rattle.zst_tree.specs.Indices.{Blocks, Map, TreeIs, span}
 use Rattle.zst_tree.specs.declared.tree.Tree.{Tree}
-use Rattle.zst_tree.proofs.Quieter.{quiet_below}
+use Rattle.zst_tree.proofs.QuietRanges.{quiet_below}
 use Rattle.zst_objset.specs.Dnodes.{IsAbsent, IsThere, SlotIs, tree_of}
 use Rattle.zst_objset.specs.Sets.{date_in, latest}
 use Rattle.zst_traverse.specs.Cells.{choice_after}
 use Rattle.zst_traverse.specs.Dates.{IsFirstLate, NoneLate}
 use Rattle.zst_traverse.specs.Slots.{AreEarly}
-use Rattle.zst_objset.specs.Tight.{IsTightSlot}
-use Rattle.zst_traverse.proofs.Including.{early_before, included_by_date, included_by_index, not_included}
+use Rattle.zst_objset.specs.TightSets.{IsTightSlot}
+use Rattle.zst_traverse.proofs.Inclusion.{early_before, included_by_date, included_by_index, not_included}
 
 -- what is dated after a source is dated after each earlier one
 late_on : (source : Option ℕ) (a b : ℕ) → a ≤ b → is_after source a ≡ true → is_after source b ≡ true

@@ -6,13 +6,13 @@ use Rattle.zst_dnode.specs.declared.dnode.Dnode.{Dnode}
 use Rattle.zst_model.specs.declared.sends.header.Point.{Point}
 use Rattle.zst_model.specs.declared.states.cell.Cell.{Cell}
 use Rattle.zst_model.specs.declared.states.cell.Cell.TheVariants as cells
-use Rattle.zst_model.specs.sends.Included.{Choice, includes_number, includes_pair, no_pairs}
-use Rattle.zst_model.specs.states.Dated.{DatedState, size_at}
+use Rattle.zst_model.specs.sends.Inclusion.{Choice, includes_number, includes_pair, no_pairs}
+use Rattle.zst_model.specs.states.DatedState.{DatedState, size_at}
 use Rattle.zst_model.specs.states.State as states
 use Rattle.zst_tree.specs.Indices.{Blocks}
 use Rattle.zst_objset.specs.Dnodes.{IsThere}
-use Rattle.zst_traverse.specs.declared.found.Found.{Found}
-use Rattle.zst_traverse.specs.declared.found.Found.TheVariants.{Object, Gone, Pairs}
+use Rattle.zst_traverse.specs.declared.walk_entry.WalkEntry.{WalkEntry}
+use Rattle.zst_traverse.specs.declared.walk_entry.WalkEntry.TheVariants.{Object, Gone, Pairs}
 
 -- all that is dated after the source's number, and no pair of a list
 abbrev pub choice_after : Option ℕ → Choice
@@ -39,7 +39,7 @@ pub record IsNextGone (snap : DatedState) (choice : Choice) (from first count : 
   pub absent : (k : ℕ) → first ≤ k → k < first + count → snap.state k ≡ None
 
 -- the first included number from one on, with those behind it that are told with it
-abbrev pub IsNextNumber : Blocks → DatedState → Choice → ℕ → Found → Type 0
+abbrev pub IsNextNumber : Blocks → DatedState → Choice → ℕ → WalkEntry → Type 0
 IsNextNumber has snap choice from (Object number dnode) = IsNextObject has snap choice from number dnode
 IsNextNumber has snap choice from (Gone first count) = IsNextGone snap choice from first count
 IsNextNumber has snap choice from (Pairs object first count what ptr) = ⊥
@@ -75,14 +75,14 @@ abbrev pub NoneLeft : DatedState → Choice → Point → Bool → Type 0
 NoneLeft snap choice point slot = slot ≡ false → (i : ℕ) → point.offset ≤ i * size_at (snap.state point.object) → includes_pair snap choice point.object i ≡ false
 
 -- what is found is the first included number or index at or after a point, its own number aside where its slot isn't wanted; where nothing is found there is none
-abbrev pub IsNextCell : Blocks → DatedState → Choice → Point → Bool → Option Found → Type 0
+abbrev pub IsNextCell : Blocks → DatedState → Choice → Point → Bool → Option WalkEntry → Type 0
 IsNextCell has snap choice point slot None = NoneLeft snap choice point slot × NoNumber snap choice (first_number point slot) states.number_bound
 IsNextCell has snap choice point slot (Some (Object number dnode)) = NoneLeft snap choice point slot × IsNextNumber has snap choice (first_number point slot) (Object number dnode)
 IsNextCell has snap choice point slot (Some (Gone first count)) = NoneLeft snap choice point slot × IsNextNumber has snap choice (first_number point slot) (Gone first count)
 IsNextCell has snap choice point slot (Some (Pairs object first count what ptr)) = (slot ≡ false) × (object ≡ point.object) × IsNextPairs has snap choice point first count what ptr
 
 -- whatever the image, what is found is in its range, at or after the point
-abbrev pub FoundFits : Point → Found → Type 0
+abbrev pub FoundFits : Point → WalkEntry → Type 0
 FoundFits point (Object number dnode) = (0 < number) × (point.object ≤ number) × (number < 2 ^ 48) × DnodeFits dnode
 FoundFits point (Gone first count) = (0 < first) × (point.object ≤ first) × (0 < count) × (first + count ≤ 2 ^ 48)
 FoundFits point (Pairs object first count what ptr) = (0 < object) × (object < 2 ^ 48) × (object ≡ point.object) × (0 < count) × (first + count ≤ 2 ^ 43)

@@ -1,6 +1,6 @@
 -- The first index of a tree that is dated after a source.
 use Rattle.std.specs.Prelude.{◌≡◌, ℕ, ◌<◌, ◌≤◌, true, false, Option, Some, None}
-use Rattle.zst_model.specs.sends.Included.{is_after}
+use Rattle.zst_model.specs.sends.Inclusion.{is_after}
 use Rattle.zst_tree.specs.Indices.{Map}
 
 -- no index from one on and below another is dated after the source

@@ -1,16 +1,16 @@
 -- What a look at a leaf of a set, and at those behind it, shows of the included numbers.
 use Rattle.std.specs.Prelude.{◌≡◌, ℕ, ◌+◌, ◌%◌, ◌^◌, ◌<◌, ◌≤◌, Option, Some, None}
 use Rattle.zst_dnode.specs.Dnode.{DnodeFits}
-use Rattle.zst_model.specs.sends.Included.{Choice}
-use Rattle.zst_model.specs.states.Dated.{DatedState}
+use Rattle.zst_model.specs.sends.Inclusion.{Choice}
+use Rattle.zst_model.specs.states.DatedState.{DatedState}
 use Rattle.zst_model.specs.states.State.{number_bound}
 use Rattle.zst_tree.specs.Indices.{Blocks}
 use Rattle.zst_objset.specs.Sets.{LeafIs}
 use Rattle.zst_traverse.specs.Cells.{IsNextNumber, NoNumber}
-use Rattle.zst_traverse.specs.declared.found.Found.{Found}
-use Rattle.zst_traverse.specs.declared.found.Found.TheVariants.{Object, Gone, Pairs}
-use Rattle.zst_traverse.specs.declared.leaves.Ahead.{Ahead}
-use Rattle.zst_traverse.specs.declared.leaves.Ahead.TheVariants.{Next, Nothing}
+use Rattle.zst_traverse.specs.declared.walk_entry.WalkEntry.{WalkEntry}
+use Rattle.zst_traverse.specs.declared.walk_entry.WalkEntry.TheVariants.{Object, Gone, Pairs}
+use Rattle.zst_traverse.specs.declared.leaves.WalkStep.{WalkStep}
+use Rattle.zst_traverse.specs.declared.leaves.WalkStep.TheVariants.{Next, Nothing}
 use Rattle.zst_traverse.specs.declared.leaves.Leaf.{Leaf}
 
 -- a leaf's pointer stands for the slots of its index, and for those of the next ones, as many as are told
@@ -18,47 +18,47 @@ abbrev pub StandsFor : Blocks → DatedState → Leaf → Type 0
 StandsFor has snap leaf = (j : ℕ) → leaf.index ≤ j → j < leaf.index + leaf.count → j < 2 ^ 44 → LeafIs has snap j leaf.ptr
 
 -- what a look from a number on shows: the first included number, or that there is none below another
-abbrev pub ShowsAhead : Blocks → DatedState → Choice → ℕ → Ahead → Type 0
+abbrev pub ShowsAhead : Blocks → DatedState → Choice → ℕ → WalkStep → Type 0
 ShowsAhead has snap choice from (Next found) = IsNextNumber has snap choice from found
 ShowsAhead has snap choice from (Nothing below) = NoNumber snap choice from below
 
 -- what a search from a number on finds: the first included number, or that there is none
-abbrev pub FindsNumber : Blocks → DatedState → Choice → ℕ → Option Found → Type 0
+abbrev pub FindsNumber : Blocks → DatedState → Choice → ℕ → Option WalkEntry → Type 0
 FindsNumber has snap choice from (Some found) = IsNextNumber has snap choice from found
 FindsNumber has snap choice from None = NoNumber snap choice from number_bound
 
 -- whatever the image, what is found from a number on is a number, or numbers
-abbrev pub NumberFits : ℕ → Found → Type 0
+abbrev pub NumberFits : ℕ → WalkEntry → Type 0
 NumberFits from (Object number dnode) = (from ≤ number) × (number < 2 ^ 48) × DnodeFits dnode
 NumberFits from (Gone first count) = (from ≤ first) × (0 < count) × (first + count ≤ 2 ^ 48)
 NumberFits from (Pairs object first count what ptr) = ⊥
 
 -- whatever the image, a look doesn't go back
-abbrev pub AheadFits : ℕ → Ahead → Type 0
+abbrev pub AheadFits : ℕ → WalkStep → Type 0
 AheadFits from (Next found) = NumberFits from found
 AheadFits from (Nothing below) = from ≤ below
 
 -- it goes on past the number
-abbrev pub GoesOn : ℕ → Ahead → Type 0
+abbrev pub GoesOn : ℕ → WalkStep → Type 0
 GoesOn from (Next found) = Unit {0}
 GoesOn from (Nothing below) = from < below
 
 -- where a look shows nothing, it goes on at the first number of a leaf
-abbrev pub EndsLeaf : Ahead → Type 0
+abbrev pub EndsLeaf : WalkStep → Type 0
 EndsLeaf (Next found) = Unit {0}
 EndsLeaf (Nothing below) = below % 16 ≡ 0
 
 -- where a look shows nothing, this is so
-abbrev pub IfNothing : Type 0 → Ahead → Type 0
+abbrev pub IfNothing : Type 0 → WalkStep → Type 0
 IfNothing P (Next found) = Unit {0}
 IfNothing P (Nothing below) = P
 
 -- something is shown
-abbrev pub IsNext : Ahead → Type 0
+abbrev pub IsNext : WalkStep → Type 0
 IsNext (Next found) = Unit {0}
 IsNext (Nothing below) = ⊥
 
 -- where a look shows nothing, there is nothing more
-abbrev pub EndsAll : Ahead → Type 0
+abbrev pub EndsAll : WalkStep → Type 0
 EndsAll (Next found) = Unit {0}
 EndsAll (Nothing below) = 2 ^ 48 ≤ below

@@ -3,5 +3,5 @@ pub mod Dates
 pub mod Leaves
 pub mod Runs
 pub mod Slots
-pub mod Standing
-pub mod Telling
+pub mod StandingEntries
+pub mod Damage

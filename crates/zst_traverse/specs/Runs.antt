@@ -4,8 +4,8 @@ use Rattle.zst_block.specs.declared.ptr.Ptr.{Ptr}
 use Rattle.zst_model.specs.declared.sends.header.Point.{Point}
 use Rattle.zst_model.specs.declared.states.cell.Cell.{Cell}
 use Rattle.zst_model.specs.declared.states.cell.Cell.TheVariants as cells
-use Rattle.zst_model.specs.sends.Included.{Choice, includes_pair}
-use Rattle.zst_model.specs.states.Dated.{DatedState, size_at}
+use Rattle.zst_model.specs.sends.Inclusion.{Choice, includes_pair}
+use Rattle.zst_model.specs.states.DatedState.{DatedState, size_at}
 use Rattle.zst_model.specs.states.State.{Object, end_of}
 use Rattle.zst_tree.specs.Indices.{Blocks}
 use Rattle.zst_traverse.specs.Cells.{CellIs, IsNextPairs}

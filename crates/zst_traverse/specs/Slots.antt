@@ -3,7 +3,7 @@ use Rattle.std.specs.Prelude.{◌≡◌, ℕ, ◌+◌, ◌*◌, ◌<◌, ◌≤�
 use Rattle.zst_dnode.specs.Dnode.{DnodeFits}
 use Rattle.zst_dnode.specs.declared.slot.Slot.{Slot}
 use Rattle.zst_dnode.specs.declared.slot.Slot.TheVariants as slots
-use Rattle.zst_model.specs.sends.Included.{is_after}
+use Rattle.zst_model.specs.sends.Inclusion.{is_after}
 use Rattle.zst_objset.specs.Damage.{HasSlot}
 use Rattle.zst_objset.specs.Sets.{date_in}
 use Rattle.zst_traverse.specs.declared.slots.Glance.{Glance}

@@ -1,9 +1,9 @@
 //! The first included number or index at or after a point.
 ghost use Rattle.std.specs.Prelude.{◌≡◌, ◌⊎◌, ◌+◌, ◌*◌, ◌/◌, ◌^◌, ◌<◌, ◌≤◌, false, true, ℕ, IfNone, IfOk, IfSome, Some};
 ghost use Rattle.zst_block.specs.Blocks.{FitsDisk, Has};
-ghost use Rattle.zst_block.specs.Working.{Looks, stop_of};
+ghost use Rattle.zst_block.specs.IoCalls.{Looks, stop_of};
 ghost use Rattle.zst_dnode.specs.Dnode.{DnodeFits};
-ghost use Rattle.zst_model.specs.states.Dated.{DatedState};
+ghost use Rattle.zst_model.specs.states.DatedState.{DatedState};
 ghost use Rattle.zst_model.specs.states.State.{IsState};
 ghost use Rattle.zst_tree.specs.Damage.{HangsIn, IsSeen, MayHave};
 ghost use Rattle.zst_tree.specs.Indices.{Delivers};
@@ -14,14 +14,14 @@ ghost use Rattle.zst_objset.specs.Sets.{LeafIs, SetHolds};
 ghost use Rattle.zst_traverse.specs.Cells.{choice_after, FoundFits, IsNextCell};
 ghost use Rattle.zst_traverse.specs.Leaves.{StandsFor};
 ghost use Rattle.zst_traverse.specs.Runs.{FindsPairs, RunFits};
-ghost use Rattle.zst_traverse.specs.Standing.{FoundStands, RunStands};
-ghost use Rattle.zst_traverse.specs.Telling.{IsDamagedCell};
-ghost use Rattle.zst_objset.specs.Tight.{IsTightLeaf, SetIsTight};
+ghost use Rattle.zst_traverse.specs.StandingEntries.{FoundStands, RunStands};
+ghost use Rattle.zst_traverse.specs.Damage.{IsDamagedCell};
+ghost use Rattle.zst_objset.specs.TightSets.{IsTightLeaf, SetIsTight};
 
-use crate::ahead::next_number;
-use crate::found::Found;
 use crate::leaves::{Leaf, leaf_at, load_leaf};
+use crate::number_search::next_number;
 use crate::pairs::{Run, next_pairs};
+use crate::walk_entry::WalkEntry;
 use std::sync::ledger::Ledger;
 use zst_block::{BlockFault, Io};
 use zst_dnode::{Dnode, Slot};
@@ -91,10 +91,10 @@ fn own_pairs<D: Disk, L: Ledger>(
 }
 
 // What a run of indices is told as.
-fn told(object: u64, run: Run) -> Found
-    ensures { result ≡ Found.Pairs object run.first run.count run.what run.ptr }
+fn told(object: u64, run: Run) -> WalkEntry
+    ensures { result ≡ WalkEntry.Pairs object run.first run.count run.what run.ptr }
 {
-    Found::Pairs {
+    WalkEntry::Pairs {
         object,
         first: run.first,
         count: run.count,
@@ -111,7 +111,7 @@ fn behind_slot<D: Disk, L: Ledger>(
     source: Option<u64>,
     point: Point,
     steps: &mut Steps<L>,
-) -> Result<Option<Found>, BlockFault>
+) -> Result<Option<WalkEntry>, BlockFault>
     requires levels { set.now.tree.levels ≤ 7 }
     requires object { (0 < point.object) × (point.object < 2 ^ 48) × (leaf.now.index ≡ point.object / 16) }
     requires count { (0 < leaf.now.count) × (leaf.now.index + leaf.now.count ≤ 2 ^ 49) }
@@ -153,7 +153,7 @@ pub fn next_cell<D: Disk, L: Ledger>(
     point: Point,
     slot: bool,
     steps: &mut Steps<L>,
-) -> Result<Option<Found>, BlockFault>
+) -> Result<Option<WalkEntry>, BlockFault>
     requires fits { FitsDisk (D.state io.old.disk.now).size io.old.space }
 
     // Of a set that holds a state, what is found is next there, and no damage is told.

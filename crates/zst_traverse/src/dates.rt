@@ -1,8 +1,8 @@
 //! What is dated after a source.
 ghost use Rattle.std.specs.Prelude.{◌≡◌, ◌+◌, ◌^◌, ◌<◌, ◌≤◌, IfOk, IfSome};
 ghost use Rattle.zst_block.specs.Blocks.{FitsDisk, Has};
-ghost use Rattle.zst_block.specs.Working.{Looks, stop_of};
-ghost use Rattle.zst_model.specs.sends.Included.{is_after};
+ghost use Rattle.zst_block.specs.IoCalls.{Looks, stop_of};
+ghost use Rattle.zst_model.specs.sends.Inclusion.{is_after};
 ghost use Rattle.zst_tree.specs.Damage.{IsSeen, NamesDamage, SumsUp};
 ghost use Rattle.zst_tree.specs.Indices.{Delivers, Map, TreeIs};
 ghost use Rattle.zst_traverse.specs.Dates.{FindsLate};

@@ -2,25 +2,25 @@
 ghost use Rattle.std.specs.Prelude.{◌≡◌, ◌+◌, ◌*◌, ◌^◌, ◌<◌, ◌≤◌, true, ℕ, List, IfOk, OnOk};
 ghost use Rattle.zst_space.specs.FreeSectors.{FreeSectors};
 ghost use Rattle.zst_block.specs.Blocks.{FitsDisk, Has};
-ghost use Rattle.zst_block.specs.Working.{Looks, stop_of};
-ghost use Rattle.zst_model.specs.sends.Included.{is_after};
-ghost use Rattle.zst_model.specs.states.Dated.{DatedState};
+ghost use Rattle.zst_block.specs.IoCalls.{Looks, stop_of};
+ghost use Rattle.zst_model.specs.sends.Inclusion.{is_after};
+ghost use Rattle.zst_model.specs.states.DatedState.{DatedState};
 ghost use Rattle.zst_tree.specs.Damage.{HangsIn, IsSeen, MayHave, NamesDamage, NamesNode};
-ghost use Rattle.zst_tree.specs.Finding.{Shows};
+ghost use Rattle.zst_tree.specs.Lookups.{Shows};
 ghost use Rattle.zst_tree.specs.Indices.{Delivers, Map, TreeIs};
 ghost use Rattle.zst_tree.specs.declared.tree.ObjSet.{ObjSet};
 ghost use Rattle.zst_objset.specs.Damage.{IfDamaged, IsDamagedLeaf, IsLoaded};
 ghost use Rattle.zst_objset.specs.Sets.{HasSlots, LeafIs};
 ghost use Rattle.zst_traverse.specs.Cells.{choice_after};
 ghost use Rattle.zst_traverse.specs.Leaves.{AheadFits, EndsLeaf, GoesOn, IfNothing, IsNext, ShowsAhead, StandsFor};
-ghost use Rattle.zst_traverse.specs.Standing.{AheadStands};
-ghost use Rattle.zst_traverse.specs.Telling.{IsDamagedCell};
-ghost use Rattle.zst_objset.specs.Tight.{IsTightLeaf};
+ghost use Rattle.zst_traverse.specs.StandingEntries.{AheadStands};
+ghost use Rattle.zst_traverse.specs.Damage.{IsDamagedCell};
+ghost use Rattle.zst_objset.specs.TightSets.{IsTightLeaf};
 
 use crate::dates::is_after;
-use crate::found::Found;
 use crate::objects::judged;
 use crate::slots::{Glance, glance_at};
+use crate::walk_entry::WalkEntry;
 use std::sync::ledger::Ledger;
 use zst_block::{BlockFault, Io, Ptr};
 use zst_model::limits::NUMBER_BOUND;
@@ -38,9 +38,9 @@ pub(crate) struct Leaf {
 
 /// What a look from a number on shows.
 #[derive(Clone, Copy, Debug)]
-pub(crate) enum Ahead {
+pub(crate) enum WalkStep {
     /// The first included number.
-    Next(Found),
+    Next(WalkEntry),
     /// That there is none below a number.
     Nothing { below: u64 },
 }
@@ -93,7 +93,7 @@ pub(crate) fn load_leaf<D: Disk, L: Ledger>(
 }
 
 // What a hole in place of leaves shows from a number on: their numbers are absent since its date.
-fn in_hole(leaf: &Leaf, source: Option<u64>, from: u64) -> Ahead
+fn in_hole(leaf: &Leaf, source: Option<u64>, from: u64) -> WalkStep
     requires index { leaf.now.index < 2 ^ 44 }
     requires count { leaf.now.index + leaf.now.count ≤ 2 ^ 49 }
     requires from { (0 < from) × (16 * leaf.now.index ≤ from) × (from ≤ 16 * (leaf.now.index + leaf.now.count)) × (from ≤ 2 ^ 48) }
@@ -107,9 +107,9 @@ fn in_hole(leaf: &Leaf, source: Option<u64>, from: u64) -> Ahead
     let below = NUMBER_BOUND.min(16 * (leaf.index + leaf.count));
     if from < below && is_after(source, leaf.ptr.number) {
         let count = below - from;
-        Ahead::Next(Found::Gone { first: from, count })
+        WalkStep::Next(WalkEntry::Gone { first: from, count })
     } else {
-        Ahead::Nothing { below }
+        WalkStep::Nothing { below }
     }
 }
 
@@ -120,7 +120,7 @@ pub(crate) fn look<D: Disk, L: Ledger>(
     source: Option<u64>,
     from: u64,
     steps: &mut Steps<L>,
-) -> Result<Ahead, BlockFault>
+) -> Result<WalkStep, BlockFault>
     requires index { leaf.now.index < 2 ^ 44 }
     requires count { (0 < leaf.now.count) × (leaf.now.index + leaf.now.count ≤ 2 ^ 49) }
     requires from { (0 < from) × (16 * leaf.now.index ≤ from) × (from ≤ 16 * leaf.now.index + 16) }
@@ -152,10 +152,13 @@ pub(crate) fn look<D: Disk, L: Ledger>(
     let place = (from - 16 * leaf.index) as usize;
     match glance_at(&io.node, source, leaf.index, place) {
         None => Err(BlockFault::of_layout(&leaf.ptr)),
-        Some(Glance::Nothing) => Ok(Ahead::Nothing {
+        Some(Glance::Nothing) => Ok(WalkStep::Nothing {
             below: 16 * leaf.index + 16,
         }),
-        Some(Glance::Absent { first, count }) => Ok(Ahead::Next(Found::Gone { first, count })),
+        Some(Glance::Absent { first, count }) => Ok(WalkStep::Next(WalkEntry::Gone {
+            first,
+            count,
+        })),
         Some(Glance::There { place, dnode }) => {
             judged(io, 16 * leaf.index + place as u64, dnode, source, steps)
         }

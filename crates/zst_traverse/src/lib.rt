@@ -1,16 +1,16 @@
 //! The walk over an object set that looks only where something changed after a source.
 #![tactic(auto)]
 
-mod ahead;
 mod cells;
 mod dates;
-mod found;
 mod leaves;
+mod number_search;
 mod objects;
 mod pairs;
 mod slots;
 #[cfg(test)]
 mod tests;
+mod walk_entry;
 
 pub use cells::next_cell;
-pub use found::Found;
+pub use walk_entry::WalkEntry;

@@ -1,11 +1,11 @@
 //! Whether an object that tells a late date is included.
 ghost use Rattle.std.specs.Prelude.{◌≡◌, ◌+◌, ◌*◌, ◌^◌, ◌<◌, ◌≤◌, true, ℕ, IfOk};
 ghost use Rattle.zst_block.specs.Blocks.{FitsDisk, Has};
-ghost use Rattle.zst_block.specs.Working.{Looks, stop_of};
+ghost use Rattle.zst_block.specs.IoCalls.{Looks, stop_of};
 ghost use Rattle.zst_dnode.specs.Dnode.{DnodeFits};
 ghost use Rattle.zst_dnode.specs.declared.slot.Slot.TheVariants as slots;
-ghost use Rattle.zst_model.specs.sends.Included.{is_after};
-ghost use Rattle.zst_model.specs.states.Dated.{DatedState};
+ghost use Rattle.zst_model.specs.sends.Inclusion.{is_after};
+ghost use Rattle.zst_model.specs.states.DatedState.{DatedState};
 ghost use Rattle.zst_tree.specs.Damage.{IsSeen};
 ghost use Rattle.zst_tree.specs.Indices.{Delivers};
 ghost use Rattle.zst_tree.specs.declared.tree.ObjSet.{ObjSet};
@@ -14,13 +14,13 @@ ghost use Rattle.zst_objset.specs.Dnodes.{IsThere};
 ghost use Rattle.zst_objset.specs.Sets.{date_in};
 ghost use Rattle.zst_traverse.specs.Cells.{choice_after};
 ghost use Rattle.zst_traverse.specs.Leaves.{AheadFits, GoesOn, IsNext, ShowsAhead};
-ghost use Rattle.zst_traverse.specs.Standing.{AheadStands};
-ghost use Rattle.zst_traverse.specs.Telling.{IsDamagedCell};
-ghost use Rattle.zst_objset.specs.Tight.{IsTightSlot};
+ghost use Rattle.zst_traverse.specs.StandingEntries.{AheadStands};
+ghost use Rattle.zst_traverse.specs.Damage.{IsDamagedCell};
+ghost use Rattle.zst_objset.specs.TightSets.{IsTightSlot};
 
 use crate::dates::{is_after, next_late};
-use crate::found::Found;
-use crate::leaves::Ahead;
+use crate::leaves::WalkStep;
+use crate::walk_entry::WalkEntry;
 use std::sync::ledger::Ledger;
 use zst_block::{BlockFault, Io};
 use zst_dnode::Dnode;
@@ -38,7 +38,7 @@ pub(crate) fn judged<D: Disk, L: Ledger>(
     dnode: Dnode,
     source: Option<u64>,
     steps: &mut Steps<L>,
-) -> Result<Ahead, BlockFault>
+) -> Result<WalkStep, BlockFault>
     requires number { (0 < number) × (number < 2 ^ 48) }
     requires dnode { DnodeFits dnode }
     requires fits { FitsDisk (D.state io.old.disk.now).size io.old.space }
@@ -56,12 +56,12 @@ pub(crate) fn judged<D: Disk, L: Ledger>(
     ensures kept_fit { FitsDisk (D.state io.new.disk.now).size io.new.space }
     ensures same { io.new.disk.ghost_name ≡ io.old.disk.ghost_name }
 {
-    let object = Found::Object { number, dnode };
+    let object = WalkEntry::Object { number, dnode };
     if is_after(source, dnode.date) {
-        return Ok(Ahead::Next(object));
+        return Ok(WalkStep::Next(object));
     }
     match next_late(io, &tree_of(&dnode), source, 0, INDEX_BOUND, steps)? {
-        Some(_) => Ok(Ahead::Next(object)),
-        None => Ok(Ahead::Nothing { below: number + 1 }),
+        Some(_) => Ok(WalkStep::Next(object)),
+        None => Ok(WalkStep::Nothing { below: number + 1 }),
     }
 }

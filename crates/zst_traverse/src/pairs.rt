@@ -1,10 +1,10 @@
 //! The search for the first included indices of an object.
 ghost use Rattle.std.specs.Prelude.{◌≡◌, ◌↔◌, ◌+◌, ◌*◌, ◌^◌, ◌<◌, ◌≤◌, true, ℕ, IfNone, IfOk, IfSome};
 ghost use Rattle.zst_block.specs.Blocks.{FitsDisk, Has};
-ghost use Rattle.zst_block.specs.Working.{Looks, stop_of};
+ghost use Rattle.zst_block.specs.IoCalls.{Looks, stop_of};
 ghost use Rattle.zst_dnode.specs.Dnode.{DnodeFits};
 ghost use Rattle.zst_model.specs.declared.states.cell.Cell.TheVariants as cells;
-ghost use Rattle.zst_model.specs.states.Dated.{DatedState};
+ghost use Rattle.zst_model.specs.states.DatedState.{DatedState};
 ghost use Rattle.zst_tree.specs.Damage.{IsSeen};
 ghost use Rattle.zst_tree.specs.Indices.{Delivers, Map};
 ghost use Rattle.zst_tree.specs.declared.tree.ObjSet.{ObjSet};
@@ -13,8 +13,8 @@ ghost use Rattle.zst_objset.specs.Dnodes.{IsThere, ObjectIs};
 ghost use Rattle.zst_model.specs.states.State.{IsObject, IsState, Object};
 ghost use Rattle.zst_traverse.specs.Cells.{choice_after};
 ghost use Rattle.zst_traverse.specs.Runs.{cell_of, FindsPairs, IsRun, RunFits};
-ghost use Rattle.zst_traverse.specs.Standing.{RunStands};
-ghost use Rattle.zst_traverse.specs.Telling.{IsDamagedCell};
+ghost use Rattle.zst_traverse.specs.StandingEntries.{RunStands};
+ghost use Rattle.zst_traverse.specs.Damage.{IsDamagedCell};
 
 use crate::dates::next_late;
 use std::sync::ledger::Ledger;

@@ -5,7 +5,7 @@ mod sets;
 mod walks;
 
 use crate::tests::sets::{all_free, file, scattered, some_objects, zeros};
-use crate::tests::walks::{Told, at_slot, next, told_of, walk};
+use crate::tests::walks::{WalkAnswer, at_slot, next, told_of, walk};
 use std::test::Fail;
 use zst_model::Cell;
 use zst_objset::Objects;
@@ -20,23 +20,26 @@ fn a_full_walk_tells_every_number(rt: HostRuntime) -> Result<(), Fail> {
     let set = some_objects(&mut io)?;
     let (all, _) = walk(rt.alloc(), &mut io, &set, None, 11)?;
     let wanted = [
-        Told::Object(1),
-        Told::Pairs(1, 0, 1, Cell::Data),
-        Told::Pairs(1, 1, 1, Cell::Hole),
-        Told::Pairs(1, 2, 1, Cell::Data),
-        Told::Object(2),
-        Told::Gone(3, 13),
-        Told::Gone(16, 16),
-        Told::Gone(32, 8),
-        Told::Object(40),
-        Told::Gone(41, 7),
-        Told::Gone(48, 16),
+        WalkAnswer::Object(1),
+        WalkAnswer::Pairs(1, 0, 1, Cell::Data),
+        WalkAnswer::Pairs(1, 1, 1, Cell::Hole),
+        WalkAnswer::Pairs(1, 2, 1, Cell::Data),
+        WalkAnswer::Object(2),
+        WalkAnswer::Gone(3, 13),
+        WalkAnswer::Gone(16, 16),
+        WalkAnswer::Gone(32, 8),
+        WalkAnswer::Object(40),
+        WalkAnswer::Gone(41, 7),
+        WalkAnswer::Gone(48, 16),
     ];
     assert!(rt; all.as_slice() == wanted.as_slice(), "{all:?}");
     let rest = told_of(next(&mut io, &set, None, at_slot(2048)));
-    assert!(rt; rest == Told::Gone(2048, (1 << 48) - 2048), "{rest:?}");
+    assert!(rt;
+        rest == WalkAnswer::Gone(2048, (1 << 48) - 2048),
+        "{rest:?}"
+    );
     let end = told_of(next(&mut io, &set, None, at_slot(1 << 48)));
-    assert!(rt; end == Told::Nothing, "{end:?}");
+    assert!(rt; end == WalkAnswer::Nothing, "{end:?}");
     Ok(())
 }
 
@@ -53,16 +56,19 @@ fn an_increment_tells_what_changed(rt: HostRuntime) -> Result<(), Fail> {
     set.put_object(&mut io, 2, file(), &[9; 16], false, 14)?;
     let (all, _) = walk(rt.alloc(), &mut io, &set, Some(10), 6)?;
     let wanted = [
-        Told::Object(1),
-        Told::Pairs(1, 0, 1, Cell::Hole),
-        Told::Pairs(1, 2, 1, Cell::Data),
-        Told::Object(2),
-        Told::Gone(40, 1),
-        Told::Nothing,
+        WalkAnswer::Object(1),
+        WalkAnswer::Pairs(1, 0, 1, Cell::Hole),
+        WalkAnswer::Pairs(1, 2, 1, Cell::Data),
+        WalkAnswer::Object(2),
+        WalkAnswer::Gone(40, 1),
+        WalkAnswer::Nothing,
     ];
     assert!(rt; all.as_slice() == wanted.as_slice(), "{all:?}");
     let (none, _) = walk(rt.alloc(), &mut io, &set, Some(14), 1)?;
-    assert!(rt; none.as_slice() == [Told::Nothing].as_slice(), "{none:?}");
+    assert!(rt;
+        none.as_slice() == [WalkAnswer::Nothing].as_slice(),
+        "{none:?}"
+    );
     Ok(())
 }
 
@@ -76,9 +82,9 @@ fn a_distant_block_is_found(rt: HostRuntime) -> Result<(), Fail> {
     set.write_block(&mut io, 7, 1_073_741_825, &[5; 512], 3)?;
     let (all, _) = walk(rt.alloc(), &mut io, &set, Some(2), 3)?;
     let wanted = [
-        Told::Object(7),
-        Told::Pairs(7, 1_073_741_825, 1, Cell::Data),
-        Told::Nothing,
+        WalkAnswer::Object(7),
+        WalkAnswer::Pairs(7, 1_073_741_825, 1, Cell::Data),
+        WalkAnswer::Nothing,
     ];
     assert!(rt; all.as_slice() == wanted.as_slice(), "{all:?}");
     Ok(())
@@ -94,9 +100,9 @@ fn a_walk_after_one_write_reads_its_path_alone(rt: HostRuntime) -> Result<(), Fa
     let set = scattered(&mut io)?;
     let (all, calls) = walk(rt.alloc(), &mut io, &set, Some(302), 3)?;
     let wanted = [
-        Told::Object(1),
-        Told::Pairs(1, 0, 1, Cell::Data),
-        Told::Nothing,
+        WalkAnswer::Object(1),
+        WalkAnswer::Pairs(1, 0, 1, Cell::Data),
+        WalkAnswer::Nothing,
     ];
     assert!(rt; all.as_slice() == wanted.as_slice(), "{all:?}");
     assert_eq!(rt; calls, 16);

@@ -7,17 +7,17 @@ use Rattle.zst_outside.specs.Images.{DiskState}
 use Rattle.zst_space.specs.FreeSectors.{FreeSectors}
 use Rattle.zst_block.specs.Blocks.{IsBlock}
 use Rattle.zst_block.specs.Ptr.{is_flat}
-use Rattle.zst_block.specs.Reading.{ReadAnswers}
-use Rattle.zst_block.specs.Working.{Looks}
+use Rattle.zst_block.specs.ReadAnswers.{ReadAnswers}
+use Rattle.zst_block.specs.IoCalls.{Looks}
 use Rattle.zst_block.specs.declared.ptr.Ptr.{Ptr}
 use Rattle.zst_block.specs.declared.fault.BlockFault.{BlockFault}
 use Rattle.zst_block.specs.declared.fault.BlockFault.TheVariants.{Full, Damaged, DiskFault}
 use Rattle.zst_tree.specs.Indices.{Blocks, child}
 use Rattle.zst_tree.specs.Damage.{IsSeen, HangsBelow, MayHave, NamesNode, SumsUp, Reaches, IsDamagedNode, TellsNode, NamesDamage, IsBelow}
-use Rattle.zst_tree.specs.Reaching.{HangsOn, IfThere, nearer_of}
-use Rattle.zst_tree.specs.declared.reach.Beside.{Beside}
-use Rattle.zst_tree.specs.declared.reach.Reach.{Reach}
-use Rattle.zst_tree.specs.declared.reach.Reach.TheVariants.{Nothing, Here, There}
+use Rattle.zst_tree.specs.PathAnswer.{HangsOn, IfThere, nearer_of}
+use Rattle.zst_tree.specs.declared.path_answer.Branch.{Branch}
+use Rattle.zst_tree.specs.declared.path_answer.PathAnswer.{PathAnswer}
+use Rattle.zst_tree.specs.declared.path_answer.PathAnswer.TheVariants.{Nothing, Here, There}
 
 -- more blocks reach more
 pub Reaches-grows : (has more : Blocks) → ((ptr : Ptr) (bytes : List ℕ) → has ptr bytes → more ptr bytes) → (level : ℕ) (ptr : Ptr) (at : ℕ) (found : Ptr) → Reaches has level ptr at found → Reaches more level ptr at found
@@ -130,7 +130,7 @@ module _ (images : List ℕ → Type 0) (size : ℕ) (right : ℕ → Ptr → Ty
   IsBelow-flat level root fewer lower under flat = λ sector stated found damage. absurd (Reaches-flat (MayHave fewer) lower under damage.at damage.ptr flat damage.reached)
 
   -- one that hangs on a pointer of the block is below the pointer to it
-  pub IsBelow-hangs : (level : ℕ) (ptr : Ptr) (bytes : List ℕ) (beside : Beside) → 0 < level → is_flat ptr ≡ false → MayHave images ptr bytes → HangsOn bytes (level - 1) beside
+  pub IsBelow-hangs : (level : ℕ) (ptr : Ptr) (bytes : List ℕ) (beside : Branch) → 0 < level → is_flat ptr ≡ false → MayHave images ptr bytes → HangsOn bytes (level - 1) beside
       → IsBelow images size right level ptr images beside.level beside.ptr
   IsBelow-hangs level ptr bytes beside some inner there hangs = rw (hangs.level_is, hangs.ptr_is) (IsBelow-child level ptr bytes hangs.place some inner there hangs.under)
 
@@ -168,10 +168,10 @@ module _ (old : DiskState) (space : FreeSectors) (old_failed : Bool) (new : Disk
     told_below (Err fault) told = fault_below fault told
 
     -- what stands beside the path is below the node
-    pub beside_below : (reach : Reach) (other : Option Beside)
-        → IfThere (λ (beside : Beside). IsBelow (IsSeen new.seen) new.size (right new.seen) (level - 1) (child bytes k) (IsSeen new.seen) beside.level beside.ptr) reach
+    pub beside_below : (reach : PathAnswer) (other : Option Branch)
+        → IfThere (λ (beside : Branch). IsBelow (IsSeen new.seen) new.size (right new.seen) (level - 1) (child bytes k) (IsSeen new.seen) beside.level beside.ptr) reach
         → IfSome other (HangsOn bytes (level - 1))
-        → IfThere (λ (beside : Beside). IsBelow (IsSeen old.seen) old.size (right old.seen) level ptr (IsSeen old.seen) beside.level beside.ptr) (nearer_of reach other)
+        → IfThere (λ (beside : Branch). IsBelow (IsSeen old.seen) old.size (right old.seen) level ptr (IsSeen old.seen) beside.level beside.ptr) (nearer_of reach other)
     beside_below Nothing None shown hangs = tt
     beside_below Nothing (Some beside) shown hangs = IsBelow-hangs (IsSeen old.seen) old.size (right old.seen) level ptr bytes beside some inner read_there hangs
     beside_below (Here index) other shown hangs = tt
@@ -180,7 +180,7 @@ module _ (old : DiskState) (space : FreeSectors) (old_failed : Bool) (new : Disk
         (seen_before (λ (seen : List ℕ) (size : ℕ). IsBelow (IsSeen seen) size (right seen) (level - 1) (child bytes k) (IsSeen seen) beside.level beside.ptr) shown sector stated found damage)
 
 -- what is so of each subtree that is shown is so of the nearer one
-pub IfThere-nearer : (P : Beside → Type 0) (reach : Reach) (other : Option Beside) → IfThere P reach → IfSome other P → IfThere P (nearer_of reach other)
+pub IfThere-nearer : (P : Branch → Type 0) (reach : PathAnswer) (other : Option Branch) → IfThere P reach → IfSome other P → IfThere P (nearer_of reach other)
 IfThere-nearer P Nothing None shown is = tt
 IfThere-nearer P Nothing (Some beside) shown is = is
 IfThere-nearer P (Here index) other shown is = tt

@@ -1,7 +1,7 @@
 -- What a call delivered, carried over.
 use Rattle.std.proofs.Common.{◌≡◌, Result, Ok, Err, List, ℕ}
 use Rattle.std.specs.Prelude.{IfOk}
-use Rattle.zst_block.specs.Reading.{GivesBlock}
+use Rattle.zst_block.specs.ReadAnswers.{GivesBlock}
 use Rattle.zst_block.specs.declared.fault.BlockFault.{BlockFault}
 use Rattle.zst_block.specs.declared.fault.BlockFault.TheVariants.{Full, Damaged, DiskFault}
 use Rattle.zst_tree.specs.Indices.{Delivers}

@@ -3,7 +3,7 @@ use Rattle.std.specs.Prelude.{◌≡◌, ◌⊎◌, ℕ, zero, suc, ◌<◌, Lis
 use Rattle.zst_fletcher.specs.WeightSum.{parts_of}
 use Rattle.zst_block.specs.Blocks.{IsBlock}
 use Rattle.zst_block.specs.Ptr.{hole_of, is_flat}
-use Rattle.zst_block.specs.Reading.{IsDamage}
+use Rattle.zst_block.specs.ReadAnswers.{IsDamage}
 use Rattle.zst_block.specs.declared.ptr.Ptr.{Ptr}
 use Rattle.zst_block.specs.declared.fault.BlockFault.{BlockFault}
 use Rattle.zst_block.specs.declared.fault.BlockFault.TheVariants.{Full, Damaged, DiskFault}

@@ -1,8 +1,8 @@
 pub mod Changes
 pub mod Damage
-pub mod Earlier
-pub mod Finding
+pub mod PresentIndices
+pub mod Lookups
 pub mod Indices
-pub mod Later
-pub mod Reaching
+pub mod LateIndices
+pub mod PathAnswer
 pub mod Sets

@@ -1,12 +1,12 @@
 //! A copy-on-write tree of pointers over indices, and the bytes of an object set.
 #![tactic(auto)]
 
-mod earlier;
-mod get;
-mod later;
+mod late_indices;
+mod lookups;
 mod nodes;
-mod put;
-mod reach;
+mod path_answer;
+mod present_indices;
+mod puts;
 mod spans;
 mod steps;
 #[cfg(test)]
@@ -17,7 +17,7 @@ mod words;
 mod writes;
 
 pub use nodes::child_at;
-pub use put::put_child;
+pub use puts::put_child;
 pub use spans::{INDEX_BOUND, span_of};
 pub use steps::{Steps, tick};
 pub use tree::{ObjSet, Tree};

@@ -2,8 +2,8 @@
 ghost use Rattle.std.specs.Prelude.{◌≡◌, ◌↔◌, ◌+◌, ◌-◌, ◌<◌, ◌≤◌, ℕ, List, false, IsTrue, OnOk, length};
 ghost use Rattle.zst_block.specs.Blocks.{FitsDisk, Has, IsBlock};
 ghost use Rattle.zst_block.specs.Ptr.{is_flat};
-ghost use Rattle.zst_block.specs.Reading.{GivesBlock};
-ghost use Rattle.zst_block.specs.Working.{Looks, TellsDamage, stop_of};
+ghost use Rattle.zst_block.specs.ReadAnswers.{GivesBlock};
+ghost use Rattle.zst_block.specs.IoCalls.{Looks, TellsDamage, stop_of};
 ghost use Rattle.zst_tree.specs.Changes.{Parts};
 ghost use Rattle.zst_tree.specs.Damage.{IsSeen, NamesDamage, NamesNode};
 ghost use Rattle.zst_tree.specs.Indices.{Delivers, IsNode, Map, Subtree, child};

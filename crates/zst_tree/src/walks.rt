@@ -1,16 +1,16 @@
 //! What reads a tree.
 ghost use Rattle.std.specs.Prelude.{◌≡◌, ◌⊎◌, ◌+◌, ◌-◌, ◌*◌, ◌^◌, ◌<◌, ◌≤◌, ℕ, IfOk, IfSome, MatchOption};
 ghost use Rattle.zst_block.specs.Blocks.{FitsDisk, Has};
-ghost use Rattle.zst_block.specs.Working.{Looks, stop_of};
+ghost use Rattle.zst_block.specs.IoCalls.{Looks, stop_of};
 ghost use Rattle.zst_tree.specs.Damage.{IsSeen, NamesDamage, SumsUp};
-ghost use Rattle.zst_tree.specs.Earlier.{FindsLast};
+ghost use Rattle.zst_tree.specs.PresentIndices.{FindsLast};
 ghost use Rattle.zst_tree.specs.Indices.{Delivers, Map, Subtree, span};
-ghost use Rattle.zst_tree.specs.Later.{FindsFirst};
+ghost use Rattle.zst_tree.specs.LateIndices.{FindsFirst};
 
-use crate::earlier::{back_along, last_in};
-use crate::get::find_in;
-use crate::later::{along, first_in};
-use crate::reach::Reach;
+use crate::late_indices::{along, first_in};
+use crate::lookups::find_in;
+use crate::path_answer::PathAnswer;
+use crate::present_indices::{back_along, last_in};
 use crate::spans::{INDEX_BOUND, span_of};
 use crate::steps::Steps;
 use crate::tree::Tree;
@@ -44,9 +44,9 @@ fn first_from<D: Disk, L: Ledger>(
         return Ok(None);
     }
     match along(io, levels, root, 0, index, number, steps)? {
-        Reach::Nothing => Ok(None),
-        Reach::Here(found) => Ok(Some(found)),
-        Reach::There(behind) => Ok(Some(first_in(
+        PathAnswer::Nothing => Ok(None),
+        PathAnswer::Here(found) => Ok(Some(found)),
+        PathAnswer::There(behind) => Ok(Some(first_in(
             io,
             behind.level,
             behind.ptr,
@@ -78,21 +78,21 @@ fn last_to<D: Disk>(
     ensures same { io.new.disk.ghost_name ≡ io.old.disk.ghost_name }
 {
     match back_along(io, levels, root, 0, index)? {
-        Reach::Nothing => Ok(None),
-        Reach::Here(found) => Ok(Some(found)),
-        Reach::There(before) => Ok(Some(last_in(io, before.level, before.ptr, before.base)?)),
+        PathAnswer::Nothing => Ok(None),
+        PathAnswer::Here(found) => Ok(Some(found)),
+        PathAnswer::There(before) => Ok(Some(last_in(io, before.level, before.ptr, before.base)?)),
     }
 }
 
 impl Tree {
     ghost use Rattle.std.specs.Prelude.{◌≡◌, ◌+◌, ◌^◌, ◌<◌, ◌≤◌, ℕ, IfOk, IfSome};
     ghost use Rattle.zst_block.specs.Blocks.{FitsDisk, Has};
-    ghost use Rattle.zst_block.specs.Working.{Looks, stop_of};
+    ghost use Rattle.zst_block.specs.IoCalls.{Looks, stop_of};
     ghost use Rattle.zst_tree.specs.Damage.{HangsIn, IsSeen, MayHave, NamesDamage, NamesNode, SumsUp};
-    ghost use Rattle.zst_tree.specs.Earlier.{FindsLast};
-    ghost use Rattle.zst_tree.specs.Finding.{FindsIn, Shows};
+    ghost use Rattle.zst_tree.specs.PresentIndices.{FindsLast};
+    ghost use Rattle.zst_tree.specs.Lookups.{FindsIn, Shows};
     ghost use Rattle.zst_tree.specs.Indices.{Delivers, Map, TreeIs};
-    ghost use Rattle.zst_tree.specs.Later.{FindsFirst};
+    ghost use Rattle.zst_tree.specs.LateIndices.{FindsFirst};
 
     /// The pointer of an index, and of how many from it on it is that: 1 for a leaf with a block,
     /// what is left of its span for a hole or a redacted pointer, and past the span of the tree

@@ -3,13 +3,13 @@
 ghost use Rattle.std.specs.Prelude.{◌≡◌, ◌⊎◌, ◌+◌, ◌-◌, ◌*◌, ◌^◌, ◌<◌, ◌≤◌, ℕ, List, true, false, OnErr, OnOk, IfOk};
 ghost use Rattle.zst_block.specs.Blocks.{FitsDisk, Has, SparesTaken};
 ghost use Rattle.zst_block.specs.Ptr.{hole_of, redacted_of, is_flat, is_lawful};
-ghost use Rattle.zst_block.specs.Working.{Works, stop_of};
+ghost use Rattle.zst_block.specs.IoCalls.{Works, stop_of};
 ghost use Rattle.zst_block.specs.declared.ptr.Ptr.{Ptr};
 ghost use Rattle.zst_tree.specs.Damage.{IsWithin, NamesDamage, NamesNode};
 ghost use Rattle.zst_tree.specs.Indices.{Map, span, Subtree, Changed, Delivers, Stands, TreeIs, Puts};
 ghost use Rattle.zst_tree.specs.Changes.{IsPutRoot, PutsRoot, TreeDatedUpTo, most};
 
-use crate::put::{close, fill, put_child, put_in};
+use crate::puts::{close, fill, put_child, put_in};
 use crate::spans::{INDEX_BOUND, span_of};
 use crate::tree::Tree;
 use zst_block::{BlockFault, Io, Ptr};

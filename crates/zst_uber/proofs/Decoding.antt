@@ -6,8 +6,8 @@ use Rattle.zst_outside.specs.Ranges.{bytes_at}
 use Rattle.zst_uber.specs.Body.{IsBody, InRange, body_bytes, uber_at}
 use Rattle.zst_uber.proofs.BodyLaws.{uber_at-body_bytes, version-back, number_back}
 use Rattle.zst_uber.specs.Slots.{latest, Stands, IsNext}
-use Rattle.zst_uber.specs.Commit.{HeadSettled}
-use Rattle.zst_uber.specs.Opening.{Decodes, GivesUber, IsLatest, TellsNext}
+use Rattle.zst_uber.specs.Commit.{LabelSettled}
+use Rattle.zst_uber.specs.OpenAnswers.{Decodes, GivesUber, IsLatest, TellsNext}
 use Rattle.zst_uber.specs.declared.uber.Uber.{Uber}
 use Rattle.zst_uber.specs.declared.fault.UberFault.{UberFault}
 use Rattle.zst_uber.specs.declared.fault.UberFault.TheVariants.{Damaged, NoPool, BadVersion, DiskFault}
@@ -59,5 +59,5 @@ next_latest size now place read image (Err (BadVersion version)) same_size same 
 next_latest size now place read image (Err DiskFault) same_size same decodes = tt
 
 -- what was synced is settled in sectors 0 to 7
-pub synced_head : (disk : DiskState) → IsSynced disk → HeadSettled disk
-synced_head disk synced = λ d now p n le. ap (λ (l : List ℕ). bytes_at l p n) (synced d now)
+pub synced_label : (disk : DiskState) → IsSynced disk → LabelSettled disk
+synced_label disk synced = λ d now p n le. ap (λ (l : List ℕ). bytes_at l p n) (synced d now)

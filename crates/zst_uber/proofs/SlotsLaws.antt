@@ -27,8 +27,8 @@ pub same_slot : (a b : List ℕ) (t : Slot) → gate_of b t ≡ gate_of a t → 
 same_slot a b t gate body = ap (λ (g : List ℕ). in_slot g (bytes_at b (body_place t) 512)) gate ∙ ap (λ (x : List ℕ). in_slot (gate_of a t) x) body
 
 -- what stands in sectors 0 to 7 alone decides on the latest body
-pub latest-head : (a b : List ℕ) → ((p n : ℕ) → p + n ≤ 4096 → bytes_at b p n ≡ bytes_at a p n) → latest b ≡ latest a
-latest-head a b same =
+pub latest-label : (a b : List ℕ) → ((p n : ℕ) → p + n ≤ 4096 → bytes_at b p n ≡ bytes_at a p n) → latest b ≡ latest a
+latest-label a b same =
     latest_is b
     ∙ ap (λ x. chosen x (slot_at b Second)) (same_slot a b First (same 0 1 (omega arith)) (same 512 512 (omega arith)))
     ∙ ap (λ x. chosen (slot_at a First) x) (same_slot a b Second (same 1024 1 (omega arith)) (same 1536 512 (omega arith)))

@@ -2,24 +2,24 @@
 use Rattle.std.proofs.Common.{◌≡◌, inl, inr, ⊎_elim, ℕ, ◌+◌, ◌≤◌, List, refl, sym, ◌∙◌, ap, subst, arith, slice_index, Result, Ok, Err, OnOk}
 use Rattle.zst_outside.specs.Images.{DiskState, TornImage, IsSynced, Leaves, OnlyReads, WritesIn, Leaves-weaker, Leaves-then, WritesIn-wider}
 use Rattle.zst_outside.specs.Ranges.{bytes_at, Torn, Torn-same, Torn-then, Torn-wider}
-use Rattle.zst_block.proofs.BlocksLaws.{Has-head}
+use Rattle.zst_block.proofs.BlocksLaws.{Has-label}
 use Rattle.zst_uber.specs.Slots.{gate_place, body_place, other, gate_of, slot_at, latest, IsOpen, IsNext, Stands}
-use Rattle.zst_uber.specs.Commit.{HasOldOrNew, KeepsOldOrNew, HeadSettled, Closing, ClosedImage, Closes}
-use Rattle.zst_uber.proofs.SlotsLaws.{same_slot, latest-head}
+use Rattle.zst_uber.specs.Commit.{HasOldOrNew, KeepsOldOrNew, LabelSettled, Closing, ClosedImage, Closes}
+use Rattle.zst_uber.proofs.SlotsLaws.{same_slot, latest-label}
 use Rattle.zst_uber.specs.declared.uber.Uber.{Uber}
 use Rattle.zst_uber.specs.declared.slot.Slot.{Slot}
 use Rattle.zst_uber.specs.declared.slot.Slot.TheVariants.{First, Second}
 use Rattle.zst_uber.proofs.LatestLemmas.{gate_other, body_other, torn_shut, torn_body, IsNew, torn_open, opened_stands}
 
 -- in sectors 0 to 7 they are alike
-abbrev SameHead : List ℕ → List ℕ → Type 0
-SameHead seen d = (p n : ℕ) → p + n ≤ 4096 → bytes_at d p n ≡ bytes_at seen p n
+abbrev SameLabel : List ℕ → List ℕ → Type 0
+SameLabel seen d = (p n : ℕ) → p + n ≤ 4096 → bytes_at d p n ≡ bytes_at seen p n
 
-same_at : (t : Slot) (s d : List ℕ) → SameHead s d → slot_at d t ≡ slot_at s t
+same_at : (t : Slot) (s d : List ℕ) → SameLabel s d → slot_at d t ≡ slot_at s t
 same_at First s d same = same_slot s d First (same 0 1 (omega arith)) (same 512 512 (omega arith))
 same_at Second s d same = same_slot s d Second (same 1024 1 (omega arith)) (same 1536 512 (omega arith))
 
-same_gate : (t : Slot) (s d : List ℕ) → SameHead s d → gate_of d t ≡ gate_of s t
+same_gate : (t : Slot) (s d : List ℕ) → SameLabel s d → gate_of d t ≡ gate_of s t
 same_gate First s d same = same 0 1 (omega arith)
 same_gate Second s d same = same 1024 1 (omega arith)
 
@@ -47,19 +47,19 @@ closing_in t s d c (inr torn) = gate_in t d c torn.1
 pub at_start : (uber : Uber) (old : DiskState) (c : List ℕ) → old.images c → HasOldOrNew uber old c
 at_start uber old c now = inl (c, now, refl, Torn-same 0 4096 c)
 
-module _ (t : Slot) (uber : Uber) (old : DiskState) (settled : HeadSettled old) (idle : latest old.seen ≡ slot_at old.seen (other t)) where
+module _ (t : Slot) (uber : Uber) (old : DiskState) (settled : LabelSettled old) (idle : latest old.seen ≡ slot_at old.seen (other t)) where
   -- while the gate is closed
   closing : (d c : List ℕ) → old.images d → Closing t old.seen d c → HasOldOrNew uber old c
   closing d c now (inl same) = inl (d, now, ap latest same, closing_in t old.seen d c (inl same))
   closing d c now (inr torn) =
       let same = settled d now in
       let is_open = ap (λ (g : List ℕ). slice_index g 0) (same_gate t old.seen d same) ∙ torn.0 in
-      inl (d, now, torn_shut t d c (latest-head old.seen d same ∙ idle ∙ sym (same_at (other t) old.seen d same)) is_open torn.1, gate_in t d c torn.1)
+      inl (d, now, torn_shut t d c (latest-label old.seen d same ∙ idle ∙ sym (same_at (other t) old.seen d same)) is_open torn.1, gate_in t d c torn.1)
 
   -- an image from before, and what the closing left
   module _ (d s1 : List ℕ) (now : old.images d) (closed : Closing t old.seen d s1) (torn1 : Torn (gate_place t) 1 old.seen s1) where
     old_is : slot_at s1 (other t) ≡ latest d
-    old_is = gate_other t old.seen s1 torn1 ∙ sym idle ∙ sym (latest-head old.seen d (settled d now))
+    old_is = gate_other t old.seen s1 torn1 ∙ sym idle ∙ sym (latest-label old.seen d (settled d now))
 
     -- while the body is written
     filling : (c : List ℕ) → (IsOpen s1 t → ⊥) → Torn (body_place t) 512 s1 c → HasOldOrNew uber old c
@@ -135,6 +135,6 @@ on_ok (Err fault) P Q then p = p
 -- what stands behind sectors 0 to 7 stays in each image of a commit
 pub keeps_blocks : (uber : Uber) (old : DiskState) (c : List ℕ) → HasOldOrNew uber old c → KeepsOldOrNew uber old c
 keeps_blocks uber old c is = ⊎_elim
-    (λ past. inl (past.0, past.1, past.2, λ space ptr bytes has. Has-head space past.0 c ptr bytes past.3 has))
-    (λ new. inr (new.0, λ space ptr bytes has. Has-head space old.seen c ptr bytes new.1 has))
+    (λ past. inl (past.0, past.1, past.2, λ space ptr bytes has. Has-label space past.0 c ptr bytes past.3 has))
+    (λ new. inr (new.0, λ space ptr bytes has. Has-label space old.seen c ptr bytes new.1 has))
     is

@@ -9,8 +9,8 @@ use Rattle.zst_uber.specs.declared.slot.Slot.{Slot}
 use Rattle.zst_uber.specs.declared.uber.Uber.{Uber}
 
 -- nothing is pending in sectors 0 to 7: there each image is what a read gives
-abbrev pub HeadSettled : DiskState → Type 0
-HeadSettled disk = (d : List ℕ) → disk.images d → (p n : ℕ) → p + n ≤ 4096 → bytes_at d p n ≡ bytes_at disk.seen p n
+abbrev pub LabelSettled : DiskState → Type 0
+LabelSettled disk = (d : List ℕ) → disk.images d → (p n : ℕ) → p + n ≤ 4096 → bytes_at d p n ≡ bytes_at disk.seen p n
 
 -- The latest body of an image from before the commit, over that image, or the new one, over what a read gave. Sectors 0 to 7 alone differ.
 abbrev pub HasOldOrNew : Uber → DiskState → List ℕ → Type 0

@@ -1,4 +1,4 @@
 pub mod Body
 pub mod Slots
-pub mod Opening
+pub mod OpenAnswers
 pub mod Commit

@@ -1,17 +1,17 @@
 //! The two gated slots of a pool, with its latest body, and the commit of the next one.
 #![tactic(auto)]
 
-mod committing;
+mod commits;
 mod fault;
-mod opening;
+mod latest_body;
 mod slot;
 #[cfg(test)]
 mod tests;
 mod uber;
 
-pub use committing::{commit, commit_event};
+pub use commits::{commit, commit_event};
 pub use fault::UberFault;
-pub use opening::latest;
+pub use latest_body::latest;
 pub use slot::Slot;
 pub use uber::Uber;
 

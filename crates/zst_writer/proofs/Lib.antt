@@ -1,2 +1,2 @@
-mod Sealed
+mod SealedRecords
 mod Puts

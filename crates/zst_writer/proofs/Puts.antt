@@ -4,7 +4,7 @@ use Rattle.std.proofs.lemmas.List.{append-nil}
 use Rattle.zst_model.specs.declared.sends.header.Header.{Header}
 use Rattle.zst_record.specs.declared.head.Head.{Head}
 use Rattle.zst_record.specs.declared.head.Head.TheVariants as heads
-use Rattle.zst_record.specs.Fits.{IsLater}
+use Rattle.zst_record.specs.RecordValues.{IsLater}
 use Rattle.zst_stream.specs.Reading.{closing}
 use Rattle.zst_stream.specs.Image.{Piece, record_after, piece_after, end_after, image_after, image, front_of, PiecesFit, IsStream}
 use Rattle.zst_stream.specs.Laws.{all_pieces}

@@ -5,7 +5,7 @@ use super::images::{
 };
 use super::runs::{check, sink};
 use super::streams::sums_before;
-use super::trials::{Accepted, EACH_KIND, Refused, accept, refuse};
+use super::trials::{AcceptedLine, EACH_KIND, RefusedLine, accept, refuse};
 use std::alloc::Global;
 use std::process::Abort;
 use std::test::Fail;
@@ -16,7 +16,7 @@ fn answer(
     rt: &impl Abort,
     alloc: Global,
     disk: &mut MemDisk,
-    lines: &[Accepted],
+    lines: &[AcceptedLine],
 ) -> Result<(), Fail> {
     let image = bytes_of(alloc, disk)?;
     accept(rt, alloc, disk, lines)?;
@@ -25,7 +25,7 @@ fn answer(
 }
 
 /// The lines of a file system whose head was changed after its snapshot.
-const CHANGED: [Accepted; 9] = [
+const CHANGED: [AcceptedLine; 9] = [
     ("create I 2048 1", "ok 1\n"),
     ("fs I tank/a", "ok 2\n"),
     ("object I tank/a 1 19 512 0 none none", "ok 3\n"),
@@ -38,7 +38,7 @@ const CHANGED: [Accepted; 9] = [
 ];
 
 /// Reads and lists that this pool refuses.
-const ABSENT: [Refused; 9] = [
+const ABSENT: [RefusedLine; 9] = [
     ("read I tank/z 1 0", 3, "E3 no such tank/z"),
     ("read I tank/a@z 1 0", 3, "E3 no such tank/a@z"),
     (

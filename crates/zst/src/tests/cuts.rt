@@ -154,10 +154,10 @@ fn what_is_kept_before_a_fault_is_listed(rt: HostRuntime) -> Result<(), Fail> {
 }
 
 /// A WRITE that can't be applied, its status and its text.
-type Unfit = ([Field; 3], u8, &'static str);
+type UnfitWrite = ([Field; 3], u8, &'static str);
 
 /// One for an object that isn't there, one whose length isn't the block size, one that isn't aligned, and one past the last index.
-const UNFIT: [Unfit; 4] = [
+const UNFIT: [UnfitWrite; 4] = [
     (
         [(8, 8, 2), (24, 8, 0), (32, 8, 512)],
         4,

@@ -1,6 +1,6 @@
 // Runs on an image in memory, one for each line, as the program makes them.
 
-use super::runs::{Ran, check, sink};
+use super::runs::{RunResult, check, sink};
 use std::alloc::Global;
 use std::process::Abort;
 use std::test::Fail;
@@ -63,13 +63,13 @@ pub(super) fn run_over<D: Disk>(
     mut input: MemSource,
     mut out: MemSink,
     mut note: MemSink,
-) -> Result<Ran, Fail> {
+) -> Result<RunResult, Fail> {
     let words = words_of(alloc, line)?;
     let mut there = SureDisk::new(Vec::new(alloc));
     let status = run(
         alloc, &words, NOW, disk, &mut there, &mut input, &mut out, &mut note,
     );
-    Ok(Ran { status, out, note })
+    Ok(RunResult { status, out, note })
 }
 
 /// Runs a line on an image, with these outputs.
@@ -79,13 +79,13 @@ pub(super) fn run_into<D: Disk>(
     line: &str,
     out: MemSink,
     note: MemSink,
-) -> Result<Ran, Fail> {
+) -> Result<RunResult, Fail> {
     let input = MemSource::new(Vec::new(alloc), Vec::new(alloc));
     run_over(alloc, disk, line, input, out, note)
 }
 
 /// Runs a line on an image.
-pub(super) fn run_on<D: Disk>(alloc: Global, disk: &mut D, line: &str) -> Result<Ran, Fail> {
+pub(super) fn run_on<D: Disk>(alloc: Global, disk: &mut D, line: &str) -> Result<RunResult, Fail> {
     run_into(alloc, disk, line, sink(alloc), sink(alloc))
 }
 

@@ -3,7 +3,7 @@ use super::images::{SMALL, bytes_of, disk_of, note_of};
 use super::runs::check;
 use super::snapshots::small_stream;
 use super::transfers::{SMALL_RECEIVED, WHOLE, new_image, pool_of, receive, run_with, sent};
-use super::trials::Refused;
+use super::trials::RefusedLine;
 use std::alloc::Global;
 use std::process::Abort;
 use std::test::Fail;
@@ -48,7 +48,7 @@ pub(super) fn refuse_stream(
     alloc: Global,
     disk: &mut MemDisk,
     stream: &[u8],
-    lines: &[Refused],
+    lines: &[RefusedLine],
 ) -> Result<(), Fail> {
     let image = bytes_of(alloc, disk)?;
     for (line, status, text) in lines {

@@ -11,7 +11,7 @@ use zst_run::run;
 
 /// An output that keeps what it takes until it is flushed. Its flushes are numbered from 0, and one of them fails.
 #[derive(Drop)]
-pub(super) struct Gathering {
+pub(super) struct BufferedSink {
     handed_on: Vec<u8>,
     waiting: Vec<u8>,
     failing: u64,
@@ -19,9 +19,9 @@ pub(super) struct Gathering {
     pub(super) faults: u64,
 }
 
-impl Gathering {
-    fn new(alloc: Global, failing: u64) -> Gathering {
-        Gathering {
+impl BufferedSink {
+    fn new(alloc: Global, failing: u64) -> BufferedSink {
+        BufferedSink {
             handed_on: Vec::new(alloc),
             waiting: Vec::new(alloc),
             failing,
@@ -31,7 +31,7 @@ impl Gathering {
     }
 }
 
-impl Sink for Gathering {
+impl Sink for BufferedSink {
     ghost use Rattle.std.specs.Prelude.{◌++◌, length};
 
     ghost state = { λ s. record { written = s.handed_on.items ++ s.waiting.items; waiting = length s.waiting.items; faults = s.faults } };
@@ -68,14 +68,14 @@ pub(super) fn dump_ten(
     alloc: Global,
     read: u64,
     flush: u64,
-) -> Result<(u8, Gathering), Fail> {
+) -> Result<(u8, BufferedSink), Fail> {
     let mut words = Vec::new(alloc);
     words.push(String::from_str(alloc, "dump")?)?;
     let mut here = SureDisk::new(Vec::new(alloc));
     let mut there = SureDisk::new(Vec::new(alloc));
     let fail = vec![in alloc; read]?;
     let mut input = MemSource::new(ten_records(rt, alloc)?, fail).in_pieces_of(312);
-    let mut out = Gathering::new(alloc, flush);
+    let mut out = BufferedSink::new(alloc, flush);
     let status = run(
         alloc,
         &words,
@@ -90,7 +90,7 @@ pub(super) fn dump_ten(
 }
 
 /// Compares what was handed on, and what waits.
-pub(super) fn check_out(rt: &impl Abort, out: &Gathering, handed_on: &str, waiting: &str) {
+pub(super) fn check_out(rt: &impl Abort, out: &BufferedSink, handed_on: &str, waiting: &str) {
     assert_eq!(rt;
         str::from_utf8(&out.handed_on).unwrap_or("no text"),
         handed_on

@@ -8,11 +8,11 @@ use super::streams::GUID;
 use super::transfers::{
     SMALL_LIST, SMALL_RECEIVED, WHOLE, check_blocks, new_image, receive, run_with,
 };
-use super::trials::{Refused, accept, refuse};
+use super::trials::{RefusedLine, accept, refuse};
 use std::test::Fail;
 
 /// What refuses a whole snapshot.
-const WHOLE_REFUSED: [Refused; 4] = [
+const WHOLE_REFUSED: [RefusedLine; 4] = [
     ("receive I tank/b", 3, "E4 exists: tank/b"),
     ("receive -F I tank/b@x", 3, "E4 exists: tank/b"),
     ("receive --origin tank/b@s I tank/b", 3, "E4 exists: tank/b"),
@@ -24,7 +24,7 @@ const WHOLE_REFUSED: [Refused; 4] = [
 ];
 
 /// What refuses the increment from it.
-const NEXT_REFUSED: [Refused; 3] = [
+const NEXT_REFUSED: [RefusedLine; 3] = [
     ("receive I tank/b@s", 3, "E4 exists: tank/b@s"),
     ("receive --origin tank/b@s I tank/b", 3, "E4 exists: tank/b"),
     (
@@ -35,7 +35,7 @@ const NEXT_REFUSED: [Refused; 3] = [
 ];
 
 /// What refuses an increment whose source isn't there.
-const LAST_REFUSED: [Refused; 4] = [
+const LAST_REFUSED: [RefusedLine; 4] = [
     (
         "receive I tank/b",
         3,
@@ -217,13 +217,13 @@ snapshot tank/c@mine guid 0000000100000001 time 1700000000 number 6 redacted 0
 }
 
 /// What a partial state of an absent dataset refuses beside it.
-const NEW_HELD: [Refused; 2] = [
+const NEW_HELD: [RefusedLine; 2] = [
     ("fs I tank/p", 3, "E4 exists: tank/p"),
     ("clone I tank/b@s tank/p", 3, "E4 exists: tank/p"),
 ];
 
 /// What one over a snapshot refuses.
-const OLD_HELD: [Refused; 5] = [
+const OLD_HELD: [RefusedLine; 5] = [
     ("write I tank/b 1 0 cc", 3, "E5 busy: partial tank/b"),
     ("snapshot I tank/b@w", 3, "E5 busy: partial tank/b"),
     ("rollback I tank/b@s", 3, "E5 busy: partial tank/b"),

@@ -228,7 +228,7 @@ fn a_pool_has_no_more_sectors_than_its_image(rt: HostRuntime) -> Result<(), Fail
     run_all(&rt, alloc, &mut disk, &["create I 128 1"], 1)
 }
 
-// A directory and a head each take a run of 8,192 bytes, which is 16 sectors, and blocks stand from sector 8 on. So the
+// A directory and a head each take an extent of 8,192 bytes, which is 16 sectors, and blocks stand from sector 8 on. So the
 // directories of five commits, the heads of two and one block leave 7 sectors of 128.
 #[test]
 fn a_full_pool_stays_as_it_is(rt: HostRuntime) -> Result<(), Fail> {

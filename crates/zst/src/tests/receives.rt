@@ -7,7 +7,7 @@ use super::transfers::{
     NAME_B, SMALL_LIST, SMALL_RECEIVED, WHOLE, check_blocks, foreign_stream, new_image, pool_of,
     receive, sent,
 };
-use super::trials::{Accepted, accept};
+use super::trials::{AcceptedLine, accept};
 use std::test::Fail;
 
 /// The object of a small pool.
@@ -80,14 +80,14 @@ object 2 type 19 size 131072 bonustype 44 bonus 168 spill none end 1
 }
 
 /// The lines after a snapshot of a small pool, what its increment is received with, and the blocks that then stand.
-type Changed = (
+type IncrementCase = (
     &'static [&'static str],
     &'static str,
     &'static [(u64, &'static str)],
 );
 
 /// A block that is written again, with equal bytes; and an object of four blocks that is freed and made anew.
-const CHANGED: [Changed; 2] = [
+const CHANGED: [IncrementCase; 2] = [
     (
         &["write I tank/a 1 0 aa", "snapshot I tank/a@t"],
         "received tank/b@t guid 0000000100000002 items 3\n",
@@ -155,7 +155,7 @@ fn a_distant_block_is_received(rt: HostRuntime) -> Result<(), Fail> {
     let mut there = disk_of(alloc, &new_image(&rt, alloc)?)?;
     let out = "received tank/b@s guid 0000000100000001 items 6\n";
     receive(&rt, alloc, &mut there, WHOLE, &stream, out)?;
-    let list: [Accepted; 1] = [(
+    let list: [AcceptedLine; 1] = [(
         "list I tank/b@s",
         "object 1 type 19 size 512 bonustype 0 bonus 0 spill none end 1073741826\n",
     )];

@@ -6,7 +6,7 @@ use super::tokens::TOKENS;
 use super::transfers::{
     SMALL_RECEIVED, WHOLE, check_blocks, new_image, pool_of, receive, run_with, sent,
 };
-use super::trials::{Accepted, Refused, accept, refuse};
+use super::trials::{AcceptedLine, RefusedLine, accept, refuse};
 use std::alloc::Global;
 use std::process::Abort;
 use std::test::Fail;
@@ -41,7 +41,7 @@ fn the_rest_of_a_cut_stream_is_sent(rt: HostRuntime) -> Result<(), Fail> {
 }
 
 /// Tokens of nothing that a new pool has, and one of a stream with large blocks, which isn't looked up.
-const REFUSED: [Refused; 3] = [
+const REFUSED: [RefusedLine; 3] = [
     (
         "send -t zst1-0000000000000000010000000100000000000000000000000000000000000000000000000000000000000000000000000000000000000000-0000000000000017 I",
         3,
@@ -63,14 +63,14 @@ fn tokens_are_refused(rt: HostRuntime) -> Result<(), Fail> {
 }
 
 /// What can't be done while a receive from `tank/a@s` into `tank/b` is kept: its head can't be changed, nor its base go.
-const HELD: [Refused; 3] = [
+const HELD: [RefusedLine; 3] = [
     ("write I tank/b 1 9 99", 3, "E5 busy: partial tank/b"),
     ("destroy I tank/b@1", 3, "E5 busy: partial tank/b"),
     ("destroy I tank/b", 3, "E5 busy: partial tank/b"),
 ];
 
 /// What happens at the sender before the rest is asked for: the head is written, and a bookmark stands where the source was.
-const MEANWHILE: [Accepted; 5] = [
+const MEANWHILE: [AcceptedLine; 5] = [
     ("write I tank/a 1 2 ff", "ok 9\n"),
     ("snapshot I tank/a@3", "ok 10\n"),
     ("free I tank/a 1 1", "ok 11\n"),

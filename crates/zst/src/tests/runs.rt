@@ -10,7 +10,7 @@ use zst_run::run;
 
 /// What came of a run.
 #[derive(Drop)]
-pub(super) struct Ran {
+pub(super) struct RunResult {
     pub status: u8,
     pub out: MemSink,
     pub note: MemSink,
@@ -22,7 +22,7 @@ pub(super) fn run_words(
     mut input: MemSource,
     mut out: MemSink,
     mut note: MemSink,
-) -> Result<Ran, Fail> {
+) -> Result<RunResult, Fail> {
     let mut owned = Vec::new(alloc);
     for word in words {
         owned.push(String::from_str(alloc, word)?)?;
@@ -32,7 +32,7 @@ pub(super) fn run_words(
     let status = run(
         alloc, &owned, 0, &mut here, &mut there, &mut input, &mut out, &mut note,
     );
-    Ok(Ran { status, out, note })
+    Ok(RunResult { status, out, note })
 }
 
 /// An input of which no call fails.
@@ -45,11 +45,11 @@ pub(super) fn sink(alloc: Global) -> MemSink {
     MemSink::new(Vec::new(alloc))
 }
 
-pub(super) fn dump_from(alloc: Global, input: MemSource) -> Result<Ran, Fail> {
+pub(super) fn dump_from(alloc: Global, input: MemSource) -> Result<RunResult, Fail> {
     run_words(alloc, &["dump"], input, sink(alloc), sink(alloc))
 }
 
-pub(super) fn dump_of(alloc: Global, bytes: &[u8]) -> Result<Ran, Fail> {
+pub(super) fn dump_of(alloc: Global, bytes: &[u8]) -> Result<RunResult, Fail> {
     dump_from(alloc, source_of(alloc, bytes)?)
 }
 
@@ -59,7 +59,14 @@ pub(super) fn text_of(sink: &MemSink) -> &str {
 }
 
 /// Compares what came of a run.
-pub(super) fn check(rt: &impl Abort, what: &str, ran: &Ran, status: u8, out: &str, note: &str) {
+pub(super) fn check(
+    rt: &impl Abort,
+    what: &str,
+    ran: &RunResult,
+    status: u8,
+    out: &str,
+    note: &str,
+) {
     assert_eq!(rt; text_of(&ran.note), note, "{what}");
     assert_eq!(rt; text_of(&ran.out), out, "{what}");
     assert_eq!(rt; ran.status, status, "{what}");

@@ -4,7 +4,7 @@ use super::images::{SMALL, disk_of, image_of, refused, run_into, run_on, turned,
 use super::runs::{check, dump_of, sink, text_of};
 use super::snapshots::{check_sent, empty_stream, next_stream, small_stream};
 use super::streams::sums_before;
-use super::trials::{EACH_KIND, Refused, accept, refuse};
+use super::trials::{EACH_KIND, RefusedLine, accept, refuse};
 use std::test::Fail;
 use zst_outside::{MemDisk, MemSink};
 
@@ -53,7 +53,7 @@ fn a_snapshot_is_sent_whole_and_from_another(rt: HostRuntime) -> Result<(), Fail
 }
 
 /// Sends that a pool with datasets of each kind refuses, each for the first of its causes.
-const REFUSED: [Refused; 9] = [
+const REFUSED: [RefusedLine; 9] = [
     ("send I tank/a@x", 3, "E3 no such tank/a@x"),
     ("send -i tank/a@x I tank/a@b", 3, "E3 no such tank/a@x"),
     ("send -i tank/a#x I tank/a@b", 3, "E3 no such tank/a#x"),

@@ -1,7 +1,7 @@
 // Sessions on a pool, line by line, with what each line prints.
 
 use super::images::{disk_of, zeros};
-use super::trials::{EACH_KIND, Refused, accept, refuse};
+use super::trials::{EACH_KIND, RefusedLine, accept, refuse};
 use std::test::Fail;
 
 #[test]
@@ -56,7 +56,7 @@ fn a_newer_bookmark_holds_a_head(rt: HostRuntime) -> Result<(), Fail> {
 }
 
 /// Lines that this pool refuses.
-const REFUSED: [Refused; 20] = [
+const REFUSED: [RefusedLine; 20] = [
     ("clone I tank/a@x tank/y", 3, "E3 no such tank/a@x"),
     ("clone I tank/a@z tank/ab", 3, "E4 exists: tank/ab"),
     ("bookmark I tank/a@x tank/a#x", 3, "E3 no such tank/a@x"),

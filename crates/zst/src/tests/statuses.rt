@@ -2,7 +2,7 @@
 
 use std::process::Abort;
 use zst_model::{
-    ApplyFault, Flaw, Holder, Lack, PlanFault, Present, Quantity, Refusal, StreamFault,
+    ApplyFault, Flaw, Holder, Lack, PlanFault, PresentSubject, Quantity, Refusal, StreamFault,
 };
 use zst_run::status_of;
 
@@ -19,7 +19,11 @@ fn words_are_2_and_plans_3(rt: HostRuntime) {
     check(&rt, Refusal::Usage { place: 0 }, 2);
     check(&rt, Refusal::from(PlanFault::BadName { place: 0 }), 2);
     check(&rt, Refusal::BadToken { place: 0 }, 2);
-    check(&rt, Refusal::from(PlanFault::Exists(Present::Pool)), 3);
+    check(
+        &rt,
+        Refusal::from(PlanFault::Exists(PresentSubject::Pool)),
+        3,
+    );
     check(&rt, Refusal::from(PlanFault::Busy(Holder::Session(0))), 3);
     check(&rt, Refusal::from(PlanFault::NoOrigin { guid: 0 }), 3);
     check(&rt, Refusal::from(PlanFault::Unsupported(Lack::Kind)), 3);

@@ -1,6 +1,6 @@
 // Streams that are sent and received.
 use super::images::{data_of, disk_of, image_of, run_on, run_over};
-use super::runs::{Ran, check, sink, source_of, text_of};
+use super::runs::{RunResult, check, sink, source_of, text_of};
 use super::streams::{FREE_OBJECTS, Field, Stream};
 use std::alloc::Global;
 use std::process::Abort;
@@ -37,7 +37,7 @@ pub(super) fn run_with<D: Disk>(
     disk: &mut D,
     line: &str,
     stream: &[u8],
-) -> Result<Ran, Fail> {
+) -> Result<RunResult, Fail> {
     let input = source_of(alloc, stream)?;
     run_over(alloc, disk, line, input, sink(alloc), sink(alloc))
 }

@@ -7,17 +7,17 @@ use std::test::Fail;
 use zst_outside::MemDisk;
 
 /// A line that is accepted, and what it prints.
-pub(super) type Accepted = (&'static str, &'static str);
+pub(super) type AcceptedLine = (&'static str, &'static str);
 
 /// A line that is refused, its status, and the text of its refusal.
-pub(super) type Refused = (&'static str, u8, &'static str);
+pub(super) type RefusedLine = (&'static str, u8, &'static str);
 
 /// Runs lines on a disk.
 pub(super) fn accept(
     rt: &impl Abort,
     alloc: Global,
     disk: &mut MemDisk,
-    lines: &[Accepted],
+    lines: &[AcceptedLine],
 ) -> Result<(), Fail> {
     for (line, out) in lines {
         let ran = run_on(alloc, disk, line)?;
@@ -31,7 +31,7 @@ pub(super) fn refuse(
     rt: &impl Abort,
     alloc: Global,
     disk: &mut MemDisk,
-    lines: &[Refused],
+    lines: &[RefusedLine],
 ) -> Result<(), Fail> {
     let image = bytes_of(alloc, disk)?;
     for (line, status, text) in lines {
@@ -43,7 +43,7 @@ pub(super) fn refuse(
 }
 
 /// The lines of a pool with datasets of each kind, in an order that is not that of their names.
-pub(super) const EACH_KIND: [Accepted; 12] = [
+pub(super) const EACH_KIND: [AcceptedLine; 12] = [
     ("create I 4096 7", "ok 1\n"),
     ("volume I tank/v", "ok 2\n"),
     ("fs I tank/a", "ok 3\n"),

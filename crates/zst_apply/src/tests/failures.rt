@@ -1,7 +1,7 @@
 // Records in which a call of the disk fails.
 ghost use Rattle.std.specs.Prelude.{◌≡◌, IfOk, ◌≤◌};
 ghost use Rattle.zst_block.specs.Blocks.{FitsDisk};
-ghost use Rattle.zst_apply.specs.Applying.{IsOfStream};
+ghost use Rattle.zst_apply.specs.AppliedRecords.{IsOfStream};
 
 use crate::tests::heads::{put, write};
 use crate::tests::sets::{SPILL_BLOCK, accept, give};

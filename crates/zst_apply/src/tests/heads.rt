@@ -1,6 +1,6 @@
 //! The heads of records, to stream 1.
 ghost use Rattle.std.specs.Prelude.{◌≡◌, ◌<◌, ◌^◌, ◌+◌, ◌-◌, ◌⊎◌};
-ghost use Rattle.zst_apply.specs.Applying.{IsOfStream};
+ghost use Rattle.zst_apply.specs.AppliedRecords.{IsOfStream};
 
 use zst_record::Head;
 

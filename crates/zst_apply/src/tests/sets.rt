@@ -1,9 +1,9 @@
 // Sets on disks in memory, and what records make of them.
 ghost use Rattle.std.specs.Prelude.{◌≡◌, IfOk};
 ghost use Rattle.zst_block.specs.Blocks.{FitsDisk};
-ghost use Rattle.zst_apply.specs.Applying.{IsOfStream};
+ghost use Rattle.zst_apply.specs.AppliedRecords.{IsOfStream};
 
-use crate::applying::apply;
+use crate::record_table::apply;
 use std::alloc::{AllocError, Global};
 use std::process::Abort;
 use zst_block::Io;

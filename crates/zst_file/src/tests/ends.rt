@@ -23,12 +23,12 @@ impl Script {
 
 // It gives two bytes a call.
 #[derive(Drop)]
-pub(super) struct Dripping {
+pub(super) struct DripReader {
     pub(super) left: &'static [u8],
     pub(super) script: Script,
 }
 
-impl Read for Dripping {
+impl Read for DripReader {
     fn read(&mut self, into: &mut [u8]) -> io::Result<usize> {
         self.script.next()?;
         let count = self.left.len().min(2).min(into.len());
@@ -40,12 +40,12 @@ impl Read for Dripping {
 
 // It takes at most 40,000 bytes a call.
 #[derive(Drop)]
-pub(super) struct Narrow<'a> {
+pub(super) struct NarrowWriter<'a> {
     pub(super) got: &'a mut Vec<u8>,
     pub(super) script: Script,
 }
 
-impl Write for Narrow<'_> {
+impl Write for NarrowWriter<'_> {
     fn write(&mut self, from: &[u8]) -> io::Result<usize> {
         self.script.next()?;
         let count = from.len().min(40000);

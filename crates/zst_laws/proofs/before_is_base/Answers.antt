@@ -1,4 +1,4 @@
-use Rattle.zst_laws.proofs.sends.More.{before_base}
+use Rattle.zst_laws.proofs.sends.ViewLaws.{before_base}
 use Rattle.zst_laws.proofs.before_is_base.Goals as goal
 
 pub returns : goal.returns

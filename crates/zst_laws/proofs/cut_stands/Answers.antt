@@ -1,4 +1,4 @@
-use Rattle.zst_laws.proofs.sends.Cut.{cut_stand}
+use Rattle.zst_laws.proofs.sends.CutSends.{cut_stand}
 use Rattle.zst_laws.proofs.cut_stands.Goals as goal
 
 pub returns : goal.returns

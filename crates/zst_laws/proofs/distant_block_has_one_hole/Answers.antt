@@ -1,4 +1,4 @@
-use Rattle.zst_laws.proofs.examples.Examples.{distant_items}
+use Rattle.zst_laws.proofs.examples.FileExamples.{distant_items}
 use Rattle.zst_laws.proofs.distant_block_has_one_hole.Goals as goal
 
 pub returns : goal.returns

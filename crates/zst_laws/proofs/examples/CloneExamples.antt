@@ -3,11 +3,11 @@ use Rattle.std.proofs.Common.{◌≡◌, inl, inr, ◌⊎◌, ℕ, List, [], ◌
 use Rattle.std.proofs.lemmas.List.Elements.{All-nil, All-cons}
 use Rattle.std.proofs.lemmas.Option.{same_Some}
 use Rattle.zst_model.specs.pools.Pool.{Dataset, Snapshot, HasDataset, dataset_of_snapshot}
-use Rattle.zst_model.specs.pools.Before.{IsOrigin, IsBase, Source, OfSnapshot, OfBookmark, dataset_of_source, number_of_source, Marks, IsBelow, StandsBefore, Earlier, AtOrigin, BeforeOrigin, BaseCounts, Place, IsBefore}
+use Rattle.zst_model.specs.pools.Ancestry.{IsOrigin, IsBase, Source, OfSnapshot, OfBookmark, dataset_of_source, number_of_source, Marks, IsBelow, StandsBefore, Earlier, AtOrigin, BeforeOrigin, BaseCounts, Place, IsBefore}
 use Rattle.zst_model.proofs.InsertedLaws.{contains_cases, contains_nothing}
 use Rattle.zst_laws.specs.CloneExample.{first, second, inner, dataset, of_first, of_second, receiving, clones, at_first, at_second, at_inner, at_head, at_received, of_clone, Stands, FirstStands, SecondStands, InnerStands, ClonesStand, MadeOfOne}
 use Rattle.zst_laws.proofs.pools.Rows.{bytes_differ}
-use Rattle.zst_laws.proofs.pools.Standing.{marks_number}
+use Rattle.zst_laws.proofs.pools.Ancestry.{marks_number}
 
 abbrev pub tank_a : List ℕ
 tank_a = codes "tank/a"

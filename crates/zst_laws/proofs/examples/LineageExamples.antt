@@ -2,7 +2,7 @@
 use Rattle.std.proofs.Common.{[], ◌∷◌, refl}
 use Rattle.std.specs.Fmt.{digits}
 use Rattle.hex.specs.Hex.{encode_with}
-use Rattle.zst_model.specs.pools.Lines.{pool_lines}
+use Rattle.zst_model.specs.pools.AnswerLines.{pool_lines}
 use Rattle.zst_model.specs.pools.Pool.{inserted}
 use Rattle.zst_model.specs.pools.Step.{stepped, last_number, last_guid, most_datasets, most_snapshots, most_bookmarks}
 use Rattle.zst_model.specs.refusals.PlanFault.{plan_text}

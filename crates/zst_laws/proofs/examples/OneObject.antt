@@ -4,11 +4,11 @@ use Rattle.std.proofs.lemmas.Bool.{cases_lt, cases_eq, cond-true, cond-false, le
 use Rattle.zst_model.specs.declared.sends.header.Point.{Point}
 use Rattle.zst_model.specs.declared.states.item.Item.TheVariants.{At}
 use Rattle.zst_model.specs.states.State.{Block, Hole, number_bound, is_number, is_hole, past_last}
-use Rattle.zst_model.specs.sends.Included.{any_below}
+use Rattle.zst_model.specs.sends.Inclusion.{any_below}
 use Rattle.zst_model.specs.sends.View.{View, ObjectView, Left, Gone, There}
 use Rattle.zst_model.specs.sends.Items.{block_change, change_at, items, joined, number_items, opening, origin}
 use Rattle.zst_laws.specs.Walk.{number_rest, left_at, walk_left, NothingBelow}
-use Rattle.zst_laws.specs.Example.{rest_gone}
+use Rattle.zst_laws.specs.FileExample.{rest_gone}
 use Rattle.zst_laws.proofs.sends.Walk.{all_none, left_below, left_own, left_above, walk_starts, walk_stops, object_next, gone_run_next}
 
 pub one_is : is_number 1 ≡ true

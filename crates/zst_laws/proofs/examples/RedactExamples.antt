@@ -10,11 +10,11 @@ use Rattle.zst_model.specs.states.State.{Block, Hole, Redacted, Data, index_boun
 use Rattle.zst_model.specs.pools.RedSet.{is_user_block, is_data}
 use Rattle.zst_model.specs.sends.View.{View, ObjectView, Left, There, object_view, view_of}
 use Rattle.zst_model.specs.sends.Items.{before, items, joined, origin}
-use Rattle.zst_laws.specs.Sending.{full}
+use Rattle.zst_laws.specs.ExactSends.{full}
 use Rattle.zst_laws.specs.Walk.{walk_left}
-use Rattle.zst_laws.specs.Example.{file_of, file_put, padded, rest_gone}
+use Rattle.zst_laws.specs.FileExample.{file_of, file_put, padded, rest_gone}
 use Rattle.zst_laws.specs.RedactExample.{of_three, three, middle, listed, TwoClonesList, RedactedItems}
-use Rattle.zst_laws.proofs.examples.Examples.{none_outside, opening_is, full_own, full_gone, full_block}
+use Rattle.zst_laws.proofs.examples.FileExamples.{none_outside, opening_is, full_own, full_gone, full_block}
 use Rattle.zst_laws.proofs.examples.OneObject.{one_is, end_is, from_start, ends_gone}
 use Rattle.zst_laws.proofs.sends.Walk.{block_run_next}
 

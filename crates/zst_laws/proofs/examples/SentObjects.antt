@@ -6,18 +6,18 @@ use Rattle.zst_model.specs.declared.states.item.Change.TheVariants.{Put, Spill, 
 use Rattle.zst_model.specs.declared.states.item.Item.{Item}
 use Rattle.zst_model.specs.declared.states.item.Item.TheVariants.{FreeObjects, At}
 use Rattle.zst_model.specs.states.State.{Block, Hole, Data, Object, end_of, end_at, index_bound, number_bound, past_last}
-use Rattle.zst_model.specs.states.Dated.{DatedState}
-use Rattle.zst_model.specs.sends.Included.{Choice, no_pairs, is_after, includes_pair, includes_number}
+use Rattle.zst_model.specs.states.DatedState.{DatedState}
+use Rattle.zst_model.specs.sends.Inclusion.{Choice, no_pairs, is_after, includes_pair, includes_number}
 use Rattle.zst_model.specs.sends.View.{View, ObjectView, Left, Gone, There, object_view, shown_object, view_of}
 use Rattle.zst_model.specs.sends.Items.{before, change_at, joined, number_items, opening}
-use Rattle.zst_laws.specs.Sending.{full}
+use Rattle.zst_laws.specs.ExactSends.{full}
 use Rattle.zst_laws.specs.Walk.{run_change, number_rest, left_at, walk_left}
-use Rattle.zst_laws.specs.Example.{file_of, first_block, padded, since, rest_gone}
+use Rattle.zst_laws.specs.FileExample.{file_of, first_block, padded, since, rest_gone}
 use Rattle.zst_laws.specs.LineExample.{whole_object}
 use Rattle.zst_laws.specs.SendExample.{whole, third_block, later, file_at, WholeItems, ChangedItems}
-use Rattle.zst_laws.proofs.sends.Exact.{full_number, outside_left, pair_number}
-use Rattle.zst_laws.proofs.examples.LinesTold.{whole_end}
-use Rattle.zst_laws.proofs.examples.Meant.{dated_number_is_included, equal_dates_are_left}
+use Rattle.zst_laws.proofs.sends.ExactSends.{full_number, outside_left, pair_number}
+use Rattle.zst_laws.proofs.examples.LineExamples.{whole_end}
+use Rattle.zst_laws.proofs.examples.Meanings.{dated_number_is_included, equal_dates_are_left}
 use Rattle.zst_laws.proofs.examples.OneObject.{one_is, end_is, from_start, ends_gone, done_below}
 use Rattle.zst_laws.proofs.sends.Walk.{all_none, number_is, left_below, left_own, left_above, walk_stops, object_next, gone_next, block_run_next}
 

@@ -2,10 +2,10 @@
 use Rattle.std.proofs.Common.{◌≡◌, inl, inr, ◌⊎◌, ℕ, ◌<◌, ◌≤◌, List, [], ◌∷◌, Some, None, AllPairs, Contains, refl, subst, sym, ◌∙◌, ap, arith}
 use Rattle.std.proofs.lemmas.List.Elements.{All-nil, All-cons}
 use Rattle.std.proofs.lemmas.List.Kept.{AllPairs-cons}
-use Rattle.zst_model.specs.states.Dated.{DatedState}
+use Rattle.zst_model.specs.states.DatedState.{DatedState}
 use Rattle.zst_model.specs.pools.Pool.{Dataset, Snapshot, Partial, untouched, dataset_of_snapshot}
 use Rattle.zst_model.specs.pools.Rows.{Row, rows}
-use Rattle.zst_model.specs.pools.Sound.{Agrees, DatedUpTo, IsBookmarkOf, Sound}
+use Rattle.zst_model.specs.pools.Soundness.{Agrees, DatedUpTo, IsBookmarkOf, Sound}
 use Rattle.zst_model.proofs.InsertedLaws.{All-from_contains, AllPairs-nil, contains_cases, contains_nothing}
 use Rattle.zst_laws.specs.CloneExample.{first, second, inner, dataset, of_first, of_second, receiving, clones}
 use Rattle.zst_laws.proofs.pools.Rows.{bytes_differ}

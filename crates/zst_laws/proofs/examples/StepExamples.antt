@@ -7,24 +7,24 @@ use Rattle.std.proofs.Math.Path.{fun_ext}
 use Rattle.std.proofs.lemmas.Bool.{cond-false, cond-true, cases_eq}
 use Rattle.std.proofs.lemmas.Bool.Decides.{nat_tests}
 use Rattle.zst_model.specs.declared.pools.command.Command.TheVariants as commands
-use Rattle.zst_model.specs.declared.refusals.named.Name.TheVariants as names
+use Rattle.zst_model.specs.declared.refusals.subjects.Name.TheVariants as names
 use Rattle.zst_model.specs.declared.refusals.apply_fault.ApplyFault.TheVariants.{Unaligned}
 use Rattle.zst_model.specs.declared.states.item.Change.{Change}
 use Rattle.zst_model.specs.declared.states.item.Change.TheVariants.{Put, Free, Write}
 use Rattle.zst_model.specs.declared.states.item.Item.TheVariants.{FreeObjects, At}
 use Rattle.zst_model.specs.states.State.{State, Object, Block, Hole, Data, is_number, index_bound, number_bound, past_last}
-use Rattle.zst_model.specs.states.Apply.{apply, apply_change, within, is_unaligned, put_at, ◌>>=◌}
-use Rattle.zst_model.specs.states.Dated.{DatedState, apply_all_dated, dates_number, dates_index, touches_number, touches_index}
+use Rattle.zst_model.specs.states.AppliedItems.{apply, apply_change, within, is_unaligned, put_at, ◌>>=◌}
+use Rattle.zst_model.specs.states.DatedState.{DatedState, apply_all_dated, dates_number, dates_index, touches_number, touches_index}
 use Rattle.zst_model.specs.sends.Items.{rising}
-use Rattle.zst_model.specs.pools.Held.{Held}
-use Rattle.zst_model.specs.pools.Lines.{object_lines, object_line, line_of, word}
+use Rattle.zst_model.specs.pools.Sessions.{Held}
+use Rattle.zst_model.specs.pools.AnswerLines.{object_lines, object_line, line_of, word}
 use Rattle.zst_model.specs.pools.Pool.{Pool, Snapshot, Bookmark, inserted, untouched}
 use Rattle.zst_model.specs.pools.Step.{stepped, last_number, last_guid, most_datasets, most_snapshots, answered, with_head, committed, of_applying, filled, in_indices}
-use Rattle.zst_laws.specs.Example.{file, padded, small, rewritten, one_file, file_of, file_dates, first_block}
+use Rattle.zst_laws.specs.FileExample.{file, padded, small, rewritten, one_file, file_of, file_dates, first_block}
 use Rattle.zst_laws.specs.StepExample.{new_pool, with_tank, gives, allocated, small_snapshot, after_snapshot, put_again, made_anew, zeroed_block, zeroed, fourth_block, punched_file, is_freed, freed, SmallSteps, RewrittenStep, PutSteps, ChangedSteps, ChangedReads}
 use Rattle.zst_laws.proofs.sends.Blocks.{same_place, within_block}
 use Rattle.zst_laws.proofs.examples.OneObject.{end_is}
-use Rattle.zst_laws.proofs.sends.Runs.{unless_from, aligned_from}
+use Rattle.zst_laws.proofs.sends.AppliedItemLemmas.{unless_from, aligned_from}
 
 -- dated states with equal parts are equal
 same_dated : (a b : DatedState) → a.state ≡ b.state → a.number_date ≡ b.number_date → a.index_date ≡ b.index_date → a ≡ b

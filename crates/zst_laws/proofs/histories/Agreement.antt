@@ -2,13 +2,13 @@
 use Rattle.std.proofs.Common.{◌≡◌, ℕ, ◌<◌, ◌≤◌, Bool, true, false, List, [], ◌∷◌, Ok, sym, ◌∙◌, subst, arith, if◌then◌else◌}
 use Rattle.zst_model.specs.declared.states.item.Item.{Item}
 use Rattle.zst_model.specs.states.State.{State, IsState}
-use Rattle.zst_model.specs.states.Dated.{DatedState, touches_number, touches_index, apply_dated, apply_all_dated}
+use Rattle.zst_model.specs.states.DatedState.{DatedState, touches_number, touches_index, apply_dated, apply_all_dated}
 use Rattle.zst_model.specs.pools.Pool.{Snapshot}
-use Rattle.zst_model.specs.pools.Sound.{Agrees, DatedUpTo}
+use Rattle.zst_model.specs.pools.Soundness.{Agrees, DatedUpTo}
 use Rattle.zst_model.specs.sends.Target.{Remembers}
-use Rattle.zst_laws.specs.Dating.{AreLawfulItems}
-use Rattle.zst_laws.proofs.histories.Dating.{changes_dated, dates_exact, kept_date, remembered_on, dated_parts, applied_state}
-use Rattle.zst_laws.proofs.sends.Runs.{bind_ok, ok_inj}
+use Rattle.zst_laws.specs.Dates.{AreLawfulItems}
+use Rattle.zst_laws.proofs.histories.Dates.{changes_dated, dates_exact, kept_date, remembered_on, dated_parts, applied_state}
+use Rattle.zst_laws.proofs.sends.AppliedItemLemmas.{bind_ok, ok_inj}
 
 -- a snapshot that agrees with a state agrees with it after an item of a later commit
 pub agrees_on : (earlier : Snapshot) (next : ℕ) (item : Item) (snap after : DatedState) → earlier.number < next → IsState snap.state

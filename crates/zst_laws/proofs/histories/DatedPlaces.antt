@@ -8,11 +8,11 @@ use Rattle.zst_model.specs.declared.states.item.Change.TheVariants.{Put, Spill, 
 use Rattle.zst_model.specs.declared.states.item.Item.{Item}
 use Rattle.zst_model.specs.declared.states.item.Item.TheVariants.{FreeObjects, At}
 use Rattle.zst_model.specs.states.State.{State, Object, is_number, number_bound, index_bound}
-use Rattle.zst_model.specs.states.Apply.{apply, apply_change, within}
-use Rattle.zst_model.specs.states.Dated.{dates_index, touches_number, touches_index}
-use Rattle.zst_laws.specs.Dating.{IsInRange, DatesNumber, DatesPlace, DatesIndex, DateIs, DatesAreExact}
-use Rattle.zst_laws.proofs.sends.Runs.{bind_ok}
-use Rattle.zst_laws.proofs.histories.Dating.{dates_exact, dated_parts}
+use Rattle.zst_model.specs.states.AppliedItems.{apply, apply_change, within}
+use Rattle.zst_model.specs.states.DatedState.{dates_index, touches_number, touches_index}
+use Rattle.zst_laws.specs.Dates.{IsInRange, DatesNumber, DatesPlace, DatesIndex, DateIs, DatesAreExact}
+use Rattle.zst_laws.proofs.sends.AppliedItemLemmas.{bind_ok}
+use Rattle.zst_laws.proofs.histories.Dates.{dates_exact, dated_parts}
 
 Decides-leb : (a b : ℕ) → Decides (nat_le a b) (a ≤ b)
 Decides-leb a b = (leb-true a b, le-leb a b)

@@ -1,15 +1,15 @@
 -- What commits make of a snapshot, and that the increment from it gives exactly this.
 use Rattle.std.proofs.Common.{subst, ◌≡◌, ℕ, List, [], ◌∷◌, Some, Ok}
 use Rattle.zst_model.specs.states.State.{State, IsState}
-use Rattle.zst_model.specs.states.Dated.{DatedState}
-use Rattle.zst_model.specs.sends.Included.{Choice}
+use Rattle.zst_model.specs.states.DatedState.{DatedState}
+use Rattle.zst_model.specs.sends.Inclusion.{Choice}
 use Rattle.zst_model.specs.sends.Target.{Remembers}
-use Rattle.zst_model.specs.states.Dated.{apply_all_dated}
+use Rattle.zst_model.specs.states.DatedState.{apply_all_dated}
 use Rattle.zst_laws.specs.Commits.{Commit, apply_commits, AreLater, HistoryRemembers, IncrementIsExact}
-use Rattle.zst_laws.proofs.histories.Dating.{remembered_itself, remembered_through}
-use Rattle.zst_laws.proofs.sends.Exact.{send_exact}
-use Rattle.zst_laws.proofs.sends.More.{before_base}
-use Rattle.zst_laws.proofs.sends.Runs.{bind_ok, ok_inj}
+use Rattle.zst_laws.proofs.histories.Dates.{remembered_itself, remembered_through}
+use Rattle.zst_laws.proofs.sends.ExactSends.{send_exact}
+use Rattle.zst_laws.proofs.sends.ViewLaws.{before_base}
+use Rattle.zst_laws.proofs.sends.AppliedItemLemmas.{bind_ok, ok_inj}
 
 -- what is remembered stays so under later commits
 history : (snap after : DatedState) (number : ℕ) (commits : List Commit) (state : State)

@@ -1,4 +1,4 @@
-use Rattle.zst_laws.proofs.sends.Rising.{points_rise}
+use Rattle.zst_laws.proofs.sends.RisingPoints.{points_rise}
 use Rattle.zst_laws.proofs.points_rise.Goals as goal
 
 pub returns : goal.returns

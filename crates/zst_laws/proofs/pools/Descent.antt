@@ -3,16 +3,16 @@ use Rattle.std.proofs.Common.{◌≡◌, inl, inr, ◌⊎◌, ℕ, ◌+◌, ◌<
 use Rattle.std.proofs.lemmas.List.Elements.{All-contains, Contains-append_left, Contains-append_right, Contains-append_cases}
 use Rattle.zst_model.specs.states.State.{State}
 use Rattle.zst_model.specs.pools.Pool.{Pool, Dataset, Snapshot, Bookmark, Partial, HasDataset, IsLinked, dataset_of_snapshot, dataset_of_bookmark}
-use Rattle.zst_model.specs.pools.Before.{IsOrigin, IsBase, Source, OfSnapshot, OfBookmark, dataset_of_source, number_of_source, IsIn, StandsBefore, IsBefore}
+use Rattle.zst_model.specs.pools.Ancestry.{IsOrigin, IsBase, Source, OfSnapshot, OfBookmark, dataset_of_source, number_of_source, IsIn, StandsBefore, IsBefore}
 use Rattle.zst_model.specs.pools.Rows.{Row, snapshot_row, head_row, partial_row, rows}
-use Rattle.zst_model.specs.pools.Sound.{Agrees, DatedUpTo, IsBookmarkOf, Sound}
-use Rattle.zst_model.specs.states.Dated.{DatedState}
+use Rattle.zst_model.specs.pools.Soundness.{Agrees, DatedUpTo, IsBookmarkOf, Sound}
+use Rattle.zst_model.specs.states.DatedState.{DatedState}
 use Rattle.zst_model.proofs.InsertedLaws.{All-from_contains, contains-map, map_contains}
 use Rattle.zst_model.specs.sends.Target.{Remembers}
-use Rattle.zst_laws.specs.Remembering.{IsOwn, SourceRemembers}
+use Rattle.zst_laws.specs.RememberedStates.{IsOwn, SourceRemembers}
 use Rattle.zst_laws.proofs.histories.Agreement.{dated_higher}
-use Rattle.zst_laws.proofs.pools.Unique.{same_element}
-use Rattle.zst_laws.proofs.pools.Standing.{HasOldOrigins, stood_before, before_partial_on}
+use Rattle.zst_laws.proofs.pools.UniqueElements.{same_element}
+use Rattle.zst_laws.proofs.pools.Ancestry.{HasOldOrigins, stood_before, before_partial_on}
 
 -- a row is of a snapshot, a head or a partial state
 pub data IsRow (pool : Pool) : Row → Type 0 where

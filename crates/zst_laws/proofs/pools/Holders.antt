@@ -6,11 +6,11 @@ use Rattle.std.proofs.lemmas.Option.{same_Some}
 use Rattle.zst_model.specs.declared.pools.command.Command.{Command}
 use Rattle.zst_model.specs.declared.pools.command.Command.TheVariants as commands
 use Rattle.zst_model.specs.declared.refusals.faults.Quantity.TheVariants as quantities
-use Rattle.zst_model.specs.declared.refusals.named.Name.TheVariants as names
+use Rattle.zst_model.specs.declared.refusals.subjects.Name.TheVariants as names
 use Rattle.zst_model.specs.declared.refusals.refusal.Refusal.{Refusal}
 use Rattle.zst_model.specs.declared.refusals.refusal.Refusal.TheVariants as refusals
 use Rattle.zst_names.specs.Names.{dataset_of}
-use Rattle.zst_model.specs.pools.Held.{Held, session_with, unless_busy}
+use Rattle.zst_model.specs.pools.Sessions.{Held, session_with, unless_busy}
 use Rattle.zst_model.specs.pools.Pool.{Pool, Dataset, Snapshot, Bookmark, Partial, IsPool, dataset_named, snapshot_named, dataset_of_snapshot, is_before}
 use Rattle.zst_model.specs.pools.Step.{Stepped, stepped, no_such, busy_partial, busy_clone, busy_bookmark, busy_snapshot, or_else, unless_there, committed, is_one_of, session_of_one, unless_used, is_newer, is_newer_bookmark, newer_snapshots, lesser_name, least_name, destroyed_by, unless_newer, rolled_back, is_of, without_dataset, without_snapshot, without_bookmark}
 use Rattle.zst_model.proofs.InsertedLaws.{contains_first, contains_later, contains_cases, contains_nothing, contains-map, map_contains}
@@ -20,10 +20,10 @@ use Rattle.zst_laws.specs.StepRefusals.{dataset_before}
 use Rattle.zst_laws.specs.LineageRefusals.{NothingToDestroy, IsFound, Destroys, Touches, IsDestroyed, HoldsAsPartial, HoldsAsClone, IsLeastHolder, NoneHolds, PartialIsNamed, CloneIsNamed, IsRollback, NewerMarkIsNamed, NewerSnapshotIsNamed, IsNewestOf, DestroyHasNoNumber, BookmarkStays}
 use Rattle.zst_laws.proofs.pools.Rows.{named_found, none_passes, none_from_absent}
 use Rattle.zst_laws.proofs.pools.Filters.{filter_contains, contains-filter, passed_by_some, some_passes}
-use Rattle.zst_laws.proofs.pools.Found.{find_least}
+use Rattle.zst_laws.proofs.pools.Lookups.{find_least}
 use Rattle.zst_laws.proofs.pools.Lineages.{newer_had, newer_passes, mark_had, mark_passes}
-use Rattle.zst_laws.proofs.pools.Refused.{no_number}
-use Rattle.zst_laws.proofs.pools.HeldBy.{free_ones}
+use Rattle.zst_laws.proofs.pools.StepRefusals.{no_number}
+use Rattle.zst_laws.proofs.pools.HoldingSessions.{free_ones}
 
 -- the tests that a command makes of partial states and snapshots are what it touches and destroys
 record Tells (pool : Pool) (command : Command) (is_such : Partial → Bool) (gone : List Snapshot) : Type 0 where

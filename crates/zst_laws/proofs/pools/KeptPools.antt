@@ -2,16 +2,16 @@
 use Rattle.std.proofs.Common.{◌≡◌, Bool, true, Some, None, Contains, refl, ap}
 use Rattle.std.proofs.lemmas.List.Elements.{All-contains, filter_passes}
 use Rattle.zst_model.specs.pools.Pool.{Pool, Bookmark, Partial, dataset_of_snapshot, dataset_of_bookmark}
-use Rattle.zst_model.specs.pools.Before.{Source, OfSnapshot, Place, InDataset, InPartial, IsBefore}
-use Rattle.zst_model.specs.pools.Kept.{KeepsAll, kept_of}
+use Rattle.zst_model.specs.pools.Ancestry.{Source, OfSnapshot, Place, InDataset, InPartial, IsBefore}
+use Rattle.zst_model.specs.pools.KeptPool.{KeepsAll, kept_of}
 use Rattle.zst_model.specs.pools.Rows.{Row, rows}
-use Rattle.zst_model.specs.pools.Sound.{DatedUpTo, IsBookmarkOf, Sound}
+use Rattle.zst_model.specs.pools.Soundness.{DatedUpTo, IsBookmarkOf, Sound}
 use Rattle.zst_model.proofs.InsertedLaws.{All-from_contains}
-use Rattle.zst_laws.specs.KeptExample.{TwoAreKept, KeptAreKept, KeepingIsDone, KeptIsLawful, KeptIsSound}
+use Rattle.zst_laws.specs.KeptPools.{TwoAreKept, KeptAreKept, KeepingIsDone, KeptIsLawful, KeptIsSound}
 use Rattle.zst_laws.proofs.pools.LawfulRest.{fewer_partials_are_lawful}
 use Rattle.zst_laws.proofs.pools.Filters.{filter_contains, contains-filter, filter_all}
 use Rattle.zst_laws.proofs.pools.Descent.{IsRow, SnapshotRow, HeadRow, PartialRow, snapshot_has_row, head_has_row, partial_has_row, row_cases}
-use Rattle.zst_laws.proofs.pools.Standing.{HasOrigins, stands_on, before_partial_on}
+use Rattle.zst_laws.proofs.pools.Ancestry.{HasOrigins, stands_on, before_partial_on}
 
 -- whether a partial state is kept
 abbrev is_kept : Partial → Bool

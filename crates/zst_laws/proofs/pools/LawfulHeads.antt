@@ -8,15 +8,15 @@ use Rattle.zst_model.specs.declared.states.item.Change.TheVariants.{Put, Free, W
 use Rattle.zst_model.specs.declared.states.item.Item.{Item}
 use Rattle.zst_model.specs.declared.states.item.Item.TheVariants.{FreeObjects, At}
 use Rattle.zst_model.specs.states.State.{State, Object, IsObject, IsObjectOrNone, IsState, is_number, number_bound, index_bound, IsHead, IsBonus, IsSpill}
-use Rattle.zst_model.specs.states.Apply.{apply, apply_change, put_at}
-use Rattle.zst_model.specs.states.Dated.{DatedState, size_at, apply_dated, apply_all_dated}
+use Rattle.zst_model.specs.states.AppliedItems.{apply, apply_change, put_at}
+use Rattle.zst_model.specs.states.DatedState.{DatedState, size_at, apply_dated, apply_all_dated}
 use Rattle.zst_model.specs.sends.Items.{spill_change}
 use Rattle.zst_model.specs.pools.Pool.{Pool}
 use Rattle.zst_model.specs.pools.Step.{in_numbers, applied, filled, written, punched}
 use Rattle.zst_model.proofs.Sizes.{size_of_lawful}
-use Rattle.zst_laws.specs.Dating.{AreLawfulItems}
-use Rattle.zst_laws.proofs.sends.Runs.{bind_ok, ok_inj}
-use Rattle.zst_laws.proofs.histories.Dating.{remembered_itself, remembered_through}
+use Rattle.zst_laws.specs.Dates.{AreLawfulItems}
+use Rattle.zst_laws.proofs.sends.AppliedItemLemmas.{bind_ok, ok_inj}
+use Rattle.zst_laws.proofs.histories.Dates.{remembered_itself, remembered_through}
 use Rattle.zst_laws.proofs.pools.Rows.{limited_ok, of_applying_ok}
 
 -- lawful items that are applied in the next commit leave a lawful state

@@ -4,22 +4,22 @@ use Rattle.std.specs.List.{All, Contains}
 use Rattle.std.proofs.lemmas.List.Elements.{All-nil, All-weaker, All-contains}
 use Rattle.zst_names.specs.Names.{IsDataset, IsSnapshot, IsBookmark, IsComponent, dataset_of}
 use Rattle.zst_names.specs.Marks.{at_is_mark}
-use Rattle.zst_names.proofs.Marked.{join_is_name}
+use Rattle.zst_names.proofs.MarkedNames.{join_is_name}
 use Rattle.zst_model.specs.fields.Guids.{IsGuidSet}
 use Rattle.zst_model.specs.fields.Lists.{IsRunList}
 use Rattle.zst_model.specs.declared.pools.command.Command.TheVariants as commands
-use Rattle.zst_model.specs.declared.refusals.named.Name.TheVariants as names
+use Rattle.zst_model.specs.declared.refusals.subjects.Name.TheVariants as names
 use Rattle.zst_model.specs.declared.refusals.refusal.Refusal.{Refusal}
 use Rattle.zst_model.specs.states.State.{IsState, no_objects}
-use Rattle.zst_model.specs.states.Dated.{DatedState}
+use Rattle.zst_model.specs.states.DatedState.{DatedState}
 use Rattle.zst_model.specs.pools.Pool.{Pool, Dataset, Snapshot, Bookmark, IsPool, IsKind, IsGuid, HasDataset, HasSnapshot, dataset_named, snapshot_named, bookmark_named, partial_of, dataset_of_snapshot, is_before, snapshot_is_before, inserted}
 use Rattle.zst_model.specs.pools.Step.{Stepped, committed, last_number, last_guid, next_guid, new_dataset, with_head_at, with_head, snapshot_of, clone_of, bookmark_of, with_dataset, on_head, with_snapshot, with_clone, with_bookmark, stepped}
 use Rattle.zst_model.proofs.InsertedLaws.{All-from_contains, contains-map, contains-inserted, inserted_has_rest, All-inserted, AllPairs-map}
 use Rattle.zst_model.proofs.OrderLaws.{names_differ-inserted, names_rise-inserted, rows_rise-inserted}
-use Rattle.zst_laws.specs.Stepping.{StepsKeepPools}
+use Rattle.zst_laws.specs.StepInvariants.{StepsKeepPools}
 use Rattle.zst_laws.proofs.pools.Rows.{All-with_head, committed_ok, on_head_ok, named_found, none_named, name_under_head}
-use Rattle.zst_laws.proofs.pools.Accepted.{with_dataset_ok, with_snapshot_ok, with_clone_ok, with_bookmark_ok, read_keeps, list_keeps, list_objects_keeps}
-use Rattle.zst_laws.proofs.pools.Departed.{with_rollback_ok, dataset_destroyed_ok, snapshot_destroyed_ok, bookmark_destroyed_ok, with_aborted_ok}
+use Rattle.zst_laws.proofs.pools.AcceptedCommands.{with_dataset_ok, with_snapshot_ok, with_clone_ok, with_bookmark_ok, read_keeps, list_keeps, list_objects_keeps}
+use Rattle.zst_laws.proofs.pools.AcceptedRemovals.{with_rollback_ok, dataset_destroyed_ok, snapshot_destroyed_ok, bookmark_destroyed_ok, with_aborted_ok}
 use Rattle.zst_laws.proofs.pools.LawfulRest.{rolled_is_lawful, lawful_without_dataset, lawful_without_snapshot, lawful_without_bookmark, lawful_without_partial}
 use Rattle.zst_laws.proofs.pools.LawfulHeads.{object_is_lawful, write_is_lawful, punch_is_lawful, free_is_lawful}
 

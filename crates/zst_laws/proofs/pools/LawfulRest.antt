@@ -13,7 +13,7 @@ use Rattle.zst_model.specs.pools.Step.{is_one_of, is_newer, newer_snapshots, rol
 use Rattle.zst_model.proofs.InsertedLaws.{All-from_contains, contains_first, contains-map, map_contains, AllPairs-map}
 use Rattle.zst_model.proofs.OrderLaws.{same_bytes, bytes_same}
 use Rattle.zst_laws.proofs.pools.Rows.{named_found}
-use Rattle.zst_laws.proofs.pools.Departed.{AreUnused, is_for}
+use Rattle.zst_laws.proofs.pools.AcceptedRemovals.{AreUnused, is_for}
 use Rattle.zst_laws.proofs.pools.Filters.{filter_contains, contains-filter, passed_by_some}
 
 -- a pool with these datasets, and with the snapshots that pass a test

@@ -12,9 +12,9 @@ use Rattle.zst_laws.specs.StepRefusals.{dataset_before}
 use Rattle.zst_laws.specs.Lineage.{dataset_before_mark, IsNewer, IsNewerMark, HasAllBut, OtherDatasetsStay, CloneMakes, BookmarkMakes, RollbackMakes, RollbackWantsNewest, DatasetGoes, SnapshotGoes, BookmarkGoes}
 use Rattle.zst_laws.proofs.pools.Rows.{none_there, none_passes, none_from_absent, named_found, committed_ok}
 use Rattle.zst_laws.proofs.pools.Filters.{filter_contains, contains-filter}
-use Rattle.zst_laws.proofs.pools.Found.{find-inserted_row, find-inserted_other, find-filter, find-map}
-use Rattle.zst_laws.proofs.pools.Accepted.{with_clone_ok, with_bookmark_ok}
-use Rattle.zst_laws.proofs.pools.Departed.{IsNewest, with_rollback_ok, dataset_destroyed_ok, snapshot_destroyed_ok, bookmark_destroyed_ok}
+use Rattle.zst_laws.proofs.pools.Lookups.{find-inserted_row, find-inserted_other, find-filter, find-map}
+use Rattle.zst_laws.proofs.pools.AcceptedCommands.{with_clone_ok, with_bookmark_ok}
+use Rattle.zst_laws.proofs.pools.AcceptedRemovals.{IsNewest, with_rollback_ok, dataset_destroyed_ok, snapshot_destroyed_ok, bookmark_destroyed_ok}
 
 -- names that differ test as different
 pub differ : (a b : List ℕ) → a ≢ b → bytes_eq a b ≡ false

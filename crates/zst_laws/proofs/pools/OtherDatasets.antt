@@ -3,8 +3,8 @@ use Rattle.std.proofs.Common.{inl, refl, ℕ, ◌+◌, ◌≤◌, List, Contains
 use Rattle.std.proofs.lemmas.List.Elements.{All-contains}
 use Rattle.zst_model.specs.pools.Pool.{Pool, Dataset, Partial, HasDataset, IsLinked, dataset_of_bookmark}
 use Rattle.zst_model.specs.pools.Rows.{Row, head_row}
-use Rattle.zst_model.specs.pools.Sound.{Sound}
-use Rattle.zst_laws.proofs.pools.Standing.{HasOldOrigins}
+use Rattle.zst_model.specs.pools.Soundness.{Sound}
+use Rattle.zst_laws.proofs.pools.Ancestry.{HasOldOrigins}
 use Rattle.zst_laws.proofs.pools.Descent.{IsRow, SnapshotRow, HeadRow, PartialRow, row_cases, Descends, IsNext, next_sound, snapshot_stays, partial_stays}
 
 -- the next commit's pool with these datasets

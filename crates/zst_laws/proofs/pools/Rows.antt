@@ -9,15 +9,15 @@ use Rattle.zst_model.specs.declared.refusals.apply_fault.ApplyFault.{ApplyFault}
 use Rattle.zst_model.specs.declared.refusals.faults.Quantity.{Quantity}
 use Rattle.zst_model.specs.declared.refusals.refusal.Refusal.{Refusal}
 use Rattle.zst_model.specs.declared.refusals.refusal.Refusal.TheVariants as refusals
-use Rattle.zst_model.specs.declared.refusals.named.Name.TheVariants as names
-use Rattle.zst_model.specs.states.Apply.{unless, ◌>>=◌}
-use Rattle.zst_model.specs.states.Dated.{DatedState}
-use Rattle.zst_model.specs.pools.Lines.{ok_line}
+use Rattle.zst_model.specs.declared.refusals.subjects.Name.TheVariants as names
+use Rattle.zst_model.specs.states.AppliedItems.{unless, ◌>>=◌}
+use Rattle.zst_model.specs.states.DatedState.{DatedState}
+use Rattle.zst_model.specs.pools.AnswerLines.{ok_line}
 use Rattle.zst_model.specs.pools.Pool.{Pool, Dataset, dataset_named, partial_of}
 use Rattle.zst_model.specs.pools.Step.{Stepped, no_such, busy_partial, or_else, of_applying, last_number, limited, committed, with_head_at, with_head, on_dataset, on_head}
 use Rattle.zst_model.proofs.InsertedLaws.{contains_first, contains_later, contains_cases, contains_nothing, All-from_contains, map_contains}
 use Rattle.zst_model.proofs.OrderLaws.{same_bytes, bytes_same}
-use Rattle.zst_laws.proofs.sends.Runs.{bind_ok, unless_ok, ok_inj}
+use Rattle.zst_laws.proofs.sends.AppliedItemLemmas.{bind_ok, unless_ok, ok_inj}
 
 -- what a look-up gives passes and is in the list, and where it gives none, none passes
 pub found_passes : {A : Type 0} (p : A → Bool) (xs : List A) (x : A) → find p xs ≡ Some x → Contains xs x × (p x ≡ true)

@@ -3,13 +3,13 @@ use Rattle.std.proofs.Common.{◌≡◌, ◌≢◌, ◌⊎◌, inl, inr, ℕ, �
 use Rattle.std.proofs.lemmas.List.Elements.{All-contains}
 use Rattle.std.proofs.lemmas.Option.{same_Some}
 use Rattle.zst_model.specs.pools.Pool.{Pool, Dataset, Snapshot, Partial, HasDataset, IsLinked, IsNamed, dataset_of_snapshot, is_before, inserted}
-use Rattle.zst_model.specs.pools.Before.{IsOrigin, Source, IsIn, StandsBefore, Earlier, AtOrigin, BeforeOrigin, dataset_of_source}
+use Rattle.zst_model.specs.pools.Ancestry.{IsOrigin, Source, IsIn, StandsBefore, Earlier, AtOrigin, BeforeOrigin, dataset_of_source}
 use Rattle.zst_model.specs.pools.Rows.{snapshot_row, head_row}
-use Rattle.zst_model.specs.pools.Sound.{Sound}
+use Rattle.zst_model.specs.pools.Soundness.{Sound}
 use Rattle.zst_model.specs.pools.Step.{new_dataset, clone_of}
 use Rattle.zst_model.proofs.InsertedLaws.{contains-inserted, inserted_has_rest}
-use Rattle.zst_laws.proofs.pools.Unique.{same_element}
-use Rattle.zst_laws.proofs.pools.Standing.{HasOldOrigins, stood_before, marks_dataset, marks_number}
+use Rattle.zst_laws.proofs.pools.UniqueElements.{same_element}
+use Rattle.zst_laws.proofs.pools.Ancestry.{HasOldOrigins, stood_before, marks_dataset, marks_number}
 use Rattle.zst_laws.proofs.histories.Agreement.{dated_higher}
 use Rattle.zst_laws.proofs.pools.Descent.{snapshot_has_row, StandsBy, Descends, source_dataset, head_stays}
 use Rattle.zst_laws.proofs.pools.OtherDatasets.{with_datasets, KeepsDatasets}

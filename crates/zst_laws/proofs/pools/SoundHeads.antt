@@ -1,16 +1,16 @@
 -- A command that changes the head of a dataset keeps a pool sound.
 use Rattle.std.proofs.Common.{◌≡◌, inl, ℕ, ◌+◌, Bool, true, false, List, None, Contains, if◌then◌else◌, refl, subst, sym, ◌∙◌, ap, arith}
 use Rattle.std.specs.Str.{bytes_eq}
-use Rattle.zst_model.specs.states.Dated.{DatedState}
+use Rattle.zst_model.specs.states.DatedState.{DatedState}
 use Rattle.zst_model.specs.pools.Pool.{Pool, Dataset}
-use Rattle.zst_model.specs.pools.Before.{Source, StandsBefore}
+use Rattle.zst_model.specs.pools.Ancestry.{Source, StandsBefore}
 use Rattle.zst_model.specs.pools.Rows.{head_row}
 use Rattle.zst_model.specs.pools.Step.{with_head_at, with_head}
 use Rattle.zst_model.proofs.InsertedLaws.{contains-map, map_contains}
 use Rattle.zst_model.proofs.OrderLaws.{same_bytes}
 use Rattle.zst_laws.proofs.pools.Rows.{name_under_head, origin_under_head}
 use Rattle.zst_laws.proofs.histories.Agreement.{Keeps, dated_higher}
-use Rattle.zst_laws.proofs.pools.Standing.{HasOrigins, stands_on}
+use Rattle.zst_laws.proofs.pools.Ancestry.{HasOrigins, stands_on}
 use Rattle.zst_laws.proofs.pools.Descent.{head_has_row, ComesFrom}
 use Rattle.zst_laws.proofs.pools.OtherDatasets.{with_datasets, KeepsDatasets}
 

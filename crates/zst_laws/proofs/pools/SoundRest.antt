@@ -4,15 +4,15 @@ use Rattle.std.proofs.lemmas.Bool.{true≢false, not-true, not_from_false, and_f
 use Rattle.std.proofs.lemmas.List.Elements.{All-contains, filter_passes}
 use Rattle.std.proofs.lemmas.List.Kept.{AllPairs-filter}
 use Rattle.zst_model.specs.pools.Pool.{Pool, Dataset, Snapshot, Bookmark, Partial, HasDataset, IsLinked, dataset_of_snapshot, dataset_of_bookmark}
-use Rattle.zst_model.specs.pools.Before.{Source, OfSnapshot, OfBookmark, IsIn, StandsBefore, Earlier, AtOrigin, BeforeOrigin, dataset_of_source, number_of_source}
+use Rattle.zst_model.specs.pools.Ancestry.{Source, OfSnapshot, OfBookmark, IsIn, StandsBefore, Earlier, AtOrigin, BeforeOrigin, dataset_of_source, number_of_source}
 use Rattle.zst_model.specs.pools.Rows.{Row, snapshot_row, head_row}
-use Rattle.zst_model.specs.pools.Sound.{Sound}
+use Rattle.zst_model.specs.pools.Soundness.{Sound}
 use Rattle.zst_model.specs.pools.Step.{is_newer, is_newer_bookmark, rolled_to, is_of, is_bookmark_of}
 use Rattle.zst_model.proofs.InsertedLaws.{contains-map, map_contains}
 use Rattle.zst_model.proofs.OrderLaws.{same_bytes, bytes_same}
 use Rattle.zst_laws.proofs.histories.Agreement.{dated_higher}
 use Rattle.zst_laws.proofs.pools.Filters.{filter_contains, contains-filter}
-use Rattle.zst_laws.proofs.pools.Standing.{HasOrigins, HasOldOrigins, stands_on}
+use Rattle.zst_laws.proofs.pools.Ancestry.{HasOrigins, HasOldOrigins, stands_on}
 use Rattle.zst_laws.proofs.pools.Descent.{IsRow, SnapshotRow, HeadRow, PartialRow, snapshot_has_row, row_cases, Rises, StandsBy, ComesFrom, Descends, IsNext, next_sound, snapshot_stays, head_stays, partial_stays}
 
 -- the next commit's pool with these datasets, snapshots and bookmarks

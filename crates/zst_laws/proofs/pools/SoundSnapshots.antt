@@ -4,16 +4,16 @@ use Rattle.std.proofs.lemmas.Bool.{true≢false, or_left}
 use Rattle.std.proofs.lemmas.List.Elements.{All-contains, All-weaker, All-nil, All-cons, All-head, All-tail}
 use Rattle.std.proofs.lemmas.List.Kept.{AllPairs-cons}
 use Rattle.std.proofs.lemmas.Option.{same_Some}
-use Rattle.zst_model.specs.states.Dated.{DatedState}
+use Rattle.zst_model.specs.states.DatedState.{DatedState}
 use Rattle.zst_model.specs.pools.Pool.{Pool, Dataset, Snapshot, Partial, HasSnapshot, IsNamed, IsLinked, dataset_of_snapshot, is_before, snapshot_is_before, inserted}
-use Rattle.zst_model.specs.pools.Before.{IsOrigin, IsBase, Source, OfSnapshot, StandsBefore, IsBeforeClone, IsBeforePartial, IsBefore}
+use Rattle.zst_model.specs.pools.Ancestry.{IsOrigin, IsBase, Source, OfSnapshot, StandsBefore, IsBeforeClone, IsBeforePartial, IsBefore}
 use Rattle.zst_model.specs.pools.Rows.{Row, snapshot_row, head_row}
-use Rattle.zst_model.specs.pools.Sound.{Agrees, DatedUpTo, Sound}
+use Rattle.zst_model.specs.pools.Soundness.{Agrees, DatedUpTo, Sound}
 use Rattle.zst_model.specs.sends.Target.{Remembers}
 use Rattle.zst_model.proofs.InsertedLaws.{contains-inserted, All-inserted, AllPairs-head, AllPairs-tail}
 use Rattle.zst_model.proofs.OrderLaws.{not_before_itself, RowIsBefore, row_before_parts}
-use Rattle.zst_laws.proofs.pools.Unique.{same_element}
-use Rattle.zst_laws.proofs.pools.Standing.{HasOrigins, HasOldOrigins, IsAbove, stands_on, before_partial_on, stands_before_head, above_marks, above_before, above_before_head}
+use Rattle.zst_laws.proofs.pools.UniqueElements.{same_element}
+use Rattle.zst_laws.proofs.pools.Ancestry.{HasOrigins, HasOldOrigins, IsAbove, stands_on, before_partial_on, stands_before_head, above_marks, above_before, above_before_head}
 use Rattle.zst_laws.proofs.histories.Agreement.{dated_higher}
 use Rattle.zst_laws.proofs.pools.Descent.{Rises, IsRow, SnapshotRow, HeadRow, PartialRow, head_has_row, row_cases, ComesFrom, IsNext, next_sound, snapshot_stays, head_stays, partial_stays}
 

@@ -8,24 +8,24 @@ use Rattle.zst_model.specs.declared.states.attr.ObjectHead.{ObjectHead}
 use Rattle.zst_model.specs.declared.pools.command.Command.{Command}
 use Rattle.zst_model.specs.declared.pools.command.Command.TheVariants as commands
 use Rattle.zst_model.specs.declared.refusals.faults.Quantity.TheVariants as quantities
-use Rattle.zst_model.specs.declared.refusals.named.Name.{Name}
-use Rattle.zst_model.specs.declared.refusals.named.Name.TheVariants as names
+use Rattle.zst_model.specs.declared.refusals.subjects.Name.{Name}
+use Rattle.zst_model.specs.declared.refusals.subjects.Name.TheVariants as names
 use Rattle.zst_model.specs.declared.states.item.Change.TheVariants.{Free, Write}
 use Rattle.zst_model.specs.declared.states.item.Item.{Item}
 use Rattle.zst_model.specs.declared.states.item.Item.TheVariants.{FreeObjects, At}
 use Rattle.zst_model.specs.declared.refusals.refusal.Refusal.{Refusal}
 use Rattle.zst_model.specs.states.State.{IsState, IsHead, IsBonus, IsSpill, number_bound, index_bound}
-use Rattle.zst_model.specs.states.Apply.{◌>>=◌}
-use Rattle.zst_model.specs.states.Dated.{DatedState, size_at, apply_all_dated}
-use Rattle.zst_model.specs.pools.Held.{Held}
+use Rattle.zst_model.specs.states.AppliedItems.{◌>>=◌}
+use Rattle.zst_model.specs.states.DatedState.{DatedState, size_at, apply_all_dated}
+use Rattle.zst_model.specs.pools.Sessions.{Held}
 use Rattle.zst_model.specs.pools.Pool.{Pool, Dataset, Snapshot, Bookmark, Partial, HasDataset, IsKind, IsPool}
-use Rattle.zst_model.specs.pools.Sound.{Sound}
+use Rattle.zst_model.specs.pools.Soundness.{Sound}
 use Rattle.zst_model.specs.pools.Step.{Stepped, stepped, IsCommand, committed, with_head, in_numbers, in_indices, applied, filled, written, punched, on_head, new_dataset, with_dataset, with_snapshot, snapshot_of, clone_of, with_clone, with_bookmark, with_rollback, with_destroyed, with_aborted}
-use Rattle.zst_laws.specs.Stepping.{StepsKeepSound}
-use Rattle.zst_laws.specs.Remembering.{SourceRemembers, StepsRemember}
-use Rattle.zst_laws.proofs.sends.Runs.{bind_ok, ok_inj}
+use Rattle.zst_laws.specs.StepInvariants.{StepsKeepSound}
+use Rattle.zst_laws.specs.RememberedStates.{SourceRemembers, StepsRemember}
+use Rattle.zst_laws.proofs.sends.AppliedItemLemmas.{bind_ok, ok_inj}
 use Rattle.zst_laws.proofs.pools.Rows.{named_found, none_named, of_applying_ok, limited_ok, committed_ok, on_head_ok}
-use Rattle.zst_laws.proofs.pools.Accepted.{with_dataset_ok, with_snapshot_ok, with_clone_ok, with_bookmark_ok, read_keeps, list_keeps, list_objects_keeps}
+use Rattle.zst_laws.proofs.pools.AcceptedCommands.{with_dataset_ok, with_snapshot_ok, with_clone_ok, with_bookmark_ok, read_keeps, list_keeps, list_objects_keeps}
 use Rattle.zst_laws.proofs.pools.LawfulHeads.{number_from, object_items, object_items_are_lawful}
 use Rattle.zst_laws.proofs.histories.Agreement.{Keeps, keeps_one, keeps_all}
 use Rattle.zst_laws.proofs.pools.Descent.{Rises, IsNext, next_remembers}
@@ -35,7 +35,7 @@ use Rattle.zst_laws.proofs.pools.SoundDatasets.{with_new, dataset_keeps, new_is_
 use Rattle.zst_laws.proofs.pools.SoundBookmarks.{bookmark_next, bookmark_sound}
 use Rattle.zst_laws.proofs.pools.SoundRest.{fewer_next, fewer_sound, left_next, left_sound, rolled_next, rolled_sound, aborted_next, aborted_sound}
 use Rattle.zst_laws.proofs.pools.Filters.{filter_contains}
-use Rattle.zst_laws.proofs.pools.Departed.{with_rollback_ok, dataset_destroyed_ok, snapshot_destroyed_ok, bookmark_destroyed_ok, with_aborted_ok}
+use Rattle.zst_laws.proofs.pools.AcceptedRemovals.{with_rollback_ok, dataset_destroyed_ok, snapshot_destroyed_ok, bookmark_destroyed_ok, with_aborted_ok}
 use Rattle.zst_laws.proofs.pools.SoundSnapshots.{IsNew, snapshot_next, snapshot_sound}
 
 -- a pool of the next commit that is sound

@@ -4,20 +4,20 @@ use Rattle.std.proofs.lemmas.List.Elements.{All-contains}
 use Rattle.zst_model.specs.fields.Guids.{IsGuidSet}
 use Rattle.zst_model.specs.declared.pools.command.Command.TheVariants as commands
 use Rattle.zst_model.specs.states.State.{State, IsState}
-use Rattle.zst_model.specs.states.Dated.{DatedState}
+use Rattle.zst_model.specs.states.DatedState.{DatedState}
 use Rattle.zst_model.specs.pools.Pool.{Pool, Snapshot, Partial, IsPool, IsKind, dataset_of_snapshot, snapshot_is_before, IsGuid, IsStated}
-use Rattle.zst_model.specs.pools.Before.{Source, OfSnapshot, dataset_of_source, number_of_source, IsIn, Marks, IsBelow, StandsBefore, Earlier, AtOrigin, BeforeOrigin, IsBeforeClone, IsBeforePartial, InDataset, InPartial, Place, IsBefore}
+use Rattle.zst_model.specs.pools.Ancestry.{Source, OfSnapshot, dataset_of_source, number_of_source, IsIn, Marks, IsBelow, StandsBefore, Earlier, AtOrigin, BeforeOrigin, IsBeforeClone, IsBeforePartial, InDataset, InPartial, Place, IsBefore}
 use Rattle.zst_model.specs.pools.Rows.{Row}
-use Rattle.zst_model.specs.pools.Sound.{Agrees, Sound}
+use Rattle.zst_model.specs.pools.Soundness.{Agrees, Sound}
 use Rattle.zst_model.specs.pools.Step.{stepped, snapshot_of}
 use Rattle.zst_model.proofs.InsertedLaws.{inserted_has_row}
 use Rattle.zst_model.specs.sends.Target.{Remembers}
-use Rattle.zst_laws.specs.Remembering.{IsOwn, SourceRemembers, OwnIsRemembered, TakenRemembers, RememberedIsBase, SourcesAreBases, HistoryIsBase, Leads, Stays, Steps}
-use Rattle.zst_laws.proofs.histories.Dating.{remembered_itself}
-use Rattle.zst_laws.proofs.sends.More.{before_base}
-use Rattle.zst_laws.proofs.pools.Standing.{marks_dataset, marks_number}
+use Rattle.zst_laws.specs.RememberedStates.{IsOwn, SourceRemembers, OwnIsRemembered, TakenRemembers, RememberedIsBase, SourcesAreBases, HistoryIsBase, Leads, Stays, Steps}
+use Rattle.zst_laws.proofs.histories.Dates.{remembered_itself}
+use Rattle.zst_laws.proofs.sends.ViewLaws.{before_base}
+use Rattle.zst_laws.proofs.pools.Ancestry.{marks_dataset, marks_number}
 use Rattle.zst_laws.proofs.pools.Descent.{same_snapshot, IsRow, SnapshotRow, HeadRow, PartialRow, row_cases}
-use Rattle.zst_laws.proofs.pools.Accepted.{with_snapshot_ok}
+use Rattle.zst_laws.proofs.pools.AcceptedCommands.{with_snapshot_ok}
 use Rattle.zst_laws.proofs.pools.Rows.{committed_ok}
 use Rattle.zst_laws.proofs.pools.SoundSteps.{steps_sound, steps_remember}
 use Rattle.zst_laws.proofs.pools.LawfulPools.{steps_keep_lawful}

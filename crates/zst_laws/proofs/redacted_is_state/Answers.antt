@@ -1,4 +1,4 @@
-use Rattle.zst_laws.proofs.sends.Exact.{redacted_lawful}
+use Rattle.zst_laws.proofs.sends.ExactSends.{redacted_lawful}
 use Rattle.zst_laws.proofs.redacted_is_state.Goals as goal
 
 pub returns : goal.returns

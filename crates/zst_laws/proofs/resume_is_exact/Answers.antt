@@ -1,4 +1,4 @@
-use Rattle.zst_laws.proofs.sends.Resume.{resume_exact}
+use Rattle.zst_laws.proofs.sends.ResumedSends.{resume_exact}
 use Rattle.zst_laws.proofs.resume_is_exact.Goals as goal
 
 pub returns : goal.returns

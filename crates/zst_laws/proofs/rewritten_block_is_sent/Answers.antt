@@ -1,4 +1,4 @@
-use Rattle.zst_laws.proofs.examples.Examples.{rewritten_items}
+use Rattle.zst_laws.proofs.examples.FileExamples.{rewritten_items}
 use Rattle.zst_laws.proofs.rewritten_block_is_sent.Goals as goal
 
 pub returns : goal.returns

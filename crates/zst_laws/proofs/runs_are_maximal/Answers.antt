@@ -1,4 +1,4 @@
-use Rattle.zst_laws.proofs.sends.More.{runs_maximal}
+use Rattle.zst_laws.proofs.sends.ViewLaws.{runs_maximal}
 use Rattle.zst_laws.proofs.runs_are_maximal.Goals as goal
 
 pub returns : goal.returns

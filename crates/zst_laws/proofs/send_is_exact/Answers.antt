@@ -1,4 +1,4 @@
-use Rattle.zst_laws.proofs.sends.Exact.{send_exact}
+use Rattle.zst_laws.proofs.sends.ExactSends.{send_exact}
 use Rattle.zst_laws.proofs.send_is_exact.Goals as goal
 
 pub returns : goal.returns

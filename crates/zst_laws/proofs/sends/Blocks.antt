@@ -9,10 +9,10 @@ use Rattle.zst_model.specs.declared.states.attr.Attr.{Attr}
 use Rattle.zst_model.specs.declared.states.item.Change.{Change}
 use Rattle.zst_model.specs.declared.states.item.Item.TheVariants.{At}
 use Rattle.zst_model.specs.declared.refusals.apply_fault.ApplyFault.TheVariants.{SizeDiffers, Unaligned, OddBlock, NotUserData}
-use Rattle.zst_model.specs.states.Apply.{apply, apply_all, apply_change, apply_changes, ◌>>=◌, within, put_at, is_unaligned}
+use Rattle.zst_model.specs.states.AppliedItems.{apply, apply_all, apply_change, apply_changes, ◌>>=◌, within, put_at, is_unaligned}
 use Rattle.zst_model.specs.sends.View.{ObjectView, MayShow, IsShown, There}
 use Rattle.zst_model.specs.sends.Items.{put_change, spill_change, tail_change, block_change, change_at, opening, block_changes}
-use Rattle.zst_laws.proofs.sends.Runs.{bind-bind, unless_from, aligned_from, put_here, put-put, put_same}
+use Rattle.zst_laws.proofs.sends.AppliedItemLemmas.{bind-bind, unless_from, aligned_from, put_here, put-put, put_same}
 use Rattle.zst_laws.proofs.sends.Fold.{swept, sweep}
 
 pub apply_changes-append : (xs ys : List Change) (o : Option Object) → apply_changes (xs ++ ys) o ≡ (apply_changes xs o >>= apply_changes ys)

@@ -7,14 +7,14 @@ use Rattle.zst_model.specs.declared.sends.header.Point.{Point}
 use Rattle.zst_model.specs.declared.states.item.Change.{Change}
 use Rattle.zst_model.specs.declared.states.item.Item.{Item}
 use Rattle.zst_model.specs.declared.states.item.Item.TheVariants.{At}
-use Rattle.zst_model.specs.states.Apply.{apply_changes, within, put_at, ◌>>=◌}
+use Rattle.zst_model.specs.states.AppliedItems.{apply_changes, within, put_at, ◌>>=◌}
 use Rattle.zst_model.specs.sends.View.{ObjectView, There, IsShown, MayShow}
 use Rattle.zst_model.specs.sends.Items.{rising, change_at, block_change}
 use Rattle.zst_model.specs.sends.Points.{point_after, point_of}
-use Rattle.zst_model.specs.sends.StandsFor.{block_at, StandsAt}
-use Rattle.zst_laws.proofs.sends.Runs.{ok_inj, put_here, put_other, put_same}
+use Rattle.zst_model.specs.sends.CutReceives.{block_at, StandsAt}
+use Rattle.zst_laws.proofs.sends.AppliedItemLemmas.{ok_inj, put_here, put_other, put_same}
 use Rattle.zst_laws.proofs.sends.Blocks.{apply_changes-append, opened, opening_applies, settled, block_from, one_change}
-use Rattle.zst_laws.proofs.sends.Exact.{inside_range, place_below}
+use Rattle.zst_laws.proofs.sends.ExactSends.{inside_range, place_below}
 
 -- a front of two lists
 abbrev pub parted_in : {A : Type 0} → List A → List A → Type 0

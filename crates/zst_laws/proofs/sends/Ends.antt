@@ -3,8 +3,8 @@ use Rattle.std.proofs.Common.{eq-eqb, inl, inr, ◌⊎◌, ◌≡◌, ℕ, zero,
 use Rattle.std.proofs.lemmas.Bool.{cases_eq, or_left, or_right, true≢false}
 use Rattle.std.proofs.lemmas.Bool.Decides.{nat_tests}
 use Rattle.zst_model.specs.states.State.{Block, Hole, Redacted, Data, Object, is_hole, past_last, Empty, block_content, content_at, BlockFits, IsObject, IsObjectOrNone}
-use Rattle.zst_model.specs.states.Apply.{within}
-use Rattle.zst_model.specs.sends.Included.{any_below}
+use Rattle.zst_model.specs.states.AppliedItems.{within}
+use Rattle.zst_model.specs.sends.Inclusion.{any_below}
 use Rattle.zst_laws.proofs.sends.Blocks.{kept}
 
 hole_of : (b : Block) → is_hole b ≡ true → b ≡ Hole

@@ -3,9 +3,9 @@ use Rattle.std.proofs.Common.{inl, inr, ◌⊎◌, subst, ◌≡◌, ℕ, zero, 
 use Rattle.std.proofs.Math.Path.{fun_ext}
 use Rattle.std.proofs.lemmas.Bool.Decides.{nat_tests}
 use Rattle.std.proofs.lemmas.Bool.{cases_eq, cond-true, cond-false}
-use Rattle.zst_laws.proofs.sends.Runs.{put_here, put_other, within_first, within_before, within_rest}
+use Rattle.zst_laws.proofs.sends.AppliedItemLemmas.{put_here, put_other, within_first, within_before, within_rest}
 use Rattle.zst_model.specs.declared.refusals.apply_fault.ApplyFault.{ApplyFault}
-use Rattle.zst_model.specs.states.Apply.{◌>>=◌, within, put_at}
+use Rattle.zst_model.specs.states.AppliedItems.{◌>>=◌, within, put_at}
 use Rattle.zst_model.specs.sends.Items.{rising}
 
 abbrev pub swept : {X : Type 0} → (ℕ → X → X) → ℕ → ℕ → (ℕ → X) → ℕ → X

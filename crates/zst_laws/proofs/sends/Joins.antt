@@ -9,9 +9,9 @@ use Rattle.zst_model.specs.declared.states.item.Change.TheVariants.{Free, Redact
 use Rattle.zst_model.specs.declared.states.item.Item.{Item}
 use Rattle.zst_model.specs.declared.states.item.Item.TheVariants.{FreeObjects, At}
 use Rattle.zst_model.specs.declared.refusals.apply_fault.ApplyFault.TheVariants.{Unaligned, NotUserData, OddBlock}
-use Rattle.zst_model.specs.states.Apply.{apply, apply_change, apply_all, is_unaligned, ◌>>=◌, put_at}
+use Rattle.zst_model.specs.states.AppliedItems.{apply, apply_change, apply_all, is_unaligned, ◌>>=◌, put_at}
 use Rattle.zst_model.specs.sends.Items.{join, join_changes, before, before_item, joined}
-use Rattle.zst_laws.proofs.sends.Runs.{bind_ok, unless_ok, unless_from, ok_inj, range-range, aligned-add, put_here, put-put}
+use Rattle.zst_laws.proofs.sends.AppliedItemLemmas.{bind_ok, unless_ok, unless_from, ok_inj, range-range, aligned-add, put_here, put-put}
 
 pub joined_if : {A : Type 0} (b : Bool) (x z : A) → (if b then Some x else None) ≡ Some z → (b ≡ true) × (x ≡ z)
 joined_if true x z h = (refl, cc)

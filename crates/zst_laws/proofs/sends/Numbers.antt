@@ -4,10 +4,10 @@ use Rattle.std.proofs.Math.Path.{fun_ext}
 use Rattle.std.proofs.lemmas.Bool.Decides.{nat_tests}
 use Rattle.zst_model.specs.states.State.{State, Object, number_bound}
 use Rattle.zst_model.specs.declared.sends.header.Point.{Point}
-use Rattle.zst_model.specs.states.Apply.{apply, apply_all, ◌>>=◌, within, put_at}
+use Rattle.zst_model.specs.states.AppliedItems.{apply, apply_all, ◌>>=◌, within, put_at}
 use Rattle.zst_model.specs.sends.View.{View, Shown, Left, Gone, There, IsShown, IsView}
 use Rattle.zst_model.specs.sends.Items.{number_items, items_at, single_items, items, opening, block_changes}
-use Rattle.zst_laws.proofs.sends.Runs.{put_same, apply_all-append}
+use Rattle.zst_laws.proofs.sends.AppliedItemLemmas.{put_same, apply_all-append}
 use Rattle.zst_laws.proofs.sends.Fold.{swept, sweep}
 use Rattle.zst_laws.proofs.sends.Joins.{joined_applies}
 use Rattle.zst_laws.proofs.sends.Blocks.{settled, object_applies, changes_at}

@@ -2,18 +2,18 @@
 use Rattle.std.proofs.Common.{◌≡◌, List, [], ◌∷◌, Some, Ok, sym, ◌∙◌}
 use Rattle.zst_model.specs.declared.states.item.Item.{Item}
 use Rattle.zst_model.specs.states.State.{State, no_objects}
-use Rattle.zst_model.specs.sends.Included.{Choice}
+use Rattle.zst_model.specs.sends.Inclusion.{Choice}
 use Rattle.zst_model.specs.sends.View.{View, IsView, view_of}
 use Rattle.zst_model.specs.sends.Items.{origin}
 use Rattle.zst_model.specs.sends.Points.{point_of}
 use Rattle.zst_model.specs.sends.Target.{target, redacted}
-use Rattle.zst_laws.specs.Sending.{full}
+use Rattle.zst_laws.specs.ExactSends.{full}
 use Rattle.zst_laws.specs.Sessions.{Receives, CutsAreExact, CutsComplete, FullCutsAreExact, IncrementCutsAreExact}
-use Rattle.zst_laws.proofs.sends.Cut.{cut_stand, start_stand}
-use Rattle.zst_laws.proofs.sends.Exact.{full_exact, view_is_view}
+use Rattle.zst_laws.proofs.sends.CutSends.{cut_stand, start_stand}
+use Rattle.zst_laws.proofs.sends.ExactSends.{full_exact, view_is_view}
 use Rattle.zst_laws.proofs.histories.Increments.{history_remembered, increment_exact}
-use Rattle.zst_laws.proofs.sends.Resume.{resume_exact}
-use Rattle.zst_laws.proofs.sends.Runs.{ok_inj}
+use Rattle.zst_laws.proofs.sends.ResumedSends.{resume_exact}
+use Rattle.zst_laws.proofs.sends.AppliedItemLemmas.{ok_inj}
 
 pub cuts_exact : CutsAreExact
 cuts_exact view base point x [] whole v stands receives = sym (resume_exact view base point x v stands) ∙ receives

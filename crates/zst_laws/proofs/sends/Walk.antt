@@ -13,8 +13,8 @@ use Rattle.zst_model.specs.declared.states.item.Item.TheVariants.{At, FreeObject
 use Rattle.zst_model.specs.sends.View.{View, ObjectView, There, Gone}
 use Rattle.zst_model.specs.sends.Items.{single_items, join, before, joined, rising, number_items, block_changes, block_change, change_at, opening}
 use Rattle.zst_laws.specs.Walk.{number_rest, left_at, walk_left, NothingBelow, WalkBegins, WalkEnds, ObjectIsNext, GoneIsNext, GoneRunIsNext, BlockIsNext, run_change, BlockRunIsNext}
-use Rattle.zst_laws.proofs.sends.Cut.{all_numbers}
-use Rattle.zst_laws.proofs.sends.Exact.{place_below}
+use Rattle.zst_laws.proofs.sends.CutSends.{all_numbers}
+use Rattle.zst_laws.proofs.sends.ExactSends.{place_below}
 use Rattle.zst_laws.proofs.sends.Writer.{before-joined}
 
 -- two passes that agree from a number on

@@ -1,4 +1,4 @@
-use Rattle.zst_laws.proofs.examples.Examples.{small_points}
+use Rattle.zst_laws.proofs.examples.FileExamples.{small_points}
 use Rattle.zst_laws.proofs.small_has_its_points.Goals as goal
 
 pub returns : goal.returns

@@ -1,4 +1,4 @@
-use Rattle.zst_laws.proofs.sends.Exact.{view_is_view}
+use Rattle.zst_laws.proofs.sends.ExactSends.{view_is_view}
 use Rattle.zst_laws.proofs.snapshot_has_view.Goals as goal
 
 pub returns : goal.returns

@@ -1,4 +1,4 @@
-use Rattle.zst_laws.proofs.sends.Cut.{start_stand}
+use Rattle.zst_laws.proofs.sends.CutSends.{start_stand}
 use Rattle.zst_laws.proofs.start_stands.Goals as goal
 
 pub returns : goal.returns

@@ -1,7 +1,7 @@
 use Rattle.std.proofs.Common.{ap}
 use Rattle.zst_model.specs.sends.Items.{items}
 use Rattle.zst_model.specs.sends.View.{View}
-use Rattle.zst_laws.proofs.sends.More.{views_same}
+use Rattle.zst_laws.proofs.sends.ViewLaws.{views_same}
 use Rattle.zst_laws.proofs.streams_agree.Goals as goal
 
 pub returns : goal.returns

@@ -3,7 +3,7 @@ use Rattle.std.specs.Prelude.{◌≡◌, ℕ, ◌+◌, ◌≤◌, ◌<◌, Bool,
 use Rattle.std.specs.List.{list_any}
 use Rattle.zst_model.specs.declared.states.cell.Run.{Run}
 use Rattle.zst_model.specs.states.State.{is_number, index_bound}
-use Rattle.zst_model.specs.sends.Included.{Pairs}
+use Rattle.zst_model.specs.sends.Inclusion.{Pairs}
 
 -- the runs of a list
 abbrev pub Runs : Type 0

@@ -2,8 +2,8 @@
 use Rattle.std.specs.Prelude.{ℕ, Bool, true, false, List, Option, Some, None, nat_lt, ◌&&◌}
 use Rattle.std.specs.List.{list_all}
 use Rattle.zst_model.specs.states.State.{Block, Hole, Redacted, Data, Object, is_user_data}
-use Rattle.zst_model.specs.states.Dated.{DatedState}
-use Rattle.zst_model.specs.sends.Included.{Pairs}
+use Rattle.zst_model.specs.states.DatedState.{DatedState}
+use Rattle.zst_model.specs.sends.Inclusion.{Pairs}
 
 -- whether a block has data
 abbrev pub is_data : Block → Bool

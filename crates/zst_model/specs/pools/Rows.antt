@@ -1,8 +1,8 @@
 -- Each dated state of a pool, as one row.
 use Rattle.std.specs.Prelude.{ℕ, List, Some, None, map, ◌++◌}
-use Rattle.zst_model.specs.states.Dated.{DatedState}
+use Rattle.zst_model.specs.states.DatedState.{DatedState}
 use Rattle.zst_model.specs.pools.Pool.{Pool, Dataset, Snapshot, Partial, dataset_of_snapshot}
-use Rattle.zst_model.specs.pools.Before.{Place, InDataset, InPartial}
+use Rattle.zst_model.specs.pools.Ancestry.{Place, InDataset, InPartial}
 
 -- a dated state: its place, the number that none of its dates exceeds, and its objects
 pub record Row : Type 0 where

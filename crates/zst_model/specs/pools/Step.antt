@@ -11,23 +11,23 @@ use Rattle.zst_model.specs.declared.pools.command.Command.{Command}
 use Rattle.zst_model.specs.declared.pools.command.Command.TheVariants as commands
 use Rattle.zst_model.specs.declared.refusals.faults.Quantity.{Quantity}
 use Rattle.zst_model.specs.declared.refusals.faults.Quantity.TheVariants as quantities
-use Rattle.zst_model.specs.declared.refusals.named.Name.{Name}
-use Rattle.zst_model.specs.declared.refusals.named.Name.TheVariants as names
-use Rattle.zst_model.specs.declared.refusals.named.Missing.TheVariants as missing
-use Rattle.zst_model.specs.declared.refusals.named.Present.TheVariants as present
-use Rattle.zst_model.specs.declared.refusals.named.Holder.TheVariants as holders
+use Rattle.zst_model.specs.declared.refusals.subjects.Name.{Name}
+use Rattle.zst_model.specs.declared.refusals.subjects.Name.TheVariants as names
+use Rattle.zst_model.specs.declared.refusals.subjects.AbsentSubject.TheVariants as missing
+use Rattle.zst_model.specs.declared.refusals.subjects.PresentSubject.TheVariants as present
+use Rattle.zst_model.specs.declared.refusals.subjects.Holder.TheVariants as holders
 use Rattle.zst_model.specs.declared.refusals.plan_fault.PlanFault.TheVariants as plans
 use Rattle.zst_model.specs.declared.refusals.refusal.Refusal.{Refusal}
 use Rattle.zst_model.specs.declared.refusals.refusal.Refusal.TheVariants as refusals
 use Rattle.zst_model.specs.states.State.{Block, Hole, Redacted, Data, number_bound, index_bound, IsHead, IsBonus, IsSpill}
-use Rattle.zst_model.specs.states.Apply.{unless, ◌>>=◌}
+use Rattle.zst_model.specs.states.AppliedItems.{unless, ◌>>=◌}
 use Rattle.zst_model.specs.sends.Items.{spill_change}
-use Rattle.zst_model.specs.states.Dated.{DatedState, size_at, apply_all_dated}
-use Rattle.zst_model.specs.pools.Held.{Held, has_named, least_id, session_with, session_into, unless_busy}
+use Rattle.zst_model.specs.states.DatedState.{DatedState, size_at, apply_all_dated}
+use Rattle.zst_model.specs.pools.Sessions.{Held, has_named, least_id, session_with, session_into, unless_busy}
 use Rattle.zst_model.specs.pools.Pool.{Pool, Dataset, Snapshot, Bookmark, Partial, dataset_of_snapshot, dataset_of_bookmark, dataset_named, snapshot_named, bookmark_named, partial_of, is_before, snapshot_is_before, inserted, untouched}
 unfoldable pub use Rattle.zst_model.specs.pools.Limits.{last_number, last_guid, most_datasets, most_snapshots, most_bookmarks}
 use Rattle.zst_model.specs.pools.Limits.{largest_write}
-use Rattle.zst_model.specs.pools.Lines.{ok_line, pool_lines, object_lines, data_line}
+use Rattle.zst_model.specs.pools.AnswerLines.{ok_line, pool_lines, object_lines, data_line}
 
 -- a name of a dataset or a snapshot, which have objects
 abbrev pub HasObjects : Name → Type 0

@@ -2,7 +2,7 @@
 use Rattle.std.specs.Prelude.{ℕ, List, [], ◌∷◌, codes, decimal}
 use Rattle.std.specs.List.{concat}
 use Rattle.zst_model.specs.refusals.Faults.{lack_text, quantity_text}
-use Rattle.zst_model.specs.refusals.Named.{name_text, missing_text, present_text, holder_text, place_text}
+use Rattle.zst_model.specs.refusals.Subjects.{name_text, missing_text, present_text, holder_text, place_text}
 use Rattle.zst_model.specs.refusals.Texts.{guid_text}
 use Rattle.zst_model.specs.declared.refusals.plan_fault.PlanFault.{PlanFault}
 use Rattle.zst_model.specs.declared.refusals.plan_fault.PlanFault.TheVariants as faults

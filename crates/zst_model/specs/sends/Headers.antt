@@ -2,10 +2,10 @@
 use Rattle.std.specs.Prelude.{◌≡◌, ℕ, ◌+◌, ◌^◌, ◌<◌, Bool, not, List, [], length, Option, Some, None, IfSome, Contains, option_map, bytes_eq, if◌then◌else◌}
 use Rattle.zst_model.specs.declared.sends.header.Header.{Header}
 use Rattle.zst_model.specs.fields.Lists.{has_pair}
-use Rattle.zst_model.specs.pools.Before.{Source, OfSnapshot, OfBookmark, dataset_of_source, number_of_source, IsIn}
+use Rattle.zst_model.specs.pools.Ancestry.{Source, OfSnapshot, OfBookmark, dataset_of_source, number_of_source, IsIn}
 use Rattle.zst_model.specs.pools.Pool.{Pool, Dataset, Snapshot, Bookmark, dataset_of_snapshot}
 use Rattle.zst_model.specs.sends.Features.{redacts, sa_spill}
-use Rattle.zst_model.specs.sends.Included.{Pairs, Choice, no_pairs}
+use Rattle.zst_model.specs.sends.Inclusion.{Pairs, Choice, no_pairs}
 use Rattle.zst_model.specs.sends.View.{View, view_of}
 
 -- what is sent: a snapshot, the kind of its dataset, the source that it is sent from or none, and the redaction bookmark of `--redact` or none

@@ -2,11 +2,11 @@
 use Rattle.std.specs.Prelude.{◌≡◌, ℕ, ◌≤◌, ◌<◌, Bool, true, false, List, Some, option_map, Result, if◌then◌else◌}
 use Rattle.zst_model.specs.declared.refusals.apply_fault.ApplyFault.{ApplyFault}
 use Rattle.zst_model.specs.states.State.{Redacted, Data, Object, State, end_at, attr_at, content_at, is_user_data, is_number, index_bound}
-use Rattle.zst_model.specs.states.Dated.{DatedState}
-use Rattle.zst_model.specs.sends.Included.{Pairs, Choice, includes_pair, includes_number}
+use Rattle.zst_model.specs.states.DatedState.{DatedState}
+use Rattle.zst_model.specs.sends.Inclusion.{Pairs, Choice, includes_pair, includes_number}
 use Rattle.zst_model.specs.sends.View.{View}
 use Rattle.zst_model.specs.sends.Items.{items, origin}
-use Rattle.zst_model.specs.states.Apply.{apply_all}
+use Rattle.zst_model.specs.states.AppliedItems.{apply_all}
 
 -- the target: the items of a view, applied to the base
 abbrev pub target : View → State → Result State ApplyFault

@@ -4,9 +4,9 @@ use Rattle.zst_model.specs.declared.states.attr.Attr.{Attr}
 use Rattle.zst_model.specs.declared.sends.header.Header.{Header}
 use Rattle.zst_model.specs.declared.sends.header.Point.{Point}
 use Rattle.zst_model.specs.states.State.{Block, Hole, Redacted, Data, Object, end_of, is_user_data, is_odd_size, is_number}
-use Rattle.zst_model.specs.states.Dated.{DatedState}
+use Rattle.zst_model.specs.states.DatedState.{DatedState}
 use Rattle.zst_model.specs.sends.Features.{resuming}
-use Rattle.zst_model.specs.sends.Included.{Choice, includes_pair, includes_number}
+use Rattle.zst_model.specs.sends.Inclusion.{Choice, includes_pair, includes_number}
 
 -- what a view shows of an included object: its attributes with its spill, its end, and the block of each included index below the end
 pub record ObjectView : Type 0 where

@@ -1,5 +1,5 @@
 use crate::fields::bytes::Bytes;
-use crate::refusals::named::Name;
+use crate::refusals::subjects::Name;
 use crate::states::attr::ObjectHead;
 use zst_names::{BookName, DatasetName, SnapName};
 

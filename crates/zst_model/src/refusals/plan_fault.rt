@@ -1,11 +1,11 @@
 ghost use Rattle.std.specs.Prelude.{◌≡◌, ◌≤◌, [], ◌∷◌, codes};
 ghost use Rattle.std.specs.List.{concat};
-ghost use Rattle.zst_model.specs.refusals.Named.{place_text};
+ghost use Rattle.zst_model.specs.refusals.Subjects.{place_text};
 ghost use Rattle.zst_model.specs.refusals.PlanFault.{plan_number, plan_text};
 ghost use Rattle.zst_model.specs.refusals.Texts.{guid_text};
 
 use crate::refusals::faults::{Lack, Quantity};
-use crate::refusals::named::{Holder, Missing, Name, Present, ResumePlace};
+use crate::refusals::subjects::{AbsentSubject, Holder, Name, PresentSubject, ResumePlace};
 use crate::refusals::text::{
     Text, explained, joined, limited, numbered, plain, push_guid, with_guid,
 };
@@ -19,9 +19,9 @@ pub enum PlanFault {
         place: u64,
     },
     /// E3: what is absent.
-    NoSuch(Missing),
+    NoSuch(AbsentSubject),
     /// E4: what is there already.
-    Exists(Present),
+    Exists(PresentSubject),
     /// E5: what holds it.
     Busy(Holder),
     /// E6: `from` doesn't stand before `to`, or their datasets differ where they have to be one.

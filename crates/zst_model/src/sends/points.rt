@@ -1,5 +1,5 @@
 ghost use Rattle.std.specs.Prelude.{◌≡◌};
-ghost use Rattle.zst_model.specs.sends.Places.{HasPlace, ChangeHasPlace};
+ghost use Rattle.zst_model.specs.sends.ItemRanges.{HasPlace, ChangeHasPlace};
 ghost use Rattle.zst_model.specs.declared.states.item.Item.TheVariants.{At};
 ghost use Rattle.zst_model.specs.sends.Points.{point_after};
 

@@ -1,3 +1,5 @@
+ghost use Rattle.zst_model.specs.sends.ItemRanges.{HasPlace};
+
 use crate::fields::bytes::Bytes;
 use crate::states::attr::ObjectHead;
 use crate::{Change, Item, Point, point_after};

@@ -1,5 +1,5 @@
 use crate::refusals::faults::{Flaw, Lack};
-use crate::refusals::named::{Holder, Missing, Name, Present, ResumePlace};
+use crate::refusals::subjects::{AbsentSubject, Holder, Name, PresentSubject, ResumePlace};
 use crate::sends::header::Point;
 use crate::{ApplyFault, PlanFault, Quantity, Refusal, StreamFault};
 use std::process::Abort;
@@ -56,21 +56,21 @@ fn words_and_names_that_cannot_be_read(rt: HostRuntime) {
 
 #[test]
 fn what_is_absent(rt: HostRuntime) -> Result<(), NameFault> {
-    let dataset = Missing::Named(Name::Dataset(DatasetName::parse("tank/a")?));
-    let snapshot = Missing::Named(Name::Snapshot(SnapName::parse("tank/a@s")?));
-    let bookmark = Missing::Named(Name::Bookmark(BookName::parse("tank/a#b")?));
+    let dataset = AbsentSubject::Named(Name::Dataset(DatasetName::parse("tank/a")?));
+    let snapshot = AbsentSubject::Named(Name::Snapshot(SnapName::parse("tank/a@s")?));
+    let bookmark = AbsentSubject::Named(Name::Bookmark(BookName::parse("tank/a#b")?));
     check_plan(&rt, PlanFault::NoSuch(dataset), 3, "no such tank/a");
     check_plan(&rt, PlanFault::NoSuch(snapshot), 3, "no such tank/a@s");
     check_plan(&rt, PlanFault::NoSuch(bookmark), 3, "no such tank/a#b");
     check_plan(
         &rt,
-        PlanFault::NoSuch(Missing::Guid(GUID)),
+        PlanFault::NoSuch(AbsentSubject::Guid(GUID)),
         3,
         "no such guid 0123456789abcdef",
     );
     check_plan(
         &rt,
-        PlanFault::NoSuch(Missing::Session(u32::MAX)),
+        PlanFault::NoSuch(AbsentSubject::Session(u32::MAX)),
         3,
         "no such session 4294967295",
     );
@@ -79,9 +79,14 @@ fn what_is_absent(rt: HostRuntime) -> Result<(), NameFault> {
 
 #[test]
 fn what_is_there_or_in_use(rt: HostRuntime) -> Result<(), NameFault> {
-    let snapshot = Present::Named(Name::Snapshot(SnapName::parse("tank@s")?));
+    let snapshot = PresentSubject::Named(Name::Snapshot(SnapName::parse("tank@s")?));
     check_plan(&rt, PlanFault::Exists(snapshot), 4, "exists: tank@s");
-    check_plan(&rt, PlanFault::Exists(Present::Pool), 4, "exists: pool");
+    check_plan(
+        &rt,
+        PlanFault::Exists(PresentSubject::Pool),
+        4,
+        "exists: pool",
+    );
 
     let partial = Holder::Partial(DatasetName::parse("tank")?);
     let clone = Holder::Clone(DatasetName::parse("tank/c")?);

@@ -5,11 +5,11 @@ ghost use Rattle.zst_dnode.specs.Dnode.{DnodeFits};
 ghost use Rattle.zst_model.specs.states.State.{number_bound};
 
 use crate::objects::Objects;
-use crate::tests::making::make;
-use crate::tests::plain::{
+use crate::tests::plain_list::{
     Step, date_of, end_of, fill_of, found_of, judged, put_of, read_of, spill_len, spill_of,
 };
-use crate::tests::random::{INDICES, NUMBERS, Random};
+use crate::tests::random_changes::{INDICES, NUMBERS, RandomChanges};
+use crate::tests::set_changes::make;
 use crate::trees::{leaf_at, tree_of};
 use std::alloc::{AllocError, Global};
 use std::process::Abort;
@@ -267,7 +267,7 @@ pub(super) fn check_changes<D: Disk>(
 ) -> Result<(), AllocError>
     requires fits { FitsDisk (D.state io.old.disk.now).size io.old.space }
 {
-    let mut random = Random::new(7);
+    let mut random = RandomChanges::new(7);
     let mut steps = Vec::new(alloc);
     let mut set = ObjSet::empty();
     for number in 1..121 {

@@ -4,8 +4,8 @@ ghost use Rattle.zst_block.specs.Blocks.{FitsDisk};
 
 use crate::fault::ObjFault;
 use crate::tests::disks::{all_free, zeros};
-use crate::tests::making::make;
-use crate::tests::plain::{Change, Kind, Step};
+use crate::tests::plain_list::{Change, Kind, Step};
+use crate::tests::set_changes::make;
 use std::alloc::{AllocError, Global};
 use zst_block::Io;
 use zst_outside::Disk;

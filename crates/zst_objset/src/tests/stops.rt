@@ -1,6 +1,6 @@
 //! Each failure of the disk during a change of a set, and each stop.
 use crate::tests::images::{check_change, write};
-use crate::tests::plain::{Change, Kind, Step};
+use crate::tests::plain_list::{Change, Kind, Step};
 use std::alloc::AllocError;
 
 #[test]

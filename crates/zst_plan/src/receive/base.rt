@@ -1,6 +1,6 @@
 // What a fresh receive starts from.
 ghost use Rattle.std.specs.Prelude.{◌≡◌, false, ◌<◌, ◌&&◌, length, Option, Result, Some, IfOk, IfSome, bytes_eq, find, is_none, nat_lt, option_map};
-ghost use Rattle.zst_dir.specs.Named.{AreNamed, NamesDataset, NamesSnapshot};
+ghost use Rattle.zst_dir.specs.RowNames.{AreNamed, NamesDataset, NamesSnapshot};
 ghost use Rattle.zst_model.specs.declared.refusals.plan_fault.PlanFault.{PlanFault as Fault};
 ghost use Rattle.zst_model.specs.pools.Pool.{Pool, Dataset as PlainDataset, Snapshot as PlainSnapshot};
 ghost use Rattle.zst_names.specs.Names.{dataset_of};
@@ -10,9 +10,9 @@ ghost use Rattle.zst_plan.specs.RecvPlan.{base_by_head, base_for, base_onto, if_
 ghost use Rattle.zst_plan.specs.RecvPlan as plain;
 
 use crate::receive::RecvAsk;
-use crate::receive::anew::base_anew;
+use crate::receive::new_dataset::base_anew;
 use zst_dir::{Dataset, Dir, Snapshot};
-use zst_model::{Header, Holder, Lack, Name, PlanFault, Present};
+use zst_model::{Header, Holder, Lack, Name, PlanFault, PresentSubject};
 use zst_names::{BookName, DatasetName};
 use zst_tree::ObjSet;
 
@@ -60,7 +60,7 @@ fn check_increment(ask: &RecvAsk, header: &Header, name: &DatasetName) -> Result
     ensures { (rest : Result plain.Base Fault) → Judges (if_increment ask.now header.now name.now rest) rest result }
 {
     if is_full(header) || ask.origin.is_some() {
-        return Err(PlanFault::Exists(Present::Named(Name::Dataset(name.duplicate()))));
+        return Err(PlanFault::Exists(PresentSubject::Named(Name::Dataset(name.duplicate()))));
     }
     Ok(())
 }

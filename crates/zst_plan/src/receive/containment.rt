@@ -1,7 +1,7 @@
 // Whether a stream may come over a redacted base.
 ghost use Rattle.std.specs.Prelude.{◌≡◌, Option, Result, find, not, option_map};
 ghost use Rattle.std.specs.List.{list_all};
-ghost use Rattle.zst_dir.specs.Named.{AreNamed};
+ghost use Rattle.zst_dir.specs.RowNames.{AreNamed};
 ghost use Rattle.zst_model.specs.declared.refusals.plan_fault.PlanFault.{PlanFault as Fault};
 ghost use Rattle.zst_model.specs.pools.Pool.{Pool};
 ghost use Rattle.zst_plan.specs.Places.{Judges};

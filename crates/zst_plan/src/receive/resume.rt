@@ -1,6 +1,6 @@
 // Streams that go on where a partial state stands.
 ghost use Rattle.std.specs.Prelude.{◌≡◌, Ok, Result};
-ghost use Rattle.zst_dir.specs.Named.{NamesPartial};
+ghost use Rattle.zst_dir.specs.RowNames.{NamesPartial};
 ghost use Rattle.zst_model.specs.pools.Pool.{Partial as PlainPartial};
 ghost use Rattle.zst_plan.specs.Places.{Judges};
 ghost use Rattle.zst_plan.specs.RecvPlan.{RecvPlan, Resumes, goes_on, if_plain, is_point, is_resumed, resumed_plan, stated_point, wrong_resume};

@@ -2,7 +2,7 @@
 ghost use Rattle.std.specs.Prelude.{◌≡◌, ◌<◌, ◌^◌, Result, OnOk, count_by, is_none};
 ghost use Rattle.std.specs.List.{position};
 ghost use Rattle.std.specs.Str.{bytes_eq};
-ghost use Rattle.zst_dir.specs.Named.{AreNamed};
+ghost use Rattle.zst_dir.specs.RowNames.{AreNamed};
 ghost use Rattle.zst_dir.specs.Rows.{HasSnapshot};
 ghost use Rattle.zst_model.specs.declared.refusals.plan_fault.PlanFault.{PlanFault as Fault};
 ghost use Rattle.zst_model.specs.pools.Pool.{Pool};
@@ -12,7 +12,7 @@ ghost use Rattle.zst_plan.specs.RecvPlan.{RecvPlan, if_new, if_room, if_within, 
 
 use zst_dir::Dir;
 use zst_model::limits::{MOST_DATASETS, MOST_PARTIALS, MOST_SNAPSHOTS};
-use zst_model::{Name, PlanFault, Present, Quantity};
+use zst_model::{Name, PlanFault, PresentSubject, Quantity};
 use zst_names::{DatasetName, SnapName};
 
 /// E4 where the dataset has a snapshot of this name.
@@ -21,7 +21,7 @@ pub fn check_new(dir: &Dir, name: &SnapName) -> Result<(), PlanFault>
     ensures new { OnOk result (HasSnapshot dir.now name.now → ⊥) }
 {
     if dir.snapshot(name).is_some() {
-        return Err(PlanFault::Exists(Present::Named(Name::Snapshot(name.duplicate()))));
+        return Err(PlanFault::Exists(PresentSubject::Named(Name::Snapshot(name.duplicate()))));
     }
     Ok(())
 }

@@ -7,13 +7,13 @@ use zst_dir::Dir;
 use zst_tree::{ObjSet, push_ptr, push_set};
 
 // A snapshot's component, guid and number.
-pub(super) type Made = (&'static str, u64, u64);
+pub(super) type SnapshotFields = (&'static str, u64, u64);
 
 // Spells a file system without objects, and behind it its snapshots, which have these redaction guids.
 pub(super) fn push_dataset(
     out: &mut Vec<u8>,
     names: (&str, &str),
-    snapshots: &[Made],
+    snapshots: &[SnapshotFields],
     redact: &[u64],
 ) -> Result<(), AllocError> {
     push_with_head(out, names, (2, &ObjSet::empty()), snapshots, redact)
@@ -24,7 +24,7 @@ pub(super) fn push_with_head(
     out: &mut Vec<u8>,
     (name, origin): (&str, &str),
     (kind, head): (u64, &ObjSet),
-    snapshots: &[Made],
+    snapshots: &[SnapshotFields],
     redact: &[u64],
 ) -> Result<(), AllocError> {
     push_text(out, name.as_bytes())?;

@@ -3,17 +3,17 @@ ghost use Rattle.zst_model.specs.states.State.{is_block_size};
 ghost use Rattle.zst_model.specs.pools.Step.{IsCommand};
 
 use super::commands::{file_system, object, small, snapshot, write};
-use super::errors::Refused;
+use super::errors::TestRefusal;
 use super::pools::{NOW, number_of, step_on, with_small};
 use super::replies::{check_line, check_refused};
 use crate::{Pool, PoolFault};
 use std::alloc::Global;
-use zst_image::Kept;
+use zst_image::PoolState;
 use zst_model::{Command, Reply};
 use zst_outside::{Disk, MemDisk};
 
 #[test]
-fn small_has_the_numbers_1_to_5(rt: HostRuntime) -> Result<(), Refused> {
+fn small_has_the_numbers_1_to_5(rt: HostRuntime) -> Result<(), TestRefusal> {
     let alloc = rt.alloc();
     let mut disk = with_small(alloc, 0)?;
     assert_eq!(rt; number_of(alloc, &mut disk)?, 1);
@@ -21,7 +21,7 @@ fn small_has_the_numbers_1_to_5(rt: HostRuntime) -> Result<(), Refused> {
         let reply = step_on(alloc, &mut disk, small(alloc, place)?)?;
         check_line(&rt, &reply, line);
     }
-    let kept = Kept::open(alloc, &mut disk)?;
+    let kept = PoolState::open(alloc, &mut disk)?;
     assert_eq!(rt; (kept.body.number, kept.body.guids), (5, 1));
     assert_eq!(rt; kept.dir.snapshots().len(), 1);
     for row in kept.dir.snapshots() {
@@ -36,7 +36,7 @@ fn small_has_the_numbers_1_to_5(rt: HostRuntime) -> Result<(), Refused> {
 
 #[test]
 #[tactic(auto, unfolding(zst_model::specs::states::State::is_block_size, zst_model::specs::states::State::largest_block))]
-fn refusals_leave_the_pool(rt: HostRuntime) -> Result<(), Refused> {
+fn refusals_leave_the_pool(rt: HostRuntime) -> Result<(), TestRefusal> {
     let alloc = rt.alloc();
     let mut disk = with_small(alloc, 4)?;
     step_on(alloc, &mut disk, object(alloc, "tank/a", 2, 1536)?)?;
@@ -84,7 +84,7 @@ fn is_full(answer: &Result<Reply, PoolFault>) -> bool {
 }
 
 #[test]
-fn what_a_refused_write_took_is_free_again(rt: HostRuntime) -> Result<(), Refused> {
+fn what_a_refused_write_took_is_free_again(rt: HostRuntime) -> Result<(), TestRefusal> {
     let alloc = rt.alloc();
     let mut disk = with_small(alloc, 4)?;
     // 135 sectors are left. A write takes one for its block, and 16 each for the leaf of the object
@@ -94,7 +94,7 @@ fn what_a_refused_write_took_is_free_again(rt: HostRuntime) -> Result<(), Refuse
     for index in 0..2 {
         step_on(alloc, &mut disk, write(alloc, 1, index, 1)?)?;
     }
-    let kept = Kept::open(alloc, &mut disk)?;
+    let kept = PoolState::open(alloc, &mut disk)?;
     let mut pool = Pool::new(alloc, &mut disk, kept);
     let first = pool.step(alloc, NOW, write(alloc, 1, 2, 1)?);
     assert!(rt; is_full(&first));
@@ -104,18 +104,18 @@ fn what_a_refused_write_took_is_free_again(rt: HostRuntime) -> Result<(), Refuse
 }
 
 #[test]
-fn a_directory_of_two_leaves_is_opened_again(rt: HostRuntime) -> Result<(), Refused> {
+fn a_directory_of_two_leaves_is_opened_again(rt: HostRuntime) -> Result<(), TestRefusal> {
     let alloc = rt.alloc();
     let bytes = vec![in alloc; 0; 4_194_304]?;
     let mut disk = MemDisk::new(bytes, Vec::new(alloc), None);
-    Kept::create(alloc, &mut disk, 8_192, 1)?;
+    PoolState::create(alloc, &mut disk, 8_192, 1)?;
     for number in 0..40 {
         let name = format!(in alloc; "tank/d{number}")?;
         step_on(alloc, &mut disk, file_system(name.as_str())?)?;
         let name = format!(in alloc; "tank/d{number}@s")?;
         step_on(alloc, &mut disk, snapshot(name.as_str())?)?;
     }
-    let kept = Kept::open(alloc, &mut disk)?;
+    let kept = PoolState::open(alloc, &mut disk)?;
     assert_eq!(rt; (kept.body.number, kept.body.dir_levels), (81, 1));
     assert!(rt; kept.body.dir_bytes > 8192);
     assert_eq!(rt; kept.dir.datasets().len(), 40);
@@ -124,11 +124,11 @@ fn a_directory_of_two_leaves_is_opened_again(rt: HostRuntime) -> Result<(), Refu
 }
 
 // How many calls of the disk an opening makes, and then a command.
-fn calls_of(alloc: Global, disk: &mut MemDisk, command: Command) -> Result<(u64, u64), Refused>
+fn calls_of(alloc: Global, disk: &mut MemDisk, command: Command) -> Result<(u64, u64), TestRefusal>
     requires { IsCommand command }
 {
     let start = disk.calls();
-    let kept = Kept::open(alloc, disk)?;
+    let kept = PoolState::open(alloc, disk)?;
     let opened = disk.calls();
     let mut pool = Pool::new(alloc, disk, kept);
     pool.step(alloc, NOW, command)?;
@@ -137,7 +137,7 @@ fn calls_of(alloc: Global, disk: &mut MemDisk, command: Command) -> Result<(u64,
 }
 
 #[test]
-fn a_small_write_makes_few_calls(rt: HostRuntime) -> Result<(), Refused> {
+fn a_small_write_makes_few_calls(rt: HostRuntime) -> Result<(), TestRefusal> {
     let alloc = rt.alloc();
     let mut disk = with_small(alloc, 2)?;
     let first = calls_of(alloc, &mut disk, small(alloc, 2)?)?;

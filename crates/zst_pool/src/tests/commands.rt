@@ -3,16 +3,16 @@ ghost use Rattle.std.specs.Prelude.{◌≡◌, ◌<◌, true, length, IfOk};
 ghost use Rattle.zst_model.specs.states.State.{is_block_size};
 ghost use Rattle.zst_model.specs.pools.Step.{IsCommand, HasObjects};
 
-use super::errors::Refused;
+use super::errors::TestRefusal;
 use std::alloc::{AllocError, Global};
 use zst_model::{Bytes, Command, Name, ObjectHead, PlanFault};
 use zst_names::{BookName, DatasetName, SnapName};
 
-pub(super) fn dataset(text: &str) -> Result<DatasetName, Refused> {
+pub(super) fn dataset(text: &str) -> Result<DatasetName, TestRefusal> {
     Ok(DatasetName::parse(text).map_err(PlanFault::from)?)
 }
 
-pub(super) fn file_system(text: &str) -> Result<Command, Refused>
+pub(super) fn file_system(text: &str) -> Result<Command, TestRefusal>
     ensures { IfOk result IsCommand }
 {
     let name = dataset(text)?;
@@ -26,7 +26,7 @@ pub(super) fn object(
     text: &str,
     number: u64,
     block_size: u32,
-) -> Result<Command, Refused>
+) -> Result<Command, TestRefusal>
     requires number { 0 < number }
     requires size { is_block_size block_size ≡ true }
     ensures { IfOk result IsCommand }
@@ -53,7 +53,12 @@ fn one_byte(alloc: Global, byte: u8) -> Result<Bytes, AllocError>
     Ok(Bytes::new(vec![in alloc; byte; 1]?))
 }
 
-pub(super) fn write(alloc: Global, number: u64, index: u64, byte: u8) -> Result<Command, Refused>
+pub(super) fn write(
+    alloc: Global,
+    number: u64,
+    index: u64,
+    byte: u8,
+) -> Result<Command, TestRefusal>
     requires { 0 < number }
     ensures { IfOk result IsCommand }
 {
@@ -68,7 +73,7 @@ pub(super) fn write(alloc: Global, number: u64, index: u64, byte: u8) -> Result<
     })
 }
 
-pub(super) fn snapshot(text: &str) -> Result<Command, Refused>
+pub(super) fn snapshot(text: &str) -> Result<Command, TestRefusal>
     ensures { IfOk result IsCommand }
 {
     let name = SnapName::parse(text).map_err(PlanFault::from)?;
@@ -79,7 +84,7 @@ pub(super) fn snapshot(text: &str) -> Result<Command, Refused>
 // The commands of a small pool, in order: a file system, a file in it, its first block and a snapshot, and the same
 // block once more.
 #[tactic(auto, unfolding(zst_model::specs::states::State::is_block_size, zst_model::specs::states::State::largest_block))]
-pub(super) fn small(alloc: Global, place: u64) -> Result<Command, Refused>
+pub(super) fn small(alloc: Global, place: u64) -> Result<Command, TestRefusal>
     ensures { IfOk result IsCommand }
 {
     match place {
@@ -91,7 +96,7 @@ pub(super) fn small(alloc: Global, place: u64) -> Result<Command, Refused>
     }
 }
 
-pub(super) fn clone_of(origin: &str, name: &str) -> Result<Command, Refused>
+pub(super) fn clone_of(origin: &str, name: &str) -> Result<Command, TestRefusal>
     ensures { IfOk result IsCommand }
 {
     let origin = SnapName::parse(origin).map_err(PlanFault::from)?;
@@ -101,7 +106,7 @@ pub(super) fn clone_of(origin: &str, name: &str) -> Result<Command, Refused>
     Ok(Command::Clone { origin, dataset })
 }
 
-pub(super) fn bookmark_of(snapshot: &str, name: &str) -> Result<Command, Refused>
+pub(super) fn bookmark_of(snapshot: &str, name: &str) -> Result<Command, TestRefusal>
     ensures { IfOk result IsCommand }
 {
     let snapshot = SnapName::parse(snapshot).map_err(PlanFault::from)?;
@@ -111,7 +116,7 @@ pub(super) fn bookmark_of(snapshot: &str, name: &str) -> Result<Command, Refused
     Ok(Command::Bookmark { snapshot, bookmark })
 }
 
-pub(super) fn destroy_dataset(text: &str) -> Result<Command, Refused>
+pub(super) fn destroy_dataset(text: &str) -> Result<Command, TestRefusal>
     ensures { IfOk result IsCommand }
 {
     let name = dataset(text)?;
@@ -121,7 +126,7 @@ pub(super) fn destroy_dataset(text: &str) -> Result<Command, Refused>
     })
 }
 
-pub(super) fn destroy_snapshot(text: &str) -> Result<Command, Refused>
+pub(super) fn destroy_snapshot(text: &str) -> Result<Command, TestRefusal>
     ensures { IfOk result IsCommand }
 {
     let name = SnapName::parse(text).map_err(PlanFault::from)?;
@@ -131,7 +136,7 @@ pub(super) fn destroy_snapshot(text: &str) -> Result<Command, Refused>
     })
 }
 
-pub(super) fn destroy_bookmark(text: &str) -> Result<Command, Refused>
+pub(super) fn destroy_bookmark(text: &str) -> Result<Command, TestRefusal>
     ensures { IfOk result IsCommand }
 {
     let name = BookName::parse(text).map_err(PlanFault::from)?;
@@ -141,7 +146,7 @@ pub(super) fn destroy_bookmark(text: &str) -> Result<Command, Refused>
     })
 }
 
-pub(super) fn head(text: &str) -> Result<Name, Refused>
+pub(super) fn head(text: &str) -> Result<Name, TestRefusal>
     ensures { IfOk result HasObjects }
 {
     let name = dataset(text)?;
@@ -149,7 +154,7 @@ pub(super) fn head(text: &str) -> Result<Name, Refused>
     Ok(Name::Dataset(name))
 }
 
-pub(super) fn taken(text: &str) -> Result<Name, Refused>
+pub(super) fn taken(text: &str) -> Result<Name, TestRefusal>
     ensures { IfOk result HasObjects }
 {
     let name = SnapName::parse(text).map_err(PlanFault::from)?;
@@ -169,7 +174,7 @@ pub(super) fn read(name: Name, object: u64, index: u64) -> Command
     }
 }
 
-pub(super) fn rollback(text: &str, destroys: bool) -> Result<Command, Refused>
+pub(super) fn rollback(text: &str, destroys: bool) -> Result<Command, TestRefusal>
     ensures { IfOk result IsCommand }
 {
     let snapshot = SnapName::parse(text).map_err(PlanFault::from)?;

@@ -3,8 +3,8 @@ ghost use Rattle.std.specs.Prelude.{◌≡◌, ◌<◌};
 ghost use Rattle.zst_dir.specs.Rows.{IsSnapshotRow};
 
 use super::commands::{destroy_dataset, file_system};
-use super::errors::Refused;
-use super::looks::{bytes_of, disk_of};
+use super::errors::TestRefusal;
+use super::pool_contents::{bytes_of, disk_of};
 use super::pools::{NOW, rows_of, step_on};
 use crate::Pool;
 use crate::checks::{check_new_snapshot, open_dataset};
@@ -12,7 +12,7 @@ use crate::fault::of_committed;
 use std::alloc::Global;
 use std::process::Abort;
 use zst_dir::{Dir, Snapshot};
-use zst_image::{Kept, commit_dir};
+use zst_image::{PoolState, commit_dir};
 use zst_model::limits::LAST_NUMBER;
 use zst_model::{GuidSet, PlanFault, Refusal};
 use zst_names::SnapName;
@@ -37,7 +37,7 @@ fn row(name: SnapName, guid: u64) -> Snapshot
 }
 
 // Adds a snapshot of tank/a, named and dated by this number.
-fn add_snapshot(alloc: Global, dir: &mut Dir, number: u64) -> Result<(), Refused>
+fn add_snapshot(alloc: Global, dir: &mut Dir, number: u64) -> Result<(), TestRefusal>
     requires { 0 < number }
 {
     let text = format!(in alloc; "tank/a@s{number}")?;
@@ -45,21 +45,21 @@ fn add_snapshot(alloc: Global, dir: &mut Dir, number: u64) -> Result<(), Refused
     open_dataset(dir, &name.dataset())?;
     check_new_snapshot(dir, &name)?;
     if !dir.partials().is_empty() {
-        return Err(Refused(Refusal::Failed));
+        return Err(TestRefusal(Refusal::Failed));
     }
     dir.add_snapshot(row(name, number))?;
     Ok(())
 }
 
 // Gives tank/a so many snapshots by one commit.
-fn commit_snapshots(alloc: Global, disk: &mut MemDisk, count: u64) -> Result<(), Refused> {
-    let kept = Kept::open(alloc, disk)?;
+fn commit_snapshots(alloc: Global, disk: &mut MemDisk, count: u64) -> Result<(), TestRefusal> {
+    let kept = PoolState::open(alloc, disk)?;
     let mut dir = kept.dir.copy(alloc)?;
     for place in 0..count {
         add_snapshot(alloc, &mut dir, place + 1)?;
     }
     if kept.body.number >= LAST_NUMBER {
-        return Err(Refused(Refusal::Failed));
+        return Err(TestRefusal(Refusal::Failed));
     }
     let mut pool = Pool::new(alloc, disk, kept);
     let body = pool.kept.body;
@@ -68,9 +68,9 @@ fn commit_snapshots(alloc: Global, disk: &mut MemDisk, count: u64) -> Result<(),
 }
 
 // The bytes of a disk whose one dataset has a thousand snapshots.
-pub(super) fn with_thousand(alloc: Global) -> Result<Vec<u8>, Refused> {
+pub(super) fn with_thousand(alloc: Global) -> Result<Vec<u8>, TestRefusal> {
     let mut disk = disk_of(alloc, vec![in alloc; 0; 524_288]?);
-    Kept::create(alloc, &mut disk, 1024, 1)?;
+    PoolState::create(alloc, &mut disk, 1024, 1)?;
     step_on(alloc, &mut disk, file_system("tank/a")?)?;
     commit_snapshots(alloc, &mut disk, 1000)?;
     bytes_of(alloc, &mut disk)
@@ -82,7 +82,7 @@ pub(super) fn check_whole(
     alloc: Global,
     disk: &mut MemDisk,
     at: u64,
-) -> Result<(), Refused> {
+) -> Result<(), TestRefusal> {
     let rows = rows_of(alloc, disk)?;
     assert!(rt; rows == (1, 1000, 0) || rows == (0, 0, 0), "at {at}");
     Ok(())
@@ -94,11 +94,11 @@ pub(super) fn check_fault(
     alloc: Global,
     bytes: Vec<u8>,
     call: u64,
-) -> Result<(), Refused> {
+) -> Result<(), TestRefusal> {
     let fail = vec![in alloc; call; 1]?;
     let mut disk = MemDisk::new(bytes, fail, None);
     let answer = step_on(alloc, &mut disk, destroy_dataset("tank/a")?);
-    let is_fault = matches!(answer, Err(Refused(Refusal::DiskFault)));
+    let is_fault = matches!(answer, Err(TestRefusal(Refusal::DiskFault)));
     assert!(rt; is_fault, "at {call}");
     check_whole(rt, alloc, &mut disk, call)
 }

@@ -1,18 +1,18 @@
 // Clones, bookmarks, and what a destroy takes.
 use super::commands::{bookmark_of, clone_of, destroy_bookmark, destroy_dataset, destroy_snapshot};
 use super::crowds::{check_fault, check_whole, with_thousand};
-use super::errors::Refused;
-use super::looks::{bytes_of, disk_of, pool_of};
+use super::errors::TestRefusal;
+use super::pool_contents::{bytes_of, disk_of, pool_of};
 use super::pools::{NOW, rows_of, step_on, with_clones, with_small};
 use super::replies::check_refused;
 use super::runs::{check_command, check_failed};
 use std::alloc::Global;
-use zst_image::Kept;
+use zst_image::PoolState;
 use zst_model::Refusal;
 use zst_outside::{Disk, MemDisk};
 
 #[test]
-fn a_clone_holds_its_origin(rt: HostRuntime) -> Result<(), Refused> {
+fn a_clone_holds_its_origin(rt: HostRuntime) -> Result<(), TestRefusal> {
     let alloc = rt.alloc();
     let mut disk = with_clones(alloc)?;
     let disk = &mut disk;
@@ -31,7 +31,7 @@ fn a_clone_holds_its_origin(rt: HostRuntime) -> Result<(), Refused> {
 }
 
 #[test]
-fn clones_are_taken_down_from_the_last_one(rt: HostRuntime) -> Result<(), Refused> {
+fn clones_are_taken_down_from_the_last_one(rt: HostRuntime) -> Result<(), TestRefusal> {
     let alloc = rt.alloc();
     let mut disk = with_clones(alloc)?;
     let disk = &mut disk;
@@ -51,13 +51,13 @@ fn clones_are_taken_down_from_the_last_one(rt: HostRuntime) -> Result<(), Refuse
 }
 
 #[test]
-fn a_bookmark_keeps_the_place_of_its_snapshot(rt: HostRuntime) -> Result<(), Refused> {
+fn a_bookmark_keeps_the_place_of_its_snapshot(rt: HostRuntime) -> Result<(), TestRefusal> {
     let alloc = rt.alloc();
     let mut disk = with_small(alloc, 4)?;
     let disk = &mut disk;
     step_on(alloc, disk, bookmark_of("tank/a@s", "tank/a#k")?)?;
     step_on(alloc, disk, destroy_snapshot("tank/a@s")?)?;
-    let dir = Kept::open(alloc, disk)?.dir;
+    let dir = PoolState::open(alloc, disk)?.dir;
     assert_eq!(rt; dir.bookmarks().len(), 1);
     for row in dir.bookmarks() {
         assert_eq!(rt; row.name.text(), "tank/a#k");
@@ -69,7 +69,7 @@ fn a_bookmark_keeps_the_place_of_its_snapshot(rt: HostRuntime) -> Result<(), Ref
 }
 
 #[test]
-fn clones_bookmarks_and_destroys_are_refused(rt: HostRuntime) -> Result<(), Refused> {
+fn clones_bookmarks_and_destroys_are_refused(rt: HostRuntime) -> Result<(), TestRefusal> {
     let alloc = rt.alloc();
     let mut disk = with_clones(alloc)?;
     let disk = &mut disk;
@@ -99,7 +99,7 @@ fn clones_bookmarks_and_destroys_are_refused(rt: HostRuntime) -> Result<(), Refu
 #[test]
 fn a_stop_of_a_clone_or_of_a_destroy_leaves_the_pool_before_or_after(
     rt: HostRuntime,
-) -> Result<(), Refused> {
+) -> Result<(), TestRefusal> {
     let alloc = rt.alloc();
     let bytes = bytes_of(alloc, &mut with_small(alloc, 4)?)?;
     let bytes = check_command(&rt, alloc, bytes, clone_of("tank/a@s", "tank/b")?, 0)?;
@@ -110,15 +110,15 @@ fn a_stop_of_a_clone_or_of_a_destroy_leaves_the_pool_before_or_after(
 }
 
 // Makes a clone on a disk of these bytes, of which the call of this number fails.
-fn fail_clone(alloc: Global, bytes: Vec<u8>, call: u64) -> Result<(MemDisk, bool), Refused> {
+fn fail_clone(alloc: Global, bytes: Vec<u8>, call: u64) -> Result<(MemDisk, bool), TestRefusal> {
     let mut disk = MemDisk::new(bytes, vec![in alloc; call; 1]?, None);
     let answer = step_on(alloc, &mut disk, clone_of("tank/a@s", "tank/b")?);
-    let is_fault = matches!(answer, Err(Refused(Refusal::DiskFault)));
+    let is_fault = matches!(answer, Err(TestRefusal(Refusal::DiskFault)));
     Ok((disk, is_fault))
 }
 
 #[test]
-fn each_call_of_a_clone_may_fail(rt: HostRuntime) -> Result<(), Refused> {
+fn each_call_of_a_clone_may_fail(rt: HostRuntime) -> Result<(), TestRefusal> {
     let alloc = rt.alloc();
     let bytes = bytes_of(alloc, &mut with_small(alloc, 4)?)?;
     let mut disk = disk_of(alloc, bytes.clone()?);
@@ -133,7 +133,7 @@ fn each_call_of_a_clone_may_fail(rt: HostRuntime) -> Result<(), Refused> {
 }
 
 #[test]
-fn a_thousand_snapshots_go_at_once(rt: HostRuntime) -> Result<(), Refused> {
+fn a_thousand_snapshots_go_at_once(rt: HostRuntime) -> Result<(), TestRefusal> {
     let alloc = rt.alloc();
     let bytes = with_thousand(alloc)?;
     let mut disk = disk_of(alloc, bytes.clone()?);

@@ -3,12 +3,12 @@ ghost use Rattle.std.specs.Prelude.{◌≤◌};
 ghost use Rattle.zst_dir.specs.Rows.{IsBookmarkRow};
 
 use super::commands::bookmark_of;
-use super::errors::Refused;
+use super::errors::TestRefusal;
 use super::pools::{NOW, step_on, with_small};
 use crate::Pool;
 use std::alloc::Global;
 use zst_dir::Bookmark;
-use zst_image::Kept;
+use zst_image::PoolState;
 use zst_leaves::write_leaves;
 use zst_list::encode_list;
 use zst_model::{GuidSet, PlanFault, Refusal, Run};
@@ -22,21 +22,24 @@ const REDACTED: Run = Run {
     count: 2,
 };
 
-fn bookmark(text: &str) -> Result<BookName, Refused> {
+fn bookmark(text: &str) -> Result<BookName, TestRefusal> {
     Ok(BookName::parse(text).map_err(PlanFault::from)?)
 }
 
 #[test]
-fn a_bookmark_that_nothing_redacted_has_no_list(rt: HostRuntime) -> Result<(), Refused> {
+fn a_bookmark_that_nothing_redacted_has_no_list(rt: HostRuntime) -> Result<(), TestRefusal> {
     let alloc = rt.alloc();
     let mut disk = with_small(alloc, 4)?;
     step_on(alloc, &mut disk, bookmark_of("tank/a@s", "tank/a#k")?)?;
-    let kept = Kept::open(alloc, &mut disk)?;
+    let kept = PoolState::open(alloc, &mut disk)?;
     let mut pool = Pool::new(alloc, &mut disk, kept);
     assert!(rt; pool.list_of(alloc, &bookmark("tank/a#k")?)?.is_none());
     match pool.list_of(alloc, &bookmark("tank/a#z")?) {
         Ok(_) => panic!(rt; "there is no such bookmark"),
-        Err(fault) => assert_eq!(rt; Refused::from(fault).0.text().as_str(), "no such tank/a#z"),
+        Err(fault) => assert_eq!(rt;
+            TestRefusal::from(fault).0.text().as_str(),
+            "no such tank/a#z"
+        ),
     }
     Ok(())
 }
@@ -64,15 +67,15 @@ fn with_list(name: BookName, tree: &Tree) -> Bookmark
 }
 
 #[test]
-fn a_list_that_was_written_is_told(rt: HostRuntime) -> Result<(), Refused> {
+fn a_list_that_was_written_is_told(rt: HostRuntime) -> Result<(), TestRefusal> {
     let alloc = rt.alloc();
     let mut disk = with_small(alloc, 4)?;
-    let kept = Kept::open(alloc, &mut disk)?;
+    let kept = PoolState::open(alloc, &mut disk)?;
     let mut pool = Pool::new(alloc, &mut disk, kept);
     let bytes = encode_list(alloc, &[REDACTED])?;
     assert_eq!(rt; bytes.len(), 24);
     let Ok(tree) = write_leaves(&mut pool.io, &bytes, 6) else {
-        return Err(Refused(Refusal::DiskFault));
+        return Err(TestRefusal(Refusal::DiskFault));
     };
     assert_eq!(rt; tree.levels, 0);
     assert!(rt; pool.kept.dir.bookmarks().is_empty());

@@ -5,14 +5,14 @@ ghost use Rattle.zst_dir.specs.Rows.{IsPartialRow};
 ghost use Rattle.zst_model.specs.pools.Pool.{IsStated};
 
 use super::commands::dataset;
-use super::errors::Refused;
+use super::errors::TestRefusal;
 use super::pools::{NOW, step_on, with_small};
 use crate::Pool;
 use crate::checks::check_new_snapshot;
 use std::alloc::Global;
 use std::process::Abort;
 use zst_dir::{Dir, Partial};
-use zst_image::Kept;
+use zst_image::PoolState;
 use zst_model::{Command, GuidSet, Header, NameText, PlanFault, Point};
 use zst_names::SnapName;
 use zst_outside::MemDisk;
@@ -38,7 +38,7 @@ fn full_header() -> Header
 }
 
 // What a receive of this snapshot has when it begins.
-pub(super) fn begun(text: &str, keep: bool) -> Result<Partial, Refused>
+pub(super) fn begun(text: &str, keep: bool) -> Result<Partial, TestRefusal>
     ensures row { IfOk result IsPartialRow }
     ensures base { IfOk result (λ partial. partial.base ≡ None) }
 {
@@ -65,7 +65,7 @@ pub(super) fn check_counts(rt: &impl Abort, dir: &Dir, datasets: usize, partials
     assert_eq!(rt; dir.partials().len(), partials);
 }
 
-pub(super) fn abort_of(text: &str) -> Result<Command, Refused>
+pub(super) fn abort_of(text: &str) -> Result<Command, TestRefusal>
     ensures { IfOk result IsCommand }
 {
     let dataset = dataset(text)?;
@@ -74,8 +74,8 @@ pub(super) fn abort_of(text: &str) -> Result<Command, Refused>
 }
 
 // Commits what a receive of this snapshot has when it begins.
-fn begin_on(alloc: Global, disk: &mut MemDisk, text: &str) -> Result<(), Refused> {
-    let kept = Kept::open(alloc, disk)?;
+fn begin_on(alloc: Global, disk: &mut MemDisk, text: &str) -> Result<(), TestRefusal> {
+    let kept = PoolState::open(alloc, disk)?;
     let mut pool = Pool::new(alloc, disk, kept);
     let partial = begun(text, true)?;
     check_new_snapshot(&pool.kept.dir, &partial.snapshot_name())?;
@@ -84,7 +84,7 @@ fn begin_on(alloc: Global, disk: &mut MemDisk, text: &str) -> Result<(), Refused
 }
 
 // A disk whose pool has a snapshot of tank/a, and partial states of tank/a and of tank/b.
-pub(super) fn with_two(alloc: Global) -> Result<MemDisk, Refused> {
+pub(super) fn with_two(alloc: Global) -> Result<MemDisk, TestRefusal> {
     let mut disk = with_small(alloc, 4)?;
     begin_on(alloc, &mut disk, "tank/a@t")?;
     begin_on(alloc, &mut disk, "tank/b@t")?;
@@ -92,6 +92,6 @@ pub(super) fn with_two(alloc: Global) -> Result<MemDisk, Refused> {
 }
 
 // How many lines a list of the pool of a disk has.
-pub(super) fn lines_of(alloc: Global, disk: &mut MemDisk) -> Result<usize, Refused> {
+pub(super) fn lines_of(alloc: Global, disk: &mut MemDisk) -> Result<usize, TestRefusal> {
     Ok(step_on(alloc, disk, Command::List)?.lines().len())
 }

@@ -2,10 +2,10 @@
 ghost use Rattle.zst_model.specs.pools.Step.{IsCommand};
 
 use super::commands::{bookmark_of, clone_of, small, snapshot};
-use super::errors::Refused;
+use super::errors::TestRefusal;
 use crate::Pool;
 use std::alloc::{AllocError, Global};
-use zst_image::{Kept, OpenFault};
+use zst_image::{OpenFault, PoolState};
 use zst_model::{Command, Reply};
 use zst_outside::MemDisk;
 
@@ -23,18 +23,22 @@ pub(super) fn zeros(alloc: Global, fails: Option<u64>) -> Result<MemDisk, AllocE
 }
 
 // Opens the pool of a disk and runs one command on it.
-pub(super) fn step_on(alloc: Global, disk: &mut MemDisk, command: Command) -> Result<Reply, Refused>
+pub(super) fn step_on(
+    alloc: Global,
+    disk: &mut MemDisk,
+    command: Command,
+) -> Result<Reply, TestRefusal>
     requires { IsCommand command }
 {
-    let kept = Kept::open(alloc, disk)?;
+    let kept = PoolState::open(alloc, disk)?;
     let mut pool = Pool::new(alloc, disk, kept);
     Ok(pool.step(alloc, NOW, command)?)
 }
 
 // A disk with a new pool, on which so many commands of the small pool were run.
-pub(super) fn with_small(alloc: Global, count: u64) -> Result<MemDisk, Refused> {
+pub(super) fn with_small(alloc: Global, count: u64) -> Result<MemDisk, TestRefusal> {
     let mut disk = zeros(alloc, None)?;
-    Kept::create(alloc, &mut disk, 256, 1)?;
+    PoolState::create(alloc, &mut disk, 256, 1)?;
     for place in 0..count {
         step_on(alloc, &mut disk, small(alloc, place)?)?;
     }
@@ -42,17 +46,20 @@ pub(super) fn with_small(alloc: Global, count: u64) -> Result<MemDisk, Refused> 
 }
 
 // The number of the pool's last commit, and 0 where there is no pool.
-pub(super) fn number_of(alloc: Global, disk: &mut MemDisk) -> Result<u64, Refused> {
-    match Kept::open(alloc, disk) {
+pub(super) fn number_of(alloc: Global, disk: &mut MemDisk) -> Result<u64, TestRefusal> {
+    match PoolState::open(alloc, disk) {
         Ok(kept) => Ok(kept.body.number),
         Err(OpenFault::NoPool) => Ok(0),
-        Err(fault) => Err(Refused::from(fault)),
+        Err(fault) => Err(TestRefusal::from(fault)),
     }
 }
 
 // How many datasets, snapshots and bookmarks the pool of a disk has.
-pub(super) fn rows_of(alloc: Global, disk: &mut MemDisk) -> Result<(usize, usize, usize), Refused> {
-    let dir = Kept::open(alloc, disk)?.dir;
+pub(super) fn rows_of(
+    alloc: Global,
+    disk: &mut MemDisk,
+) -> Result<(usize, usize, usize), TestRefusal> {
+    let dir = PoolState::open(alloc, disk)?.dir;
     Ok((
         dir.datasets().len(),
         dir.snapshots().len(),
@@ -62,7 +69,7 @@ pub(super) fn rows_of(alloc: Global, disk: &mut MemDisk) -> Result<(usize, usize
 
 // A pool of three datasets with a snapshot each: tank/a, a clone tank/b of its snapshot, of which there is a bookmark
 // too, and a clone tank/c of the clone's.
-pub(super) fn with_clones(alloc: Global) -> Result<MemDisk, Refused> {
+pub(super) fn with_clones(alloc: Global) -> Result<MemDisk, TestRefusal> {
     let mut disk = with_small(alloc, 1)?;
     step_on(alloc, &mut disk, snapshot("tank/a@s")?)?;
     step_on(alloc, &mut disk, bookmark_of("tank/a@s", "tank/a#k")?)?;
@@ -74,7 +81,7 @@ pub(super) fn with_clones(alloc: Global) -> Result<MemDisk, Refused> {
 }
 
 // The small pool, whose block was written again since its snapshot, with a snapshot and a bookmark that are newer.
-pub(super) fn with_newer(alloc: Global) -> Result<MemDisk, Refused> {
+pub(super) fn with_newer(alloc: Global) -> Result<MemDisk, TestRefusal> {
     let mut disk = with_small(alloc, 5)?;
     step_on(alloc, &mut disk, snapshot("tank/a@t")?)?;
     step_on(alloc, &mut disk, bookmark_of("tank/a@t", "tank/a#k")?)?;

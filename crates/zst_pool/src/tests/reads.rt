@@ -1,6 +1,6 @@
 // What a pool tells of its blocks and its objects.
 use super::commands::{head, read, taken};
-use super::errors::Refused;
+use super::errors::TestRefusal;
 use super::pools::{number_of, step_on, with_small};
 use super::replies::{check_line, check_refused};
 use zst_model::{Command, Reply};
@@ -17,7 +17,9 @@ fn is_data(reply: &Reply, start: &str) -> bool {
 }
 
 #[test]
-fn a_read_tells_the_block_of_the_head_or_of_the_snapshot(rt: HostRuntime) -> Result<(), Refused> {
+fn a_read_tells_the_block_of_the_head_or_of_the_snapshot(
+    rt: HostRuntime,
+) -> Result<(), TestRefusal> {
     let alloc = rt.alloc();
     let mut disk = with_small(alloc, 5)?;
     let now = step_on(alloc, &mut disk, read(head("tank/a")?, 1, 0))?;
@@ -31,7 +33,7 @@ fn a_read_tells_the_block_of_the_head_or_of_the_snapshot(rt: HostRuntime) -> Res
 }
 
 #[test]
-fn reads_are_refused(rt: HostRuntime) -> Result<(), Refused> {
+fn reads_are_refused(rt: HostRuntime) -> Result<(), TestRefusal> {
     let alloc = rt.alloc();
     let mut disk = with_small(alloc, 5)?;
     let disk = &mut disk;
@@ -47,7 +49,7 @@ fn reads_are_refused(rt: HostRuntime) -> Result<(), Refused> {
 }
 
 #[test]
-fn a_list_of_a_name_tells_its_objects(rt: HostRuntime) -> Result<(), Refused> {
+fn a_list_of_a_name_tells_its_objects(rt: HostRuntime) -> Result<(), TestRefusal> {
     let alloc = rt.alloc();
     let mut disk = with_small(alloc, 5)?;
     let list = Command::ListObjects {
@@ -64,7 +66,7 @@ fn a_list_of_a_name_tells_its_objects(rt: HostRuntime) -> Result<(), Refused> {
 }
 
 #[test]
-fn a_list_tells_the_datasets_and_their_snapshots(rt: HostRuntime) -> Result<(), Refused> {
+fn a_list_tells_the_datasets_and_their_snapshots(rt: HostRuntime) -> Result<(), TestRefusal> {
     let alloc = rt.alloc();
     let mut disk = with_small(alloc, 4)?;
     let reply = step_on(alloc, &mut disk, Command::List)?;

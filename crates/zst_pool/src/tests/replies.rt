@@ -1,7 +1,7 @@
 // What commands answer.
 ghost use Rattle.zst_model.specs.pools.Step.{IsCommand};
 
-use super::errors::Refused;
+use super::errors::TestRefusal;
 use super::pools::{number_of, step_on};
 use std::alloc::Global;
 use std::process::Abort;
@@ -21,7 +21,7 @@ pub(super) fn check_refused(
     disk: &mut MemDisk,
     command: Command,
     text: &str,
-) -> Result<(), Refused>
+) -> Result<(), TestRefusal>
     requires { IsCommand command }
 {
     let number = number_of(alloc, disk)?;

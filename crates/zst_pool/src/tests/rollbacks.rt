@@ -1,7 +1,7 @@
 // Heads that go back to a snapshot.
 use super::commands::{clone_of, rollback, snapshot};
-use super::errors::Refused;
-use super::looks::{Look, bytes_of, disk_of, pool_of};
+use super::errors::TestRefusal;
+use super::pool_contents::{PoolContent, bytes_of, disk_of, pool_of};
 use super::pools::{rows_of, step_on, with_newer, with_small};
 use super::replies::check_refused;
 use super::runs::{check_command, check_failed};
@@ -11,7 +11,7 @@ use zst_model::Refusal;
 use zst_outside::{Disk, MemDisk};
 
 // The first byte of the first block of tank/a.
-fn first_byte(alloc: Global, disk: &mut MemDisk) -> Result<Option<u8>, Refused> {
+fn first_byte(alloc: Global, disk: &mut MemDisk) -> Result<Option<u8>, TestRefusal> {
     let bytes = bytes_of(alloc, disk)?;
     let look = pool_of(alloc, bytes)?;
     let first = look.and_then(|look| look.first);
@@ -19,7 +19,7 @@ fn first_byte(alloc: Global, disk: &mut MemDisk) -> Result<Option<u8>, Refused> 
 }
 
 #[test]
-fn a_head_goes_back_to_its_latest_snapshot(rt: HostRuntime) -> Result<(), Refused> {
+fn a_head_goes_back_to_its_latest_snapshot(rt: HostRuntime) -> Result<(), TestRefusal> {
     let alloc = rt.alloc();
     let mut disk = with_small(alloc, 5)?;
     let disk = &mut disk;
@@ -31,7 +31,7 @@ fn a_head_goes_back_to_its_latest_snapshot(rt: HostRuntime) -> Result<(), Refuse
 }
 
 #[test]
-fn what_is_newer_goes_where_that_is_asked(rt: HostRuntime) -> Result<(), Refused> {
+fn what_is_newer_goes_where_that_is_asked(rt: HostRuntime) -> Result<(), TestRefusal> {
     let alloc = rt.alloc();
     let mut disk = with_newer(alloc)?;
     let disk = &mut disk;
@@ -44,7 +44,9 @@ fn what_is_newer_goes_where_that_is_asked(rt: HostRuntime) -> Result<(), Refused
 }
 
 #[test]
-fn a_newer_snapshot_holds_a_head_and_its_clone_holds_it(rt: HostRuntime) -> Result<(), Refused> {
+fn a_newer_snapshot_holds_a_head_and_its_clone_holds_it(
+    rt: HostRuntime,
+) -> Result<(), TestRefusal> {
     let alloc = rt.alloc();
     let mut disk = with_small(alloc, 5)?;
     let disk = &mut disk;
@@ -60,7 +62,9 @@ fn a_newer_snapshot_holds_a_head_and_its_clone_holds_it(rt: HostRuntime) -> Resu
 }
 
 #[test]
-fn a_stop_of_a_rollback_leaves_the_pool_before_or_after(rt: HostRuntime) -> Result<(), Refused> {
+fn a_stop_of_a_rollback_leaves_the_pool_before_or_after(
+    rt: HostRuntime,
+) -> Result<(), TestRefusal> {
     let alloc = rt.alloc();
     let bytes = bytes_of(alloc, &mut with_newer(alloc)?)?;
     let bytes = check_command(&rt, alloc, bytes, rollback("tank/a@s", true)?, 0)?;
@@ -70,21 +74,21 @@ fn a_stop_of_a_rollback_leaves_the_pool_before_or_after(rt: HostRuntime) -> Resu
 }
 
 // Rolls a head back on a disk of these bytes, of which the call of this number fails.
-fn fail_at(alloc: Global, bytes: Vec<u8>, call: u64) -> Result<(MemDisk, bool), Refused> {
+fn fail_at(alloc: Global, bytes: Vec<u8>, call: u64) -> Result<(MemDisk, bool), TestRefusal> {
     let mut disk = MemDisk::new(bytes, vec![in alloc; call; 1]?, None);
     let answer = step_on(alloc, &mut disk, rollback("tank/a@s", true)?);
-    let is_fault = matches!(answer, Err(Refused(Refusal::DiskFault)));
+    let is_fault = matches!(answer, Err(TestRefusal(Refusal::DiskFault)));
     Ok((disk, is_fault))
 }
 
 // The pool that a disk then has.
-fn look_of(alloc: Global, disk: &mut MemDisk) -> Result<Option<Look>, Refused> {
+fn look_of(alloc: Global, disk: &mut MemDisk) -> Result<Option<PoolContent>, TestRefusal> {
     let bytes = bytes_of(alloc, disk)?;
     pool_of(alloc, bytes)
 }
 
 #[test]
-fn each_call_of_a_rollback_may_fail(rt: HostRuntime) -> Result<(), Refused> {
+fn each_call_of_a_rollback_may_fail(rt: HostRuntime) -> Result<(), TestRefusal> {
     let alloc = rt.alloc();
     let bytes = bytes_of(alloc, &mut with_newer(alloc)?)?;
     let mut disk = disk_of(alloc, bytes.clone()?);

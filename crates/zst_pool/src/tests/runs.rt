@@ -3,18 +3,18 @@ ghost use Rattle.std.specs.Prelude.{IfOk, ◌≤◌};
 ghost use Rattle.zst_model.specs.pools.Step.{IsCommand};
 
 use super::commands::small;
-use super::errors::Refused;
-use super::looks::{Look, bytes_of, disk_of, pool_of};
+use super::errors::TestRefusal;
+use super::pool_contents::{PoolContent, bytes_of, disk_of, pool_of};
 use super::pools::step_on;
 use std::alloc::{AllocError, Global};
 use std::process::Abort;
-use zst_image::{CreateFault, Kept};
+use zst_image::{CreateFault, PoolState};
 use zst_model::{Command, Refusal};
 use zst_outside::{Call, Disk, Entry, MemDisk};
 
 // What a stop leaves of a range that was written and not synced.
 #[derive(Clone, Copy, Debug, PartialEq, Eq)]
-enum Left {
+enum Remnant {
     AsWritten,
     AsItWas,
     Filled,
@@ -25,13 +25,13 @@ enum Left {
 // How many of them there are.
 const WAYS: u64 = 4;
 
-impl Left {
-    fn of(digit: u64) -> Left {
+impl Remnant {
+    fn of(digit: u64) -> Remnant {
         match digit {
-            0 => Left::AsWritten,
-            1 => Left::AsItWas,
-            2 => Left::Filled,
-            _ => Left::Torn,
+            0 => Remnant::AsWritten,
+            1 => Remnant::AsItWas,
+            2 => Remnant::Filled,
+            _ => Remnant::Torn,
         }
     }
 }
@@ -43,14 +43,14 @@ pub(super) struct Run {
     calls: u64,
     // What the disk reads after it.
     pub(super) bytes: Vec<u8>,
-    before: Option<Look>,
-    after: Option<Look>,
+    before: Option<PoolContent>,
+    after: Option<PoolContent>,
 }
 
 // Makes the small pool, or runs a command of it.
-fn run_small(alloc: Global, disk: &mut MemDisk, place: u64) -> Result<(), Refused> {
+fn run_small(alloc: Global, disk: &mut MemDisk, place: u64) -> Result<(), TestRefusal> {
     if place == 0 {
-        Kept::create(alloc, disk, 256, 1)?;
+        PoolState::create(alloc, disk, 256, 1)?;
         return Ok(());
     }
     step_on(alloc, disk, small(alloc, place - 1)?)?;
@@ -58,7 +58,7 @@ fn run_small(alloc: Global, disk: &mut MemDisk, place: u64) -> Result<(), Refuse
 }
 
 // Does so on a disk of these bytes.
-pub(super) fn run_on(alloc: Global, bytes: Vec<u8>, place: u64) -> Result<Run, Refused> {
+pub(super) fn run_on(alloc: Global, bytes: Vec<u8>, place: u64) -> Result<Run, TestRefusal> {
     let before = pool_of(alloc, bytes.clone()?)?;
     let mut disk = disk_of(alloc, bytes);
     run_small(alloc, &mut disk, place)?;
@@ -66,7 +66,11 @@ pub(super) fn run_on(alloc: Global, bytes: Vec<u8>, place: u64) -> Result<Run, R
 }
 
 // What a disk has after a run, which began with this pool.
-fn after_run(alloc: Global, mut disk: MemDisk, before: Option<Look>) -> Result<Run, Refused> {
+fn after_run(
+    alloc: Global,
+    mut disk: MemDisk,
+    before: Option<PoolContent>,
+) -> Result<Run, TestRefusal> {
     let calls = disk.calls();
     let bytes = bytes_of(alloc, &mut disk)?;
     let after = pool_of(alloc, bytes.clone()?)?;
@@ -99,14 +103,14 @@ fn leave(
     bytes: &mut Vec<u8>,
     place: usize,
     before: &[u8],
-    left: Left,
+    left: Remnant,
 ) -> Result<(), AllocError> {
     let half = before.len() / 2;
     match left {
-        Left::AsWritten => {}
-        Left::AsItWas => put_back(bytes, place, before),
-        Left::Filled => fill(alloc, bytes, place, before.len())?,
-        Left::Torn => fill(
+        Remnant::AsWritten => {}
+        Remnant::AsItWas => put_back(bytes, place, before),
+        Remnant::Filled => fill(alloc, bytes, place, before.len())?,
+        Remnant::Torn => fill(
             alloc,
             bytes,
             place.saturating_add(half),
@@ -141,7 +145,13 @@ fn image_at(alloc: Global, run: &Run, stop: u64, image: u64) -> Result<Vec<u8>, 
                 put_back(&mut bytes, *place, before);
             }
             Call::Write(place, before) if is_pending => {
-                leave(alloc, &mut bytes, *place, before, Left::of(digits % WAYS))?;
+                leave(
+                    alloc,
+                    &mut bytes,
+                    *place,
+                    before,
+                    Remnant::of(digits % WAYS),
+                )?;
                 digits /= WAYS;
             }
             Call::Sync(true) if entry.number < stop => is_pending = false,
@@ -159,7 +169,7 @@ fn check_stop(
     run: &Run,
     stop: u64,
     what: u64,
-) -> Result<(), Refused> {
+) -> Result<(), TestRefusal> {
     for image in 0..images_at(run.disk.log(), stop) {
         let found = pool_of(alloc, image_at(alloc, run, stop, image)?);
         let found = match found {
@@ -182,7 +192,7 @@ pub(super) fn check_stops(
     alloc: Global,
     run: &Run,
     what: u64,
-) -> Result<u64, Refused> {
+) -> Result<u64, TestRefusal> {
     let mut most = 0;
     for stop in 0..=run.calls {
         check_stop(rt, alloc, run, stop, what)?;
@@ -198,7 +208,7 @@ pub(super) fn check_command(
     bytes: Vec<u8>,
     command: Command,
     what: u64,
-) -> Result<Vec<u8>, Refused>
+) -> Result<Vec<u8>, TestRefusal>
     requires { IsCommand command }
 {
     let before = pool_of(alloc, bytes.clone()?)?;
@@ -216,8 +226,8 @@ pub(super) fn check_failed(
     bytes: &[u8],
     failed: (&mut MemDisk, bool),
     call: u64,
-    after: &Option<Look>,
-) -> Result<(), Refused> {
+    after: &Option<PoolContent>,
+) -> Result<(), TestRefusal> {
     let (disk, is_fault) = failed;
     assert!(rt; is_fault, "call {call}");
     let before = pool_of(alloc, bytes.to_vec(alloc)?)?;
@@ -229,18 +239,18 @@ pub(super) fn check_failed(
 
 // Makes a pool and runs the commands of the small pool until the disk fails. Tells how many
 // commits were accepted.
-pub(super) fn accepted(alloc: Global, disk: &mut MemDisk) -> Result<u64, Refused>
+pub(super) fn accepted(alloc: Global, disk: &mut MemDisk) -> Result<u64, TestRefusal>
     ensures { IfOk result (λ count. count ≤ 6) }
 {
-    match Kept::create(alloc, disk, 256, 1) {
+    match PoolState::create(alloc, disk, 256, 1) {
         Ok(_) => {}
         Err(CreateFault::DiskFault) => return Ok(0),
-        Err(fault) => return Err(Refused::from(fault)),
+        Err(fault) => return Err(TestRefusal::from(fault)),
     }
     for place in 0..5 {
         match step_on(alloc, disk, small(alloc, place)?) {
             Ok(_) => {}
-            Err(Refused(Refusal::DiskFault)) => return Ok(place + 1),
+            Err(TestRefusal(Refusal::DiskFault)) => return Ok(place + 1),
             Err(fault) => return Err(fault),
         }
     }

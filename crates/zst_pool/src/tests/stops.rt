@@ -1,11 +1,11 @@
 // Runs that are stopped at each call of the disk, and runs of which each call fails.
-use super::errors::Refused;
+use super::errors::TestRefusal;
 use super::pools::{number_of, with_small, zeros};
 use super::runs::{accepted, check_stops, run_on};
 use zst_outside::Disk;
 
 #[test]
-fn every_stop_leaves_the_pool_before_or_after(rt: HostRuntime) -> Result<(), Refused> {
+fn every_stop_leaves_the_pool_before_or_after(rt: HostRuntime) -> Result<(), TestRefusal> {
     let alloc = rt.alloc();
     let mut bytes = vec![in alloc; 0; 131_072]?;
     // The most images of a stop are 4 for each range that is pending at once: the directory; the object set's leaf before
@@ -23,7 +23,7 @@ fn every_stop_leaves_the_pool_before_or_after(rt: HostRuntime) -> Result<(), Ref
 }
 
 #[test]
-fn each_call_of_the_disk_may_fail(rt: HostRuntime) -> Result<(), Refused> {
+fn each_call_of_the_disk_may_fail(rt: HostRuntime) -> Result<(), TestRefusal> {
     let alloc = rt.alloc();
     let calls = with_small(alloc, 5)?.calls();
     for call in 0..calls {

@@ -10,7 +10,7 @@ use zst_outside::{Fault, MemSource};
 
 /// What was found of a stream.
 #[derive(Clone, Copy, Debug, PartialEq, Eq)]
-pub(super) struct Found {
+pub(super) struct ReadCounts {
     pub(super) records: u64,
     pub(super) payload: u64,
     pub(super) faults: u64,
@@ -18,7 +18,7 @@ pub(super) struct Found {
 }
 
 /// Counts the records that a reader can hand out now, and their payloads' bytes.
-pub(super) fn take_all(reader: &mut Reader, found: &mut Found) {
+pub(super) fn take_all(reader: &mut Reader, found: &mut ReadCounts) {
     for _ in 0..10_000 {
         match reader.next() {
             Ok(Step::Record(record)) => {
@@ -30,8 +30,8 @@ pub(super) fn take_all(reader: &mut Reader, found: &mut Found) {
     }
 }
 
-pub(super) fn nothing() -> Found {
-    Found {
+pub(super) fn nothing() -> ReadCounts {
+    ReadCounts {
         records: 0,
         payload: 0,
         faults: 0,
@@ -40,7 +40,7 @@ pub(super) fn nothing() -> Found {
 }
 
 /// Reads an input to its end, and goes on after each fault.
-pub(super) fn read_all(rt: &impl Abort, alloc: Global, input: &mut MemSource) -> Found {
+pub(super) fn read_all(rt: &impl Abort, alloc: Global, input: &mut MemSource) -> ReadCounts {
     let mut reader = open_reader(rt, alloc);
     let mut found = nothing();
     for _ in 0..10_000 {
@@ -59,8 +59,8 @@ pub(super) fn read_all(rt: &impl Abort, alloc: Global, input: &mut MemSource) ->
 }
 
 /// Two records without payload, after so many faults.
-pub(super) fn whole(faults: u64) -> Found {
-    Found {
+pub(super) fn whole(faults: u64) -> ReadCounts {
+    ReadCounts {
         records: 2,
         payload: 0,
         faults,
@@ -74,7 +74,7 @@ pub(super) fn is_found(
     alloc: Global,
     stream: &Stream,
     size: usize,
-    want: Found,
+    want: ReadCounts,
 ) -> Result<bool, Fail> {
     assert!(rt; size > 0);
     let mut input = MemSource::new(stream.bytes.clone()?, Vec::new(alloc)).in_pieces_of(size);

@@ -1,13 +1,13 @@
 // Receives that were cut and kept, and those that go on.
-use super::errors::Refused;
+use super::errors::TestRefusal;
 use super::pools::{
     block_line, check_lines, check_snapshot, dataset, into, new_disk, read, receive,
 };
-use super::records::{FEATURES, FIRST, FULL, Put, SMALL, header_of, stream_of, stream_with};
+use super::records::{FEATURES, FIRST, FULL, SMALL, TestRecord, header_of, stream_of, stream_with};
 use crate::token;
 use std::alloc::Global;
 use std::process::Abort;
-use zst_image::Kept;
+use zst_image::PoolState;
 use zst_model::{Refusal, StreamFault};
 use zst_outside::MemDisk;
 use zst_pool::Pool;
@@ -17,8 +17,8 @@ pub(super) fn resumed_of(
     rt: &impl Abort,
     alloc: Global,
     payload: &[u8],
-    puts: &[Put],
-) -> Result<Vec<u8>, Refused> {
+    puts: &[TestRecord],
+) -> Result<Vec<u8>, TestRefusal> {
     let mut header = header_of(&FULL);
     header.features = FEATURES + (1 << 20);
     stream_with(rt, alloc, header, payload, puts)
@@ -30,8 +30,8 @@ pub(super) fn check_token(
     alloc: Global,
     disk: &mut MemDisk,
     text: &str,
-) -> Result<(), Refused> {
-    let kept = Kept::open(alloc, disk)?;
+) -> Result<(), TestRefusal> {
+    let kept = PoolState::open(alloc, disk)?;
     let pool = Pool::new(alloc, disk, kept);
     let told = token(&pool, &dataset("tank/b")?)?;
     assert!(rt; told.print().as_str() == text, "{text}");
@@ -46,13 +46,13 @@ pub(super) fn cut(
     keep: bool,
     front: &[u8],
     text: &str,
-) -> Result<(), Refused> {
+) -> Result<(), TestRefusal> {
     let mut ask = into("tank/b")?;
     ask.keep = keep;
     let at = front.len() as u64;
     assert_eq!(rt;
         receive(alloc, disk, ask, front, 700),
-        Err(Refused(Refusal::Stream(StreamFault::Truncated { at })))
+        Err(TestRefusal(Refusal::Stream(StreamFault::Truncated { at })))
     );
     check_token(rt, alloc, disk, text)
 }
@@ -63,7 +63,7 @@ pub(super) fn with_cut(
     alloc: Global,
     count: usize,
     text: &str,
-) -> Result<MemDisk, Refused> {
+) -> Result<MemDisk, TestRefusal> {
     let mut disk = new_disk(alloc)?;
     let stream = stream_of(rt, alloc, &FULL, &SMALL)?;
     let front = stream.get(..count).unwrap_or(&[]);
@@ -78,7 +78,7 @@ pub(super) fn complete(
     disk: &mut MemDisk,
     stream: &[u8],
     items: u64,
-) -> Result<(), Refused> {
+) -> Result<(), TestRefusal> {
     assert_eq!(rt; receive(alloc, disk, into("tank/b")?, stream, 700)?, items);
     check_snapshot(rt, alloc, disk, "tank/b@s", FIRST)?;
     let line = block_line(alloc, "aa")?;

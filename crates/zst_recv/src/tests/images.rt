@@ -1,11 +1,11 @@
 // What a receive leaves on a disk that stops.
-use super::errors::Refused;
+use super::errors::TestRefusal;
 use super::pools::{feed_all, into};
 use super::records::{FULL, SMALL, stream_of};
 use crate::Recv;
 use std::alloc::Global;
 use std::process::Abort;
-use zst_image::Kept;
+use zst_image::PoolState;
 use zst_outside::MemDisk;
 use zst_pool::Pool;
 
@@ -14,12 +14,12 @@ pub(super) fn received_until(
     rt: &impl Abort,
     alloc: Global,
     stop: Option<u64>,
-) -> Result<MemDisk, Refused> {
+) -> Result<MemDisk, TestRefusal> {
     let bytes = vec![in alloc; 0; 524_288]?;
     let mut disk = MemDisk::new(bytes, Vec::new(alloc), stop);
-    Kept::create(alloc, &mut disk, 1_024, 2)?;
+    PoolState::create(alloc, &mut disk, 1_024, 2)?;
     let stream = stream_of(rt, alloc, &FULL, &SMALL)?;
-    if let Ok(kept) = Kept::open(alloc, &mut disk) {
+    if let Ok(kept) = PoolState::open(alloc, &mut disk) {
         let mut pool = Pool::new(alloc, &mut disk, kept);
         let mut recv = Recv::open(&mut pool, alloc, into("tank/b")?)?;
         let _ = feed_all(alloc, &mut recv, &mut pool, &stream, 1_000);
@@ -32,8 +32,8 @@ pub(super) fn check_image(
     rt: &impl Abort,
     alloc: Global,
     image: &mut MemDisk,
-) -> Result<usize, Refused> {
-    let kept = Kept::open(alloc, image)?;
+) -> Result<usize, TestRefusal> {
+    let kept = PoolState::open(alloc, image)?;
     let count = kept.dir.snapshots().len();
     assert_eq!(rt; kept.dir.partials().len(), 0);
     assert_eq!(rt; kept.dir.datasets().len(), count);

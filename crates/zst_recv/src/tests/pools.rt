@@ -1,30 +1,30 @@
 // Pools on disks in memory, and what is received into them.
 ghost use Rattle.std.specs.Prelude.{◌≡◌, ◌≤◌, true, false, length, IfOk};
-ghost use Rattle.zst_image.specs.Committing.{Ready};
+ghost use Rattle.zst_image.specs.Commits.{Ready};
 ghost use Rattle.zst_model.specs.pools.Step.{IsCommand};
 ghost use Rattle.zst_recv.specs.Stages.{RecvFits, is_live};
 
-use super::errors::Refused;
+use super::errors::TestRefusal;
 use super::records::NOW;
 use crate::{Recv, RecvAsk, RecvFault};
 use std::alloc::Global;
 use std::process::Abort;
-use zst_image::Kept;
+use zst_image::PoolState;
 use zst_model::{Command, Name, PlanFault, Refusal};
 use zst_names::{DatasetName, SnapName};
 use zst_outside::{Disk, MemDisk};
 use zst_pool::Pool;
 
-pub(super) fn dataset(text: &str) -> Result<DatasetName, Refused> {
+pub(super) fn dataset(text: &str) -> Result<DatasetName, TestRefusal> {
     Ok(DatasetName::parse(text).map_err(PlanFault::from)?)
 }
 
-pub(super) fn snapshot(text: &str) -> Result<SnapName, Refused> {
+pub(super) fn snapshot(text: &str) -> Result<SnapName, TestRefusal> {
     Ok(SnapName::parse(text).map_err(PlanFault::from)?)
 }
 
 // A receive into a dataset, without anything else that may be asked.
-pub(super) fn into(target: &str) -> Result<RecvAsk, Refused> {
+pub(super) fn into(target: &str) -> Result<RecvAsk, TestRefusal> {
     Ok(RecvAsk {
         target: dataset(target)?,
         snap: None,
@@ -35,10 +35,10 @@ pub(super) fn into(target: &str) -> Result<RecvAsk, Refused> {
 }
 
 // A disk of 1,024 sectors with a new pool of the id 2.
-pub(super) fn new_disk(alloc: Global) -> Result<MemDisk, Refused> {
+pub(super) fn new_disk(alloc: Global) -> Result<MemDisk, TestRefusal> {
     let bytes = vec![in alloc; 0; 524_288]?;
     let mut disk = MemDisk::new(bytes, Vec::new(alloc), None);
-    Kept::create(alloc, &mut disk, 1_024, 2)?;
+    PoolState::create(alloc, &mut disk, 1_024, 2)?;
     Ok(disk)
 }
 
@@ -74,15 +74,15 @@ pub(super) fn receive(
     ask: RecvAsk,
     stream: &[u8],
     size: usize,
-) -> Result<u64, Refused> {
-    let kept = Kept::open(alloc, disk)?;
+) -> Result<u64, TestRefusal> {
+    let kept = PoolState::open(alloc, disk)?;
     let mut pool = Pool::new(alloc, disk, kept);
     let mut recv = Recv::open(&mut pool, alloc, ask)?;
     match feed_all(alloc, &mut recv, &mut pool, stream, size)? {
         Some(items) => Ok(items),
         None => match recv.cut(&mut pool) {
             Ok(()) => Ok(0),
-            Err(fault) => Err(Refused(Refusal::Stream(fault))),
+            Err(fault) => Err(TestRefusal(Refusal::Stream(fault))),
         },
     }
 }
@@ -94,10 +94,10 @@ pub(super) fn check_lines(
     disk: &mut MemDisk,
     command: Command,
     wanted: &[&str],
-) -> Result<(), Refused>
+) -> Result<(), TestRefusal>
     requires { IsCommand command }
 {
-    let kept = Kept::open(alloc, disk)?;
+    let kept = PoolState::open(alloc, disk)?;
     let mut pool = Pool::new(alloc, disk, kept);
     let reply = pool.step(alloc, NOW, command)?;
     let lines = reply.lines();
@@ -109,7 +109,7 @@ pub(super) fn check_lines(
 }
 
 // Reads one index of a file of a snapshot.
-pub(super) fn read(text: &str, object: u64, index: u64) -> Result<Command, Refused>
+pub(super) fn read(text: &str, object: u64, index: u64) -> Result<Command, TestRefusal>
     ensures { IfOk result IsCommand }
 {
     let name = snapshot(text)?;
@@ -125,7 +125,7 @@ pub(super) fn read(text: &str, object: u64, index: u64) -> Result<Command, Refus
 pub(super) const SIZES: [usize; 6] = [1, 7, 311, 312, 4_096, 1_048_576];
 
 // A block that begins with this byte, as `read` tells it.
-pub(super) fn block_line(alloc: Global, first: &str) -> Result<String, Refused> {
+pub(super) fn block_line(alloc: Global, first: &str) -> Result<String, TestRefusal> {
     let mut line = String::new(alloc);
     line.push_str("data ")?;
     line.push_str(first)?;
@@ -142,8 +142,8 @@ pub(super) fn check_snapshot(
     disk: &mut MemDisk,
     name: &str,
     guid: u64,
-) -> Result<(), Refused> {
-    let kept = Kept::open(alloc, disk)?;
+) -> Result<(), TestRefusal> {
+    let kept = PoolState::open(alloc, disk)?;
     let Some(place) = kept.dir.snapshot(&snapshot(name)?) else {
         assert!(rt; false, "{name} is missing");
         return Ok(());

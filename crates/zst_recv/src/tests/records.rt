@@ -1,7 +1,7 @@
 // Small streams, record by record.
 ghost use Rattle.std.specs.Prelude.{◌≤◌, length};
 
-use super::errors::Refused;
+use super::errors::TestRefusal;
 use std::alloc::Global;
 use std::process::Abort;
 use zst_model::{GuidSet, Header, NameText};
@@ -51,7 +51,7 @@ pub(super) const INCREMENT: Begin = Begin {
 
 /// A record between BEGIN and END. Each payload has the byte that is given, and zeros behind it.
 #[derive(Clone, Copy, Debug)]
-pub(super) enum Put {
+pub(super) enum TestRecord {
     /// OBJECT of a file with blocks of this size.
     Object(u64, u32),
     /// SPILL of 512 bytes.
@@ -65,11 +65,11 @@ pub(super) enum Put {
 }
 
 /// The records of a file system with a file of one block.
-pub(super) const SMALL: [Put; 4] = [
-    Put::Object(1, 512),
-    Put::Free(1, 512, u64::MAX),
-    Put::Write(1, 0, 512, 0xaa),
-    Put::Absent(2, NUMBERS - 2),
+pub(super) const SMALL: [TestRecord; 4] = [
+    TestRecord::Object(1, 512),
+    TestRecord::Free(1, 512, u64::MAX),
+    TestRecord::Write(1, 0, 512, 0xaa),
+    TestRecord::Absent(2, NUMBERS - 2),
 ];
 
 /// A stream as far as it was written.
@@ -81,7 +81,7 @@ struct Stream {
 }
 
 impl Stream {
-    fn put(&mut self, rt: &impl Abort, head: &Head, payload: &[u8]) -> Result<(), Refused> {
+    fn put(&mut self, rt: &impl Abort, head: &Head, payload: &[u8]) -> Result<(), TestRefusal> {
         let mut record = [0; 312];
         assert!(rt; payload.len() as u64 == head.payload_len() && payload.len() % 4 == 0);
         self.writer.put(head, payload, &mut record);
@@ -98,7 +98,7 @@ impl Stream {
         head: &Head,
         first: u8,
         length: usize,
-    ) -> Result<(), Refused> {
+    ) -> Result<(), TestRefusal> {
         let mut block = vec![in alloc; 0; length]?;
         if let Some(byte) = block.first_mut() {
             *byte = first;
@@ -106,10 +106,15 @@ impl Stream {
         self.put(rt, head, &block)
     }
 
-    fn put_record(&mut self, rt: &impl Abort, alloc: Global, put: Put) -> Result<(), Refused> {
+    fn put_record(
+        &mut self,
+        rt: &impl Abort,
+        alloc: Global,
+        put: TestRecord,
+    ) -> Result<(), TestRefusal> {
         let to = self.to;
         match put {
-            Put::Object(object, block_size) => {
+            TestRecord::Object(object, block_size) => {
                 let head = Head::Object {
                     object,
                     type_: 19,
@@ -121,7 +126,7 @@ impl Stream {
                 };
                 self.put(rt, &head, &[])
             }
-            Put::Spill(object, first) => {
+            TestRecord::Spill(object, first) => {
                 let head = Head::Spill {
                     object,
                     length: 512,
@@ -129,7 +134,7 @@ impl Stream {
                 };
                 self.put_block(rt, alloc, &head, first, 512)
             }
-            Put::Free(object, offset, length) => {
+            TestRecord::Free(object, offset, length) => {
                 let head = Head::Free {
                     object,
                     offset,
@@ -138,7 +143,7 @@ impl Stream {
                 };
                 self.put(rt, &head, &[])
             }
-            Put::Write(object, offset, length, first) => {
+            TestRecord::Write(object, offset, length, first) => {
                 let head = Head::Write {
                     object,
                     type_: 19,
@@ -148,7 +153,7 @@ impl Stream {
                 };
                 self.put_block(rt, alloc, &head, first, length)
             }
-            Put::Absent(first, count) => {
+            TestRecord::Absent(first, count) => {
                 self.put(rt, &Head::FreeObjects { first, count, to }, &[])
             }
         }
@@ -181,8 +186,8 @@ pub(super) fn stream_of(
     rt: &impl Abort,
     alloc: Global,
     begin: &Begin,
-    puts: &[Put],
-) -> Result<Vec<u8>, Refused> {
+    puts: &[TestRecord],
+) -> Result<Vec<u8>, TestRefusal> {
     stream_with(rt, alloc, header_of(begin), &[], puts)
 }
 
@@ -192,8 +197,8 @@ pub(super) fn stream_with(
     alloc: Global,
     header: Header,
     payload: &[u8],
-    puts: &[Put],
-) -> Result<Vec<u8>, Refused> {
+    puts: &[TestRecord],
+) -> Result<Vec<u8>, TestRefusal> {
     let to = header.to;
     assert!(rt; payload.len() <= 40);
     let mut stream = Stream {

@@ -1,12 +1,14 @@
 // Receives that don't come to their end.
 
-use super::errors::Refused;
+use super::errors::TestRefusal;
 use super::pools::{into, new_disk, receive, snapshot};
-use super::records::{Begin, FIRST, FULL, INCREMENT, NUMBERS, Put, SECOND, SMALL, stream_of};
+use super::records::{
+    Begin, FIRST, FULL, INCREMENT, NUMBERS, SECOND, SMALL, TestRecord, stream_of,
+};
 use std::alloc::Global;
 use std::process::Abort;
-use zst_image::Kept;
-use zst_model::{ApplyFault, Lack, Name, PlanFault, Present, Refusal, StreamFault};
+use zst_image::PoolState;
+use zst_model::{ApplyFault, Lack, Name, PlanFault, PresentSubject, Refusal, StreamFault};
 use zst_outside::MemDisk;
 
 // Checks that the pool lists nothing but so many datasets and snapshots.
@@ -16,8 +18,8 @@ fn check_counts(
     disk: &mut MemDisk,
     datasets: usize,
     snapshots: usize,
-) -> Result<(), Refused> {
-    let kept = Kept::open(alloc, disk)?;
+) -> Result<(), TestRefusal> {
+    let kept = PoolState::open(alloc, disk)?;
     assert_eq!(rt; kept.dir.datasets().len(), datasets);
     assert_eq!(rt; kept.dir.snapshots().len(), snapshots);
     assert_eq!(rt; kept.dir.partials().len(), 0);
@@ -25,7 +27,7 @@ fn check_counts(
 }
 
 #[test]
-fn a_stream_that_is_cut_leaves_nothing(rt: HostRuntime) -> Result<(), Refused> {
+fn a_stream_that_is_cut_leaves_nothing(rt: HostRuntime) -> Result<(), TestRefusal> {
     let alloc = rt.alloc();
     let stream = stream_of(&rt, alloc, &FULL, &SMALL)?;
     for cut in 0..stream.len() {
@@ -34,7 +36,7 @@ fn a_stream_that_is_cut_leaves_nothing(rt: HostRuntime) -> Result<(), Refused> {
         let at = cut as u64;
         assert_eq!(rt;
             answer,
-            Err(Refused(Refusal::Stream(StreamFault::Truncated { at })))
+            Err(TestRefusal(Refusal::Stream(StreamFault::Truncated { at })))
         );
         check_counts(&rt, alloc, &mut disk, 0, 0)?;
     }
@@ -42,7 +44,7 @@ fn a_stream_that_is_cut_leaves_nothing(rt: HostRuntime) -> Result<(), Refused> {
 }
 
 #[test]
-fn a_flipped_byte_of_a_payload_leaves_nothing(rt: HostRuntime) -> Result<(), Refused> {
+fn a_flipped_byte_of_a_payload_leaves_nothing(rt: HostRuntime) -> Result<(), TestRefusal> {
     let alloc = rt.alloc();
     let mut stream = stream_of(&rt, alloc, &FULL, &SMALL)?;
     if let Some(byte) = stream.get_mut(1_300) {
@@ -52,42 +54,45 @@ fn a_flipped_byte_of_a_payload_leaves_nothing(rt: HostRuntime) -> Result<(), Ref
     let answer = receive(alloc, &mut disk, into("tank/b")?, &stream, 1_048_576);
     let at_sum = matches!(
         answer,
-        Err(Refused(Refusal::Stream(StreamFault::Checksum { at: 2_040, .. })))
+        Err(TestRefusal(Refusal::Stream(StreamFault::Checksum { at: 2_040, .. })))
     );
     assert!(rt; at_sum);
     check_counts(&rt, alloc, &mut disk, 0, 0)
 }
 
 #[test]
-fn a_record_that_cannot_be_applied_is_named(rt: HostRuntime) -> Result<(), Refused> {
+fn a_record_that_cannot_be_applied_is_named(rt: HostRuntime) -> Result<(), TestRefusal> {
     let alloc = rt.alloc();
     let cases = [
         (
-            [Put::Write(2, 0, 512, 1), Put::Absent(3, 1)],
+            [TestRecord::Write(2, 0, 512, 1), TestRecord::Absent(3, 1)],
             ApplyFault::NoObject,
         ),
         (
-            [Put::Write(1, 0, 1_024, 1), Put::Absent(3, 1)],
+            [TestRecord::Write(1, 0, 1_024, 1), TestRecord::Absent(3, 1)],
             ApplyFault::SizeDiffers,
         ),
         (
-            [Put::Write(1, 511, 512, 1), Put::Absent(3, 1)],
+            [TestRecord::Write(1, 511, 512, 1), TestRecord::Absent(3, 1)],
             ApplyFault::Unaligned,
         ),
         (
-            [Put::Free(1, 512, 1), Put::Absent(3, 1)],
+            [TestRecord::Free(1, 512, 1), TestRecord::Absent(3, 1)],
             ApplyFault::Unaligned,
         ),
-        ([Put::Spill(2, 1), Put::Absent(3, 1)], ApplyFault::NoObject),
+        (
+            [TestRecord::Spill(2, 1), TestRecord::Absent(3, 1)],
+            ApplyFault::NoObject,
+        ),
     ];
     for (puts, fault) in cases {
-        let all = [Put::Object(1, 512), puts[0], puts[1]];
+        let all = [TestRecord::Object(1, 512), puts[0], puts[1]];
         let stream = stream_of(&rt, alloc, &FULL, &all)?;
         let mut disk = new_disk(alloc)?;
         let answer = receive(alloc, &mut disk, into("tank/b")?, &stream, 400);
         assert_eq!(rt;
             answer,
-            Err(Refused(Refusal::CannotApply { record: 2, fault }))
+            Err(TestRefusal(Refusal::CannotApply { record: 2, fault }))
         );
         check_counts(&rt, alloc, &mut disk, 0, 0)?;
     }
@@ -95,7 +100,7 @@ fn a_record_that_cannot_be_applied_is_named(rt: HostRuntime) -> Result<(), Refus
 }
 
 // A pool with tank/b@s.
-fn with_small(rt: &impl Abort, alloc: Global) -> Result<MemDisk, Refused> {
+fn with_small(rt: &impl Abort, alloc: Global) -> Result<MemDisk, TestRefusal> {
     let mut disk = new_disk(alloc)?;
     let full = stream_of(rt, alloc, &FULL, &SMALL)?;
     receive(alloc, &mut disk, into("tank/b")?, &full, 4_096)?;
@@ -103,10 +108,10 @@ fn with_small(rt: &impl Abort, alloc: Global) -> Result<MemDisk, Refused> {
 }
 
 #[test]
-fn a_plan_is_refused_before_anything_is_applied(rt: HostRuntime) -> Result<(), Refused> {
+fn a_plan_is_refused_before_anything_is_applied(rt: HostRuntime) -> Result<(), TestRefusal> {
     let alloc = rt.alloc();
     let mut disk = with_small(&rt, alloc)?;
-    let there = Present::Named(Name::Dataset(into("tank/b")?.target));
+    let there = PresentSubject::Named(Name::Dataset(into("tank/b")?.target));
     let other = Begin {
         from: SECOND,
         ..INCREMENT
@@ -134,36 +139,36 @@ fn a_plan_is_refused_before_anything_is_applied(rt: HostRuntime) -> Result<(), R
         (unnamed, "tank/c", PlanFault::BadName { place: 6 }),
     ];
     for (begin, target, fault) in cases {
-        let stream = stream_of(&rt, alloc, &begin, &[Put::Absent(1, NUMBERS - 1)])?;
-        let number = Kept::open(alloc, &mut disk)?.body.number;
+        let stream = stream_of(&rt, alloc, &begin, &[TestRecord::Absent(1, NUMBERS - 1)])?;
+        let number = PoolState::open(alloc, &mut disk)?.body.number;
         let answer = receive(alloc, &mut disk, into(target)?, &stream, 1_048_576);
-        assert_eq!(rt; answer, Err(Refused(Refusal::from(fault))));
-        assert_eq!(rt; Kept::open(alloc, &mut disk)?.body.number, number);
+        assert_eq!(rt; answer, Err(TestRefusal(Refusal::from(fault))));
+        assert_eq!(rt; PoolState::open(alloc, &mut disk)?.body.number, number);
         check_counts(&rt, alloc, &mut disk, 1, 1)?;
     }
     Ok(())
 }
 
 #[test]
-fn a_full_disk_leaves_nothing(rt: HostRuntime) -> Result<(), Refused> {
+fn a_full_disk_leaves_nothing(rt: HostRuntime) -> Result<(), TestRefusal> {
     let alloc = rt.alloc();
     let mut disk = new_disk(alloc)?;
     let puts = [
-        Put::Object(1, 131_072),
-        Put::Write(1, 0, 131_072, 1),
-        Put::Write(1, 131_072, 131_072, 2),
-        Put::Write(1, 262_144, 131_072, 3),
-        Put::Write(1, 393_216, 131_072, 4),
-        Put::Absent(2, NUMBERS - 2),
+        TestRecord::Object(1, 131_072),
+        TestRecord::Write(1, 0, 131_072, 1),
+        TestRecord::Write(1, 131_072, 131_072, 2),
+        TestRecord::Write(1, 262_144, 131_072, 3),
+        TestRecord::Write(1, 393_216, 131_072, 4),
+        TestRecord::Absent(2, NUMBERS - 2),
     ];
     let stream = stream_of(&rt, alloc, &FULL, &puts)?;
     let answer = receive(alloc, &mut disk, into("tank/b")?, &stream, 200_000);
-    assert!(rt; matches!(answer, Err(Refused(Refusal::Full { need: 256, .. }))));
+    assert!(rt; matches!(answer, Err(TestRefusal(Refusal::Full { need: 256, .. }))));
     check_counts(&rt, alloc, &mut disk, 0, 0)?;
     let small = stream_of(&rt, alloc, &FULL, &SMALL)?;
     receive(alloc, &mut disk, into("tank/b")?, &small, 4_096)?;
     assert!(rt;
-        Kept::open(alloc, &mut disk)?
+        PoolState::open(alloc, &mut disk)?
             .dir
             .snapshot(&snapshot("tank/b@s")?)
             .is_some()

@@ -1,12 +1,14 @@
 // Receives whose disk stops at one of its calls.
 
-use super::errors::Refused;
+use super::errors::TestRefusal;
 use super::images::{check_image, received_until};
 use super::pools::new_disk;
 use zst_outside::Disk;
 
 #[test]
-fn at_every_call_an_image_has_no_snapshot_or_the_whole_one(rt: HostRuntime) -> Result<(), Refused> {
+fn at_every_call_an_image_has_no_snapshot_or_the_whole_one(
+    rt: HostRuntime,
+) -> Result<(), TestRefusal> {
     let alloc = rt.alloc();
     let made = new_disk(alloc)?.calls();
     let whole = received_until(&rt, alloc, None)?;
@@ -22,7 +24,7 @@ fn at_every_call_an_image_has_no_snapshot_or_the_whole_one(rt: HostRuntime) -> R
 }
 
 #[test]
-fn a_disk_that_stops_has_no_snapshot_or_the_whole_one(rt: HostRuntime) -> Result<(), Refused> {
+fn a_disk_that_stops_has_no_snapshot_or_the_whole_one(rt: HostRuntime) -> Result<(), TestRefusal> {
     let alloc = rt.alloc();
     let made = new_disk(alloc)?.calls();
     for stop in made..received_until(&rt, alloc, None)?.calls() {

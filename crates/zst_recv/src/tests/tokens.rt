@@ -1,13 +1,13 @@
 // The token of a receive that was cut.
 
 use super::cuts::CUTS;
-use super::errors::Refused;
+use super::errors::TestRefusal;
 use super::pools::{dataset, into, new_disk};
 use super::records::{FULL, SMALL, stream_of};
 use crate::{Recv, token};
 use std::alloc::Global;
 use std::process::Abort;
-use zst_image::Kept;
+use zst_image::PoolState;
 use zst_model::PlanFault;
 use zst_pool::Pool;
 use zst_token::Token;
@@ -18,10 +18,10 @@ fn token_behind(
     alloc: Global,
     count: usize,
     keep: bool,
-) -> Result<Result<Token, PlanFault>, Refused> {
+) -> Result<Result<Token, PlanFault>, TestRefusal> {
     let mut disk = new_disk(alloc)?;
     let stream = stream_of(rt, alloc, &FULL, &SMALL)?;
-    let kept = Kept::open(alloc, &mut disk)?;
+    let kept = PoolState::open(alloc, &mut disk)?;
     let mut pool = Pool::new(alloc, &mut disk, kept);
     let mut ask = into("tank/b")?;
     ask.keep = keep;
@@ -31,7 +31,7 @@ fn token_behind(
 }
 
 #[test]
-fn a_kept_receive_has_the_token_of_its_point(rt: HostRuntime) -> Result<(), Refused> {
+fn a_kept_receive_has_the_token_of_its_point(rt: HostRuntime) -> Result<(), TestRefusal> {
     let alloc = rt.alloc();
     for (count, text) in CUTS {
         let told = token_behind(&rt, alloc, count, true)?;
@@ -44,7 +44,7 @@ fn a_kept_receive_has_the_token_of_its_point(rt: HostRuntime) -> Result<(), Refu
 }
 
 #[test]
-fn nothing_kept_has_no_token(rt: HostRuntime) -> Result<(), Refused> {
+fn nothing_kept_has_no_token(rt: HostRuntime) -> Result<(), TestRefusal> {
     let alloc = rt.alloc();
     let wanted = PlanFault::NoPartial(dataset("tank/b")?);
     for (count, keep) in [(600, true), (1_000, false)] {

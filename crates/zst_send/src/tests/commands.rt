@@ -3,7 +3,7 @@ ghost use Rattle.std.specs.Prelude.{◌≡◌, ◌≤◌, true, length, IfOk, If
 ghost use Rattle.zst_model.specs.pools.Step.{IsCommand};
 ghost use Rattle.zst_model.specs.states.State.{is_block_size};
 
-use super::errors::Refused;
+use super::errors::TestRefusal;
 use std::alloc::Global;
 use zst_model::{Bytes, Command, Name, ObjectHead, PlanFault};
 use zst_names::{BookName, DatasetName, SnapName};
@@ -38,19 +38,19 @@ pub(super) const SMALL: [Change; 4] = [
     Change::Snapshot("tank/a@s"),
 ];
 
-fn dataset(text: &str) -> Result<DatasetName, Refused> {
+fn dataset(text: &str) -> Result<DatasetName, TestRefusal> {
     Ok(DatasetName::parse(text).map_err(PlanFault::from)?)
 }
 
-pub(super) fn snapshot(text: &str) -> Result<SnapName, Refused> {
+pub(super) fn snapshot(text: &str) -> Result<SnapName, TestRefusal> {
     Ok(SnapName::parse(text).map_err(PlanFault::from)?)
 }
 
-pub(super) fn bookmark(text: &str) -> Result<BookName, Refused> {
+pub(super) fn bookmark(text: &str) -> Result<BookName, TestRefusal> {
     Ok(BookName::parse(text).map_err(PlanFault::from)?)
 }
 
-fn file_system(text: &str) -> Result<Command, Refused>
+fn file_system(text: &str) -> Result<Command, TestRefusal>
     ensures { IfOk result IsCommand }
 {
     let dataset = dataset(text)?;
@@ -66,7 +66,7 @@ fn object(
     block_size: u32,
     bonus: Bytes,
     spill: Option<Bytes>,
-) -> Result<Command, Refused>
+) -> Result<Command, TestRefusal>
     requires size { is_block_size block_size ≡ true }
     requires bonus { length bonus ≤ 8 }
     requires spill { IfSome spill (λ bytes. length bytes ≡ 512) }
@@ -89,7 +89,7 @@ fn object(
 }
 
 #[tactic(auto, unfolding(zst_model::specs::states::State::is_block_size, zst_model::specs::states::State::largest_block))]
-fn file(alloc: Global, number: u64, spill: Option<u8>) -> Result<Command, Refused>
+fn file(alloc: Global, number: u64, spill: Option<u8>) -> Result<Command, TestRefusal>
     ensures { IfOk result IsCommand }
 {
     let bonus = Bytes::new(Vec::new(alloc));
@@ -105,14 +105,20 @@ fn file(alloc: Global, number: u64, spill: Option<u8>) -> Result<Command, Refuse
 }
 
 #[tactic(auto, unfolding(zst_model::specs::states::State::is_block_size, zst_model::specs::states::State::largest_block))]
-fn large_file(alloc: Global, number: u64) -> Result<Command, Refused>
+fn large_file(alloc: Global, number: u64) -> Result<Command, TestRefusal>
     ensures { IfOk result IsCommand }
 {
     let bonus = Bytes::new(number.to_le_bytes().to_vec(alloc)?);
     object("gen/f7", number, 131_072, bonus, None)
 }
 
-fn write(alloc: Global, text: &str, number: u64, index: u64, first: u8) -> Result<Command, Refused>
+fn write(
+    alloc: Global,
+    text: &str,
+    number: u64,
+    index: u64,
+    first: u8,
+) -> Result<Command, TestRefusal>
     ensures { IfOk result IsCommand }
 {
     let dataset = dataset(text)?;
@@ -126,7 +132,7 @@ fn write(alloc: Global, text: &str, number: u64, index: u64, first: u8) -> Resul
     })
 }
 
-fn free(first: u64, count: u64) -> Result<Command, Refused>
+fn free(first: u64, count: u64) -> Result<Command, TestRefusal>
     ensures { IfOk result IsCommand }
 {
     let dataset = dataset("tank/a")?;
@@ -138,7 +144,7 @@ fn free(first: u64, count: u64) -> Result<Command, Refused>
     })
 }
 
-fn take_snapshot(text: &str) -> Result<Command, Refused>
+fn take_snapshot(text: &str) -> Result<Command, TestRefusal>
     ensures { IfOk result IsCommand }
 {
     let name = snapshot(text)?;
@@ -146,7 +152,7 @@ fn take_snapshot(text: &str) -> Result<Command, Refused>
     Ok(Command::Snapshot { name })
 }
 
-fn make_clone(origin: &str, text: &str) -> Result<Command, Refused>
+fn make_clone(origin: &str, text: &str) -> Result<Command, TestRefusal>
     ensures { IfOk result IsCommand }
 {
     let origin = snapshot(origin)?;
@@ -156,7 +162,7 @@ fn make_clone(origin: &str, text: &str) -> Result<Command, Refused>
     Ok(Command::Clone { origin, dataset })
 }
 
-fn make_bookmark(of: &str, text: &str) -> Result<Command, Refused>
+fn make_bookmark(of: &str, text: &str) -> Result<Command, TestRefusal>
     ensures { IfOk result IsCommand }
 {
     let snapshot = snapshot(of)?;
@@ -166,7 +172,7 @@ fn make_bookmark(of: &str, text: &str) -> Result<Command, Refused>
     Ok(Command::Bookmark { snapshot, bookmark })
 }
 
-fn destroy(text: &str) -> Result<Command, Refused>
+fn destroy(text: &str) -> Result<Command, TestRefusal>
     ensures { IfOk result IsCommand }
 {
     let name = snapshot(text)?;
@@ -176,7 +182,7 @@ fn destroy(text: &str) -> Result<Command, Refused>
     })
 }
 
-pub(super) fn roll_back(text: &str, destroys: bool) -> Result<Command, Refused>
+pub(super) fn roll_back(text: &str, destroys: bool) -> Result<Command, TestRefusal>
     ensures { IfOk result IsCommand }
 {
     let snapshot = snapshot(text)?;
@@ -184,7 +190,7 @@ pub(super) fn roll_back(text: &str, destroys: bool) -> Result<Command, Refused>
     Ok(Command::Rollback { destroys, snapshot })
 }
 
-pub(super) fn command_of(alloc: Global, change: Change) -> Result<Command, Refused>
+pub(super) fn command_of(alloc: Global, change: Change) -> Result<Command, TestRefusal>
     ensures { IfOk result IsCommand }
 {
     match change {

@@ -1,11 +1,11 @@
 // How often a disk is read.
 ghost use Rattle.std.specs.Prelude.{◌≤◌};
 
-use super::errors::Refused;
+use super::errors::TestRefusal;
 use super::sends::{ask, sent};
 use std::alloc::Global;
 use std::process::Abort;
-use zst_image::Kept;
+use zst_image::PoolState;
 use zst_outside::{Call, MemDisk};
 
 // How many blocks of this size a disk has read from the call of this number on, and how many others.
@@ -35,7 +35,7 @@ pub(super) fn check_reads(
     asked: (&str, &str),
     size: usize,
     (blocks, most): (u64, u64),
-) -> Result<(), Refused> {
+) -> Result<(), TestRefusal> {
     let ask = ask(asked.0, asked.1)?;
     for piece in [100, 4_096, 1_048_576] {
         let taken = sent(alloc, disk, &ask, piece)?;
@@ -47,11 +47,11 @@ pub(super) fn check_reads(
 }
 
 // A disk of so many sectors with a new pool.
-pub(super) fn new_pool(alloc: Global, sectors: u64) -> Result<MemDisk, Refused>
+pub(super) fn new_pool(alloc: Global, sectors: u64) -> Result<MemDisk, TestRefusal>
     requires { (128 ≤ sectors) × (sectors ≤ 262144) }
 {
     let bytes = vec![in alloc; 0; 512 * sectors as usize]?;
     let mut disk = MemDisk::new(bytes, Vec::new(alloc), None);
-    Kept::create(alloc, &mut disk, sectors, 1)?;
+    PoolState::create(alloc, &mut disk, sectors, 1)?;
     Ok(disk)
 }

@@ -1,7 +1,7 @@
 // What streams begin and end with.
 use super::commands::Change;
-use super::errors::Refused;
-use super::expected::{Begin, Wanted, stream_of};
+use super::errors::TestRefusal;
+use super::expected_streams::{Begin, TestRecord, stream_of};
 use super::sends::{ask, sent};
 use std::alloc::Global;
 use std::process::Abort;
@@ -48,9 +48,9 @@ pub(super) fn check_stream(
     disk: &mut MemDisk,
     asked: (&str, &str),
     begin: &Begin,
-    records: &[Wanted],
+    records: &[TestRecord],
     end: &End,
-) -> Result<(), Refused> {
+) -> Result<(), TestRefusal> {
     let wanted = stream_of(alloc, begin, records)?;
     let len = wanted.len();
     assert!(rt; len >= 312);

@@ -6,34 +6,34 @@ use zst_pool::PoolFault;
 
 // What a test, or a part of one, was refused for.
 #[derive(Debug, Drop, PartialEq, Eq)]
-pub(super) struct Refused(pub(super) Refusal);
+pub(super) struct TestRefusal(pub(super) Refusal);
 
-impl From<AllocError> for Refused {
+impl From<AllocError> for TestRefusal {
     fn from(_: AllocError) -> Self {
-        Refused(Refusal::OutOfMemory)
+        TestRefusal(Refusal::OutOfMemory)
     }
 }
 
-impl From<PlanFault> for Refused {
+impl From<PlanFault> for TestRefusal {
     fn from(fault: PlanFault) -> Self {
-        Refused(Refusal::from(fault))
+        TestRefusal(Refusal::from(fault))
     }
 }
 
-impl From<OpenFault> for Refused {
+impl From<OpenFault> for TestRefusal {
     fn from(fault: OpenFault) -> Self {
-        Refused(Refusal::from(fault))
+        TestRefusal(Refusal::from(fault))
     }
 }
 
-impl From<CreateFault> for Refused {
+impl From<CreateFault> for TestRefusal {
     fn from(fault: CreateFault) -> Self {
-        Refused(Refusal::from(fault))
+        TestRefusal(Refusal::from(fault))
     }
 }
 
-impl From<PoolFault> for Refused {
+impl From<PoolFault> for TestRefusal {
     fn from(fault: PoolFault) -> Self {
-        Refused(Refusal::from(fault))
+        TestRefusal(Refusal::from(fault))
     }
 }

@@ -1,20 +1,20 @@
 // Sends in which a call of the disk fails.
-use super::errors::Refused;
+use super::errors::TestRefusal;
 use super::sends::take_rest;
 use crate::{Send, SendAsk};
 use std::alloc::Global;
 use std::process::Abort;
-use zst_image::Kept;
+use zst_image::PoolState;
 use zst_model::Refusal;
 use zst_outside::{Disk, MemDisk};
 use zst_pool::Pool;
 
 // What a disk reads.
-pub(super) fn bytes_of(alloc: Global, disk: &mut MemDisk) -> Result<Vec<u8>, Refused> {
+pub(super) fn bytes_of(alloc: Global, disk: &mut MemDisk) -> Result<Vec<u8>, TestRefusal> {
     let mut bytes = vec![in alloc; 0; disk.bytes() as usize]?;
     match disk.read(0, &mut bytes) {
         Ok(()) => Ok(bytes),
-        Err(_) => Err(Refused(Refusal::DiskFault)),
+        Err(_) => Err(TestRefusal(Refusal::DiskFault)),
     }
 }
 
@@ -26,22 +26,22 @@ pub(super) fn taken_over(
     disk: &mut MemDisk,
     ask: &SendAsk,
     (call, size): (u64, usize),
-) -> Result<Vec<u8>, Refused> {
-    let kept = Kept::open(alloc, disk)?;
+) -> Result<Vec<u8>, TestRefusal> {
+    let kept = PoolState::open(alloc, disk)?;
     let mut pool = Pool::new(alloc, disk, kept);
     let mut send = Send::open(&mut pool, alloc, ask)?;
     let mut bytes = Vec::new(alloc);
     let first = take_rest(alloc, &mut send, &mut pool, size, &mut bytes);
-    assert!(rt; first == Err(Refused(Refusal::DiskFault)), "at {call}");
+    assert!(rt; first == Err(TestRefusal(Refusal::DiskFault)), "at {call}");
 
     // Then E31, whoever asks, until the pool is opened again.
     let count = bytes.len();
     let second = take_rest(alloc, &mut send, &mut pool, size, &mut bytes);
-    assert!(rt; second == Err(Refused(Refusal::Failed)), "at {call}");
+    assert!(rt; second == Err(TestRefusal(Refusal::Failed)), "at {call}");
     assert_eq!(rt; bytes.len(), count, "at {call}");
     match Send::open(&mut pool, alloc, ask) {
         Ok(_) => panic!(rt; "a send is opened on a failed pool"),
-        Err(fault) => assert_eq!(rt; Refused::from(fault), Refused(Refusal::Failed)),
+        Err(fault) => assert_eq!(rt; TestRefusal::from(fault), TestRefusal(Refusal::Failed)),
     }
     pool.reopen(alloc)?;
     take_rest(alloc, &mut send, &mut pool, size, &mut bytes)?;

@@ -1,14 +1,14 @@
 // Sends on a disk of which a call fails.
 
 use super::commands::{Change, SMALL};
-use super::errors::Refused;
+use super::errors::TestRefusal;
 use super::failures::{bytes_of, taken_over};
 use super::pools::{change_all, with_changes};
 use super::sends::{ask, sent};
 use zst_outside::{Disk, MemDisk};
 
 #[test]
-fn each_call_of_a_send_may_fail(rt: HostRuntime) -> Result<(), Refused> {
+fn each_call_of_a_send_may_fail(rt: HostRuntime) -> Result<(), TestRefusal> {
     let alloc = rt.alloc();
     let mut disk = with_changes(alloc, &SMALL)?;
     let changes = [

@@ -1,14 +1,14 @@
 // Streams from a point on.
 use super::commands::SMALL;
 use super::ends::FIRST;
-use super::errors::Refused;
-use super::expected::{Begin, Wanted, resumed_stream_of};
+use super::errors::TestRefusal;
+use super::expected_streams::{Begin, TestRecord, resumed_stream_of};
 use super::pools::with_changes;
 use super::sends::{ask, take_rest};
 use crate::Send;
 use std::alloc::Global;
 use std::process::Abort;
-use zst_image::Kept;
+use zst_image::PoolState;
 use zst_model::{Point, SendAsk};
 use zst_outside::MemDisk;
 use zst_plan::send_plan;
@@ -29,8 +29,8 @@ fn resumed(
     ask: &SendAsk,
     point: Point,
     size: usize,
-) -> Result<Vec<u8>, Refused> {
-    let kept = Kept::open(alloc, disk)?;
+) -> Result<Vec<u8>, TestRefusal> {
+    let kept = PoolState::open(alloc, disk)?;
     let mut pool = Pool::new(alloc, disk, kept);
     let plan = send_plan(&pool.kept.dir, ask)?;
     let mut send = Send::resume(&mut pool, alloc, &plan, point)?;
@@ -45,8 +45,8 @@ pub(super) fn check_resumed(
     alloc: Global,
     at: (u64, u64),
     len: usize,
-    records: &[Wanted],
-) -> Result<(), Refused> {
+    records: &[TestRecord],
+) -> Result<(), TestRefusal> {
     let mut disk = with_changes(alloc, &SMALL)?;
     let wanted = resumed_stream_of(alloc, &FULL, at, records)?;
     let ask = ask("tank/a@s", "")?;

@@ -2,13 +2,13 @@
 use super::commands::{Change, SMALL, command_of};
 use super::counts::{check_reads, new_pool};
 use super::ends::{End, FAR, INCREMENT, check_stream};
-use super::errors::Refused;
-use super::expected::{Begin, Wanted};
+use super::errors::TestRefusal;
+use super::expected_streams::{Begin, TestRecord};
 use super::pools::{change_all, step_on, with_changes};
 use zst_outside::Disk;
 
 #[test]
-fn each_block_that_is_sent_is_read_once(rt: HostRuntime) -> Result<(), Refused> {
+fn each_block_that_is_sent_is_read_once(rt: HostRuntime) -> Result<(), TestRefusal> {
     let alloc = rt.alloc();
     let mut disk = with_changes(alloc, &SMALL)?;
     let changes = [
@@ -47,7 +47,7 @@ const SCATTERED_END: End = End {
 };
 
 #[test]
-fn an_increment_of_one_block_reads_its_path_alone(rt: HostRuntime) -> Result<(), Refused> {
+fn an_increment_of_one_block_reads_its_path_alone(rt: HostRuntime) -> Result<(), TestRefusal> {
     let alloc = rt.alloc();
     let mut disk = new_pool(alloc, 32_768)?;
     change_all(alloc, &mut disk, &[Change::Fs("tank/a"), Change::File(1)])?;
@@ -64,9 +64,9 @@ fn an_increment_of_one_block_reads_its_path_alone(rt: HostRuntime) -> Result<(),
     let asked = ("tank/a@t", "tank/a@s");
     check_reads(&rt, alloc, &mut disk, asked, 512, (1, 192))?;
     let records = [
-        Wanted::Object(1, 38_272),
-        Wanted::Free(1, 19_595_776, u64::MAX),
-        Wanted::Write(1, 0, 512, 0xbb),
+        TestRecord::Object(1, 38_272),
+        TestRecord::Free(1, 19_595_776, u64::MAX),
+        TestRecord::Write(1, 0, 512, 0xbb),
     ];
     check_stream(
         &rt,
@@ -96,7 +96,7 @@ const LARGE_END: End = End {
 };
 
 #[test]
-fn an_increment_of_a_large_block_reads_it_alone(rt: HostRuntime) -> Result<(), Refused> {
+fn an_increment_of_a_large_block_reads_it_alone(rt: HostRuntime) -> Result<(), TestRefusal> {
     let alloc = rt.alloc();
     let mut disk = new_pool(alloc, 8_192)?;
     change_all(alloc, &mut disk, &[Change::Fs("gen/f7")])?;
@@ -121,9 +121,9 @@ fn an_increment_of_a_large_block_reads_it_alone(rt: HostRuntime) -> Result<(), R
         ..INCREMENT
     };
     let records = [
-        Wanted::Large(3, 254),
-        Wanted::Free(3, 33_423_360, u64::MAX),
-        Wanted::Write(3, 1_179_648, 131_072, 0xee),
+        TestRecord::Large(3, 254),
+        TestRecord::Free(3, 33_423_360, u64::MAX),
+        TestRecord::Write(3, 1_179_648, 131_072, 0xee),
     ];
     check_stream(&rt, alloc, &mut disk, asked, &begin, &records, &LARGE_END)
 }

@@ -1,7 +1,7 @@
 // Sends that are refused when they are opened.
 
 use super::commands::{Change, SMALL, bookmark, roll_back};
-use super::errors::Refused;
+use super::errors::TestRefusal;
 use super::pools::{change_all, step_on, with_changes};
 use super::sends::{ask, sent};
 use crate::SendAsk;
@@ -20,7 +20,7 @@ fn check_refused(
 ) {
     match sent(alloc, disk, ask, 512) {
         Ok(_) => panic!(rt; "not refused: {text}"),
-        Err(Refused(refusal)) => {
+        Err(TestRefusal(refusal)) => {
             assert_eq!(rt; refusal.text().as_str(), text);
             assert_eq!(rt; refusal.number(), number, "{text}");
         }
@@ -68,7 +68,7 @@ const REFUSED: [(&str, &str, u8, &str); 9] = [
 #[test]
 fn what_is_absent_and_what_does_not_stand_before_is_refused(
     rt: HostRuntime,
-) -> Result<(), Refused> {
+) -> Result<(), TestRefusal> {
     let alloc = rt.alloc();
     let mut disk = with_changes(alloc, &SMALL)?;
     let changes = [
@@ -86,7 +86,7 @@ fn what_is_absent_and_what_does_not_stand_before_is_refused(
 }
 
 #[test]
-fn a_plain_bookmark_redacts_nothing(rt: HostRuntime) -> Result<(), Refused> {
+fn a_plain_bookmark_redacts_nothing(rt: HostRuntime) -> Result<(), TestRefusal> {
     let alloc = rt.alloc();
     let mut disk = with_changes(alloc, &SMALL)?;
     change_all(
@@ -104,7 +104,7 @@ fn a_plain_bookmark_redacts_nothing(rt: HostRuntime) -> Result<(), Refused> {
 // The bookmark is of a snapshot that the rollback left behind, and goes with it: what it marked stands before nothing
 // that is taken afterwards.
 #[test]
-fn a_bookmark_that_a_rollback_passed_is_no_source(rt: HostRuntime) -> Result<(), Refused> {
+fn a_bookmark_that_a_rollback_passed_is_no_source(rt: HostRuntime) -> Result<(), TestRefusal> {
     let alloc = rt.alloc();
     let changes = [
         Change::Fs("tank/a"),
@@ -118,7 +118,7 @@ fn a_bookmark_that_a_rollback_passed_is_no_source(rt: HostRuntime) -> Result<(),
     let mut disk = with_changes(alloc, &changes)?;
     match step_on(alloc, &mut disk, roll_back("tank/a@s1", false)?) {
         Ok(()) => panic!(&rt; "the bookmark isn't newer"),
-        Err(Refused(refusal)) => {
+        Err(TestRefusal(refusal)) => {
             assert_eq!(rt; refusal.text().as_str(), "busy: bookmark tank/a#m");
             assert_eq!(rt; refusal.number(), 5);
         }

@@ -4,15 +4,15 @@ ghost use Rattle.zst_block.specs.Blocks.{FitsDisk};
 ghost use Rattle.zst_send.specs.Sends.{SendFits};
 
 use super::commands::{bookmark, snapshot};
-use super::errors::Refused;
+use super::errors::TestRefusal;
 use crate::{FromName, Send, SendAsk};
 use std::alloc::Global;
-use zst_image::Kept;
+use zst_image::PoolState;
 use zst_outside::{Disk, MemDisk};
 use zst_pool::Pool;
 
 // What is asked for; an empty text asks for no source.
-pub(super) fn ask(snap: &str, from: &str) -> Result<SendAsk, Refused> {
+pub(super) fn ask(snap: &str, from: &str) -> Result<SendAsk, TestRefusal> {
     let from = if from.is_empty() {
         None
     } else if from.contains("#") {
@@ -29,7 +29,7 @@ pub(super) fn ask(snap: &str, from: &str) -> Result<SendAsk, Refused> {
 
 // What a send has given, and the number of the disk's first call in it.
 #[derive(Drop)]
-pub(super) struct Taken {
+pub(super) struct SendOutput {
     pub(super) bytes: Vec<u8>,
     pub(super) begin: u64,
 }
@@ -41,7 +41,7 @@ pub(super) fn take_rest<D: Disk>(
     pool: &mut Pool<'_, D>,
     size: usize,
     bytes: &mut Vec<u8>,
-) -> Result<(), Refused>
+) -> Result<(), TestRefusal>
     requires send { SendFits send.old }
     requires fits { FitsDisk (D.state pool.old.io.disk.now).size pool.old.io.space }
     ensures send { SendFits send.new }
@@ -65,12 +65,12 @@ pub(super) fn sent(
     disk: &mut MemDisk,
     ask: &SendAsk,
     size: usize,
-) -> Result<Taken, Refused> {
-    let kept = Kept::open(alloc, disk)?;
+) -> Result<SendOutput, TestRefusal> {
+    let kept = PoolState::open(alloc, disk)?;
     let begin = disk.calls();
     let mut pool = Pool::new(alloc, disk, kept);
     let mut send = Send::open(&mut pool, alloc, ask)?;
     let mut bytes = Vec::new(alloc);
     take_rest(alloc, &mut send, &mut pool, size, &mut bytes)?;
-    Ok(Taken { bytes, begin })
+    Ok(SendOutput { bytes, begin })
 }

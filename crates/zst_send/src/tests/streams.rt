@@ -2,8 +2,8 @@
 
 use super::commands::{Change, SMALL};
 use super::ends::{DISTANT, End, FAR, FULL, INCREMENT, NUMBERS, check_stream};
-use super::errors::Refused;
-use super::expected::{Begin, Wanted};
+use super::errors::TestRefusal;
+use super::expected_streams::{Begin, TestRecord};
 use super::pools::{change_all, with_changes};
 
 const EMPTY_END: End = End {
@@ -22,10 +22,10 @@ const EMPTY_END: End = End {
 };
 
 #[test]
-fn an_empty_file_system_has_no_number(rt: HostRuntime) -> Result<(), Refused> {
+fn an_empty_file_system_has_no_number(rt: HostRuntime) -> Result<(), TestRefusal> {
     let alloc = rt.alloc();
     let mut disk = with_changes(alloc, &[Change::Fs("tank/a"), Change::Snapshot("tank/a@s")])?;
-    let records = [Wanted::Absent(1, NUMBERS - 1)];
+    let records = [TestRecord::Absent(1, NUMBERS - 1)];
     check_stream(
         &rt,
         alloc,
@@ -53,14 +53,14 @@ const SMALL_END: End = End {
 };
 
 #[test]
-fn a_file_of_one_block_is_sent(rt: HostRuntime) -> Result<(), Refused> {
+fn a_file_of_one_block_is_sent(rt: HostRuntime) -> Result<(), TestRefusal> {
     let alloc = rt.alloc();
     let mut disk = with_changes(alloc, &SMALL)?;
     let records = [
-        Wanted::Object(1, 0),
-        Wanted::Free(1, 512, u64::MAX),
-        Wanted::Write(1, 0, 512, 0xaa),
-        Wanted::Absent(2, NUMBERS - 2),
+        TestRecord::Object(1, 0),
+        TestRecord::Free(1, 512, u64::MAX),
+        TestRecord::Write(1, 0, 512, 0xaa),
+        TestRecord::Absent(2, NUMBERS - 2),
     ];
     check_stream(
         &rt,
@@ -89,7 +89,9 @@ const REWRITTEN_END: End = End {
 };
 
 #[test]
-fn a_block_that_is_written_with_equal_bytes_is_sent_again(rt: HostRuntime) -> Result<(), Refused> {
+fn a_block_that_is_written_with_equal_bytes_is_sent_again(
+    rt: HostRuntime,
+) -> Result<(), TestRefusal> {
     let alloc = rt.alloc();
     let mut disk = with_changes(alloc, &SMALL)?;
     let changes = [
@@ -99,9 +101,9 @@ fn a_block_that_is_written_with_equal_bytes_is_sent_again(rt: HostRuntime) -> Re
     ];
     change_all(alloc, &mut disk, &changes)?;
     let records = [
-        Wanted::Object(1, 0),
-        Wanted::Free(1, 512, u64::MAX),
-        Wanted::Write(1, 0, 512, 0xaa),
+        TestRecord::Object(1, 0),
+        TestRecord::Free(1, 512, u64::MAX),
+        TestRecord::Write(1, 0, 512, 0xaa),
     ];
     // From the snapshot, and from its bookmark.
     for from in ["tank/a@s", "tank/a#s"] {
@@ -135,7 +137,9 @@ const REALLOCATED_END: End = End {
 };
 
 #[test]
-fn an_object_that_is_allocated_again_has_its_holes_sent(rt: HostRuntime) -> Result<(), Refused> {
+fn an_object_that_is_allocated_again_has_its_holes_sent(
+    rt: HostRuntime,
+) -> Result<(), TestRefusal> {
     let alloc = rt.alloc();
     let changes = [
         Change::Fs("tank/a"),
@@ -152,10 +156,10 @@ fn an_object_that_is_allocated_again_has_its_holes_sent(rt: HostRuntime) -> Resu
     ];
     let mut disk = with_changes(alloc, &changes)?;
     let records = [
-        Wanted::Object(1, 1),
-        Wanted::Free(1, 1024, u64::MAX),
-        Wanted::Free(1, 0, 512),
-        Wanted::Write(1, 512, 512, 0xbb),
+        TestRecord::Object(1, 1),
+        TestRecord::Free(1, 1024, u64::MAX),
+        TestRecord::Free(1, 0, 512),
+        TestRecord::Write(1, 512, 512, 0xbb),
     ];
     check_stream(
         &rt,
@@ -184,16 +188,16 @@ const FAR_END: End = End {
 };
 
 #[test]
-fn the_holes_before_a_distant_block_are_one_record(rt: HostRuntime) -> Result<(), Refused> {
+fn the_holes_before_a_distant_block_are_one_record(rt: HostRuntime) -> Result<(), TestRefusal> {
     let alloc = rt.alloc();
     let mut disk = with_changes(alloc, &FAR)?;
     let records = [
-        Wanted::Object(1, DISTANT),
-        Wanted::Free(1, 549_755_814_912, u64::MAX),
-        Wanted::Write(1, 0, 512, 0xaa),
-        Wanted::Free(1, 512, 549_755_813_888),
-        Wanted::Write(1, 549_755_814_400, 512, 0xbb),
-        Wanted::Absent(2, NUMBERS - 2),
+        TestRecord::Object(1, DISTANT),
+        TestRecord::Free(1, 549_755_814_912, u64::MAX),
+        TestRecord::Write(1, 0, 512, 0xaa),
+        TestRecord::Free(1, 512, 549_755_813_888),
+        TestRecord::Write(1, 549_755_814_400, 512, 0xbb),
+        TestRecord::Absent(2, NUMBERS - 2),
     ];
     check_stream(
         &rt,
@@ -223,15 +227,15 @@ const SPILL_END: End = End {
 };
 
 #[test]
-fn a_spill_block_is_sent_behind_its_object(rt: HostRuntime) -> Result<(), Refused> {
+fn a_spill_block_is_sent_behind_its_object(rt: HostRuntime) -> Result<(), TestRefusal> {
     let alloc = rt.alloc();
     let mut disk = with_changes(alloc, &SMALL)?;
     let changes = [Change::Spilled(1, 0xcc), Change::Snapshot("tank/a@t")];
     change_all(alloc, &mut disk, &changes)?;
     let records = [
-        Wanted::Object(1, 0),
-        Wanted::Spill(1, 0xcc),
-        Wanted::Free(1, 512, u64::MAX),
+        TestRecord::Object(1, 0),
+        TestRecord::Spill(1, 0xcc),
+        TestRecord::Free(1, 512, u64::MAX),
     ];
     check_stream(
         &rt,
@@ -260,7 +264,7 @@ const CLONE_END: End = End {
 };
 
 #[test]
-fn a_clone_is_sent_from_its_origin(rt: HostRuntime) -> Result<(), Refused> {
+fn a_clone_is_sent_from_its_origin(rt: HostRuntime) -> Result<(), TestRefusal> {
     let alloc = rt.alloc();
     let mut disk = with_changes(alloc, &SMALL)?;
     let changes = [
@@ -276,9 +280,9 @@ fn a_clone_is_sent_from_its_origin(rt: HostRuntime) -> Result<(), Refused> {
         ..INCREMENT
     };
     let records = [
-        Wanted::Object(1, 0),
-        Wanted::Free(1, 512, u64::MAX),
-        Wanted::Write(1, 0, 512, 0xbb),
+        TestRecord::Object(1, 0),
+        TestRecord::Free(1, 512, u64::MAX),
+        TestRecord::Write(1, 0, 512, 0xbb),
     ];
     check_stream(
         &rt,
@@ -308,7 +312,7 @@ const FREED_END: End = End {
 };
 
 #[test]
-fn freed_numbers_are_sent_as_one_run(rt: HostRuntime) -> Result<(), Refused> {
+fn freed_numbers_are_sent_as_one_run(rt: HostRuntime) -> Result<(), TestRefusal> {
     let alloc = rt.alloc();
     let changes = [
         Change::Fs("tank/a"),
@@ -323,9 +327,9 @@ fn freed_numbers_are_sent_as_one_run(rt: HostRuntime) -> Result<(), Refused> {
     ];
     let mut disk = with_changes(alloc, &changes)?;
     let records = [
-        Wanted::Absent(1, 2),
-        Wanted::Object(4, 0),
-        Wanted::Free(4, 0, u64::MAX),
+        TestRecord::Absent(1, 2),
+        TestRecord::Object(4, 0),
+        TestRecord::Free(4, 0, u64::MAX),
     ];
     check_stream(
         &rt,

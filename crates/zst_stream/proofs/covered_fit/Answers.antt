@@ -1,4 +1,4 @@
-use Rattle.zst_stream.proofs.Passing.{passed}
+use Rattle.zst_stream.proofs.PassedRecords.{passed}
 use Rattle.zst_stream.proofs.covered_fit.Goals as goal
 
 pub returns : goal.returns

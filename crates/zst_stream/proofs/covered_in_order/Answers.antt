@@ -1,4 +1,4 @@
-use Rattle.zst_stream.proofs.Passing.{in_order}
+use Rattle.zst_stream.proofs.PassedRecords.{in_order}
 use Rattle.zst_stream.proofs.covered_in_order.Goals as goal
 
 pub returns : goal.returns

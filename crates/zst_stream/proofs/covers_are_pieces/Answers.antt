@@ -1,4 +1,4 @@
-use Rattle.zst_stream.proofs.Whole.{pieces}
+use Rattle.zst_stream.proofs.ImageReadings.{pieces}
 use Rattle.zst_stream.proofs.covers_are_pieces.Goals as goal
 
 pub returns : goal.returns

@@ -1,4 +1,4 @@
-use Rattle.zst_stream.proofs.Said.{first_items}
+use Rattle.zst_stream.proofs.ItemStreams.{first_items}
 use Rattle.zst_stream.proofs.first_items_are_read.Goals as goal
 
 pub returns : goal.returns

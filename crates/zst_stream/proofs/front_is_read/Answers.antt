@@ -1,4 +1,4 @@
-use Rattle.zst_stream.proofs.Whole.{front_whole}
+use Rattle.zst_stream.proofs.ImageReadings.{front_whole}
 use Rattle.zst_stream.proofs.front_is_read.Goals as goal
 
 pub returns : goal.returns

@@ -1,4 +1,4 @@
-use Rattle.zst_stream.proofs.Whole.{whole}
+use Rattle.zst_stream.proofs.ImageReadings.{whole}
 use Rattle.zst_stream.proofs.image_is_read.Goals as goal
 
 pub returns : goal.returns

@@ -1,4 +1,4 @@
-use Rattle.zst_stream.proofs.Said.{items_read}
+use Rattle.zst_stream.proofs.ItemStreams.{items_read}
 use Rattle.zst_stream.proofs.items_are_read.Goals as goal
 
 pub returns : goal.returns

@@ -1,4 +1,4 @@
-use Rattle.zst_stream.proofs.Carried.{items_fit}
+use Rattle.zst_stream.proofs.CarriedItems.{items_fit}
 use Rattle.zst_stream.proofs.items_fit.Goals as goal
 
 pub returns : goal.returns

@@ -1,4 +1,4 @@
-use Rattle.zst_stream.proofs.Said.{payloads_fit}
+use Rattle.zst_stream.proofs.ItemStreams.{payloads_fit}
 use Rattle.zst_stream.proofs.payloads_fit.Goals as goal
 
 pub returns : goal.returns

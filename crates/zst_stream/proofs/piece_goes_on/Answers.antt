@@ -1,4 +1,4 @@
-use Rattle.zst_stream.proofs.Whole.{piece_goes_on}
+use Rattle.zst_stream.proofs.ImageReadings.{piece_goes_on}
 use Rattle.zst_stream.proofs.piece_goes_on.Goals as goal
 
 pub returns : goal.returns

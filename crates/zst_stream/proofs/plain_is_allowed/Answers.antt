@@ -1,4 +1,4 @@
-use Rattle.zst_stream.proofs.Plain.{plain_allowed}
+use Rattle.zst_stream.proofs.PlainStreams.{plain_allowed}
 use Rattle.zst_stream.proofs.plain_is_allowed.Goals as goal
 
 pub returns : goal.returns

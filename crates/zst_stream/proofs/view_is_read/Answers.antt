@@ -1,4 +1,4 @@
-use Rattle.zst_stream.proofs.Said.{view_read}
+use Rattle.zst_stream.proofs.ItemStreams.{view_read}
 use Rattle.zst_stream.proofs.view_is_read.Goals as goal
 
 pub returns : goal.returns

@@ -3,7 +3,7 @@ ghost use Rattle.std.specs.Prelude.{◌≡◌, ◌<◌, ◌≤◌};
 ghost use Rattle.zst_block.specs.Blocks.{FitsDisk};
 
 use crate::cells::next_cell;
-use crate::found::Found;
+use crate::walk_entry::WalkEntry;
 use std::alloc::{AllocError, Global};
 use std::marker::Brand;
 use std::sync::ledger::{Blank, Ledger};
@@ -19,7 +19,7 @@ fn counted<D: Disk, L: Ledger>(
     from: Option<u64>,
     at: Place,
     blank: Blank,
-) -> Result<Option<Found>, BlockFault>
+) -> Result<Option<WalkEntry>, BlockFault>
     requires name { blank.name ≡ L.name }
     requires parts { blank.parts ≡ L.parts }
     requires some { 0 < blank.parts }
@@ -37,7 +37,7 @@ pub(super) fn next<D: Disk>(
     set: &ObjSet,
     from: Option<u64>,
     at: Place,
-) -> Result<Option<Found>, BlockFault>
+) -> Result<Option<WalkEntry>, BlockFault>
     requires fits { FitsDisk (D.state io.old.disk.now).size io.old.space }
     ensures fits { FitsDisk (D.state io.new.disk.now).size io.new.space }
     ensures same { io.new.disk.ghost_name ≡ io.old.disk.ghost_name }
@@ -61,7 +61,7 @@ pub(super) fn at_slot(object: u64) -> Place {
 
 // What is found, without dnodes and pointers.
 #[derive(Clone, Copy, Debug, PartialEq, Eq)]
-pub(super) enum Told {
+pub(super) enum WalkAnswer {
     Object(u64),
     Gone(u64, u64),
     Pairs(u64, u64, u64, Cell),
@@ -69,13 +69,13 @@ pub(super) enum Told {
     Fault,
 }
 
-pub(super) fn told_of(found: Result<Option<Found>, BlockFault>) -> Told {
+pub(super) fn told_of(found: Result<Option<WalkEntry>, BlockFault>) -> WalkAnswer {
     match found {
-        Ok(Some(Found::Object { number, dnode: _ })) => Told::Object(number),
-        Ok(Some(Found::Gone { first, count })) => Told::Gone(first, count),
+        Ok(Some(WalkEntry::Object { number, dnode: _ })) => WalkAnswer::Object(number),
+        Ok(Some(WalkEntry::Gone { first, count })) => WalkAnswer::Gone(first, count),
         Ok(
             Some(
-                Found::Pairs {
+                WalkEntry::Pairs {
                     object,
                     first,
                     count,
@@ -83,32 +83,32 @@ pub(super) fn told_of(found: Result<Option<Found>, BlockFault>) -> Told {
                     ptr: _,
                 },
             ),
-        ) => Told::Pairs(object, first, count, what),
-        Ok(None) => Told::Nothing,
-        Err(_) => Told::Fault,
+        ) => WalkAnswer::Pairs(object, first, count, what),
+        Ok(None) => WalkAnswer::Nothing,
+        Err(_) => WalkAnswer::Fault,
     }
 }
 
 // Where a walk goes on behind what is told, over blocks of 512 bytes.
-fn behind(told: Told, at: Place) -> Place {
+fn behind(told: WalkAnswer, at: Place) -> Place {
     match told {
-        Told::Object(number) => Place {
+        WalkAnswer::Object(number) => Place {
             point: Point {
                 object: number,
                 offset: 0,
             },
             slot: false,
         },
-        Told::Gone(first, count) => at_slot(first.saturating_add(count)),
-        Told::Pairs(object, first, count, _) => Place {
+        WalkAnswer::Gone(first, count) => at_slot(first.saturating_add(count)),
+        WalkAnswer::Pairs(object, first, count, _) => Place {
             point: Point {
                 object,
                 offset: first.saturating_add(count).saturating_mul(512),
             },
             slot: false,
         },
-        Told::Nothing => at,
-        Told::Fault => at,
+        WalkAnswer::Nothing => at,
+        WalkAnswer::Fault => at,
     }
 }
 
@@ -119,7 +119,7 @@ pub(super) fn walk<D: Disk>(
     set: &ObjSet,
     from: Option<u64>,
     count: usize,
-) -> Result<(Vec<Told>, u64), AllocError>
+) -> Result<(Vec<WalkAnswer>, u64), AllocError>
     requires fits { FitsDisk (D.state io.old.disk.now).size io.old.space }
     ensures fits { FitsDisk (D.state io.new.disk.now).size io.new.space }
     ensures same { io.new.disk.ghost_name ≡ io.old.disk.ghost_name }

@@ -3,8 +3,8 @@ ghost use Rattle.std.specs.Prelude.{◌≡◌, ◌<◌, ◌≤◌, ◌^◌};
 ghost use Rattle.zst_block.specs.Blocks.{FitsDisk};
 
 use crate::spans::INDEX_BOUND;
-use crate::tests::plain::{Change, edges, first_later, last_present, leaf_of};
-use crate::tests::random::{INDICES, Random, some_change};
+use crate::tests::plain_map::{Change, edges, first_later, last_present, leaf_of};
+use crate::tests::random_changes::{INDICES, RandomNumbers, some_change};
 use crate::tests::trees::{first_after, got, make, untouched};
 use crate::tree::Tree;
 use std::alloc::{AllocError, Global};
@@ -93,7 +93,7 @@ fn changed<D: Disk>(
     tree: &mut Tree,
     io: &mut Io<'_, D>,
     changes: &mut Vec<Change>,
-    random: &mut Random,
+    random: &mut RandomNumbers,
     number: u64,
 ) -> Result<Result<(), BlockFault>, AllocError>
     requires levels { tree.old.levels ≤ 7 }
@@ -114,7 +114,7 @@ pub(super) fn first_difference<D: Disk>(
 ) -> Result<Option<u64>, AllocError>
     requires fits { FitsDisk (D.state io.old.disk.now).size io.old.space }
 {
-    let mut random = Random { state: 7 };
+    let mut random = RandomNumbers { state: 7 };
     let mut changes = Vec::new(alloc);
     let mut tree = untouched();
     for number in 1..33 {

@@ -3,7 +3,7 @@ ghost use Rattle.std.specs.Prelude.{◌≡◌, ◌<◌, ◌≤◌, ◌^◌, IfOk
 ghost use Rattle.zst_block.specs.Blocks.{FitsDisk};
 
 use crate::tests::disks::zeros;
-use crate::tests::plain::Change;
+use crate::tests::plain_map::Change;
 use crate::tests::trees::{data, first_after, make, untouched};
 use crate::tree::Tree;
 use std::alloc::{AllocError, Global};

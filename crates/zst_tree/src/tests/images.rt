@@ -3,7 +3,7 @@ ghost use Rattle.std.specs.Prelude.{◌<◌, ◌≤◌, ◌^◌};
 
 use crate::tests::comparisons::difference;
 use crate::tests::disks::small;
-use crate::tests::plain::Change;
+use crate::tests::plain_map::Change;
 use crate::tests::trees::{data, make, untouched};
 use crate::tree::Tree;
 use std::alloc::{AllocError, Global};

@@ -4,7 +4,7 @@ ghost use Rattle.zst_block.specs.Blocks.{FitsDisk};
 
 use crate::spans::INDEX_BOUND;
 use crate::steps::Steps;
-use crate::tests::plain::Change;
+use crate::tests::plain_map::Change;
 use crate::tree::Tree;
 use std::sync::ledger::{Blank, Ledger};
 use zst_block::{BlockFault, Io, Ptr};

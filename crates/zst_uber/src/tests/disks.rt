@@ -1,7 +1,7 @@
 // Disks with bodies, and what is opened on them after a fault or a stop.
 ghost use Rattle.std.specs.Prelude.{◌≡◌, ◌≤◌};
 ghost use Rattle.zst_uber.specs.Slots.{IsNext, latest as latest_of};
-ghost use Rattle.zst_uber.specs.Commit.{HeadSettled};
+ghost use Rattle.zst_uber.specs.Commit.{LabelSettled};
 
 use crate::{Uber, UberFault, VERSION, commit, latest};
 use std::alloc::{AllocError, Global};
@@ -53,7 +53,7 @@ pub(super) fn commit_next(disk: &mut MemDisk) -> u64 {
 fn put_body(disk: &mut MemDisk, number: u64) -> u64
     requires room { 4096 ≤ (⟦<MemDisk as Disk>⟧.state disk.old).size }
     requires next { IsNext number (latest_of (⟦<MemDisk as Disk>⟧.state disk.old).seen) }
-    requires settled { HeadSettled (⟦<MemDisk as Disk>⟧.state disk.old) }
+    requires settled { LabelSettled (⟦<MemDisk as Disk>⟧.state disk.old) }
 {
     match commit(disk, &body(number)) {
         Ok(()) => number,

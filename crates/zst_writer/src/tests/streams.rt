@@ -1,5 +1,5 @@
 // A stream of items beside the records that it should have.
-ghost use Rattle.zst_stream.specs.Found.{HasBonus};
+ghost use Rattle.zst_stream.specs.FoundItems.{HasBonus};
 
 use super::headers::{GUID, begin};
 use crate::Writer;

@@ -1,7 +1,7 @@
 use Rattle.zst_block.specs.Blocks.{Has}
 use Rattle.zst_dnode.specs.Dnode.{DnodeFits}
 use Rattle.zst_model.proofs.Sizes.{block_size_over_none}
-use Rattle.zst_apply.proofs.Answering.{block_unredacted, disk_there}
+use Rattle.zst_apply.proofs.RecordAnswers.{block_unredacted, disk_there}
 use Rattle.zst_apply.proofs.blocks.object_there.Goals as goal
 
 pub returns-in-Ok-Some-clause-size : goal.returns-in-Ok-Some-clause-size

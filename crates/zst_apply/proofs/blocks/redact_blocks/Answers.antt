@@ -1,17 +1,17 @@
 use Rattle.std.proofs.Common.{◌∙◌, ap, sym, List, ℕ}
 use Rattle.zst_block.specs.Blocks.{Has}
-use Rattle.zst_model.specs.states.Apply.{apply_change}
+use Rattle.zst_model.specs.states.AppliedItems.{apply_change}
 use Rattle.zst_space.specs.FreeSectors.{FreeSectors}
 use Rattle.zst_model.specs.declared.states.item.Item.TheVariants.{At}
 use Rattle.zst_model.specs.declared.states.item.Change.TheVariants.{Redact}
 use Rattle.zst_objset.proofs.RangeLaws.{no_redact}
-use Rattle.zst_apply.proofs.Ranging.{redact_refused}
-use Rattle.zst_apply.proofs.Receiving.{redact_received}
-use Rattle.zst_apply.proofs.Telling.{names_told, read_told, told_before}
+use Rattle.zst_apply.proofs.ByteRanges.{redact_refused}
+use Rattle.zst_apply.proofs.ReceivedRecords.{redact_received}
+use Rattle.zst_apply.proofs.SetFaults.{names_told, read_told, told_before}
 use Rattle.zst_objset.specs.Sets.{SetHolds}
-use Rattle.zst_objset.specs.Tight.{SetIsTight}
+use Rattle.zst_objset.specs.TightSets.{SetIsTight}
 use Rattle.zst_objset.proofs.LeafLaws.{look_on}
-use Rattle.zst_apply.proofs.Answering.{applies_as, not_there, refused}
+use Rattle.zst_apply.proofs.RecordAnswers.{applies_as, not_there, refused}
 use Rattle.zst_apply.proofs.blocks.redact_blocks.Goals as goal
 
 pub returns-in-Err-clause-changed : goal.returns-in-Err-clause-changed

@@ -1,11 +1,11 @@
 use Rattle.std.proofs.Common.{◌≡◌, ◌+◌, ◌^◌, ◌<◌, ◌≤◌, ℕ, true}
 use Rattle.zst_model.specs.declared.states.item.Item.TheVariants.{FreeObjects}
 use Rattle.zst_model.specs.declared.refusals.faults.Quantity.TheVariants as quantities
-use Rattle.zst_model.specs.states.Apply.{within}
+use Rattle.zst_model.specs.states.AppliedItems.{within}
 use Rattle.zst_model.specs.states.State.{is_number, number_bound}
-use Rattle.zst_apply.proofs.Answering.{applies_as}
-use Rattle.zst_apply.proofs.Receiving.{freed_received, over_none, under_bound}
-use Rattle.zst_apply.proofs.Telling.{inside}
+use Rattle.zst_apply.proofs.RecordAnswers.{applies_as}
+use Rattle.zst_apply.proofs.ReceivedRecords.{freed_received, over_none, under_bound}
+use Rattle.zst_apply.proofs.SetFaults.{inside}
 use Rattle.zst_apply.proofs.objects.free_objects.Goals as goal
 
 -- the range that is left has the same numbers

@@ -1,7 +1,7 @@
 use Rattle.zst_model.specs.declared.states.item.Change.TheVariants.{Put}
 use Rattle.zst_model.specs.declared.states.item.Item.TheVariants.{At}
-use Rattle.zst_apply.proofs.Answering.{applies_as}
-use Rattle.zst_apply.proofs.Receiving.{put_received, under_bound}
+use Rattle.zst_apply.proofs.RecordAnswers.{applies_as}
+use Rattle.zst_apply.proofs.ReceivedRecords.{put_received, under_bound}
 use Rattle.zst_apply.proofs.objects.put_object.Goals as goal
 
 pub returns-clause-changed : goal.returns-clause-changed

@@ -1,7 +1,7 @@
 use Rattle.zst_model.specs.declared.states.item.Change.TheVariants.{Spill}
 use Rattle.zst_model.specs.declared.states.item.Item.TheVariants.{At}
-use Rattle.zst_apply.proofs.Answering.{applies_as}
-use Rattle.zst_apply.proofs.Receiving.{spill_received}
+use Rattle.zst_apply.proofs.RecordAnswers.{applies_as}
+use Rattle.zst_apply.proofs.ReceivedRecords.{spill_received}
 use Rattle.zst_apply.proofs.objects.put_spill.Goals as goal
 
 pub returns-clause-changed : goal.returns-clause-changed

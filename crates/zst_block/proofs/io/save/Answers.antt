@@ -1,6 +1,6 @@
 use Rattle.std.proofs.Common.{◌≡◌, ℕ, ◌/◌, List, length, ap, subst, ◌∙◌}
-use Rattle.zst_block.specs.Working.{Works, stop_of}
-use Rattle.zst_block.proofs.Working.{Works-write}
+use Rattle.zst_block.specs.IoCalls.{Works, stop_of}
+use Rattle.zst_block.proofs.IoCallLemmas.{Works-write}
 use Rattle.zst_block.proofs.io.save.Goals as goal
 
 pub returns-clause-works : goal.returns-clause-works

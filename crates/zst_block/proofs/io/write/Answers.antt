@@ -1,5 +1,5 @@
 use Rattle.std.proofs.Common.{◌/◌, length}
-use Rattle.zst_block.proofs.Working.{Works-write}
+use Rattle.zst_block.proofs.IoCallLemmas.{Works-write}
 use Rattle.zst_block.proofs.io.write.Goals as goal
 
 pub returns-clause-works : goal.returns-clause-works

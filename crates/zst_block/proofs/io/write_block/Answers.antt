@@ -1,7 +1,7 @@
 use Rattle.std.proofs.Common.{length, refl, arith}
 use Rattle.zst_space.proofs.FreeSectorsLaws.{IsSpaceFrom-earlier}
 use Rattle.zst_block.proofs.BlocksLaws.{KeepsBlocks-fills, Follows-fills}
-use Rattle.zst_block.proofs.Written.{fills, has}
+use Rattle.zst_block.proofs.WrittenBlocks.{fills, has}
 use Rattle.zst_block.proofs.io.write_block.Goals as goal
 
 pub take-requires : goal.take-requires

@@ -1,5 +1,5 @@
 use Rattle.std.proofs.Common.{arith, ◌∙◌}
-use Rattle.zst_bytes.proofs.Reading.{word_in_front, long_with_word, word_read, word_rest}
+use Rattle.zst_bytes.proofs.FrontWords.{word_in_front, long_with_word, word_read, word_rest}
 use Rattle.zst_bytes.proofs.cursor.split_word.Goals as goal
 
 pub returns-in_err-front-clause-exact : goal.returns-in_err-front-clause-exact

@@ -2,7 +2,7 @@ use Rattle.std.proofs.Common.{◌≡◌, length, arith, ap, ◌∙◌}
 use Rattle.std.specs.Vec.{vec_len}
 use Rattle.std.specs.Int.{next_multiple_of}
 use Rattle.zst_bytes.specs.Fields.{zeros}
-use Rattle.zst_bytes.proofs.Filling.{filled}
+use Rattle.zst_bytes.proofs.Multiples.{filled}
 use Rattle.zst_bytes.proofs.words.fill_up.Goals as goal
 
 pub returns : goal.returns

@@ -1,6 +1,6 @@
 use Rattle.std.proofs.Common.{◌++◌, [], length, ◌<◌, ◌^◌, Some, arith, sym, subst, ap, ◌∙◌}
 use Rattle.std.proofs.lemmas.Bool.{true≢false}
-use Rattle.zst_dir.specs.Reading.{IsSnapshotIn}
+use Rattle.zst_dir.specs.RowReads.{IsSnapshotIn}
 use Rattle.zst_dir.specs.Rows.{IsDatasetRow, IsBookmarkRow, IsPartialRow, IsLawful}
 use Rattle.zst_dir.specs.Spelling.{rows_bytes, bookmark_bytes, partial_bytes}
 use Rattle.zst_dir.proofs.Sections.{sections, all_of_none, datasets_read, list_read, rows_are}

@@ -4,7 +4,7 @@ use Rattle.zst_model.proofs.OrderLaws.{row_before_later}
 use Rattle.zst_dir.specs.Rows.{snapshot_is_before}
 use Rattle.zst_dir.specs.declared.rows.Snapshot.{Snapshot}
 use Rattle.zst_dir.proofs.Places.{partitioned, partition-place}
-use Rattle.zst_dir.proofs.Inserting.{of_snapshot}
+use Rattle.zst_dir.proofs.InsertedRows.{of_snapshot}
 use Rattle.zst_dir.proofs.dir.place_of_snapshot.Goals as goal
 
 pub returns : goal.returns

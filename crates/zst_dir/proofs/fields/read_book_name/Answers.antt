@@ -1,6 +1,6 @@
 use Rattle.std.proofs.Common.{◌≡◌, subst, sym, ◌∙◌}
 use Rattle.zst_names.specs.Names.{IsBookmark}
-use Rattle.zst_dir.proofs.Parsed.{result_ok-parsed}
+use Rattle.zst_dir.proofs.ParsedNames.{result_ok-parsed}
 use Rattle.zst_dir.proofs.Texts.{plain_bookmark}
 use Rattle.zst_dir.proofs.fields.read_book_name.Goals as goal
 

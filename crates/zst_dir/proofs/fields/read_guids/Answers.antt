@@ -3,7 +3,7 @@ use Rattle.std.specs.List.{flat_map}
 use Rattle.zst_bytes.specs.Words.{word}
 use Rattle.zst_model.specs.fields.Guids.{IsGuidSet}
 use Rattle.zst_dir.proofs.Guids.{words_parts, IsGuidSet-front}
-use Rattle.zst_dir.proofs.Standing.{stands_first, stands_next, stands_more, stands_last, fits_next}
+use Rattle.zst_dir.proofs.ReadFronts.{stands_first, stands_next, stands_more, stands_last, fits_next}
 use Rattle.zst_dir.proofs.fields.read_guids.Goals as goal
 
 pub returns-in_err-count-clause-exact : goal.returns-in_err-count-clause-exact

@@ -1,7 +1,7 @@
 use Rattle.std.proofs.Common.{◌≡◌, ℕ, List, ◌++◌, length}
 use Rattle.zst_bytes.specs.Words.{word, words_bytes}
 use Rattle.zst_model.specs.fields.Guids.{IsGuidSet}
-use Rattle.zst_dir.proofs.Standing.{Stands}
+use Rattle.zst_dir.proofs.ReadFronts.{Stands}
 use Rattle.zst_dir.proofs.fields.read_guids.Given as goal
 
 abbrev pub invariant-loop : goal.invariant-loop

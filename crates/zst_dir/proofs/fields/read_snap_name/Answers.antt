@@ -1,5 +1,5 @@
 use Rattle.std.proofs.Common.{◌≡◌, ◌++◌, Some, refl, ap, sym, ◌∙◌}
-use Rattle.zst_dir.proofs.Parsed.{result_ok-parsed, text_of, spelled, plain_text_of, none_where_empty, some_where_not}
+use Rattle.zst_dir.proofs.ParsedNames.{result_ok-parsed, text_of, spelled, plain_text_of, none_where_empty, some_where_not}
 use Rattle.zst_dir.proofs.fields.read_snap_name.Goals as goal
 
 pub returns-in_err-text-clause-exact : goal.returns-in_err-text-clause-exact

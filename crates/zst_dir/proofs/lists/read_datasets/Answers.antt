@@ -1,5 +1,5 @@
 use Rattle.std.proofs.Common.{arith, refl}
-use Rattle.zst_dir.proofs.Nested.{all_first, all_stops, all_more, all_last}
+use Rattle.zst_dir.proofs.NestedSnapshots.{all_first, all_stops, all_more, all_last}
 use Rattle.zst_dir.proofs.lists.read_datasets.Goals as goal
 
 pub loop-init : goal.loop-init

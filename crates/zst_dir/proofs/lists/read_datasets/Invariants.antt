@@ -1,4 +1,4 @@
-use Rattle.zst_dir.proofs.Nested.{ReadingAll}
+use Rattle.zst_dir.proofs.NestedSnapshots.{ReadingAll}
 use Rattle.zst_dir.proofs.lists.read_datasets.Given as goal
 
 abbrev pub invariant-loop : goal.invariant-loop

@@ -1,5 +1,5 @@
 use Rattle.std.proofs.Common.{arith, refl}
-use Rattle.zst_dir.specs.Reading.{IsSnapshotOf}
+use Rattle.zst_dir.specs.RowReads.{IsSnapshotOf}
 use Rattle.zst_dir.specs.Spelling.{snapshot_bytes}
 use Rattle.zst_dir.proofs.Loops.{reading_first, reading_stops, reading_more, reading_last}
 use Rattle.zst_dir.proofs.lists.read_snapshots.Goals as goal

@@ -1,4 +1,4 @@
-use Rattle.zst_dir.specs.Reading.{IsSnapshotOf}
+use Rattle.zst_dir.specs.RowReads.{IsSnapshotOf}
 use Rattle.zst_dir.specs.Spelling.{snapshot_bytes}
 use Rattle.zst_dir.proofs.Loops.{Reading}
 use Rattle.zst_dir.proofs.lists.read_snapshots.Given as goal

@@ -1,5 +1,5 @@
 use Rattle.zst_outside.specs.Printing.{Prints-then, Prints-longer}
-use Rattle.zst_dump.specs.Lines.{begin_text}
+use Rattle.zst_dump.specs.RecordLines.{begin_text}
 use Rattle.zst_dump.proofs.line.print_begin.Goals as goal
 
 pub returns-in_err-print_resume : goal.returns-in_err-print_resume

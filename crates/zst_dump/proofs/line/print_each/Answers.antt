@@ -1,7 +1,7 @@
 use Rattle.std.proofs.Common.{refl}
 use Rattle.zst_outside.specs.Printing.{Prints-stop}
-use Rattle.zst_dump.specs.Lines.{blank_guid}
-use Rattle.zst_dump.proofs.Flat.{flat_map-at}
+use Rattle.zst_dump.specs.RecordLines.{blank_guid}
+use Rattle.zst_dump.proofs.ListTexts.{flat_map-at}
 use Rattle.zst_dump.proofs.line.print_each.Goals as goal
 
 pub returns-in-Err : goal.returns-in-Err

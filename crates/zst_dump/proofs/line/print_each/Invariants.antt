@@ -1,6 +1,6 @@
 use Rattle.std.proofs.Common.{take, flat_map}
 use Rattle.zst_outside.specs.Printing.{Printed}
-use Rattle.zst_dump.specs.Lines.{blank_guid}
+use Rattle.zst_dump.specs.RecordLines.{blank_guid}
 use Rattle.zst_dump.proofs.line.print_each.Given as goal
 
 -- what came before is written

@@ -1,6 +1,6 @@
 use Rattle.std.proofs.Common.{sym, ◌∙◌}
 use Rattle.zst_outside.specs.Printing.{Prints-then, Prints-longer}
-use Rattle.zst_dump.specs.Lines.{guids_text}
+use Rattle.zst_dump.specs.RecordLines.{guids_text}
 use Rattle.zst_dump.proofs.line.print_guids.Goals as goal
 
 pub returns-in_err-write_all : goal.returns-in_err-write_all

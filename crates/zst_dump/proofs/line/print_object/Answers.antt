@@ -1,4 +1,4 @@
-use Rattle.zst_dump.specs.Lines.{object_text}
+use Rattle.zst_dump.specs.RecordLines.{object_text}
 use Rattle.zst_dump.proofs.line.print_object.Goals as goal
 
 pub returns : goal.returns

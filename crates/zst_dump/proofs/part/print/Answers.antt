@@ -2,7 +2,7 @@ use Rattle.std.proofs.Common.{[], refl}
 use Rattle.zst_dump.specs.declared.part.Part.TheVariants as parts
 use Rattle.zst_outside.specs.Printing.{Prints-stop}
 use Rattle.zst_dump.specs.Parts.{part_text}
-use Rattle.zst_dump.proofs.Flat.{flat_map-at}
+use Rattle.zst_dump.proofs.ListTexts.{flat_map-at}
 use Rattle.zst_dump.proofs.part.print.Goals as goal
 
 pub returns-in-Err : goal.returns-in-Err

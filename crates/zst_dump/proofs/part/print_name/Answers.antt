@@ -1,7 +1,7 @@
 use Rattle.std.proofs.Common.{refl}
 use Rattle.zst_outside.specs.Printing.{Prints-stop}
 use Rattle.zst_dump.specs.Parts.{escaped}
-use Rattle.zst_dump.proofs.Flat.{flat_map-at}
+use Rattle.zst_dump.proofs.ListTexts.{flat_map-at}
 use Rattle.zst_dump.proofs.part.print_name.Goals as goal
 
 pub returns-in-Err : goal.returns-in-Err

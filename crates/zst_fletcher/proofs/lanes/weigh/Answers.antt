@@ -1,5 +1,5 @@
 use Rattle.std.proofs.Common.{arith}
-use Rattle.zst_fletcher.proofs.LanesJoined.{weigh-sums}
+use Rattle.zst_fletcher.proofs.JoinedLanes.{weigh-sums}
 use Rattle.zst_fletcher.proofs.lanes.weigh.Goals as goal
 
 pub returns : goal.returns

@@ -1,4 +1,4 @@
-use Rattle.zst_image.proofs.Lasting.{images_keep}
+use Rattle.zst_image.proofs.KeptPartials.{images_keep}
 use Rattle.zst_image.proofs.laws.images_keep_partials.Goals as goal
 
 pub returns : goal.returns

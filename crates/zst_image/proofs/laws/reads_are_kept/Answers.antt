@@ -1,4 +1,4 @@
-use Rattle.zst_image.proofs.Committed.{ReadsAs-spared}
+use Rattle.zst_image.proofs.CommitLemmas.{ReadsAs-spared}
 use Rattle.zst_image.proofs.laws.reads_are_kept.Goals as goal
 
 pub returns : goal.returns

@@ -1,4 +1,4 @@
-use Rattle.zst_image.proofs.One.{one_body, one_rows, one_pool}
+use Rattle.zst_image.proofs.OnePool.{one_body, one_rows, one_pool}
 use Rattle.zst_image.proofs.laws.reads_as_one.Goals as goal
 
 pub returns-clause-body : goal.returns-clause-body

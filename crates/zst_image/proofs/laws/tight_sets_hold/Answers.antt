@@ -1,4 +1,4 @@
-use Rattle.zst_image.proofs.Plain.{ReadsAs-plain}
+use Rattle.zst_image.proofs.PlainReads.{ReadsAs-plain}
 use Rattle.zst_image.proofs.laws.tight_sets_hold.Goals as goal
 
 pub returns : goal.returns

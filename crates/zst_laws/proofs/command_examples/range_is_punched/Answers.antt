@@ -1,4 +1,4 @@
-use Rattle.zst_laws.proofs.examples.Commanded.{range_punched}
+use Rattle.zst_laws.proofs.examples.CommandExamples.{range_punched}
 use Rattle.zst_laws.proofs.command_examples.range_is_punched.Goals as goal
 
 pub returns : goal.returns

@@ -1,4 +1,4 @@
-use Rattle.zst_laws.proofs.histories.Dating.{changes_dated}
+use Rattle.zst_laws.proofs.histories.Dates.{changes_dated}
 use Rattle.zst_laws.proofs.dates.changes_are_dated.Goals as goal
 
 pub returns : goal.returns

@@ -1,4 +1,4 @@
-use Rattle.zst_laws.proofs.histories.Dating.{remembered_itself}
+use Rattle.zst_laws.proofs.histories.Dates.{remembered_itself}
 use Rattle.zst_laws.proofs.dates.remembers_itself.Goals as goal
 
 pub returns : goal.returns

@@ -1,4 +1,4 @@
-use Rattle.zst_laws.proofs.histories.Dating.{remembered_through}
+use Rattle.zst_laws.proofs.histories.Dates.{remembered_through}
 use Rattle.zst_laws.proofs.dates.remembers_through.Goals as goal
 
 pub returns : goal.returns

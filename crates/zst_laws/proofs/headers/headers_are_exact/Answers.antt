@@ -1,4 +1,4 @@
-use Rattle.zst_laws.proofs.examples.Headed.{full_header, volume_header, increment_headers, source_header, clone_headers, redacted_header}
+use Rattle.zst_laws.proofs.examples.HeaderExamples.{full_header, volume_header, increment_headers, source_header, clone_headers, redacted_header}
 use Rattle.zst_laws.proofs.headers.headers_are_exact.Goals as goal
 
 pub returns : goal.returns

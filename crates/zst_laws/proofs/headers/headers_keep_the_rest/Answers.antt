@@ -1,4 +1,4 @@
-use Rattle.zst_laws.proofs.examples.Headed.{point_headers}
+use Rattle.zst_laws.proofs.examples.HeaderExamples.{point_headers}
 use Rattle.zst_laws.proofs.headers.headers_keep_the_rest.Goals as goal
 
 pub returns : goal.returns

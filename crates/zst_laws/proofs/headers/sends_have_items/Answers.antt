@@ -1,4 +1,4 @@
-use Rattle.zst_laws.proofs.examples.Headed.{sent_items}
+use Rattle.zst_laws.proofs.examples.HeaderExamples.{sent_items}
 use Rattle.zst_laws.proofs.headers.sends_have_items.Goals as goal
 
 pub returns : goal.returns

@@ -1,4 +1,4 @@
-use Rattle.zst_laws.proofs.examples.LinesTold.{blocks_read}
+use Rattle.zst_laws.proofs.examples.LineExamples.{blocks_read}
 use Rattle.zst_laws.proofs.line_examples.blocks_are_read.Goals as goal
 
 pub returns : goal.returns

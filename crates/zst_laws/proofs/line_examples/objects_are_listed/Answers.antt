@@ -1,4 +1,4 @@
-use Rattle.zst_laws.proofs.examples.LinesTold.{objects_listed}
+use Rattle.zst_laws.proofs.examples.LineExamples.{objects_listed}
 use Rattle.zst_laws.proofs.line_examples.objects_are_listed.Goals as goal
 
 pub returns : goal.returns

@@ -1,4 +1,4 @@
-use Rattle.zst_laws.proofs.examples.LinesTold.{pool_listed}
+use Rattle.zst_laws.proofs.examples.LineExamples.{pool_listed}
 use Rattle.zst_laws.proofs.line_examples.pool_is_listed.Goals as goal
 
 pub returns : goal.returns

@@ -1,4 +1,4 @@
-use Rattle.zst_laws.proofs.pools.LineagesRefused.{clone_absent, clone_there, clone_begun, clones_full, clone_number}
+use Rattle.zst_laws.proofs.pools.LineageRefusals.{clone_absent, clone_there, clone_begun, clones_full, clone_number}
 use Rattle.zst_laws.proofs.lineage_refusals.clones_are_refused.Goals as goal
 
 pub returns : goal.returns

@@ -1,4 +1,4 @@
-use Rattle.zst_laws.proofs.examples.Meant.{attributes_date_numbers, spill_dates_no_index}
+use Rattle.zst_laws.proofs.examples.Meanings.{attributes_date_numbers, spill_dates_no_index}
 use Rattle.zst_laws.proofs.meanings.attributes_date_numbers.Goals as goal
 
 pub returns : goal.returns

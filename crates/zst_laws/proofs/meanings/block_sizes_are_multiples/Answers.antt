@@ -1,4 +1,4 @@
-use Rattle.zst_laws.proofs.examples.Meant.{block_sizes}
+use Rattle.zst_laws.proofs.examples.Meanings.{block_sizes}
 use Rattle.zst_laws.proofs.meanings.block_sizes_are_multiples.Goals as goal
 
 pub returns : goal.returns

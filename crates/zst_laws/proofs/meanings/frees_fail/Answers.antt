@@ -1,4 +1,4 @@
-use Rattle.zst_laws.proofs.examples.Meant.{free_fails, free_makes}
+use Rattle.zst_laws.proofs.examples.Meanings.{free_fails, free_makes}
 use Rattle.zst_laws.proofs.meanings.frees_fail.Goals as goal
 
 pub returns : goal.returns

@@ -1,4 +1,4 @@
-use Rattle.zst_laws.proofs.examples.Meant.{lists_user_data}
+use Rattle.zst_laws.proofs.examples.Meanings.{lists_user_data}
 use Rattle.zst_laws.proofs.meanings.lists_are_of_user_data.Goals as goal
 
 pub returns : goal.returns

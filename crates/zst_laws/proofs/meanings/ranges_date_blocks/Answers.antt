@@ -1,4 +1,4 @@
-use Rattle.zst_laws.proofs.examples.Meant.{ranges_date_blocks, freed_are_dated}
+use Rattle.zst_laws.proofs.examples.Meanings.{ranges_date_blocks, freed_are_dated}
 use Rattle.zst_laws.proofs.meanings.ranges_date_blocks.Goals as goal
 
 pub returns : goal.returns

@@ -1,4 +1,4 @@
-use Rattle.zst_laws.proofs.examples.Meant.{redact_fails, redact_makes}
+use Rattle.zst_laws.proofs.examples.Meanings.{redact_fails, redact_makes}
 use Rattle.zst_laws.proofs.meanings.redacts_fail.Goals as goal
 
 pub returns : goal.returns

@@ -1,4 +1,4 @@
-use Rattle.zst_laws.proofs.examples.Meant.{datasets_stand, snapshots_stand}
+use Rattle.zst_laws.proofs.examples.Meanings.{datasets_stand, snapshots_stand}
 use Rattle.zst_laws.proofs.meanings.rows_stand_in_order.Goals as goal
 
 pub returns : goal.returns

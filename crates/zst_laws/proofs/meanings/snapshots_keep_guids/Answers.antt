@@ -1,4 +1,4 @@
-use Rattle.zst_laws.proofs.examples.Meant.{snapshot_keeps_guids}
+use Rattle.zst_laws.proofs.examples.Meanings.{snapshot_keeps_guids}
 use Rattle.zst_laws.proofs.meanings.snapshots_keep_guids.Goals as goal
 
 pub returns : goal.returns

@@ -1,4 +1,4 @@
-use Rattle.zst_laws.proofs.examples.Meant.{user_data_types}
+use Rattle.zst_laws.proofs.examples.Meanings.{user_data_types}
 use Rattle.zst_laws.proofs.meanings.user_data_has_two_types.Goals as goal
 
 pub returns : goal.returns

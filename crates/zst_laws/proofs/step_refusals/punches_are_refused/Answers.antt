@@ -1,4 +1,4 @@
-use Rattle.zst_laws.proofs.pools.Refused.{punch_object, punch_far, punch_number}
+use Rattle.zst_laws.proofs.pools.StepRefusals.{punch_object, punch_far, punch_number}
 use Rattle.zst_laws.proofs.step_refusals.punches_are_refused.Goals as goal
 
 pub returns : goal.returns

@@ -1,4 +1,4 @@
-use Rattle.zst_laws.proofs.pools.Refused.{snapshot_there, snapshots_full, guids_over, snapshot_number}
+use Rattle.zst_laws.proofs.pools.StepRefusals.{snapshot_there, snapshots_full, guids_over, snapshot_number}
 use Rattle.zst_laws.proofs.step_refusals.snapshots_are_refused.Goals as goal
 
 pub returns : goal.returns

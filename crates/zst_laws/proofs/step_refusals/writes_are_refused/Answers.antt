@@ -1,4 +1,4 @@
-use Rattle.zst_laws.proofs.pools.Refused.{write_object, write_long, write_odd, write_far, write_number, odd_sizes}
+use Rattle.zst_laws.proofs.pools.StepRefusals.{write_object, write_long, write_odd, write_far, write_number, odd_sizes}
 use Rattle.zst_laws.proofs.step_refusals.writes_are_refused.Goals as goal
 
 pub returns : goal.returns

@@ -2,7 +2,7 @@ use Rattle.std.proofs.Common.{◌≡◌, sym, subst, ℕ, arith}
 use Rattle.std.proofs.lemmas.Bool.{false≢true}
 use Rattle.std.proofs.lemmas.Bool.Decides.{nat_tests}
 use Rattle.zst_leaves.specs.Leaves.{IsLeast}
-use Rattle.zst_leaves.proofs.Least.{IsLeast-only, span_le, span_three}
+use Rattle.zst_leaves.proofs.LevelCounts.{IsLeast-only, span_le, span_three}
 use Rattle.zst_leaves.proofs.sizes.is_least.Goals as goal
 
 pub returns-in-1-to-17179869184 : goal.returns-in-1-to-17179869184

@@ -1,5 +1,5 @@
 use Rattle.std.proofs.Common.{arith}
-use Rattle.zst_leaves.proofs.Least.{span_one, span_three, span_two}
+use Rattle.zst_leaves.proofs.LevelCounts.{span_one, span_three, span_two}
 use Rattle.zst_leaves.proofs.Span.{span_zero}
 use Rattle.zst_leaves.proofs.sizes.levels_for.Goals as goal
 

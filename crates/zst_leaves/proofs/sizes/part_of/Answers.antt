@@ -1,5 +1,5 @@
 use Rattle.std.proofs.Common.{length, ap, arith}
-use Rattle.zst_leaves.proofs.Pieces.{length-part, part_ends}
+use Rattle.zst_leaves.proofs.TextParts.{length-part, part_ends}
 use Rattle.zst_leaves.proofs.sizes.part_of.Goals as goal
 
 pub returns-clause-part : goal.returns-clause-part

@@ -1,5 +1,5 @@
 use Rattle.std.proofs.Common.{arith}
-use Rattle.zst_leaves.proofs.Least.{span_le, span_three}
+use Rattle.zst_leaves.proofs.LevelCounts.{span_le, span_three}
 use Rattle.zst_leaves.proofs.sizes.room_of.Goals as goal
 
 pub overflow_mul-result : goal.overflow_mul-result

@@ -2,13 +2,13 @@ use Rattle.std.proofs.Common.{◌≡◌, ℕ, ◌<◌, Bool, true, false, Some, 
 use Rattle.std.proofs.lemmas.List.{length-map, take-map}
 use Rattle.zst_line.specs.Grammar.{option_at, option_of, stands_in, word_at}
 use Rattle.zst_line.specs.declared.kind.Kind.{Kind}
-use Rattle.zst_line.specs.declared.options.Taking.{Taking}
-use Rattle.zst_line.proofs.InTurn.{word_here}
+use Rattle.zst_line.specs.declared.options.OptionValue.{OptionValue}
+use Rattle.zst_line.proofs.WordWalk.{word_here}
 use Rattle.zst_line.proofs.OptionPlaces.{option_known}
 use Rattle.zst_line.proofs.options.option_at.Goals as goal
 
 -- the option at an index whose text names one, by whether it stands before
-told : (kind : Kind) (words : List (String Global)) (index : ℕ) (word : String Global) (text : List ℕ) (taking : Taking) (stood : Bool)
+told : (kind : Kind) (words : List (String Global)) (index : ℕ) (word : String Global) (text : List ℕ) (taking : OptionValue) (stood : Bool)
     → index < length words → get_or words index word ≡ word → text ≡ string_bytes word → Some taking ≡ option_of kind text
     → stood ≡ stands_in (map string_bytes (take index words)) text → (if stood then None else Some taking) ≡ option_at kind (map string_bytes words) index
 told kind words index word text taking stood below same is names stands =

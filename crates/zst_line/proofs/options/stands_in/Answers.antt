@@ -2,7 +2,7 @@ use Rattle.std.proofs.Common.{◌≡◌, [], true, false, bytes_eq, map, string_
 use Rattle.std.proofs.lemmas.List.{length-map}
 use Rattle.std.proofs.lemmas.List.Folds.{list_any_at, list_any_more}
 use Rattle.zst_line.specs.Grammar.{word_at}
-use Rattle.zst_line.proofs.InTurn.{word_here}
+use Rattle.zst_line.proofs.WordWalk.{word_here}
 use Rattle.zst_line.proofs.options.stands_in.Goals as goal
 
 pub returns-then-eq : goal.returns-then-eq

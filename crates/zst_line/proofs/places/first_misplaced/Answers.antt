@@ -1,7 +1,7 @@
 use Rattle.std.proofs.Common.{map, length, arith, ◌≡◌}
 use Rattle.std.proofs.lemmas.List.{length-map}
 use Rattle.std.specs.String.{string_bytes}
-use Rattle.zst_line.proofs.InTurn.{stops_behind}
+use Rattle.zst_line.proofs.WordWalk.{stops_behind}
 use Rattle.zst_line.proofs.places.first_misplaced.Goals as goal
 
 pub returns-then-words-slots-clause-place : goal.returns-then-words-slots-clause-place

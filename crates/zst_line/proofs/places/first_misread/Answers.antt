@@ -1,7 +1,7 @@
 use Rattle.std.proofs.Common.{◌≡◌, ◌<◌, map, length, string_bytes, arith}
 use Rattle.std.proofs.lemmas.List.{length-map}
 use Rattle.zst_line.specs.Grammar.{word_at}
-use Rattle.zst_line.proofs.InTurn.{word_here, named_next, misread_here}
+use Rattle.zst_line.proofs.WordWalk.{word_here, named_next, misread_here}
 use Rattle.zst_line.proofs.places.first_misread.Goals as goal
 
 pub returns-in-Some : goal.returns-in-Some

@@ -1,5 +1,5 @@
 use Rattle.std.proofs.Common.{map, string_bytes}
-use Rattle.zst_line.proofs.InTurn.{Named}
+use Rattle.zst_line.proofs.WordWalk.{Named}
 use Rattle.zst_line.proofs.places.first_misread.Given as goal
 
 abbrev pub invariant-loop-index : goal.invariant-loop-index

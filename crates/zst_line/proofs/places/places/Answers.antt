@@ -1,6 +1,6 @@
 use Rattle.std.proofs.Common.{◌≡◌, [], Some, None, map, length, string_bytes}
 use Rattle.zst_line.specs.Grammar.{option_at, places_behind}
-use Rattle.zst_line.proofs.OptionByOption.{one_option_more}
+use Rattle.zst_line.proofs.OptionWalk.{one_option_more}
 use Rattle.zst_line.proofs.places.places.Goals as goal
 
 pub loop-taking-preserved : goal.loop-taking-preserved

@@ -1,6 +1,6 @@
 use Rattle.std.proofs.Common.{[], ◌≡◌, ◌-◌, ◌++◌, None, length, map, string_bytes}
 use Rattle.zst_line.specs.Grammar.{places_behind}
-use Rattle.zst_line.proofs.OptionByOption.{behind}
+use Rattle.zst_line.proofs.OptionWalk.{behind}
 use Rattle.zst_line.proofs.places.places.Given as goal
 
 abbrev pub invariant-loop-taking : goal.invariant-loop-taking

@@ -1,6 +1,6 @@
 use Rattle.std.proofs.Common.{◌≡◌, ◌≤◌, ◌-◌, map, length, drop, string_bytes, arith, length-drop}
 use Rattle.std.proofs.lemmas.List.{length-map, take_all, drop-map}
-use Rattle.zst_line.proofs.InTurn.{snapshots_taken}
+use Rattle.zst_line.proofs.WordWalk.{snapshots_taken}
 use Rattle.zst_line.proofs.streams.redact.Goals as goal
 
 pub snapshots-requires : goal.snapshots-requires

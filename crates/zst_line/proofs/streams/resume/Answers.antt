@@ -3,8 +3,8 @@ use Rattle.std.proofs.lemmas.List.{length-map}
 use Rattle.std.specs.List.{AllZip}
 use Rattle.zst_line.specs.declared.slot.Slot.TheVariants.{Given, Token, Image}
 use Rattle.zst_line.specs.Grammar.{word_at}
-use Rattle.zst_line.specs.Judged.{Takes}
-use Rattle.zst_line.proofs.InTurn.{word_here, three_words}
+use Rattle.zst_line.specs.WordFaults.{Takes}
+use Rattle.zst_line.proofs.WordWalk.{word_here, three_words}
 use Rattle.zst_line.proofs.Numbers.{takes_at}
 use Rattle.zst_line.proofs.Texts.{same_bytes}
 use Rattle.zst_line.proofs.streams.resume.Goals as goal

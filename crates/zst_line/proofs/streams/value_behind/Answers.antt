@@ -1,7 +1,7 @@
 use Rattle.std.proofs.Common.{◌≡◌, ◌+◌, ◌-◌, true, false, length, map, drop, string_bytes, sym, ◌∙◌, arith, length-drop}
 use Rattle.std.proofs.lemmas.List.{length-map, take_all, drop-map}
 use Rattle.zst_line.specs.Grammar.{word_at}
-use Rattle.zst_line.proofs.InTurn.{word_here}
+use Rattle.zst_line.proofs.WordWalk.{word_here}
 use Rattle.zst_line.proofs.OptionPlaces.{value_turn}
 use Rattle.zst_line.proofs.streams.value_behind.Goals as goal
 

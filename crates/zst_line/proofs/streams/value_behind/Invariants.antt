@@ -1,5 +1,5 @@
 use Rattle.std.proofs.Common.{◌≡◌, map, drop, string_bytes}
-use Rattle.zst_line.specs.Lines.{value_behind}
+use Rattle.zst_line.specs.Line.{value_behind}
 use Rattle.zst_line.proofs.streams.value_behind.Given as goal
 
 abbrev pub invariant-loop-index : goal.invariant-loop-index

@@ -4,7 +4,7 @@ use Rattle.std.proofs.lemmas.Bool.{true≢false}
 use Rattle.std.proofs.lemmas.Slice.Eq.{bytes_eq-Decides}
 use Rattle.zst_model.specs.fields.Lists.{Runs, IsRunList}
 use Rattle.zst_list.specs.Spelling.{list_bytes}
-use Rattle.zst_list.proofs.Coded.{each_fits}
+use Rattle.zst_list.proofs.ListBytes.{each_fits}
 use Rattle.zst_list.proofs.coding.decode_list.Goals as goal
 
 -- an option with something is some

@@ -1,6 +1,6 @@
 use Rattle.std.proofs.Common.{rules}
 use Rattle.zst_list.specs.Spelling.{runs_bytes}
-use Rattle.zst_list.proofs.Coded.{spelled-more}
+use Rattle.zst_list.proofs.ListBytes.{spelled-more}
 use Rattle.zst_list.proofs.coding.encode_list.Goals as goal
 
 pub loop-place-init : goal.loop-place-init

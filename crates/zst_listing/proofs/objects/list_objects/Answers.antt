@@ -4,9 +4,9 @@ use Rattle.std.proofs.lemmas.Result.{err_from_is_err_and}
 use Rattle.zst_space.specs.FreeSectors.{FreeSectors}
 use Rattle.zst_outside.specs.Images.{DiskState}
 use Rattle.zst_block.specs.Blocks.{FitsDisk, Has}
-use Rattle.zst_block.specs.Working.{Looks}
+use Rattle.zst_block.specs.IoCalls.{Looks}
 use Rattle.zst_block.specs.declared.fault.BlockFault.{BlockFault}
-use Rattle.zst_block.proofs.Working.{Looks-none, Looks-then}
+use Rattle.zst_block.proofs.IoCallLemmas.{Looks-none, Looks-then}
 use Rattle.zst_objset.specs.Sets.{SetHolds}
 use Rattle.zst_objset.proofs.LeafLaws.{look_on}
 use Rattle.zst_listing.proofs.DnodeLines.{line_added, walk_ends}

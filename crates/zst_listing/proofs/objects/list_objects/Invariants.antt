@@ -1,9 +1,9 @@
 use Rattle.std.proofs.Common.{◌≡◌, ◌-◌, ◌≤◌, ◌<◌, ◌++◌}
 use Rattle.std.specs.Prelude.{None}
 use Rattle.zst_block.specs.Blocks.{FitsDisk, Has}
-use Rattle.zst_block.specs.Working.{Looks}
-use Rattle.zst_model.specs.pools.Lines.{object_lines}
-use Rattle.zst_model.specs.states.Dated.{DatedState}
+use Rattle.zst_block.specs.IoCalls.{Looks}
+use Rattle.zst_model.specs.pools.AnswerLines.{object_lines}
+use Rattle.zst_model.specs.states.DatedState.{DatedState}
 use Rattle.zst_model.specs.states.State.{number_bound}
 use Rattle.zst_objset.specs.Sets.{SetHolds}
 use Rattle.zst_listing.proofs.ObjectWalk.{lines_from}

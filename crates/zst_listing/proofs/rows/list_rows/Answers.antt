@@ -2,9 +2,9 @@ use Rattle.std.proofs.Common.{◌≡◌, ◌+◌, List, [], ◌∷◌, add-one, 
 use Rattle.std.proofs.lemmas.List.{drop_all}
 use Rattle.zst_dir.specs.declared.rows.Dataset.{Dataset}
 use Rattle.zst_dir.specs.declared.rows.Partial.{Partial}
-use Rattle.zst_listing.proofs.Matched.{lines_are}
+use Rattle.zst_listing.proofs.PoolLines.{lines_are}
 use Rattle.zst_listing.proofs.RangeLaws.{rising-in_order}
-use Rattle.zst_listing.proofs.Walked.{Walked, walked_first, walked_last, walked_more}
+use Rattle.zst_listing.proofs.PartialWalk.{Walked, walked_first, walked_last, walked_more}
 use Rattle.zst_listing.proofs.rows.list_rows.Goals as goal
 
 pub loop-partial-init : goal.loop-partial-init

@@ -1,5 +1,5 @@
 use Rattle.std.proofs.Common.{drop}
-use Rattle.zst_listing.proofs.Walked.{Walked}
+use Rattle.zst_listing.proofs.PartialWalk.{Walked}
 use Rattle.zst_listing.proofs.rows.list_rows.Given as goal
 
 abbrev pub invariant-loop-partial : goal.invariant-loop-partial

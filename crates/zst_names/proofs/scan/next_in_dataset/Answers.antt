@@ -2,7 +2,7 @@ use Rattle.std.proofs.Common.{◌≡◌, ◌+◌, ◌==◌, true, false, sym, �
 use Rattle.std.proofs.lemmas.Bool.Decides.{nat_tests}
 use Rattle.zst_names.specs.Rest.{fits_component}
 use Rattle.zst_names.proofs.Parts.{fits_short, slash_rest, slash_needs, byte_rest, byte_needs}
-use Rattle.zst_names.proofs.Steps.{skip, skip_stops}
+use Rattle.zst_names.proofs.NameEnds.{skip, skip_stops}
 use Rattle.zst_names.proofs.scan.next_in_dataset.Goals as goal
 use Rattle.zst_names.proofs.scan.next_in_dataset.Goals.{then-used-eq0-2-via-then-used-eq0-2, then-used-eq0-2-via-else-used-eq0-2+then-components-eq-COMPONENTS, then-used-eq0-2-via-else-used-eq0-2+else-components-eq-COMPONENTS+then-place-ge-DATASET_BYTES, then-place-eq-DATASET_BYTES-via-then-place-eq-DATASET_BYTES, then-place-eq-DATASET_BYTES-via-else-place-eq-DATASET_BYTES+then-not-fits_component}
 

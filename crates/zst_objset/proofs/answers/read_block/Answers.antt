@@ -2,7 +2,7 @@ use Rattle.std.proofs.Common.{ℕ, List, [], length, arith, subst, sym}
 use Rattle.zst_space.specs.FreeSectors.{FreeSectors}
 use Rattle.zst_block.specs.Blocks.{Has}
 use Rattle.zst_block.specs.declared.ptr.Ptr.{Ptr}
-use Rattle.zst_block.proofs.Working.{Looks-then}
+use Rattle.zst_block.proofs.IoCallLemmas.{Looks-then}
 use Rattle.zst_model.specs.states.State.{BlockFits, index_bound}
 use Rattle.zst_tree.specs.Indices.{TreeIs}
 use Rattle.zst_tree.specs.declared.tree.Tree.{Tree}

@@ -5,7 +5,7 @@ use Rattle.zst_block.specs.Blocks.{Has}
 use Rattle.zst_block.specs.declared.ptr.Ptr.{Ptr}
 use Rattle.zst_objset.specs.Sets.{HasSlots, LeafIs}
 use Rattle.zst_objset.proofs.LeafLaws.{look_on, look_back}
-use Rattle.zst_objset.specs.Tight.{IsTightLeaf}
+use Rattle.zst_objset.specs.TightSets.{IsTightLeaf}
 use Rattle.zst_objset.proofs.TightLaws.{loaded_tight}
 use Rattle.zst_objset.proofs.leaves.find_slots.Goals as goal
 

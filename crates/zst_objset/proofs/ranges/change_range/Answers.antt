@@ -2,17 +2,17 @@ use Rattle.std.proofs.Common.{◌+◌, arith, sym}
 use Rattle.std.proofs.lemmas.Result.{err_from_is_err_and}
 use Rattle.zst_block.specs.Blocks.{Has}
 use Rattle.zst_block.proofs.BlocksLaws.{FillsFree-then}
-use Rattle.zst_block.proofs.Working.{Works-after, Works-more, Works-then}
+use Rattle.zst_block.proofs.IoCallLemmas.{Works-after, Works-more, Works-then}
 use Rattle.zst_objset.specs.Ranges.{IsRightNode, change_of}
 use Rattle.zst_objset.proofs.IndicesChanged.{Changes-indices, change_refused, in_range, indices_not_there, past_indices}
 use Rattle.zst_objset.proofs.LeafLaws.{is_number_at, keeps_on}
 use Rattle.zst_objset.proofs.RangeLaws.{change_fails, change_is, no_change}
-use Rattle.zst_objset.proofs.SetGrows.{SetHolds-grows}
+use Rattle.zst_objset.proofs.SetGrowth.{SetHolds-grows}
 use Rattle.zst_objset.proofs.SpillLaws.{stops}
 use Rattle.std.proofs.Common.{Err}
 use Rattle.zst_dnode.specs.declared.dnode.Dnode.{Dnode}
 use Rattle.zst_block.specs.Blocks.{SparesTaken}
-use Rattle.zst_tree.proofs.Told.{fills_looks}
+use Rattle.zst_tree.proofs.LaterDamage.{fills_looks}
 use Rattle.zst_objset.proofs.DamageLaws.{told_before, object_told, set_after, set_spared, tree_told}
 use Rattle.zst_model.specs.states.State.{index_bound}
 use Rattle.zst_model.specs.declared.refusals.faults.Quantity.TheVariants as quantities

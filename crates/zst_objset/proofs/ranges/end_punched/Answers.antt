@@ -1,7 +1,7 @@
 use Rattle.std.proofs.Common.{arith, ℕ, inl, inr, subst, Option}
 use Rattle.std.proofs.lemmas.Result.{err_from_is_err_and}
 use Rattle.zst_block.specs.Blocks.{Has}
-use Rattle.zst_tree.specs.Earlier.{FindsLast}
+use Rattle.zst_tree.specs.PresentIndices.{FindsLast}
 use Rattle.zst_objset.proofs.EndLaws.{end_kept, end_last, end_none}
 use Rattle.zst_objset.proofs.RangeLaws.{tree_is}
 use Rattle.zst_objset.proofs.ranges.end_punched.Goals as goal

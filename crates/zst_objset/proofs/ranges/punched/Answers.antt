@@ -2,18 +2,18 @@ use Rattle.std.proofs.Common.{ℕ, List, ap, sym, subst, if◌then◌else◌, Bo
 use Rattle.std.proofs.lemmas.Result.{err_from_is_err_and}
 use Rattle.zst_block.specs.Blocks.{Has}
 use Rattle.zst_block.specs.Ptr.{hole_of}
-use Rattle.zst_block.proofs.Working.{Works-after}
+use Rattle.zst_block.proofs.IoCallLemmas.{Works-after}
 use Rattle.zst_dnode.specs.declared.dnode.Dnode.{Dnode}
 use Rattle.zst_model.specs.states.State.{Hole}
 use Rattle.zst_space.specs.FreeSectors.{FreeSectors}
 use Rattle.zst_tree.specs.Indices.{TreeIs}
-use Rattle.zst_objset.specs.Putting.{MakesDnode}
+use Rattle.zst_objset.specs.SlotPuts.{MakesDnode}
 use Rattle.zst_objset.specs.Ranges.{free_of, put_range}
 use Rattle.zst_objset.proofs.AnswerLaws.{object_of}
 use Rattle.zst_objset.proofs.LeafLaws.{keeps_on, look_on}
 use Rattle.zst_objset.proofs.RangeLaws.{Fills-free, makes_range, tree_is}
-use Rattle.zst_objset.proofs.SetGrows.{ObjectIs-grows}
-use Rattle.zst_objset.proofs.Within.{Puts-range}
+use Rattle.zst_objset.proofs.SetGrowth.{ObjectIs-grows}
+use Rattle.zst_objset.proofs.RangeIndices.{Puts-range}
 use Rattle.std.proofs.Common.{arith}
 use Rattle.zst_block.specs.Blocks.{SparesTaken}
 use Rattle.zst_dnode.specs.Dnode.{DnodeFits}
@@ -24,7 +24,7 @@ use Rattle.zst_objset.proofs.DamageLaws.{told_before, sums_spared}
 use Rattle.zst_objset.proofs.TreeFits.{dnode_root, hole_fits, root_fits, with_tree_fits}
 use Rattle.std.proofs.Common.{⊎_elim, refl}
 use Rattle.std.proofs.lemmas.Bool.{cases_lt}
-use Rattle.zst_objset.specs.Tight.{IsTightDnode}
+use Rattle.zst_objset.specs.TightSets.{IsTightDnode}
 use Rattle.zst_objset.proofs.TightLaws.{range_tight}
 use Rattle.zst_objset.proofs.TreeFits.{with_tree}
 use Rattle.zst_objset.proofs.ranges.punched.Goals as goal

@@ -6,17 +6,17 @@ use Rattle.zst_block.proofs.BlocksLaws.{KeepsBlocks-fills}
 use Rattle.zst_dnode.specs.declared.dnode.Dnode.{Dnode}
 use Rattle.zst_model.specs.states.State.{Redacted, index_bound}
 use Rattle.zst_tree.specs.Indices.{TreeIs}
-use Rattle.zst_objset.specs.Putting.{MakesDnode}
+use Rattle.zst_objset.specs.SlotPuts.{MakesDnode}
 use Rattle.zst_objset.specs.Ranges.{put_range, redact_of}
 use Rattle.zst_objset.proofs.AnswerLaws.{object_of}
 use Rattle.zst_objset.proofs.RangeLaws.{Fills-redact, makes_range, redacted_odd, tree_is}
-use Rattle.zst_objset.proofs.SetGrows.{ObjectIs-grows}
-use Rattle.zst_objset.proofs.Within.{Puts-range}
+use Rattle.zst_objset.proofs.SetGrowth.{ObjectIs-grows}
+use Rattle.zst_objset.proofs.RangeIndices.{Puts-range}
 use Rattle.std.proofs.Common.{⊎_elim, arith}
 use Rattle.zst_dnode.specs.Dnode.{DnodeFits}
 use Rattle.zst_objset.specs.Dnodes.{tree_of}
 use Rattle.zst_objset.proofs.TreeFits.{dnode_root, redacted_fits, root_fits, with_tree_fits}
-use Rattle.zst_objset.specs.Tight.{IsTightDnode}
+use Rattle.zst_objset.specs.TightSets.{IsTightDnode}
 use Rattle.zst_objset.proofs.TightLaws.{range_tight}
 use Rattle.zst_objset.proofs.TreeFits.{with_tree}
 use Rattle.zst_objset.proofs.ranges.redacted.Goals as goal

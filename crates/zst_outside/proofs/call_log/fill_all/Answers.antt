@@ -2,7 +2,7 @@ use Rattle.std.proofs.Common.{◌∙◌, ◌<◌, ◌+◌, ℕ, subst, arith, ta
 use Rattle.std.proofs.lemmas.List.{take_more}
 use Rattle.std.proofs.lemmas.Bool.{cases_lt}
 use Rattle.zst_outside.specs.CallLog.{Touched}
-use Rattle.zst_outside.proofs.Filling.{untouched_at, touched_push}
+use Rattle.zst_outside.proofs.RangeLists.{untouched_at, touched_push}
 use Rattle.zst_outside.proofs.call_log.fill_all.Goals as goal
 
 pub loop-range-preserved : goal.loop-range-preserved

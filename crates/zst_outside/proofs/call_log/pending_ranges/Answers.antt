@@ -2,7 +2,7 @@ use Rattle.std.proofs.Common.{◌∙◌, ◌++◌, ◌∷◌, [], take, ap, sym,
 use Rattle.std.proofs.lemmas.List.{take_more}
 use Rattle.zst_outside.specs.CallLog.{pending, pending_after}
 use Rattle.zst_outside.specs.declared.call_log.Entry.{Entry}
-use Rattle.zst_outside.proofs.Past.{pending-push}
+use Rattle.zst_outside.proofs.CallLogLemmas.{pending-push}
 use Rattle.zst_outside.proofs.call_log.pending_ranges.Goals as goal
 
 pub loop-entry-preserved : goal.loop-entry-preserved

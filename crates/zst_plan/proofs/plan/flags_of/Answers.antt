@@ -2,8 +2,8 @@ use Rattle.std.proofs.Common.{◌∙◌, Option, sym, subst}
 use Rattle.zst_plan.specs.Places.{FindAlike}
 use Rattle.zst_plan.specs.Sources.{NamesSource}
 use Rattle.zst_plan.specs.declared.source.Source.{Source}
-use Rattle.zst_plan.proofs.Begun.{full_flags, with_clone, without_clone}
-use Rattle.zst_plan.proofs.Lookups.{none_alike, some_alike}
+use Rattle.zst_plan.proofs.BeginHeader.{full_flags, with_clone, without_clone}
+use Rattle.zst_plan.proofs.LookupLemmas.{none_alike, some_alike}
 use Rattle.zst_plan.proofs.plan.flags_of.Goals as goal
 
 pub returns-then-is_elsewhere : goal.returns-then-is_elsewhere

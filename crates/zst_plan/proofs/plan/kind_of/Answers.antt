@@ -1,7 +1,7 @@
 use Rattle.std.proofs.Common.{refl, sym}
 use Rattle.zst_model.specs.pools.Pool.{dataset_named, dataset_of_snapshot}
 use Rattle.zst_plan.specs.Sources.{FoundDataset}
-use Rattle.zst_plan.proofs.Lookups.{none_alike, some_alike}
+use Rattle.zst_plan.proofs.LookupLemmas.{none_alike, some_alike}
 use Rattle.zst_plan.proofs.plan.kind_of.Goals as goal
 
 pub returns-in-Some : goal.returns-in-Some

@@ -6,12 +6,12 @@ use Rattle.zst_model.specs.declared.refusals.plan_fault.PlanFault.{PlanFault}
 use Rattle.zst_model.specs.declared.refusals.plan_fault.PlanFault.TheVariants as faults
 use Rattle.zst_model.specs.declared.sends.header.Header.{Header}
 use Rattle.zst_model.specs.sends.Features.{resuming}
-use Rattle.zst_model.specs.states.Apply.{◌>>=◌}
+use Rattle.zst_model.specs.states.AppliedItems.{◌>>=◌}
 use Rattle.zst_plan.specs.Receipts.{IsBaseOf, IsRecvPlanOf}
 use Rattle.zst_plan.specs.RecvPlan.{Begins, RecvPlan, base_for, fresh_plan, if_new, if_plain, if_room, snapshot_name}
 use Rattle.zst_plan.specs.declared.receive.RecvPlan.TheVariants as plans
-use Rattle.zst_plan.proofs.Chain.{err_alike, ok_alike}
-use Rattle.zst_plan.proofs.Receiving.{answers, refuses, with_base}
+use Rattle.zst_plan.proofs.SendChecks.{err_alike, ok_alike}
+use Rattle.zst_plan.proofs.ReceiveChecks.{answers, refuses, with_base}
 use Rattle.zst_plan.proofs.receive.fresh_plan.Goals as goal
 
 pub returns-in_err-check_plain-clause-exact : goal.returns-in_err-check_plain-clause-exact

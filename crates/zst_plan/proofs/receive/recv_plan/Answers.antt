@@ -4,9 +4,9 @@ use Rattle.zst_model.specs.pools.Pool.{partial_of}
 use Rattle.zst_plan.specs.Places.{StandsAt}
 use Rattle.zst_plan.specs.Receipts.{IsRecvPlanOf}
 use Rattle.zst_plan.specs.RecvPlan.{component_for, fresh_plan, recv_plan, resumed_plan, snapshot_name}
-use Rattle.zst_plan.proofs.Chain.{err_alike, ok_alike}
-use Rattle.zst_plan.proofs.Lookups.{none_alike, some_alike}
-use Rattle.zst_plan.proofs.Receiving.{by_component, hands_on, partials_find, refuses}
+use Rattle.zst_plan.proofs.SendChecks.{err_alike, ok_alike}
+use Rattle.zst_plan.proofs.LookupLemmas.{none_alike, some_alike}
+use Rattle.zst_plan.proofs.ReceiveChecks.{by_component, hands_on, partials_find, refuses}
 use Rattle.zst_plan.proofs.receive.recv_plan.Goals as goal
 
 pub returns-in_err-name-clause-exact : goal.returns-in_err-name-clause-exact

@@ -1,11 +1,11 @@
 use Rattle.std.proofs.Common.{◌∙◌, List, get_or, ap}
-use Rattle.zst_dir.specs.Named.{NamesPartial}
+use Rattle.zst_dir.specs.RowNames.{NamesPartial}
 use Rattle.zst_dir.specs.declared.rows.Partial.{Partial}
 use Rattle.zst_plan.specs.Receipts.{IsRecvPlanOf}
 use Rattle.zst_plan.specs.RecvPlan.{Resumes, resumed_plan}
 use Rattle.zst_plan.specs.declared.receive.RecvPlan.TheVariants as plans
-use Rattle.zst_plan.proofs.Lookups.{at_names}
-use Rattle.zst_plan.proofs.Receiving.{answers, refuses}
+use Rattle.zst_plan.proofs.LookupLemmas.{at_names}
+use Rattle.zst_plan.proofs.ReceiveChecks.{answers, refuses}
 use Rattle.zst_plan.proofs.receive.resumed_plan.Goals as goal
 
 pub returns-in_err-check_resumed-clause-exact : goal.returns-in_err-check_resumed-clause-exact

@@ -1,13 +1,13 @@
 use Rattle.std.proofs.Common.{◌∙◌, ◌≡◌, ◌&&◌, ◌==◌, Bool, true, false, Option, Some, None, Ok, Err, bytes_eq, if◌then◌else◌, option_map, refl, sym, ap, subst}
 use Rattle.std.specs.List.{find}
 use Rattle.std.specs.Option.{ok_or}
-use Rattle.zst_dir.specs.Named.{NamesBookmark}
+use Rattle.zst_dir.specs.RowNames.{NamesBookmark}
 use Rattle.zst_model.specs.declared.refusals.plan_fault.PlanFault.{PlanFault}
 use Rattle.zst_model.specs.pools.Pool.{Bookmark}
 use Rattle.zst_model.specs.sends.SendPlan.{has_guids}
 use Rattle.zst_plan.specs.Places.{AnswerAlike, FindAlike, StandsAt}
 use Rattle.zst_plan.specs.ResumePlan.{is_marked, no_guid}
-use Rattle.zst_plan.proofs.Lookups.{both_find, none_alike, some_alike}
+use Rattle.zst_plan.proofs.LookupLemmas.{both_find, none_alike, some_alike}
 use Rattle.zst_plan.proofs.resume.find_marked.Goals as goal
 
 -- what is looked up where there are redaction guids

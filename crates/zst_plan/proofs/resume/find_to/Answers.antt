@@ -2,8 +2,8 @@ use Rattle.std.proofs.Common.{◌∙◌, ◌==◌, Some, None, Err, sym, subst}
 use Rattle.std.specs.List.{find}
 use Rattle.zst_plan.specs.Places.{AnswerAlike, StandsAt}
 use Rattle.zst_plan.specs.ResumePlan.{find_to, no_guid}
-use Rattle.zst_plan.proofs.Lookups.{answers_alike}
-use Rattle.zst_plan.proofs.Receiving.{guids_find}
+use Rattle.zst_plan.proofs.LookupLemmas.{answers_alike}
+use Rattle.zst_plan.proofs.ReceiveChecks.{guids_find}
 use Rattle.zst_plan.proofs.resume.find_to.Goals as goal
 
 pub returns-in-Some-clause-found : goal.returns-in-Some-clause-found

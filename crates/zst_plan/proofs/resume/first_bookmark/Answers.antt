@@ -1,12 +1,12 @@
 use Rattle.std.proofs.Common.{◌∙◌, List, Some, None, length, get_or, option_map, sym, ap, subst, arith}
-use Rattle.zst_dir.specs.Named.{NamesBookmark}
+use Rattle.zst_dir.specs.RowNames.{NamesBookmark}
 use Rattle.zst_dir.specs.declared.rows.Bookmark.{Bookmark}
-use Rattle.zst_model.specs.pools.Before.{OfBookmark}
+use Rattle.zst_model.specs.pools.Ancestry.{OfBookmark}
 use Rattle.zst_plan.specs.Places.{FindAlike}
 use Rattle.zst_plan.specs.ResumePlan.{is_from}
 use Rattle.zst_plan.specs.Sources.{IsSource}
 use Rattle.zst_plan.specs.declared.source.Source.TheVariants as sources
-use Rattle.zst_plan.proofs.First.{first_here, first_later, none_passes}
+use Rattle.zst_plan.proofs.FirstPlaces.{first_here, first_later, none_passes}
 use Rattle.zst_plan.proofs.resume.first_bookmark.Goals as goal
 
 pub returns-then-is_from-clause-found : goal.returns-then-is_from-clause-found

@@ -1,8 +1,8 @@
-use Rattle.zst_dir.specs.Named.{AreNamed, NamesSnapshot}
-use Rattle.zst_model.specs.pools.Before.{OfSnapshot}
+use Rattle.zst_dir.specs.RowNames.{AreNamed, NamesSnapshot}
+use Rattle.zst_model.specs.pools.Ancestry.{OfSnapshot}
 use Rattle.zst_model.specs.pools.Pool.{Pool, Snapshot}
 use Rattle.zst_plan.specs.ResumePlan.{is_from}
-use Rattle.zst_plan.proofs.First.{NoneBefore}
+use Rattle.zst_plan.proofs.FirstPlaces.{NoneBefore}
 use Rattle.zst_plan.proofs.resume.first_snapshot.Given as goal
 
 -- none so far is one that the token is from

@@ -1,8 +1,8 @@
 use Rattle.std.proofs.Common.{◌∙◌, List, ap, get_or}
 use Rattle.zst_dir.specs.declared.rows.Snapshot.{Snapshot}
 use Rattle.zst_plan.specs.ResumePlan.{find_from, find_marked, find_to, resumed_send}
-use Rattle.zst_plan.proofs.Chain.{checks_found, refuses_from, refuses_list, refuses_to, token_send}
-use Rattle.zst_plan.proofs.Lookups.{row_names}
+use Rattle.zst_plan.proofs.SendChecks.{checks_found, refuses_from, refuses_list, refuses_to, token_send}
+use Rattle.zst_plan.proofs.LookupLemmas.{row_names}
 use Rattle.zst_plan.proofs.resume.resume_plan.Goals as goal
 
 pub returns-in_err-snap-clause-exact : goal.returns-in_err-snap-clause-exact

@@ -3,9 +3,9 @@ use Rattle.zst_dir.specs.declared.rows.Snapshot.{Snapshot}
 use Rattle.zst_model.specs.sends.SendPlan.{sent_of}
 use Rattle.zst_plan.specs.Places.{AnswerAlike}
 use Rattle.zst_plan.specs.Plans.{IsPlanOf}
-use Rattle.zst_plan.proofs.Chain.{after_before, after_redaction, both_refuse, err_is, the_sent}
-use Rattle.zst_plan.proofs.Lookups.{row_names}
-use Rattle.zst_plan.proofs.Planned.{names_alike}
+use Rattle.zst_plan.proofs.SendChecks.{after_before, after_redaction, both_refuse, err_is, the_sent}
+use Rattle.zst_plan.proofs.LookupLemmas.{row_names}
+use Rattle.zst_plan.proofs.SendPlans.{names_alike}
 use Rattle.zst_plan.proofs.send.checked_plan.Goals as goal
 
 pub returns-in_err-check_before-clause-exact : goal.returns-in_err-check_before-clause-exact

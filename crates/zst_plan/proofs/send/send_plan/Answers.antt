@@ -1,5 +1,5 @@
 use Rattle.zst_model.specs.sends.SendPlan.{find_redaction, find_snapshot, find_source, send_plan}
-use Rattle.zst_plan.proofs.Chain.{checks_found, named_send, refuses_from, refuses_list, refuses_to}
+use Rattle.zst_plan.proofs.SendChecks.{checks_found, named_send, refuses_from, refuses_list, refuses_to}
 use Rattle.zst_plan.proofs.send.send_plan.Goals as goal
 
 pub returns-in_err-snap-clause-exact : goal.returns-in_err-snap-clause-exact

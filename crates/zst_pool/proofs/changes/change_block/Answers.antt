@@ -7,28 +7,28 @@ use Rattle.zst_block.specs.Blocks.{Has, SparesTaken}
 use Rattle.zst_block.proofs.BlocksLaws.{KeepsBlocks-fills}
 use Rattle.zst_model.specs.declared.refusals.refusal.Refusal.{Refusal}
 use Rattle.zst_model.specs.pools.Step.{filled, written}
-use Rattle.zst_model.specs.states.Dated.{DatedState, size_at}
+use Rattle.zst_model.specs.states.DatedState.{DatedState, size_at}
 use Rattle.zst_objset.specs.Answers.{Changes}
 use Rattle.zst_objset.specs.Changes.{block_written}
 use Rattle.zst_tree.specs.Sets.{SetFits}
-use Rattle.zst_image.proofs.Growing.{SetIs-grows}
-use Rattle.zst_image.proofs.One.{SetIs-holds}
-use Rattle.zst_pool.proofs.Known.{changes_known, written_dated}
+use Rattle.zst_image.proofs.Growth.{SetIs-grows}
+use Rattle.zst_image.proofs.OnePool.{SetIs-holds}
+use Rattle.zst_pool.proofs.ChangeDates.{changes_known, written_dated}
 use Rattle.zst_pool.specs.Heads.{ChangesHead, Works, of_change, of_head, stop_of}
 use Rattle.zst_pool.specs.Damage.{block_damage}
 use Rattle.zst_image.specs.Reads.{SetIs, bound_of, new_pool}
 use Rattle.zst_space.specs.FreeSectors.{FreeSectors}
 use Rattle.zst_tree.specs.Damage.{IsSeen, NamesNode}
 use Rattle.zst_objset.specs.Damage.{IsDamagedObject, IsDamagedSet}
-use Rattle.zst_pool.proofs.Changing.{filled_length}
-use Rattle.zst_pool.proofs.Judging.{err_is}
-use Rattle.zst_pool.proofs.Damaged.{damaged_call, damaged_err}
+use Rattle.zst_pool.proofs.HeadChanges.{filled_length}
+use Rattle.zst_pool.proofs.CheckLemmas.{err_is}
+use Rattle.zst_pool.proofs.DamageLemmas.{damaged_call, damaged_err}
 use Rattle.zst_pool.proofs.Room.{block-sectors}
-use Rattle.zst_pool.proofs.Taking.{works_looks, works_then, works_wider}
-use Rattle.zst_pool.proofs.Writing.{call_changes, call_ok, call_works, stop_same}
+use Rattle.zst_pool.proofs.TakenSectors.{works_looks, works_then, works_wider}
+use Rattle.zst_pool.proofs.SetCalls.{call_changes, call_ok, call_works, stop_same}
 use Rattle.zst_pool.proofs.changes.change_block.Given.{Over}
 use Rattle.zst_pool.specs.declared.fault.PoolFault.TheVariants.{Plan}
-use Rattle.zst_pool.proofs.Planned.{past_indices}
+use Rattle.zst_pool.proofs.PlanLemmas.{past_indices}
 use Rattle.zst_pool.proofs.changes.change_block.Goals as goal
 use Rattle.zst_pool.proofs.changes.change_block.Goals.{After-answer}
 

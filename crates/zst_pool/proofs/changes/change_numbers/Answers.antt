@@ -2,16 +2,16 @@ use Rattle.std.proofs.Common.{ℕ, sym, ap, ◌∙◌, subst, arith, ◌+◌}
 use Rattle.std.specs.Prelude.{Result}
 use Rattle.zst_block.specs.Blocks.{Has}
 use Rattle.zst_model.specs.declared.refusals.refusal.Refusal.{Refusal}
-use Rattle.zst_model.specs.states.Dated.{DatedState}
+use Rattle.zst_model.specs.states.DatedState.{DatedState}
 use Rattle.zst_objset.specs.Answers.{Changes}
 use Rattle.zst_objset.specs.Changes.{objects_freed}
 use Rattle.zst_image.specs.Reads.{SetIs, bound_of}
-use Rattle.zst_pool.proofs.Known.{changes_known, freed_dated}
+use Rattle.zst_pool.proofs.ChangeDates.{changes_known, freed_dated}
 use Rattle.zst_pool.specs.Damage.{slots_damage}
-use Rattle.zst_pool.proofs.Damaged.{damaged_call}
-use Rattle.zst_pool.proofs.Taking.{tree_blocks, works_wider}
-use Rattle.zst_pool.proofs.Writing.{call_changes, call_works}
-use Rattle.zst_pool.proofs.Planned.{past_numbers}
+use Rattle.zst_pool.proofs.DamageLemmas.{damaged_call}
+use Rattle.zst_pool.proofs.TakenSectors.{tree_blocks, works_wider}
+use Rattle.zst_pool.proofs.SetCalls.{call_changes, call_works}
+use Rattle.zst_pool.proofs.PlanLemmas.{past_numbers}
 use Rattle.zst_pool.proofs.changes.change_numbers.Goals as goal
 
 pub returns-clause-changed : goal.returns-clause-changed

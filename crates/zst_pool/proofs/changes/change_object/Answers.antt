@@ -3,24 +3,24 @@ use Rattle.std.proofs.Common.{◌≡◌, ◌⊎◌, ℕ, ◌+◌, ◌*◌, ◌/�
 use Rattle.zst_block.specs.Blocks.{Has, SparesTaken}
 use Rattle.zst_model.specs.declared.refusals.refusal.Refusal.{Refusal}
 use Rattle.zst_model.specs.pools.Pool.{Pool}
-use Rattle.zst_model.specs.states.Dated.{DatedState}
+use Rattle.zst_model.specs.states.DatedState.{DatedState}
 use Rattle.zst_objset.specs.Changes.{object_made, object_put, spill_put}
 use Rattle.zst_objset.specs.Damage.{IsDamagedSet, IsSetWithin}
 use Rattle.zst_tree.specs.Sets.{SetFits}
 use Rattle.zst_pool.specs.Damage.{IfHeadDamaged, slots_damage}
-use Rattle.zst_pool.proofs.Damaged.{damaged_call, damaged_err}
+use Rattle.zst_pool.proofs.DamageLemmas.{damaged_call, damaged_err}
 use Rattle.zst_pool.specs.Checks.{put_in}
 use Rattle.zst_pool.specs.Heads.{ChangesHead, Works, of_change, stop_of}
 use Rattle.zst_pool.specs.declared.head_fault.HeadFault.{HeadFault}
 use Rattle.zst_pool.specs.Cost.{object_cells, spill_sectors}
-use Rattle.zst_pool.proofs.Changing.{put_fault, then_spilled}
-use Rattle.zst_pool.proofs.Judging.{err_is}
-use Rattle.zst_pool.proofs.Taking.{tree_blocks, works_then, works_wider}
+use Rattle.zst_pool.proofs.HeadChanges.{put_fault, then_spilled}
+use Rattle.zst_pool.proofs.CheckLemmas.{err_is}
+use Rattle.zst_pool.proofs.TakenSectors.{tree_blocks, works_then, works_wider}
 use Rattle.zst_image.specs.Reads.{SetIs, bound_of}
-use Rattle.zst_pool.proofs.Known.{changes_known, put_dated, spill_dated}
-use Rattle.zst_pool.proofs.Writing.{call_changes, call_ok, call_works, went_well}
+use Rattle.zst_pool.proofs.ChangeDates.{changes_known, put_dated, spill_dated}
+use Rattle.zst_pool.proofs.SetCalls.{call_changes, call_ok, call_works, went_well}
 use Rattle.zst_pool.proofs.changes.change_object.Given.{Over}
-use Rattle.zst_pool.proofs.Planned.{no_plan, past_numbers}
+use Rattle.zst_pool.proofs.PlanLemmas.{no_plan, past_numbers}
 use Rattle.zst_pool.proofs.changes.change_object.Goals as goal
 use Rattle.zst_pool.proofs.changes.change_object.Goals.{After-answer}
 

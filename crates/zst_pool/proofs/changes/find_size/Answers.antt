@@ -5,10 +5,10 @@ use Rattle.zst_dnode.specs.declared.dnode.Dnode.{Dnode}
 use Rattle.zst_model.specs.pools.Step.{written}
 use Rattle.zst_objset.specs.Dnodes.{DnodeAt}
 use Rattle.zst_pool.specs.Heads.{ChangeFault, of_head}
-use Rattle.zst_pool.proofs.Changing.{written_absent, written_long}
-use Rattle.zst_pool.proofs.Finding.{none_found, some_found}
-use Rattle.zst_pool.proofs.Writing.{disk_is}
-use Rattle.zst_pool.proofs.Planned.{no_plan-block}
+use Rattle.zst_pool.proofs.HeadChanges.{written_absent, written_long}
+use Rattle.zst_pool.proofs.LookupLemmas.{none_found, some_found}
+use Rattle.zst_pool.proofs.SetCalls.{disk_is}
+use Rattle.zst_pool.proofs.PlanLemmas.{no_plan-block}
 use Rattle.zst_pool.proofs.changes.find_size.Goals as goal
 
 pub returns-in-Ok-None-clause-found : goal.returns-in-Ok-None-clause-found

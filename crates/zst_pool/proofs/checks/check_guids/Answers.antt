@@ -1,5 +1,5 @@
 use Rattle.std.proofs.Common.{arith}
-use Rattle.zst_pool.proofs.Judging.{at_last_guid, below_last_guid}
+use Rattle.zst_pool.proofs.CheckLemmas.{at_last_guid, below_last_guid}
 use Rattle.zst_pool.proofs.checks.check_guids.Goals as goal
 
 pub returns-then-guids-ge-LAST_GUID-clause-judged : goal.returns-then-guids-ge-LAST_GUID-clause-judged

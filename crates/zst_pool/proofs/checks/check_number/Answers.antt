@@ -1,5 +1,5 @@
 use Rattle.std.proofs.Common.{arith}
-use Rattle.zst_pool.proofs.Judging.{at_last_number, below_last_number}
+use Rattle.zst_pool.proofs.CheckLemmas.{at_last_number, below_last_number}
 use Rattle.zst_pool.proofs.checks.check_number.Goals as goal
 
 pub returns-then-number-ge-LAST_NUMBER-clause-judged : goal.returns-then-number-ge-LAST_NUMBER-clause-judged

@@ -1,5 +1,5 @@
 use Rattle.std.proofs.Common.{ap, ◌∙◌, ◌+◌, length}
-use Rattle.zst_pool.proofs.Judging.{datasets_are_counted}
+use Rattle.zst_pool.proofs.CheckLemmas.{datasets_are_counted}
 use Rattle.zst_pool.proofs.checks.count_datasets.Goals as goal
 
 pub returns : goal.returns

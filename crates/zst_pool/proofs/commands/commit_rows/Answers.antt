@@ -1,13 +1,13 @@
 use Rattle.std.specs.Prelude.{None}
 use Rattle.std.proofs.Common.{refl, sym, ◌∙◌}
-use Rattle.zst_model.specs.pools.Kept.{kept_of}
+use Rattle.zst_model.specs.pools.KeptPool.{kept_of}
 use Rattle.zst_pool.specs.Cost.{cells_only}
 use Rattle.zst_pool.specs.Damage.{NoDamage}
-use Rattle.zst_pool.proofs.Committed.{committed_sound}
-use Rattle.zst_pool.proofs.Doing.{did_rows}
-use Rattle.zst_pool.proofs.Planned.{no_plan-commit}
-use Rattle.zst_pool.proofs.Resting.{begun, way_runs}
-use Rattle.zst_pool.proofs.Running.{idle_wrote, runs_committed, runs_sound}
+use Rattle.zst_pool.proofs.CommitAnswers.{committed_sound}
+use Rattle.zst_pool.proofs.CommandEnds.{did_rows}
+use Rattle.zst_pool.proofs.PlanLemmas.{no_plan-commit}
+use Rattle.zst_pool.proofs.PoolsAtRest.{begun, way_runs}
+use Rattle.zst_pool.proofs.CommandRuns.{idle_wrote, runs_committed, runs_sound}
 use Rattle.zst_pool.proofs.commands.commit_rows.Goals as goal
 
 pub returns-clause-runs : goal.returns-clause-runs

@@ -12,11 +12,11 @@ use Rattle.zst_pool.specs.Cost.{cells_only}
 use Rattle.zst_pool.specs.Damage.{NoDamage}
 use Rattle.zst_image.specs.Reads.{IsNamedBy, RunsBy, bound_of}
 use Rattle.zst_pool.proofs.Bounds.{RunsBy-later}
-use Rattle.zst_pool.proofs.Judging.{err_is}
+use Rattle.zst_pool.proofs.CheckLemmas.{err_is}
 use Rattle.zst_pool.proofs.NextPools.{dataset_runs, new_row, new_row_is_new}
-use Rattle.zst_pool.proofs.Resting.{few_guids, rest_named, runs_named}
-use Rattle.zst_pool.proofs.Running.{runs_planned, runs_starved}
-use Rattle.zst_pool.proofs.Planned.{made_apart, plans_apart, plans_refused}
+use Rattle.zst_pool.proofs.PoolsAtRest.{few_guids, rest_named, runs_named}
+use Rattle.zst_pool.proofs.CommandRuns.{runs_planned, runs_starved}
+use Rattle.zst_pool.proofs.PlanLemmas.{made_apart, plans_apart, plans_refused}
 use Rattle.zst_pool.proofs.commands.make_dataset.Given.{Over}
 use Rattle.zst_pool.proofs.commands.make_dataset.Goals.{In_ok-check_number}
 use Rattle.zst_pool.proofs.commands.make_dataset.Goals as goal

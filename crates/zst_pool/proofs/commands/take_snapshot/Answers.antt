@@ -15,12 +15,12 @@ use Rattle.zst_pool.specs.declared.fault.PoolFault.TheVariants.{OutOfMemory, Pla
 use Rattle.zst_pool.specs.Cost.{cells_only}
 use Rattle.zst_pool.specs.Damage.{NoDamage}
 use Rattle.zst_pool.proofs.Bounds.{RunsBy-later}
-use Rattle.zst_pool.proofs.Judging.{err_is}
-use Rattle.zst_dir.proofs.Matching.{Match-alike}
+use Rattle.zst_pool.proofs.CheckLemmas.{err_is}
+use Rattle.zst_dir.proofs.Matches.{Match-alike}
 use Rattle.zst_pool.proofs.NextPools.{snapshot_runs}
-use Rattle.zst_pool.proofs.Planned.{made_apart, plans_apart, plans_refused, told_or_last}
-use Rattle.zst_pool.proofs.Resting.{rest_named, runs_named}
-use Rattle.zst_pool.proofs.Running.{runs_planned, runs_starved}
+use Rattle.zst_pool.proofs.PlanLemmas.{made_apart, plans_apart, plans_refused, told_or_last}
+use Rattle.zst_pool.proofs.PoolsAtRest.{rest_named, runs_named}
+use Rattle.zst_pool.proofs.CommandRuns.{runs_planned, runs_starved}
 use Rattle.zst_pool.proofs.commands.take_snapshot.Goals as goal
 
 pub new_snapshot-snapshot-requires-clause-row : goal.new_snapshot-snapshot-requires-clause-row

@@ -3,34 +3,34 @@ use Rattle.std.proofs.Common.{◌≡◌, ◌+◌, ◌≤◌, Bool, length, refl,
 use Rattle.zst_tree.specs.Sets.{SetFits}
 use Rattle.zst_outside.specs.Images.{DiskState}
 use Rattle.zst_block.specs.Blocks.{Has}
-use Rattle.zst_block.specs.Working as blocks
+use Rattle.zst_block.specs.IoCalls as blocks
 use Rattle.zst_model.specs.declared.refusals.refusal.Refusal.{Refusal}
-use Rattle.zst_model.specs.states.Apply.{◌>>=◌}
-use Rattle.zst_model.specs.states.Dated.{DatedState}
+use Rattle.zst_model.specs.states.AppliedItems.{◌>>=◌}
+use Rattle.zst_model.specs.states.DatedState.{DatedState}
 use Rattle.zst_model.specs.pools.Pool.{Pool}
 use Rattle.zst_model.specs.pools.Step.{Stepped, committed, on_head}
 use Rattle.zst_dir.specs.Rows.{Rows, with_head}
 use Rattle.zst_dir.specs.Spelling.{dir_bytes}
-use Rattle.zst_model.specs.pools.Kept.{kept_of}
+use Rattle.zst_model.specs.pools.KeptPool.{kept_of}
 use Rattle.zst_image.specs.Reads.{RunsBy, bound_of}
 use Rattle.zst_pool.specs.Calls.{IsUnderWay}
 use Rattle.zst_pool.specs.Checks.{with_head_of}
-use Rattle.zst_pool.specs.Making.{MakesRows}
+use Rattle.zst_pool.specs.RowChanges.{MakesRows}
 use Rattle.zst_pool.specs.Faults.{StepFault}
 use Rattle.zst_pool.specs.Heads.{ChangedHead, stop_of}
 use Rattle.zst_pool.specs.Cost.{Cost}
 use Rattle.zst_pool.specs.declared.fault.PoolFault.{PoolFault}
 use Rattle.zst_pool.specs.declared.fault.PoolFault.TheVariants.{Damaged, OutOfMemory, Plan}
-use Rattle.zst_pool.proofs.Doing.{did_rows}
+use Rattle.zst_pool.proofs.CommandEnds.{did_rows}
 use Rattle.zst_pool.proofs.Bounds.{RunsBy-later}
-use Rattle.zst_pool.proofs.Judging.{err_is}
+use Rattle.zst_pool.proofs.CheckLemmas.{err_is}
 use Rattle.zst_pool.proofs.NextPools.{head_runs}
-use Rattle.zst_pool.proofs.Resting.{few_guids, way_runs}
-use Rattle.zst_pool.proofs.Committed.{committed_sound}
-use Rattle.zst_pool.proofs.Judged.{memory_stops, well_is}
-use Rattle.zst_pool.proofs.Running.{Wrote, runs_committed, runs_fell}
+use Rattle.zst_pool.proofs.PoolsAtRest.{few_guids, way_runs}
+use Rattle.zst_pool.proofs.CommitAnswers.{committed_sound}
+use Rattle.zst_pool.proofs.HeadAnswers.{memory_stops, well_is}
+use Rattle.zst_pool.proofs.CommandRuns.{Wrote, runs_committed, runs_fell}
 use Rattle.zst_pool.proofs.heads.commit_head.Given.{Over}
-use Rattle.zst_pool.proofs.Planned.{no_plan-commit}
+use Rattle.zst_pool.proofs.PlanLemmas.{no_plan-commit}
 use Rattle.zst_pool.proofs.heads.commit_head.Goals as goal
 use Rattle.zst_pool.proofs.heads.commit_head.Goals.{After-judge}
 

@@ -5,13 +5,13 @@ use Rattle.zst_pool.specs.Cost.{cells_only}
 use Rattle.zst_image.specs.Reads.{free_by}
 use Rattle.zst_pool.specs.declared.fault.PoolFault.TheVariants.{Plan}
 use Rattle.zst_model.specs.pools.Step.{on_head}
-use Rattle.zst_pool.proofs.Judging.{err_is}
+use Rattle.zst_pool.proofs.CheckLemmas.{err_is}
 use Rattle.zst_pool.specs.Damage.{OfHead, slots_damage}
 use Rattle.zst_tree.specs.Sets.{SetFits}
-use Rattle.zst_pool.proofs.Judged.{always}
-use Rattle.zst_pool.proofs.Running.{changed_head, runs_head, runs_planned}
-use Rattle.zst_pool.proofs.Resting.{ready_after, rest_named}
-use Rattle.zst_pool.proofs.Planned.{freed_apart, head_apart, head_limits, plans_apart, plans_refused}
+use Rattle.zst_pool.proofs.HeadAnswers.{always}
+use Rattle.zst_pool.proofs.CommandRuns.{changed_head, runs_head, runs_planned}
+use Rattle.zst_pool.proofs.PoolsAtRest.{ready_after, rest_named}
+use Rattle.zst_pool.proofs.PlanLemmas.{freed_apart, head_apart, head_limits, plans_apart, plans_refused}
 use Rattle.zst_pool.proofs.heads.free_objects.Goals as goal
 
 pub commit_head-requires-clause-ready : goal.commit_head-requires-clause-ready

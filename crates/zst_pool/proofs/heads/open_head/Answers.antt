@@ -1,5 +1,5 @@
 use Rattle.std.proofs.Common.{refl, subst}
-use Rattle.zst_model.specs.states.Apply.{◌>>=◌}
+use Rattle.zst_model.specs.states.AppliedItems.{◌>>=◌}
 use Rattle.zst_model.specs.pools.Step.{committed}
 use Rattle.zst_pool.specs.Checks.{with_head_of}
 use Rattle.zst_dir.specs.Rows.{IsDatasetRow}

@@ -5,11 +5,11 @@ use Rattle.zst_pool.specs.Cost.{object_cost, spill_sectors}
 use Rattle.zst_image.specs.Reads.{free_by}
 use Rattle.zst_pool.specs.declared.fault.PoolFault.TheVariants.{Plan}
 use Rattle.zst_model.specs.pools.Step.{on_head}
-use Rattle.zst_pool.proofs.Judging.{err_is}
+use Rattle.zst_pool.proofs.CheckLemmas.{err_is}
 use Rattle.zst_pool.specs.Damage.{OfHead, slots_damage}
-use Rattle.zst_pool.proofs.Running.{changed_head, runs_head, runs_planned}
-use Rattle.zst_pool.proofs.Resting.{ready_after, rest_named}
-use Rattle.zst_pool.proofs.Planned.{put_apart, head_apart, head_limits, plans_apart, plans_refused}
+use Rattle.zst_pool.proofs.CommandRuns.{changed_head, runs_head, runs_planned}
+use Rattle.zst_pool.proofs.PoolsAtRest.{ready_after, rest_named}
+use Rattle.zst_pool.proofs.PlanLemmas.{put_apart, head_apart, head_limits, plans_apart, plans_refused}
 use Rattle.zst_pool.proofs.heads.put_object.Goals as goal
 
 pub commit_head-requires-clause-ready : goal.commit_head-requires-clause-ready

@@ -4,13 +4,13 @@ use Rattle.zst_model.specs.pools.Step.{written, on_head}
 use Rattle.zst_pool.specs.Cost.{write_cost}
 use Rattle.zst_image.specs.Reads.{free_by}
 use Rattle.zst_pool.specs.declared.fault.PoolFault.TheVariants.{Plan}
-use Rattle.zst_pool.proofs.Judging.{err_is}
+use Rattle.zst_pool.proofs.CheckLemmas.{err_is}
 use Rattle.zst_pool.specs.Damage.{OfHead, block_damage}
 use Rattle.zst_pool.specs.Heads.{Works, stop_of}
-use Rattle.zst_pool.proofs.Costing.{block_is}
-use Rattle.zst_pool.proofs.Running.{changed_head, runs_head, runs_planned}
-use Rattle.zst_pool.proofs.Resting.{ready_after, rest_named}
-use Rattle.zst_pool.proofs.Planned.{written_apart, head_apart, head_limits, plans_apart, plans_refused}
+use Rattle.zst_pool.proofs.BlockCosts.{block_is}
+use Rattle.zst_pool.proofs.CommandRuns.{changed_head, runs_head, runs_planned}
+use Rattle.zst_pool.proofs.PoolsAtRest.{ready_after, rest_named}
+use Rattle.zst_pool.proofs.PlanLemmas.{written_apart, head_apart, head_limits, plans_apart, plans_refused}
 use Rattle.zst_pool.proofs.heads.write_block.Goals as goal
 
 pub commit_head-requires-clause-ready : goal.commit_head-requires-clause-ready

@@ -1,4 +1,4 @@
-use Rattle.zst_pool.proofs.Resting.{commit_still, partial_still, rests_on, rests_still, since}
+use Rattle.zst_pool.proofs.PoolsAtRest.{commit_still, partial_still, rests_on, rests_still, since}
 use Rattle.zst_pool.proofs.laws.blocks_leave_it_at_rest.Goals as goal
 
 pub returns-clause-rests : goal.returns-clause-rests

@@ -1,4 +1,4 @@
-use Rattle.zst_pool.proofs.Resting.{kept_same, rests_opened}
+use Rattle.zst_pool.proofs.PoolsAtRest.{kept_same, rests_opened}
 use Rattle.zst_pool.proofs.laws.opened_is_at_rest.Goals as goal
 
 pub returns-clause-rests : goal.returns-clause-rests

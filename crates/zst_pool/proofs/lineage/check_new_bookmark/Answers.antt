@@ -1,8 +1,8 @@
 use Rattle.std.proofs.Common.{◌∙◌, sym, ap, is_some, List, Err, arith, length}
 use Rattle.zst_model.specs.pools.Step.{exists_already}
-use Rattle.zst_model.specs.declared.refusals.named.Name.TheVariants as names
+use Rattle.zst_model.specs.declared.refusals.subjects.Name.TheVariants as names
 use Rattle.zst_dir.specs.declared.rows.Bookmark.{Bookmark}
-use Rattle.zst_pool.proofs.Found.{bookmark_is_new, bookmark_is_taken, bookmarks_are_many, no_bookmark}
+use Rattle.zst_pool.proofs.SnapshotRows.{bookmark_is_new, bookmark_is_taken, bookmarks_are_many, no_bookmark}
 use Rattle.zst_pool.proofs.lineage.check_new_bookmark.Goals as goal
 
 pub returns-then-is_some-clause-judged : goal.returns-then-is_some-clause-judged

@@ -1,6 +1,6 @@
 use Rattle.std.proofs.Common.{sym, ap, ◌∙◌}
 use Rattle.zst_model.specs.pools.Step.{busy_clone, busy_partial, unless_there}
-use Rattle.zst_pool.proofs.Destroying.{clone_by_rows, held_by_rows, nothing_holds}
+use Rattle.zst_pool.proofs.DestroyedRows.{clone_by_rows, held_by_rows, nothing_holds}
 use Rattle.zst_pool.proofs.lineage.check_unused.Goals as goal
 
 pub returns-in-Some-clause-judged : goal.returns-in-Some-clause-judged

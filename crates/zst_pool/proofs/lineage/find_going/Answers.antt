@@ -1,6 +1,6 @@
 use Rattle.std.proofs.Common.{sym, ◌∙◌, subst, Ok}
 use Rattle.zst_pool.specs.Lineage.{FindsGoing}
-use Rattle.zst_pool.proofs.Destroying.{going_is_absent, going_is_found}
+use Rattle.zst_pool.proofs.DestroyedRows.{going_is_absent, going_is_found}
 use Rattle.zst_pool.proofs.lineage.find_going.Goals as goal
 
 pub returns-then-not-is_there-clause-found : goal.returns-then-not-is_there-clause-found

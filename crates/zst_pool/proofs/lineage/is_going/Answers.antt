@@ -1,5 +1,5 @@
 use Rattle.std.proofs.Common.{sym, ◌∙◌}
-use Rattle.zst_pool.proofs.MayGo.{never_goes}
+use Rattle.zst_pool.proofs.SnapshotRemovals.{never_goes}
 use Rattle.zst_pool.proofs.lineage.is_going.Goals as goal
 
 pub returns-else-may_go : goal.returns-else-may_go

@@ -2,7 +2,7 @@ use Rattle.std.proofs.Common.{refl, sym, ap, ◌∙◌}
 use Rattle.zst_model.specs.pools.Pool.{dataset_named}
 use Rattle.zst_model.specs.pools.Step.{clone_of}
 use Rattle.zst_pool.specs.Checks.{with_new}
-use Rattle.zst_pool.proofs.Found.{clone_is_new}
+use Rattle.zst_pool.proofs.SnapshotRows.{clone_is_new}
 use Rattle.zst_pool.proofs.lineage.plan_clone.Goals as goal
 
 pub returns-clause-judged : goal.returns-clause-judged

@@ -1,4 +1,4 @@
-use Rattle.zst_pool.proofs.Listed.{row_told}
+use Rattle.zst_pool.proofs.BookmarkLists.{row_told}
 use Rattle.zst_pool.proofs.lists.read_row.Goals as goal
 
 pub returns-in_err-list-clause-damaged : goal.returns-in_err-list-clause-damaged

@@ -3,7 +3,7 @@ use Rattle.zst_names.specs.Names.{dataset_of}
 use Rattle.zst_dir.specs.Rows.{IsSnapshotRow}
 use Rattle.zst_dir.specs.declared.rows.Snapshot.{Snapshot}
 use Rattle.zst_pool.specs.Partials.{last_where}
-use Rattle.zst_pool.proofs.Latest.{last-passes, last-fails, last-all, last-holds}
+use Rattle.zst_pool.proofs.LastElements.{last-passes, last-fails, last-all, last-holds}
 use Rattle.zst_pool.proofs.partials.latest_of.Goals as goal
 use Rattle.zst_pool.proofs.partials.latest_of.Goals.{then-eq, else-eq}
 

@@ -5,7 +5,7 @@ use Rattle.zst_model.specs.pools.Step.{stepped}
 use Rattle.zst_image.specs.Reads.{free_by}
 use Rattle.zst_pool.specs.Cost.{cost_of}
 use Rattle.zst_pool.specs.Damage.{TellsDamage}
-use Rattle.zst_pool.specs.Runs.{Runs}
+use Rattle.zst_pool.specs.CommandRuns.{Runs}
 use Rattle.zst_pool.specs.Plans.{Plans, indices_end, numbers_end}
 use Rattle.zst_pool.proofs.pool.run.Goals as goal
 

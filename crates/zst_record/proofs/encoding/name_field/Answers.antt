@@ -1,6 +1,6 @@
 use Rattle.std.proofs.Common.{◌∙◌, ap}
 use Rattle.zst_record.specs.Table.{padded}
-use Rattle.zst_record.proofs.Padded.{written-padded}
+use Rattle.zst_record.proofs.PaddedTexts.{written-padded}
 use Rattle.zst_record.proofs.encoding.name_field.Goals as goal
 
 pub returns : goal.returns

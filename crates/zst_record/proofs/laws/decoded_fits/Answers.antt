@@ -1,4 +1,4 @@
-use Rattle.zst_record.proofs.FitsLaws.{begins, follows}
+use Rattle.zst_record.proofs.RecordValueLaws.{begins, follows}
 use Rattle.zst_record.proofs.laws.decoded_fits.Goals as goal
 
 pub returns-clause-first : goal.returns-clause-first

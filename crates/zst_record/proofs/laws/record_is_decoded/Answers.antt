@@ -1,4 +1,4 @@
-use Rattle.zst_record.proofs.DecodeLaws.{later-back}
+use Rattle.zst_record.proofs.DecodingLaws.{later-back}
 use Rattle.zst_record.proofs.laws.record_is_decoded.Goals as goal
 
 pub returns : goal.returns

@@ -1,26 +1,26 @@
 use Rattle.std.proofs.Common.{◌≡◌, Ok, Err, sym, ◌∙◌, subst, [], ◌∷◌, ℕ}
 use Rattle.zst_apply.specs.Damage.{apply_damage}
 use Rattle.zst_block.specs.Blocks.{Has, SparesTaken}
-use Rattle.zst_record.specs.Fits.{Fits, IsLater}
+use Rattle.zst_record.specs.RecordValues.{Fits, IsLater}
 use Rattle.zst_record.specs.Heads.{covered_of}
 use Rattle.zst_record.specs.declared.head.Head.{Head}
 use Rattle.zst_record.specs.declared.head.Head.TheVariants as heads
-use Rattle.zst_stream.specs.Passed.{bare_head}
+use Rattle.zst_stream.specs.PassedRecords.{bare_head}
 use Rattle.zst_pool.specs.declared.fault.PoolFault.TheVariants as pools
 use Rattle.zst_recv.specs.Faults.{IsRecordFault, of_record, stop_at}
-use Rattle.zst_recv.specs.Receiving.{moved_by}
-use Rattle.zst_recv.specs.Taking.{TakeFault}
+use Rattle.zst_recv.specs.ReceiveSteps.{moved_by}
+use Rattle.zst_recv.specs.TakenRecords.{TakeFault}
 use Rattle.zst_recv.specs.declared.fault.RecvFault.{RecvFault}
 use Rattle.zst_image.specs.Reads.{bound_of}
 use Rattle.zst_stream.specs.Items.{items_by}
 use Rattle.zst_recv.specs.declared.fault.RecvFault.TheVariants as faults
-use Rattle.zst_recv.proofs.Damaging.{err_told, told_record}
-use Rattle.zst_recv.proofs.Moving.{applies_so, ends_fit, known_record, moved_is, refused_is}
+use Rattle.zst_recv.proofs.DamageLemmas.{err_told, told_record}
+use Rattle.zst_recv.proofs.RecordEffects.{applies_so, ends_fit, known_record, moved_is, refused_is}
 use Rattle.std.specs.Prelude.{Option}
 use Rattle.zst_block.specs.declared.fault.BlockFault.{BlockFault}
 use Rattle.zst_recv.specs.Costs.{Spends}
-use Rattle.zst_recv.proofs.Spending.{spends_one, stop_same}
-use Rattle.zst_recv.proofs.Planning.{record_unplanned}
+use Rattle.zst_recv.proofs.CostLemmas.{spends_one, stop_same}
+use Rattle.zst_recv.proofs.PlanRefusals.{record_unplanned}
 use Rattle.zst_recv.proofs.batch.move_by.Goals as goal
 
 -- a record behind BEGIN fits as it stands

@@ -1,4 +1,4 @@
-use Rattle.zst_replication.proofs.Matched.{bases_matched}
+use Rattle.zst_replication.proofs.MatchingBases.{bases_matched}
 use Rattle.zst_replication.proofs.laws.bases_match.Goals as goal
 
 pub returns : goal.returns

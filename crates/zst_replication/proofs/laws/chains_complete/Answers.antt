@@ -1,4 +1,4 @@
-use Rattle.zst_replication.proofs.Chained.{chains_complete, chains_underway}
+use Rattle.zst_replication.proofs.Chains.{chains_complete, chains_underway}
 use Rattle.zst_replication.proofs.laws.chains_complete.Goals as goal
 
 pub returns : goal.returns

@@ -1,4 +1,4 @@
-use Rattle.zst_replication.proofs.Stopped.{cut_nothing}
+use Rattle.zst_replication.proofs.StoppedReceives.{cut_nothing}
 use Rattle.zst_replication.proofs.laws.cut_leaves_nothing.Goals as goal
 
 pub returns : goal.returns

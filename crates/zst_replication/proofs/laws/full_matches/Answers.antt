@@ -1,4 +1,4 @@
-use Rattle.zst_replication.proofs.Matched.{full_match}
+use Rattle.zst_replication.proofs.MatchingBases.{full_match}
 use Rattle.zst_replication.proofs.laws.full_matches.Goals as goal
 
 pub returns : goal.returns

@@ -1,4 +1,4 @@
-use Rattle.zst_replication.proofs.Going.{kept_left}
+use Rattle.zst_replication.proofs.FeedSequences.{kept_left}
 use Rattle.zst_replication.proofs.laws.left_is_kept.Goals as goal
 
 pub returns : goal.returns

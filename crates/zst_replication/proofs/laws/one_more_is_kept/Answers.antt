@@ -1,4 +1,4 @@
-use Rattle.zst_replication.proofs.Ended.{one_more_kept}
+use Rattle.zst_replication.proofs.FinishedReceives.{one_more_kept}
 use Rattle.zst_replication.proofs.laws.one_more_is_kept.Goals as goal
 
 pub returns : goal.returns

@@ -1,4 +1,4 @@
-use Rattle.zst_replication.proofs.Sendable.{can_send}
+use Rattle.zst_replication.proofs.SendableStreams.{can_send}
 use Rattle.zst_replication.proofs.laws.plain_can_be_sent.Goals as goal
 
 pub returns : goal.returns

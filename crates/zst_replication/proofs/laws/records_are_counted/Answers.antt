@@ -1,4 +1,4 @@
-use Rattle.zst_replication.proofs.Counted.{records_counted}
+use Rattle.zst_replication.proofs.RecordCounts.{records_counted}
 use Rattle.zst_replication.proofs.laws.records_are_counted.Goals as goal
 
 pub returns : goal.returns

@@ -1,4 +1,4 @@
-use Rattle.zst_replication.proofs.Sendable.{rest_can_send}
+use Rattle.zst_replication.proofs.SendableStreams.{rest_can_send}
 use Rattle.zst_replication.proofs.laws.rest_can_be_sent.Goals as goal
 
 pub returns : goal.returns

@@ -1,4 +1,4 @@
-use Rattle.zst_replication.proofs.Continued.{fit_received, rest_received}
+use Rattle.zst_replication.proofs.ResumedReceives.{fit_received, rest_received}
 use Rattle.zst_replication.proofs.laws.rest_is_received.Goals as goal
 
 pub returns : goal.returns

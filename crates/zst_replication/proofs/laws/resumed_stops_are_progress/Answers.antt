@@ -1,4 +1,4 @@
-use Rattle.zst_replication.proofs.Continued.{resumed_progress}
+use Rattle.zst_replication.proofs.ResumedReceives.{resumed_progress}
 use Rattle.zst_replication.proofs.laws.resumed_stops_are_progress.Goals as goal
 
 pub returns : goal.returns

@@ -1,4 +1,4 @@
-use Rattle.zst_replication.proofs.Fresh.{sent_received}
+use Rattle.zst_replication.proofs.FreshReceives.{sent_received}
 use Rattle.zst_replication.proofs.laws.sent_is_received.Goals as goal
 
 pub returns : goal.returns

@@ -1,4 +1,4 @@
-use Rattle.zst_replication.proofs.Matched.{source_known}
+use Rattle.zst_replication.proofs.MatchingBases.{source_known}
 use Rattle.zst_replication.proofs.laws.source_is_known.Goals as goal
 
 pub returns : goal.returns

@@ -1,4 +1,4 @@
-use Rattle.zst_replication.proofs.Fresh.{stops_progress}
+use Rattle.zst_replication.proofs.FreshReceives.{stops_progress}
 use Rattle.zst_replication.proofs.laws.stops_are_progress.Goals as goal
 
 pub returns : goal.returns

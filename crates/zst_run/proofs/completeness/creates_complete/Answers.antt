@@ -1,4 +1,4 @@
-use Rattle.zst_run.proofs.Complete.{creates_complete}
+use Rattle.zst_run.proofs.CompleteRuns.{creates_complete}
 use Rattle.zst_run.proofs.completeness.creates_complete.Goals as goal
 
 pub returns : goal.returns

@@ -1,4 +1,4 @@
-use Rattle.zst_run.proofs.Complete as complete
+use Rattle.zst_run.proofs.CompleteRuns as complete
 use Rattle.zst_run.proofs.completeness.done_is_told.Goals as goal
 
 pub returns : goal.returns

@@ -1,4 +1,4 @@
-use Rattle.zst_run.proofs.Complete as complete
+use Rattle.zst_run.proofs.CompleteRuns as complete
 use Rattle.zst_run.proofs.completeness.dumps_complete.Goals as goal
 
 pub returns : goal.returns

@@ -1,4 +1,4 @@
-use Rattle.zst_run.proofs.Complete.{receives_complete}
+use Rattle.zst_run.proofs.CompleteRuns.{receives_complete}
 use Rattle.zst_run.proofs.completeness.receives_complete.Goals as goal
 
 pub returns : goal.returns

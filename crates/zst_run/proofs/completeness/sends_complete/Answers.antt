@@ -1,4 +1,4 @@
-use Rattle.zst_run.proofs.Complete.{sends_complete}
+use Rattle.zst_run.proofs.CompleteRuns.{sends_complete}
 use Rattle.zst_run.proofs.completeness.sends_complete.Goals as goal
 
 pub returns : goal.returns

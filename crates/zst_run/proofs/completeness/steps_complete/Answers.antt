@@ -1,4 +1,4 @@
-use Rattle.zst_run.proofs.Complete.{steps_complete}
+use Rattle.zst_run.proofs.CompleteRuns.{steps_complete}
 use Rattle.zst_run.proofs.completeness.steps_complete.Goals as goal
 
 pub returns : goal.returns

@@ -1,4 +1,4 @@
-use Rattle.zst_run.proofs.Complete.{tokens_complete}
+use Rattle.zst_run.proofs.CompleteRuns.{tokens_complete}
 use Rattle.zst_run.proofs.completeness.tokens_complete.Goals as goal
 
 pub returns : goal.returns

@@ -1,5 +1,5 @@
 use Rattle.std.proofs.Common.{◌≤◌}
-use Rattle.zst_run.specs.Dumping.{Dumping, progress_of}
+use Rattle.zst_run.specs.DumpTurns.{Dumping, progress_of}
 use Rattle.zst_run.proofs.dump.dump.Given as goal
 
 -- the dump is under way, and each turn so far has moved it on

@@ -1,7 +1,7 @@
 use Rattle.std.proofs.Common.{refl}
 use Rattle.zst_record.specs.Heads.{covered_of}
 use Rattle.zst_run.proofs.DumpLemmas.{recorded, unrecorded, completed, uncompleted, refused, flushed, unflushed, more_taken, none_taken}
-use Rattle.zst_run.proofs.DumpFits.{has_room}
+use Rattle.zst_run.proofs.DumpCounts.{has_room}
 use Rattle.zst_run.proofs.dump.turn.Goals as goal
 
 pub add-requires : goal.add-requires

@@ -1,4 +1,4 @@
-use Rattle.zst_run.proofs.InRange.{in_range}
+use Rattle.zst_run.proofs.LineRanges.{in_range}
 use Rattle.zst_run.proofs.image.opening_of.Goals as goal
 
 pub opening_for-requires : goal.opening_for-requires

@@ -1,6 +1,6 @@
 use Rattle.std.proofs.lemmas.Result.{err_from_is_err_and}
-use Rattle.zst_run.proofs.Made.{creates_refused, creates_made}
-use Rattle.zst_run.proofs.Replying.{first_written, first_lost}
+use Rattle.zst_run.proofs.NewPools.{creates_refused, creates_made}
+use Rattle.zst_run.proofs.ReplyLines.{first_written, first_lost}
 use Rattle.zst_run.proofs.pools.create_pool.Goals as goal
 
 pub returns-in_err-create : goal.returns-in_err-create

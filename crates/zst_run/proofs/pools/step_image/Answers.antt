@@ -2,7 +2,7 @@ use Rattle.std.specs.Prelude.{Ok, Err}
 use Rattle.std.proofs.Common.{rules, ap, subst, ◌∙◌}
 use Rattle.std.proofs.lemmas.Result.{err_from_is_err_and}
 use Rattle.zst_run.specs.Commands.{Stepping}
-use Rattle.zst_run.proofs.Commanded.{KeepLaws, stepping_unopened, stepping_done, stepping_refused}
+use Rattle.zst_run.proofs.CommandLemmas.{KeepLaws, stepping_unopened, stepping_done, stepping_refused}
 use Rattle.zst_run.proofs.pools.step_image.Goals as goal
 
 pub returns-in_err-kept : goal.returns-in_err-kept

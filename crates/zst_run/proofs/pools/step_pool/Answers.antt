@@ -1,6 +1,6 @@
 use Rattle.std.proofs.lemmas.Result.{err_from_is_err_and}
-use Rattle.zst_run.proofs.Commanded.{steps_refused, steps_replied}
-use Rattle.zst_run.proofs.Replying.{replied_all}
+use Rattle.zst_run.proofs.CommandLemmas.{steps_refused, steps_replied}
+use Rattle.zst_run.proofs.ReplyLines.{replied_all}
 use Rattle.zst_run.proofs.pools.step_pool.Goals as goal
 
 pub returns-in_err-reply : goal.returns-in_err-reply

@@ -1,7 +1,7 @@
 use Rattle.std.proofs.Common.{ap, sym, subst}
 use Rattle.zst_outside.specs.Images.{DiskState}
 use Rattle.zst_pool.specs.Calls.{IsAtRest}
-use Rattle.zst_recv.specs.Receiving.{left_by}
+use Rattle.zst_recv.specs.ReceiveSteps.{left_by}
 use Rattle.zst_run.proofs.receive.cut.Goals as goal
 
 pub returns-in-Err-Ended-clause-rests : goal.returns-in-Err-Ended-clause-rests

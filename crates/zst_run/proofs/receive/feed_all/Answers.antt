@@ -2,15 +2,15 @@ use Rattle.std.specs.List.{concat}
 use Rattle.std.proofs.Common.{ℕ, List, [], ◌∷◌, ◌++◌, Ok, Err, refl, sym, ap, ◌∙◌, subst, arith}
 use Rattle.zst_plan.specs.declared.receive.RecvAsk.{RecvAsk}
 use Rattle.zst_recv.specs.Stages.{fed_of}
-use Rattle.zst_run.proofs.Receiving.{cut_fed, cut_refused, fed_none, more_fed, received_fed, refused_fed, rose_behind}
+use Rattle.zst_run.proofs.ReceiveLemmas.{cut_fed, cut_refused, fed_none, more_fed, received_fed, refused_fed, rose_behind}
 use Rattle.zst_run.specs.Receives.{SaysOfPlan}
-use Rattle.zst_run.specs.Underway.{PlansOn, line_of, told}
+use Rattle.zst_run.specs.ReceiveTurns.{PlansOn, line_of, told}
 use Rattle.zst_image.specs.Reads.{free_by}
 use Rattle.zst_model.specs.declared.refusals.refusal.Refusal.{Refusal}
 use Rattle.zst_recv.specs.Damage.{IsDamagedFeed}
 use Rattle.zst_run.specs.declared.receive.Turn.TheVariants as turns
-use Rattle.zst_run.proofs.Damaged.{cut_undamaged, damaged_behind, err_refused}
-use Rattle.zst_run.proofs.Planning.{cut_plans, gave_none, received_plans, so_far}
+use Rattle.zst_run.proofs.ReceiveDamage.{cut_undamaged, damaged_behind, err_refused}
+use Rattle.zst_run.proofs.ReceivePlans.{cut_plans, gave_none, received_plans, so_far}
 use Rattle.zst_run.proofs.receive.feed_all.Goals as goal
 
 pub pieces-init : goal.pieces-init

@@ -2,12 +2,12 @@ use Rattle.std.proofs.Common.{◌≡◌, ◌≤◌, ◌-◌, ℕ, List, [], leng
 use Rattle.zst_outside.specs.States.{Gave}
 use Rattle.zst_dir.specs.Rows.{Rows}
 use Rattle.zst_block.specs.Blocks.{KeepsBlocks}
-use Rattle.zst_image.specs.Committing.{Ready}
+use Rattle.zst_image.specs.Commits.{Ready}
 use Rattle.zst_image.specs.Reads.{free_by}
 use Rattle.zst_recv.specs.Faults.{stream_limit}
 use Rattle.zst_recv.specs.Stages.{RecvFits, fed_of, is_live}
 use Rattle.zst_run.specs.Receives.{piece_size}
-use Rattle.zst_run.specs.Underway.{Feeding, PlansOn}
+use Rattle.zst_run.specs.ReceiveTurns.{Feeding, PlansOn}
 use Rattle.zst_run.proofs.receive.feed_all.Given as goal
 
 -- whole pieces were fed, and the receive waits for more

@@ -2,15 +2,15 @@ use Rattle.std.proofs.Common.{ℕ, ◌<◌, Err, ap, take, ◌∙◌, arith, ◌
 use Rattle.std.specs.Prelude.{not}
 use Rattle.std.proofs.lemmas.List.Elements.{All-take}
 use Rattle.zst_recv.specs.declared.fault.RecvFault.{RecvFault}
-use Rattle.zst_run.proofs.Shorts.{grows_behind, short_behind}
+use Rattle.zst_run.proofs.PieceCosts.{grows_behind, short_behind}
 use Rattle.zst_run.proofs.TurnEnds.{turns_on, turns_received, turns_refused, turns_without}
 use Rattle.zst_recv.specs.Faults.{recv_refusal}
-use Rattle.zst_run.specs.Underway.{TurnPlans, turn_behind}
+use Rattle.zst_run.specs.ReceiveTurns.{TurnPlans, turn_behind}
 use Rattle.zst_run.specs.declared.receive.Turn.TheVariants as turns
 use Rattle.zst_model.specs.declared.refusals.refusal.Refusal.TheVariants as refusals
-use Rattle.zst_run.proofs.Damaged.{damaged_only, never_refused, turn_refused}
-use Rattle.zst_run.proofs.Leaving.{leaves_on}
-use Rattle.zst_run.proofs.Planning.{ends_plans, gave_one, goes_plans, none_plans, refused_plans, turn_plans}
+use Rattle.zst_run.proofs.ReceiveDamage.{damaged_only, never_refused, turn_refused}
+use Rattle.zst_run.proofs.LiveReceives.{leaves_on}
+use Rattle.zst_run.proofs.ReceivePlans.{ends_plans, gave_one, goes_plans, none_plans, refused_plans, turn_plans}
 use Rattle.zst_run.proofs.receive.feed_piece.Goals as goal
 
 pub returns-then-piece-eq0-clause-turns : goal.returns-then-piece-eq0-clause-turns

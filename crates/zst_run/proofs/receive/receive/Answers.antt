@@ -1,8 +1,8 @@
 use Rattle.std.proofs.Common.{[], ◌∷◌}
 use Rattle.std.proofs.lemmas.Result.{err_from_is_err_and}
-use Rattle.zst_run.specs.Underway.{line_of}
-use Rattle.zst_run.proofs.ReceivedFrom.{receives_refused, receives_replied}
-use Rattle.zst_run.proofs.Replying.{replied_all, replied_front}
+use Rattle.zst_run.specs.ReceiveTurns.{line_of}
+use Rattle.zst_run.proofs.ImageReceives.{receives_refused, receives_replied}
+use Rattle.zst_run.proofs.ReplyLines.{replied_all, replied_front}
 use Rattle.zst_run.proofs.receive.receive.Goals as goal
 
 pub returns-in_err-receipt : goal.returns-in_err-receipt

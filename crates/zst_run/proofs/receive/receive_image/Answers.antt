@@ -1,8 +1,8 @@
 use Rattle.std.proofs.Common.{rules, subst}
 use Rattle.std.proofs.lemmas.Result.{err_from_is_err_and}
 use Rattle.zst_run.specs.Receives.{Receiving}
-use Rattle.zst_run.specs.Underway.{told}
-use Rattle.zst_run.proofs.ReceivedFrom.{KeepsWhole, opened, unopened}
+use Rattle.zst_run.specs.ReceiveTurns.{told}
+use Rattle.zst_run.proofs.ImageReceives.{KeepsWhole, opened, unopened}
 use Rattle.zst_run.proofs.receive.receive_image.Goals as goal
 
 pub returns-in_err-kept : goal.returns-in_err-kept

@@ -1,13 +1,13 @@
 use Rattle.std.proofs.Common.{ℕ, List, Err, sym, subst, []}
 use Rattle.std.proofs.lemmas.Result.{err_from_is_err_and}
-use Rattle.zst_image.specs.declared.kept.Kept.{Kept}
+use Rattle.zst_image.specs.declared.pool_state.PoolState.{PoolState}
 use Rattle.zst_model.specs.declared.refusals.refusal.Refusal.TheVariants as refusals
 use Rattle.zst_plan.specs.declared.receive.RecvAsk.{RecvAsk}
 use Rattle.zst_run.specs.Receives.{SaysOfPlan}
-use Rattle.zst_run.specs.Underway.{told}
-use Rattle.zst_run.proofs.Damaged.{memory_undamaged}
-use Rattle.zst_run.proofs.Planning.{gave_none, none_covered, starts, unread_plans}
-use Rattle.zst_run.proofs.Receiving.{begins, fed_weaker, unread, without_memory}
+use Rattle.zst_run.specs.ReceiveTurns.{told}
+use Rattle.zst_run.proofs.ReceiveDamage.{memory_undamaged}
+use Rattle.zst_run.proofs.ReceivePlans.{gave_none, none_covered, starts, unread_plans}
+use Rattle.zst_run.proofs.ReceiveLemmas.{begins, fed_weaker, unread, without_memory}
 use Rattle.std.specs.Prelude.{None}
 use Rattle.zst_image.specs.Reads.{free_by}
 use Rattle.zst_run.proofs.receive.receive_into.Goals as goal
@@ -58,7 +58,7 @@ returns-clause-plans g c = λ text gave.
     let kept = c.open.new.pool.kept in
     let recv = c.in_ok-recv.recv in
     let says = c.feed_all.ensures.plans kept.dir text gave (starts kept recv e.stands e.waiting none_covered) in
-    subst (λ (k : Kept). SaysOfPlan k.dir c.args.ask text (told c.feed_all.result)) e.kept (subst (λ (a : RecvAsk). SaysOfPlan kept.dir a text (told c.feed_all.result)) e.ask says)
+    subst (λ (k : PoolState). SaysOfPlan k.dir c.args.ask text (told c.feed_all.result)) e.kept (subst (λ (a : RecvAsk). SaysOfPlan kept.dir a text (told c.feed_all.result)) e.ask says)
 
 pub returns-in_default-clause-damaged : goal.returns-in_default-clause-damaged
 returns-in_default-clause-damaged g c = λ sector stated found honest is. absurd (cc is)

@@ -1,6 +1,6 @@
 use Rattle.std.proofs.Common.{◌≡◌, ◌∙◌, List, ℕ, get_or, ap}
 use Rattle.zst_outside.specs.Printing.{Prints-stop, Printed-then}
-use Rattle.zst_run.proofs.Replying.{reply_at, reply_more}
+use Rattle.zst_run.proofs.ReplyLines.{reply_at, reply_more}
 use Rattle.zst_run.proofs.reply.print_reply.Goals as goal
 
 pub returns-in_err-write_line-clause-prints : goal.returns-in_err-write_line-clause-prints

@@ -1,4 +1,4 @@
-use Rattle.zst_run.proofs.SentAlike.{sent_alike}
+use Rattle.zst_run.proofs.AlikeSends.{sent_alike}
 use Rattle.zst_run.proofs.send.equal_views_are_written_alike.Goals as goal
 
 pub returns : goal.returns

@@ -1,6 +1,6 @@
 use Rattle.std.proofs.Common.{Some, ap, arith, refl, ◌∙◌}
 use Rattle.zst_outside.specs.Images.{OnlyReads-then}
-use Rattle.zst_send.proofs.Knowing.{among_on}
+use Rattle.zst_send.proofs.KnownPointers.{among_on}
 use Rattle.zst_run.proofs.SendLemmas.{refused_earlier, sent_earlier}
 use Rattle.zst_run.proofs.send.pass_all.Goals as goal
 

@@ -4,10 +4,10 @@ use Rattle.zst_outside.specs.Images.{OnlyReads}
 use Rattle.zst_block.specs.Blocks.{FitsDisk, Has}
 use Rattle.zst_model.specs.declared.sends.header.Point.{Point}
 use Rattle.zst_model.specs.sends.Headers.{Sent}
-use Rattle.zst_reader.specs.Filling.{stream_limit}
-use Rattle.zst_send.specs.Knowing.{IsAmong, Knows}
+use Rattle.zst_reader.specs.InputReads.{stream_limit}
+use Rattle.zst_send.specs.KnownPointers.{IsAmong, Knows}
 use Rattle.zst_send.specs.Sends.{SendFits, sent_set}
-use Rattle.zst_run.specs.Sending.{Sending}
+use Rattle.zst_run.specs.SendPieces.{Sending}
 use Rattle.zst_run.proofs.send.pass_all.Given as goal
 
 -- what was given so far is written and counted

@@ -1,7 +1,7 @@
 use Rattle.std.proofs.Common.{rules, subst}
 use Rattle.std.proofs.lemmas.Result.{err_from_is_err_and}
 use Rattle.zst_run.specs.Sends.{Sends}
-use Rattle.zst_run.proofs.SentFrom.{unopened, opened}
+use Rattle.zst_run.proofs.ImageSends.{unopened, opened}
 use Rattle.zst_run.proofs.send.send.Goals as goal
 
 pub returns-in_err-kept : goal.returns-in_err-kept

@@ -1,6 +1,6 @@
 use Rattle.zst_block.specs.Blocks.{Has}
 use Rattle.zst_model.specs.sends.Headers.{sent_view}
-use Rattle.zst_send.proofs.Staying.{block_stays, put_stays, stand_stays}
+use Rattle.zst_send.proofs.KeptBlocks.{block_stays, put_stays, stand_stays}
 use Rattle.zst_send.proofs.laws.sends_go_on.Goals as goal
 
 pub returns : goal.returns

@@ -1,4 +1,4 @@
-use Rattle.zst_send.proofs.Telling.{rows_tell}
+use Rattle.zst_send.proofs.SetDates.{rows_tell}
 use Rattle.zst_send.proofs.laws.tight_sets_tell_dates.Goals as goal
 
 pub returns : goal.returns

@@ -1,4 +1,4 @@
-use Rattle.zst_send.proofs.Damaging.{read_told}
+use Rattle.zst_send.proofs.BlockDamage.{read_told}
 use Rattle.zst_send.proofs.room.read_front.Goals as goal
 
 pub returns-clause-damaged : goal.returns-clause-damaged

@@ -1,8 +1,8 @@
 use Rattle.std.proofs.Common.{rules, ◌≡◌, ℕ, ◌+◌, ◌*◌, ◌/◌, ◌≤◌, List, length, replicate, ap, ◌∙◌, arith}
 use Rattle.std.proofs.lemmas.List.{length-take-le}
 use Rattle.zst_bytes.specs.Bytes.{written}
-use Rattle.zst_record.proofs.Padded.{written-padded}
-use Rattle.zst_stream.proofs.Said.{padded_len}
+use Rattle.zst_record.proofs.PaddedTexts.{written-padded}
+use Rattle.zst_stream.proofs.ItemStreams.{padded_len}
 use Rattle.zst_stream.proofs.item_ref.pad_bonus.Goals as goal
 
 pub returns-clause-padded : goal.returns-clause-padded

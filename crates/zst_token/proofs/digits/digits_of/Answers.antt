@@ -4,7 +4,7 @@ use Rattle.std.specs.Int.{w64, to_be_bytes, to_le_bytes}
 use Rattle.hex.specs.Hex.{encode_lower}
 use Rattle.zst_model.specs.refusals.Texts.{guid_text}
 use Rattle.zst_token.proofs.Numbers.{word-to_le_bytes}
-use Rattle.zst_token.proofs.Sixteen.{IsBytes-word}
+use Rattle.zst_token.proofs.SixteenDigits.{IsBytes-word}
 use Rattle.zst_token.proofs.digits.digits_of.Goals as goal
 
 pub returns-clause-digits : goal.returns-clause-digits

@@ -1,5 +1,5 @@
 use Rattle.std.proofs.Common.{◌≡◌, ap, sym, ◌∙◌, ◌+◌, ◌-◌, ◌*◌, ◌<◌, ◌++◌, [], ◌∷◌, arith, take, drop, List, ℕ, suc, length}
-use Rattle.zst_token.specs.Reading.{number_of, numbers_in}
+use Rattle.zst_token.specs.Parser.{number_of, numbers_in}
 use Rattle.zst_token.proofs.Numbers.{length-numbers_in, numbers_in-more}
 use Rattle.zst_token.proofs.fields.numbers_in.Goals as goal
 

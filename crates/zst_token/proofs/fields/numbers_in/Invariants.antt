@@ -1,5 +1,5 @@
 use Rattle.std.proofs.Common.{◌≡◌}
-use Rattle.zst_token.specs.Reading.{numbers_in}
+use Rattle.zst_token.specs.Parser.{numbers_in}
 use Rattle.zst_token.proofs.fields.numbers_in.Given as goal
 
 abbrev pub invariant-loop-place : goal.invariant-loop-place

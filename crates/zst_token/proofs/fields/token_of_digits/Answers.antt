@@ -1,6 +1,6 @@
 use Rattle.std.proofs.Common.{◌/◌, ◌%◌, length, refl, arith}
 use Rattle.std.proofs.lemmas.Bool.{ne_eqb, eq-eqb}
-use Rattle.zst_token.specs.Reading.{numbers_in, token_of_digits}
+use Rattle.zst_token.specs.Parser.{numbers_in, token_of_digits}
 use Rattle.zst_token.proofs.FieldLaws.{fields_long}
 use Rattle.zst_token.proofs.Numbers.{length-numbers_in}
 use Rattle.zst_token.proofs.fields.token_of_digits.Goals.{then-digits-ne0-via-then-digits-ne0, then-digits-ne0-via-else-digits-ne0+then-count-gt-MOST_NUMBERS}

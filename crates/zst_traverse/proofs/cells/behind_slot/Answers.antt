@@ -10,10 +10,10 @@ use Rattle.zst_objset.specs.Sets.{SetHolds}
 use Rattle.zst_traverse.specs.Cells.{choice_after}
 use Rattle.zst_traverse.specs.Leaves.{FindsNumber, StandsFor}
 use Rattle.zst_traverse.specs.Runs.{FindsPairs}
-use Rattle.zst_traverse.specs.Standing.{RunStands}
-use Rattle.zst_objset.specs.Tight.{IsTightLeaf, SetIsTight}
+use Rattle.zst_traverse.specs.StandingEntries.{RunStands}
+use Rattle.zst_objset.specs.TightSets.{IsTightLeaf, SetIsTight}
 use Rattle.zst_traverse.specs.declared.pairs.Run.{Run}
-use Rattle.zst_traverse.proofs.Nexts.{numbers_next}
+use Rattle.zst_traverse.proofs.NextCells.{numbers_next}
 use Rattle.zst_traverse.proofs.cells.behind_slot.Goals as goal
 
 pub returns-in-Some-clause-found : goal.returns-in-Some-clause-found

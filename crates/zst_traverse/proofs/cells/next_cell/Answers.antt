@@ -4,14 +4,14 @@ use Rattle.zst_space.specs.FreeSectors.{FreeSectors}
 use Rattle.zst_block.specs.Blocks.{Has}
 use Rattle.zst_block.specs.declared.ptr.Ptr.{Ptr}
 use Rattle.zst_tree.proofs.Results.{delivers_if}
-use Rattle.zst_tree.specs.Finding.{Shows}
+use Rattle.zst_tree.specs.Lookups.{Shows}
 use Rattle.zst_tree.specs.Indices.{Delivers}
 use Rattle.zst_objset.proofs.LeafLaws.{look_on}
 use Rattle.zst_objset.specs.Sets.{SetHolds}
 use Rattle.zst_traverse.specs.Cells.{choice_after, IsNextCell}
 use Rattle.zst_traverse.specs.Leaves.{FindsNumber, StandsFor}
-use Rattle.zst_objset.specs.Tight.{IsTightLeaf, SetIsTight}
-use Rattle.zst_traverse.proofs.Nexts.{past_next, slot_next}
+use Rattle.zst_objset.specs.TightSets.{IsTightLeaf, SetIsTight}
+use Rattle.zst_traverse.proofs.NextCells.{past_next, slot_next}
 use Rattle.zst_traverse.proofs.Numbers.{stands_for}
 use Rattle.zst_traverse.proofs.cells.next_cell.Goals as goal
 

@@ -14,9 +14,9 @@ use Rattle.zst_objset.specs.Damage.{IfDamaged, StandsIn}
 use Rattle.zst_objset.specs.Dnodes.{DnodeIs, IsThere}
 use Rattle.zst_traverse.specs.Cells.{choice_after}
 use Rattle.zst_traverse.specs.Runs.{FindsPairs}
-use Rattle.zst_traverse.specs.Standing.{RunStands}
-use Rattle.zst_traverse.specs.Telling.{IsDamagedCell}
-use Rattle.zst_traverse.proofs.Nexts.{runs_fit, there_of}
+use Rattle.zst_traverse.specs.StandingEntries.{RunStands}
+use Rattle.zst_traverse.specs.Damage.{IsDamagedCell}
+use Rattle.zst_traverse.proofs.NextCells.{runs_fit, there_of}
 use Rattle.zst_traverse.proofs.cells.own_pairs.Goals as goal
 
 pub returns-in_err-dnode_in-clause-found : goal.returns-in_err-dnode_in-clause-found

@@ -1,4 +1,4 @@
-use Rattle.zst_traverse.proofs.Judging.{late_found}
+use Rattle.zst_traverse.proofs.LateObjects.{late_found}
 use Rattle.zst_traverse.proofs.dates.next_late.Goals as goal
 
 pub returns-in-Some-clause-late : goal.returns-in-Some-clause-late

@@ -1,7 +1,7 @@
 use Rattle.std.proofs.Common.{ℕ, ◌+◌, ◌-◌, ◌*◌, ◌<◌, List, subst, arith}
 use Rattle.zst_space.specs.FreeSectors.{FreeSectors}
 use Rattle.zst_block.specs.Blocks.{Has}
-use Rattle.zst_block.proofs.Working.{Looks-then}
+use Rattle.zst_block.proofs.IoCallLemmas.{Looks-then}
 use Rattle.zst_dnode.specs.declared.slot.Slot.TheVariants as slots
 use Rattle.zst_tree.proofs.Damage.{seen_before}
 use Rattle.zst_tree.proofs.Results.{delivers_if}
@@ -15,13 +15,13 @@ use Rattle.zst_objset.specs.Dnodes.{IsThere}
 use Rattle.zst_traverse.specs.Cells.{choice_after}
 use Rattle.zst_traverse.specs.Leaves.{EndsLeaf, IsNext, ShowsAhead, StandsFor}
 use Rattle.zst_traverse.specs.Slots.{HasGlance, ShowsLate}
-use Rattle.zst_traverse.specs.Standing.{AheadStands}
-use Rattle.zst_traverse.specs.Telling.{IsDamagedCell}
+use Rattle.zst_traverse.specs.StandingEntries.{AheadStands}
+use Rattle.zst_traverse.specs.Damage.{IsDamagedCell}
 use Rattle.zst_traverse.specs.declared.slots.Glance.{Glance}
 use Rattle.zst_traverse.proofs.Damage.{dnode_stands}
-use Rattle.zst_traverse.proofs.Looking.{gone_shown, if_ok, late_shown, leaf_is, next_ends, next_some, nothing_shown, object_shown, spelled}
-use Rattle.zst_objset.specs.Tight.{IsTightLeaf}
-use Rattle.zst_model.specs.states.Dated.{DatedState}
+use Rattle.zst_traverse.proofs.LeafLooks.{gone_shown, if_ok, late_shown, leaf_is, next_ends, next_some, nothing_shown, object_shown, spelled}
+use Rattle.zst_objset.specs.TightSets.{IsTightLeaf}
+use Rattle.zst_model.specs.states.DatedState.{DatedState}
 use Rattle.std.specs.Prelude.{IfOk}
 use Rattle.zst_traverse.proofs.leaves.look.Given as given
 use Rattle.zst_traverse.proofs.leaves.look.Goals as goal

@@ -5,7 +5,7 @@ use Rattle.zst_block.specs.Blocks.{Has}
 use Rattle.zst_tree.specs.Indices.{TreeIs}
 use Rattle.zst_tree.specs.declared.tree.Tree.{Tree}
 use Rattle.zst_traverse.specs.Dates.{FindsLate}
-use Rattle.zst_traverse.proofs.Judging.{date_shown, early_passed, index_shown}
+use Rattle.zst_traverse.proofs.LateObjects.{date_shown, early_passed, index_shown}
 use Rattle.zst_traverse.proofs.SlotDates.{tight_touched}
 use Rattle.zst_traverse.proofs.objects.judged.Goals as goal
 

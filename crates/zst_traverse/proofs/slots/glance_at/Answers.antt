@@ -2,7 +2,7 @@ use Rattle.std.proofs.Common.{ℕ, refl, subst}
 use Rattle.std.specs.Prelude.{Option}
 use Rattle.zst_dnode.specs.declared.slot.Slot.{Slot}
 use Rattle.zst_traverse.specs.Slots.{FindsSlot, IsFirstSlot}
-use Rattle.zst_traverse.proofs.Glancing.{absent_shown}
+use Rattle.zst_traverse.proofs.Glances.{absent_shown}
 use Rattle.zst_traverse.proofs.slots.glance_at.Goals as goal
 
 pub returns-in-None-clause-shows : goal.returns-in-None-clause-shows

@@ -1,9 +1,9 @@
 use Rattle.std.proofs.Common.{◌∙◌, sym, refl}
 use Rattle.std.proofs.lemmas.Bool.{false≢true}
 use Rattle.zst_block.proofs.BlocksLaws.{IsBlock-length}
-use Rattle.zst_tree.proofs.Below.{kind_three_or_four}
+use Rattle.zst_tree.proofs.SubtreeCases.{kind_three_or_four}
 use Rattle.zst_tree.proofs.Damage.{alike_here, read_here}
-use Rattle.zst_tree.proofs.Loaded.{loaded_parts, node_fault}
+use Rattle.zst_tree.proofs.LoadedNodes.{loaded_parts, node_fault}
 use Rattle.zst_tree.proofs.nodes.load_node.Goals as goal
 
 pub returns-then-not-is_node-clause-there : goal.returns-then-not-is_node-clause-there

@@ -1,7 +1,7 @@
 use Rattle.std.proofs.Common.{rules, ◌≡◌, refl, ◌∙◌}
 use Rattle.std.proofs.lemmas.Result.{IfOk-equal}
 use Rattle.zst_block.specs.Ptr.{ptr_bytes}
-use Rattle.zst_tree.proofs.Spelled.{written-whole}
+use Rattle.zst_tree.proofs.SetBytes.{written-whole}
 use Rattle.zst_tree.proofs.words.push_ptr.Goals as goal
 
 pub returns-clause-bytes : goal.returns-clause-bytes

@@ -1,7 +1,7 @@
 use Rattle.std.proofs.Common.{◌≡◌, ap, ◌∙◌, Some}
 use Rattle.zst_block.specs.Ptr.{ptr_bytes}
 use Rattle.zst_block.proofs.PtrLaws.{length-ptr_bytes}
-use Rattle.zst_tree.proofs.Spelled.{bytes_at-whole}
+use Rattle.zst_tree.proofs.SetBytes.{bytes_at-whole}
 use Rattle.zst_tree.proofs.words.read_ptr.Goals as goal
 
 pub returns-in_err-bytes-clause-exact : goal.returns-in_err-bytes-clause-exact

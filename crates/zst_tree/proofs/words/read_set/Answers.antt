@@ -1,7 +1,7 @@
 use Rattle.std.proofs.Common.{◌≡◌, ◌++◌, ap, ◌∙◌, arith, Some}
 use Rattle.zst_bytes.specs.Words.{word}
 use Rattle.zst_block.specs.Ptr.{ptr_bytes}
-use Rattle.zst_tree.proofs.Spelled.{set_parts, set_of_parts}
+use Rattle.zst_tree.proofs.SetBytes.{set_parts, set_of_parts}
 use Rattle.zst_tree.proofs.words.read_set.Goals as goal
 
 pub returns-in_err-levels-clause-exact : goal.returns-in_err-levels-clause-exact

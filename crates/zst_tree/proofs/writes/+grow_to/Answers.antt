@@ -1,7 +1,7 @@
 use Rattle.std.proofs.Common.{arith}
 use Rattle.std.proofs.lemmas.Result.{IfOk-weaker, err_from_is_err_and}
-use Rattle.zst_block.proofs.Working.{Works-then, Works-more}
-use Rattle.zst_tree.proofs.Within.{IsWithin-self, IsWithin-size, IsWithin-then}
+use Rattle.zst_block.proofs.IoCallLemmas.{Works-then, Works-more}
+use Rattle.zst_tree.proofs.ChangedTrees.{IsWithin-self, IsWithin-size, IsWithin-then}
 use Rattle.zst_tree.proofs.writes.+grow_to.Goals as goal
 
 pub returns-clause-works : goal.returns-clause-works

@@ -1,7 +1,7 @@
 use Rattle.std.proofs.Common.{zero-add, ◌∙◌}
-use Rattle.zst_tree.proofs.Whole.{none_changed}
+use Rattle.zst_tree.proofs.TreeMaps.{none_changed}
 use Rattle.zst_block.specs.Ptr.{hole_of}
-use Rattle.zst_tree.proofs.Within.{IsWithin-self}
+use Rattle.zst_tree.proofs.ChangedTrees.{IsWithin-self}
 use Rattle.zst_tree.proofs.writes.punch_end.Goals as goal
 
 pub returns-then-first-span-clause-puts : goal.returns-then-first-span-clause-puts

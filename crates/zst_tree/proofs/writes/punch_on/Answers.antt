@@ -1,14 +1,14 @@
 use Rattle.std.proofs.Common.{arith}
 use Rattle.std.proofs.lemmas.Result.{err_from_is_err_and}
 use Rattle.zst_block.specs.Ptr.{hole_of}
-use Rattle.zst_block.proofs.Working.{Works-then, Works-more}
+use Rattle.zst_block.proofs.IoCallLemmas.{Works-then, Works-more}
 use Rattle.zst_tree.specs.Damage.{NamesNode}
 use Rattle.zst_tree.specs.Indices.{span}
-use Rattle.zst_tree.proofs.Most.{most_two}
-use Rattle.zst_tree.proofs.Told.{NamesDamage-never, fault_after}
-use Rattle.zst_tree.proofs.Whole.{over_on, over_on-changed, tail_holds}
-use Rattle.zst_tree.proofs.Within.{IsWithin-size, IsWithin-then}
-use Rattle.zst_tree.proofs.Dated.{all_dated, below_dated, over_on-dated}
+use Rattle.zst_tree.proofs.WriteCounts.{most_two}
+use Rattle.zst_tree.proofs.LaterDamage.{NamesDamage-never, fault_after}
+use Rattle.zst_tree.proofs.TreeMaps.{over_on, over_on-changed, tail_holds}
+use Rattle.zst_tree.proofs.ChangedTrees.{IsWithin-size, IsWithin-then}
+use Rattle.zst_tree.proofs.TreeDates.{all_dated, below_dated, over_on-dated}
 use Rattle.zst_tree.proofs.writes.punch_on.Goals as goal
 
 pub returns-in_err-root-clause-puts : goal.returns-in_err-root-clause-puts

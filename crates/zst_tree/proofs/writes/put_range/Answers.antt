@@ -1,13 +1,13 @@
 use Rattle.std.proofs.Common.{zero-add, arith}
 use Rattle.std.proofs.lemmas.Result.{err_from_is_err_and}
-use Rattle.zst_block.proofs.Working.{Works-then, Works-more}
+use Rattle.zst_block.proofs.IoCallLemmas.{Works-then, Works-more}
 use Rattle.zst_tree.specs.Damage.{NamesNode}
 use Rattle.zst_tree.specs.Indices.{span}
-use Rattle.zst_tree.proofs.Most.{most_two, most-single}
-use Rattle.zst_tree.proofs.Told.{NamesDamage-never, fault_after}
-use Rattle.zst_tree.proofs.Whole.{over, over_changed, range_holds}
-use Rattle.zst_tree.proofs.Within.{IsWithin-size, IsWithin-then}
-use Rattle.zst_tree.proofs.Dated.{all_dated, below_dated, over_dated, past_dated}
+use Rattle.zst_tree.proofs.WriteCounts.{most_two, most-single}
+use Rattle.zst_tree.proofs.LaterDamage.{NamesDamage-never, fault_after}
+use Rattle.zst_tree.proofs.TreeMaps.{over, over_changed, range_holds}
+use Rattle.zst_tree.proofs.ChangedTrees.{IsWithin-size, IsWithin-then}
+use Rattle.zst_tree.proofs.TreeDates.{all_dated, below_dated, over_dated, past_dated}
 use Rattle.zst_tree.proofs.writes.put_range.Goals as goal
 
 pub returns-in_err-root-clause-puts : goal.returns-in_err-root-clause-puts

@@ -1,8 +1,8 @@
 use Rattle.std.proofs.lemmas.Result.{err_from_is_err_and}
 use Rattle.std.proofs.Common.{◌≡◌, ◌+◌, ◌-◌, ◌∙◌, arith}
-use Rattle.zst_tree.proofs.Told.{spares_before}
-use Rattle.zst_tree.proofs.Whole.{grown_parts, taller_stands}
-use Rattle.zst_tree.proofs.Within.{IsWithin-fewer, IsWithin-self, node_within, raised_within}
+use Rattle.zst_tree.proofs.LaterDamage.{spares_before}
+use Rattle.zst_tree.proofs.TreeMaps.{grown_parts, taller_stands}
+use Rattle.zst_tree.proofs.ChangedTrees.{IsWithin-fewer, IsWithin-self, node_within, raised_within}
 use Rattle.zst_tree.proofs.writes.raise.Goals as goal
 
 pub returns-in_err-root-clause-raised : goal.returns-in_err-root-clause-raised

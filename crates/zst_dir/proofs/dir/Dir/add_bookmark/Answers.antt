@@ -5,7 +5,7 @@ use Rattle.zst_dir.specs.Rows.{Rows, IsLawful}
 use Rattle.zst_dir.specs.declared.rows.Bookmark.{Bookmark}
 use Rattle.zst_dir.specs.Spelling.{dir_bytes}
 use Rattle.zst_dir.proofs.Places.{position_or_len-le}
-use Rattle.zst_dir.proofs.Inserting.{bookmark_added, at_place}
+use Rattle.zst_dir.proofs.InsertedRows.{bookmark_added, at_place}
 use Rattle.zst_dir.proofs.Lengths.{bookmark_grows}
 use Rattle.zst_dir.proofs.dir.Dir.add_bookmark.Goals as goal
 

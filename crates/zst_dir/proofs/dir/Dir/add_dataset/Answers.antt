@@ -3,7 +3,7 @@ use Rattle.zst_model.specs.pools.Pool.{is_before, inserted}
 use Rattle.zst_dir.specs.Rows.{Rows, HasDataset, HasSnapshot, IsLawful}
 use Rattle.zst_dir.specs.declared.rows.Dataset.{Dataset}
 use Rattle.zst_dir.proofs.Places.{position_or_len-le}
-use Rattle.zst_dir.proofs.Inserting.{dataset_added, at_place}
+use Rattle.zst_dir.proofs.InsertedRows.{dataset_added, at_place}
 use Rattle.zst_dir.specs.Spelling.{dir_bytes}
 use Rattle.zst_dir.proofs.Lengths.{dataset_grows}
 use Rattle.zst_dir.proofs.dir.Dir.add_dataset.Goals as goal

@@ -5,7 +5,7 @@ use Rattle.zst_dir.specs.Rows.{Rows, HasSnapshot, IsLawful, with_partial}
 use Rattle.zst_dir.specs.declared.rows.Partial.{Partial}
 use Rattle.zst_dir.specs.Spelling.{dir_bytes}
 use Rattle.zst_dir.proofs.Places.{position_or_len-le}
-use Rattle.zst_dir.proofs.Inserting.{partial_added, at_place}
+use Rattle.zst_dir.proofs.InsertedRows.{partial_added, at_place}
 use Rattle.zst_dir.proofs.Lengths.{partial_grows}
 use Rattle.zst_dir.proofs.dir.Dir.add_partial.Goals as goal
 

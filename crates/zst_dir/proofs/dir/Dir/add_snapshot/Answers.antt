@@ -5,7 +5,7 @@ use Rattle.zst_model.specs.pools.Pool.{inserted}
 use Rattle.zst_dir.specs.Rows.{Rows, HasDataset, HasSnapshot, IsLawful, snapshot_is_before}
 use Rattle.zst_dir.specs.declared.rows.Snapshot.{Snapshot}
 use Rattle.zst_dir.proofs.Places.{position_or_len-le}
-use Rattle.zst_dir.proofs.Inserting.{snapshot_added, at_place}
+use Rattle.zst_dir.proofs.InsertedRows.{snapshot_added, at_place}
 use Rattle.zst_dir.specs.Spelling.{dir_bytes}
 use Rattle.zst_dir.proofs.Lengths.{snapshot_grows}
 use Rattle.zst_dir.proofs.dir.Dir.add_snapshot.Goals as goal

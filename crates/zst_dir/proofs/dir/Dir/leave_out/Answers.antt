@@ -1,12 +1,12 @@
 use Rattle.std.proofs.Common.{rules, arith, ◌≡◌, length, filter, not, sym, ap, ◌∙◌, subst}
 use Rattle.std.proofs.lemmas.Fn.{filter_same}
-use Rattle.zst_dir.specs.Going.{AreUnused, takes_bookmark, takes_dataset, takes_snapshot, without}
+use Rattle.zst_dir.specs.Removal.{AreUnused, takes_bookmark, takes_dataset, takes_snapshot, without}
 use Rattle.zst_dir.specs.Rows.{Rows, IsLawful}
 use Rattle.zst_dir.specs.Spelling.{dir_bytes}
 use Rattle.zst_dir.specs.declared.rows.Dataset.{Dataset}
 use Rattle.zst_dir.specs.declared.rows.Snapshot.{Snapshot}
 use Rattle.zst_dir.specs.declared.rows.Bookmark.{Bookmark}
-use Rattle.zst_dir.proofs.Left.{rows_left, same_rows}
+use Rattle.zst_dir.proofs.RemovalLemmas.{rows_left, same_rows}
 use Rattle.zst_dir.proofs.Lengths.{left_shrinks}
 use Rattle.zst_dir.proofs.dir.Dir.leave_out.Goals as goal
 

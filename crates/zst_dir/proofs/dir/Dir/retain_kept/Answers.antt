@@ -2,7 +2,7 @@ use Rattle.std.proofs.Common.{rules, arith, ◌≡◌, List, length, filter, sym
 use Rattle.std.proofs.lemmas.Fn.{filter_same}
 use Rattle.zst_dir.specs.Rows.{Rows, IsLawful}
 use Rattle.zst_dir.specs.declared.rows.Partial.{Partial}
-use Rattle.zst_dir.proofs.Dropped.{partials_left}
+use Rattle.zst_dir.proofs.DroppedPartials.{partials_left}
 use Rattle.zst_dir.specs.Spelling.{dir_bytes}
 use Rattle.zst_dir.proofs.Lengths.{partials_shrink}
 use Rattle.zst_dir.proofs.dir.Dir.retain_kept.Goals as goal

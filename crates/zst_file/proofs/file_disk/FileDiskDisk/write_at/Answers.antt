@@ -1,5 +1,5 @@
 use Rattle.std.proofs.Common.{rules}
-use Rattle.zst_file.proofs.Steps.{noted_write, noted_success}
+use Rattle.zst_file.proofs.NotedCalls.{noted_write, noted_success}
 use Rattle.zst_file.proofs.file_disk.FileDiskDisk.write_at.Goals as goal
 
 pub returns-clause-written : goal.returns-clause-written

@@ -1,8 +1,8 @@
 use Rattle.std.proofs.Common.{◌≡◌, ap, refl}
 use Rattle.std.proofs.Math.Nat.{add-mod-mod, mod-add-mod}
 use Rattle.zst_fletcher.specs.Lanes.{lanes_of, lane_sums, pairs, triples}
-use Rattle.zst_fletcher.proofs.Pushed.{sums_of-by}
-use Rattle.zst_fletcher.proofs.LanesJoined.{first_sum-joined, second_sum-joined, third_sum-joined, fourth_sum-joined}
+use Rattle.zst_fletcher.proofs.LastWord.{sums_of-by}
+use Rattle.zst_fletcher.proofs.JoinedLanes.{first_sum-joined, second_sum-joined, third_sum-joined, fourth_sum-joined}
 use Rattle.zst_fletcher.proofs.lanes.Lanes.join.Goals as goal
 
 pub returns : goal.returns

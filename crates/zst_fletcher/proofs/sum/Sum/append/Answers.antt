@@ -1,6 +1,6 @@
 use Rattle.std.proofs.Common.{◌∙◌, ap, ◌%◌, ◌^◌}
 use Rattle.zst_fletcher.proofs.Triangles.{halved, sixth}
-use Rattle.zst_fletcher.proofs.Appended.{sums_of-append}
+use Rattle.zst_fletcher.proofs.JoinedTexts.{sums_of-append}
 use Rattle.zst_fletcher.proofs.sum.Sum.append.Goals as goal
 
 pub returns : goal.returns

@@ -1,4 +1,4 @@
-use Rattle.zst_fletcher.proofs.Parted.{sums_of-parted}
+use Rattle.zst_fletcher.proofs.PairSums.{sums_of-parted}
 use Rattle.zst_fletcher.proofs.sum.Sum.part.Goals as goal
 
 pub returns : goal.returns

@@ -1,5 +1,5 @@
 use Rattle.std.proofs.Common.{sym}
-use Rattle.zst_model.proofs.Rising.{is_rising-push}
+use Rattle.zst_model.proofs.RisingGuids.{is_rising-push}
 use Rattle.zst_model.proofs.fields.guids.rises_to.Goals as goal
 
 pub returns-in-Some : goal.returns-in-Some

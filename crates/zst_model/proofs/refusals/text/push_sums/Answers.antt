@@ -1,5 +1,5 @@
 use Rattle.zst_model.specs.refusals.Texts.{sums_text}
-use Rattle.zst_model.proofs.Appended.{appended}
+use Rattle.zst_model.proofs.SpacedTexts.{appended}
 use Rattle.zst_model.proofs.refusals.text.push_sums.Goals as goal
 
 pub returns-clause-bytes : goal.returns-clause-bytes

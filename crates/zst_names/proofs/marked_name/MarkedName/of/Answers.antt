@@ -1,7 +1,7 @@
 use Rattle.std.proofs.Common.{◌≡◌, ◌<◌, ◌∷◌, ◌++◌, refl, sym, ap, ◌∙◌, subst, append_assoc}
 use Rattle.std.proofs.lemmas.Bool.{ltb-true}
 use Rattle.zst_names.specs.Names.{IsDataset, IsComponent, dataset_of, component_of}
-use Rattle.zst_names.proofs.Marked.{IsJoined, join_is_name}
+use Rattle.zst_names.proofs.MarkedNames.{IsJoined, join_is_name}
 use Rattle.zst_names.proofs.marked_name.MarkedName.of.Given.{Over}
 use Rattle.zst_names.proofs.marked_name.MarkedName.of.Goals as goal
 

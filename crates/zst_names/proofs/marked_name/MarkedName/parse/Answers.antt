@@ -1,5 +1,5 @@
 use Rattle.std.proofs.Common.{◌≢◌, sym, subst}
-use Rattle.zst_names.proofs.Marked.{mark_is_no_digit}
+use Rattle.zst_names.proofs.MarkedNames.{mark_is_no_digit}
 use Rattle.zst_names.proofs.marked_name.MarkedName.parse.Goals as goal
 
 pub scan-requires : goal.scan-requires

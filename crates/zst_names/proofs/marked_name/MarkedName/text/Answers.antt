@@ -1,6 +1,6 @@
 use Rattle.std.proofs.Common.{subst, Some}
 use Rattle.zst_names.specs.Names.{IsName}
-use Rattle.zst_names.proofs.Marked.{joined}
+use Rattle.zst_names.proofs.MarkedNames.{joined}
 use Rattle.zst_names.proofs.marked_name.MarkedName.text.Goals as goal
 
 pub returns-clause-parts : goal.returns-clause-parts

@@ -1,5 +1,5 @@
 use Rattle.zst_outside.specs.declared.mem_disk.MemDisk.{MemDisk}
-use Rattle.zst_outside.proofs.Past.{disk_reads, disk_time}
+use Rattle.zst_outside.proofs.CallLogLemmas.{disk_reads, disk_time}
 use Rattle.zst_outside.proofs.mem_disk.MemDiskDisk.read.Goals as goal
 
 pub returns-clause-reads : goal.returns-clause-reads

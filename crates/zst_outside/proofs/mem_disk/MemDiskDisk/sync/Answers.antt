@@ -1,7 +1,7 @@
 use Rattle.std.proofs.Common.{rules}
 use Rattle.std.proofs.lemmas.Result.{on_ok_weaker}
 use Rattle.zst_outside.specs.declared.mem_disk.MemDisk.{MemDisk}
-use Rattle.zst_outside.proofs.Past.{disk_time, disk_syncs, disk_synced}
+use Rattle.zst_outside.proofs.CallLogLemmas.{disk_time, disk_syncs, disk_synced}
 use Rattle.zst_outside.proofs.mem_disk.MemDiskDisk.sync.Goals as goal
 
 pub returns-clause-reads : goal.returns-clause-reads

@@ -4,7 +4,7 @@ use Rattle.zst_outside.specs.Ranges.{bytes_at, overwritten}
 use Rattle.zst_outside.specs.declared.call_log.Call.TheVariants.{Write}
 use Rattle.zst_outside.specs.declared.mem_disk.MemDisk.{MemDisk}
 use Rattle.zst_outside.specs.Ranges.{bytes_at-overwritten}
-use Rattle.zst_outside.proofs.Past.{disk_writes, write_time, written_alike}
+use Rattle.zst_outside.proofs.CallLogLemmas.{disk_writes, write_time, written_alike}
 use Rattle.zst_outside.proofs.mem_disk.MemDiskDisk.write_at.Goals as goal
 
 pub returns-clause-written : goal.returns-clause-written

@@ -1,10 +1,10 @@
 use Rattle.std.proofs.Common.{◌∙◌, List, sym, ap, get_or, refl}
-use Rattle.zst_dir.specs.Named.{NamesSnapshot}
+use Rattle.zst_dir.specs.RowNames.{NamesSnapshot}
 use Rattle.zst_dir.specs.declared.rows.Snapshot.{Snapshot}
 use Rattle.zst_plan.specs.Places.{StandsAt}
 use Rattle.zst_plan.specs.Plans.{bookmark_source}
-use Rattle.zst_plan.proofs.Begun.{bookmark_guids, there_alike}
-use Rattle.zst_plan.proofs.Lookups.{at_names}
+use Rattle.zst_plan.proofs.BeginHeader.{bookmark_guids, there_alike}
+use Rattle.zst_plan.proofs.LookupLemmas.{at_names}
 use Rattle.zst_plan.proofs.plan.SendPlan.header.Goals as goal
 
 pub returns : goal.returns

@@ -1,13 +1,13 @@
 use Rattle.std.proofs.Common.{is_some, ◌∙◌, List, Some, None, get_or, sym, ap}
 use Rattle.std.specs.Option.{option_map_or}
-use Rattle.zst_dir.specs.Named.{NamesDataset}
+use Rattle.zst_dir.specs.RowNames.{NamesDataset}
 use Rattle.zst_dir.specs.declared.rows.Dataset.{Dataset}
 use Rattle.zst_model.specs.pools.Pool.{dataset_named}
 use Rattle.zst_plan.specs.Places.{StandsAt}
 use Rattle.zst_plan.specs.Receipts.{IsBaseOf, TellsHead}
 use Rattle.zst_plan.specs.RecvPlan.{base_anew, base_for, base_onto}
-use Rattle.zst_plan.proofs.Lookups.{at_names, datasets_find, none_alike, some_alike}
-use Rattle.zst_plan.proofs.Receiving.{hands_on}
+use Rattle.zst_plan.proofs.LookupLemmas.{at_names, datasets_find, none_alike, some_alike}
+use Rattle.zst_plan.proofs.ReceiveChecks.{hands_on}
 use Rattle.zst_plan.proofs.receive.base.base_for.Goals as goal
 
 pub returns-in-Some-clause-exact : goal.returns-in-Some-clause-exact

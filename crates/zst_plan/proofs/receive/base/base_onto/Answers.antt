@@ -1,12 +1,12 @@
 use Rattle.std.proofs.Common.{◌≡◌, ◌∙◌, Bool, List, Some, get_or, refl, sym, ap, subst}
 use Rattle.zst_dir.specs.declared.rows.Snapshot.{Snapshot}
-use Rattle.zst_model.specs.states.Apply.{◌>>=◌}
+use Rattle.zst_model.specs.states.AppliedItems.{◌>>=◌}
 use Rattle.zst_plan.specs.Places.{StandsAt}
 use Rattle.zst_plan.specs.Receipts.{IsBaseOf}
 use Rattle.zst_plan.specs.RecvPlan.{Base, base_by_head, base_onto, find_latest, if_kind, if_source}
-use Rattle.zst_plan.proofs.Chain.{err_alike, ok_alike}
-use Rattle.zst_plan.proofs.Lookups.{row_names}
-use Rattle.zst_plan.proofs.Receiving.{answers, is_increment, onto_latest, onto_named, refuses}
+use Rattle.zst_plan.proofs.SendChecks.{err_alike, ok_alike}
+use Rattle.zst_plan.proofs.LookupLemmas.{row_names}
+use Rattle.zst_plan.proofs.ReceiveChecks.{answers, is_increment, onto_latest, onto_named, refuses}
 use Rattle.zst_plan.proofs.receive.base.base_onto.Goals as goal
 
 pub returns-in_err-check_increment-clause-exact : goal.returns-in_err-check_increment-clause-exact

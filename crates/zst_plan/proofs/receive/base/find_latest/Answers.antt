@@ -2,7 +2,7 @@ use Rattle.std.proofs.Common.{Some, None}
 use Rattle.zst_model.specs.declared.refusals.plan_fault.PlanFault.TheVariants as plans
 use Rattle.zst_plan.specs.Places.{StandsAt}
 use Rattle.zst_plan.specs.RecvPlan.{latest_of}
-use Rattle.zst_plan.proofs.Lookups.{answers_alike}
+use Rattle.zst_plan.proofs.LookupLemmas.{answers_alike}
 use Rattle.zst_plan.proofs.receive.base.find_latest.Goals as goal
 
 pub returns-in-Some-clause-found : goal.returns-in-Some-clause-found

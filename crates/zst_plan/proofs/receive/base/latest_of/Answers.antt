@@ -1,11 +1,11 @@
 use Rattle.std.proofs.Common.{◌≡◌, ◌∙◌, ◌<◌, ◌+◌, ℕ, Bool, true, false, List, length, get_or, Option, IfSome, bytes_eq, sym, ap, subst, arith}
-use Rattle.zst_dir.specs.Named.{NamesSnapshot}
+use Rattle.zst_dir.specs.RowNames.{NamesSnapshot}
 use Rattle.zst_dir.specs.declared.rows.Snapshot.{Snapshot}
 use Rattle.zst_model.specs.pools.Pool.{dataset_of_snapshot}
 use Rattle.zst_model.specs.pools.Pool as plain
 use Rattle.zst_names.specs.Names.{dataset_of}
 use Rattle.zst_plan.specs.Places.{FindAlike, StandsAt}
-use Rattle.zst_plan.proofs.Latest.{latest_all, latest_fails, latest_in, latest_passes}
+use Rattle.zst_plan.proofs.LatestSnapshots.{latest_all, latest_fails, latest_in, latest_passes}
 use Rattle.zst_plan.proofs.receive.base.latest_of.Goals as goal
 use Rattle.zst_plan.proofs.receive.base.latest_of.Goals.{then-eq, else-eq}
 

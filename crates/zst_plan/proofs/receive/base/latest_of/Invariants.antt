@@ -1,8 +1,8 @@
 use Rattle.std.proofs.Common.{◌<◌, length, IfSome, bytes_eq}
-use Rattle.zst_dir.specs.Named.{AreNamed}
+use Rattle.zst_dir.specs.RowNames.{AreNamed}
 use Rattle.zst_model.specs.pools.Pool.{Pool, dataset_of_snapshot}
 use Rattle.zst_plan.specs.Places.{FindAlike, StandsAt}
-use Rattle.zst_plan.proofs.Latest.{latest_in}
+use Rattle.zst_plan.proofs.LatestSnapshots.{latest_in}
 use Rattle.zst_plan.proofs.receive.base.latest_of.Given as goal
 
 -- the place so far is one of the directory, and that of the latest of the snapshots so far

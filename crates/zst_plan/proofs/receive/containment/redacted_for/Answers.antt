@@ -2,7 +2,7 @@ use Rattle.std.proofs.Common.{◌∙◌, ℕ, List, Option, get_or, sym, ap, sub
 use Rattle.zst_dir.specs.declared.rows.Snapshot.{Snapshot}
 use Rattle.zst_plan.specs.Places.{FindAlike, StandsAt}
 use Rattle.zst_plan.specs.RecvPlan.{redacted_for}
-use Rattle.zst_plan.proofs.Lookups.{row_names, some_alike}
+use Rattle.zst_plan.proofs.LookupLemmas.{row_names, some_alike}
 use Rattle.zst_plan.proofs.receive.containment.redacted_for.Goals as goal
 
 pub returns-in-Some : goal.returns-in-Some

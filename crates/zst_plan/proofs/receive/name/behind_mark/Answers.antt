@@ -1,5 +1,5 @@
 use Rattle.std.proofs.Common.{◌∙◌, sym, arith}
-use Rattle.zst_plan.proofs.Marked.{behind_found, behind_none}
+use Rattle.zst_plan.proofs.TextMarks.{behind_found, behind_none}
 use Rattle.zst_plan.proofs.receive.name.behind_mark.Goals as goal
 
 pub returns-in-Some : goal.returns-in-Some

@@ -1,11 +1,11 @@
 use Rattle.std.proofs.Common.{◌≡◌, ◌∙◌, ◌+◌, ◌∷◌, ◌++◌, ℕ, List, not, Ok, Err, sym, ap, subst, refl, arith}
 use Rattle.std.proofs.lemmas.Bool.{false≢true}
 use Rattle.zst_model.specs.declared.refusals.plan_fault.PlanFault.TheVariants as plans
-use Rattle.zst_model.specs.states.Apply.{unless}
+use Rattle.zst_model.specs.states.AppliedItems.{unless}
 use Rattle.zst_names.specs.Names.{IsComponent, StopsAt, component_of}
 use Rattle.zst_plan.specs.RecvPlan.{behind_mark, component_stop, snapshot_name, stated_component}
 use Rattle.zst_plan.proofs.Components.{fails, is_text, passes, stops_there}
-use Rattle.zst_plan.proofs.Receiving.{answers, hands_on}
+use Rattle.zst_plan.proofs.ReceiveChecks.{answers, hands_on}
 use Rattle.zst_plan.proofs.receive.name.stated_name.Goals as goal
 
 pub returns-in-Err-clause-exact : goal.returns-in-Err-clause-exact

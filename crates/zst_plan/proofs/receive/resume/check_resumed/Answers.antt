@@ -1,5 +1,5 @@
 use Rattle.std.proofs.Common.{◌∙◌, sym}
-use Rattle.zst_plan.proofs.Receiving.{resumes_elsewhere}
+use Rattle.zst_plan.proofs.ReceiveChecks.{resumes_elsewhere}
 use Rattle.zst_plan.proofs.receive.resume.check_resumed.Goals as goal
 
 pub returns-then-not-goes_on : goal.returns-then-not-goes_on

@@ -3,8 +3,8 @@ use Rattle.zst_model.specs.declared.refusals.faults.Quantity.TheVariants as quan
 use Rattle.zst_model.specs.pools.Step.{count_datasets}
 use Rattle.zst_plan.specs.Places.{Judges}
 use Rattle.zst_plan.specs.RecvPlan.{if_room, if_within, new_datasets}
-use Rattle.zst_plan.proofs.Chain.{err_is}
-use Rattle.zst_plan.proofs.Receiving.{partials_are_counted, room_is, snapshots_are_counted}
+use Rattle.zst_plan.proofs.SendChecks.{err_is}
+use Rattle.zst_plan.proofs.ReceiveChecks.{partials_are_counted, room_is, snapshots_are_counted}
 use Rattle.zst_plan.proofs.receive.room.check_room.Goals as goal
 
 pub returns-in_err-check_within : goal.returns-in_err-check_within

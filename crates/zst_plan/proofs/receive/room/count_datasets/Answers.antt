@@ -1,5 +1,5 @@
 use Rattle.std.proofs.Common.{ap, ◌∙◌, ◌+◌, length}
-use Rattle.zst_plan.proofs.Receiving.{datasets_are_counted}
+use Rattle.zst_plan.proofs.ReceiveChecks.{datasets_are_counted}
 use Rattle.zst_plan.proofs.receive.room.count_datasets.Goals as goal
 
 pub returns-clause-many : goal.returns-clause-many

@@ -1,5 +1,5 @@
 use Rattle.std.proofs.Common.{◌∙◌, Some, None, sym}
-use Rattle.zst_plan.proofs.Receiving.{is_newly_made}
+use Rattle.zst_plan.proofs.ReceiveChecks.{is_newly_made}
 use Rattle.zst_plan.proofs.receive.room.new_datasets.Goals as goal
 
 pub returns-in-Some-clause-new : goal.returns-in-Some-clause-new

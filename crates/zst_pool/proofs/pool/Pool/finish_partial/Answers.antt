@@ -1,6 +1,6 @@
 use Rattle.std.proofs.Common.{◌≡◌, ap, ◌+◌, sym}
 use Rattle.zst_pool.specs.FinishedRows.{rows_with_finished}
-use Rattle.zst_pool.proofs.Calling.{blocks_last, kept_has}
+use Rattle.zst_pool.proofs.CallLemmas.{blocks_last, kept_has}
 use Rattle.zst_pool.proofs.pool.Pool.finish_partial.Goals as goal
 
 pub returns-clause-did : goal.returns-clause-did

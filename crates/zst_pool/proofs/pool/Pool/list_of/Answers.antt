@@ -7,8 +7,8 @@ use Rattle.zst_dir.specs.declared.rows.Bookmark.{Bookmark}
 use Rattle.zst_image.specs.Reads.{BookmarkIs}
 use Rattle.zst_pool.specs.declared.fault.PoolFault.TheVariants.{Plan}
 use Rattle.zst_pool.specs.Lists.{TellsRow, row_named}
-use Rattle.zst_pool.proofs.Listed.{bookmark_alike, option_map-same, given_none, given_some}
-use Rattle.zst_dir.proofs.Matching.{FoundAlike}
+use Rattle.zst_pool.proofs.BookmarkLists.{bookmark_alike, option_map-same, given_none, given_some}
+use Rattle.zst_dir.proofs.Matches.{FoundAlike}
 use Rattle.zst_pool.proofs.pool.Pool.list_of.Goals as goal
 
 pub returns-in-None-clause-found : goal.returns-in-None-clause-found

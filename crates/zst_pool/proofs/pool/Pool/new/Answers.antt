@@ -1,5 +1,5 @@
 use Rattle.std.proofs.Common.{refl}
-use Rattle.zst_pool.proofs.Resting.{commit_next_of}
+use Rattle.zst_pool.proofs.PoolsAtRest.{commit_next_of}
 use Rattle.zst_pool.proofs.pool.Pool.new.Goals as goal
 
 pub returns-clause-works : goal.returns-clause-works

@@ -1,10 +1,10 @@
 use Rattle.std.specs.Prelude.{Result, Ok, IfOk}
 use Rattle.std.proofs.Common.{subst}
-use Rattle.zst_image.specs.declared.kept.Kept.{Kept}
+use Rattle.zst_image.specs.declared.pool_state.PoolState.{PoolState}
 use Rattle.zst_image.specs.declared.open_fault.OpenFault.{OpenFault}
-use Rattle.zst_image.specs.Opening.{GivesPool}
+use Rattle.zst_image.specs.OpenAnswers.{GivesPool}
 use Rattle.zst_image.specs.Reads.{Rests}
-use Rattle.zst_pool.proofs.Resting.{rests_opened}
+use Rattle.zst_pool.proofs.PoolsAtRest.{rests_opened}
 use Rattle.zst_pool.proofs.pool.Pool.reopen.Goals as goal
 
 pub returns-in-Ok-clause-rests : goal.returns-in-Ok-clause-rests
@@ -12,5 +12,5 @@ returns-in-Ok-clause-rests g c = λ tight uber rows pool told reads.
     let opened = c.open-opened.ensures in
     let here = g.D.Disk.state c.open-opened.new.disk in
     let there : GivesPool uber rows (Ok c.in-Ok.kept) = subst (GivesPool uber rows) c.in-Ok.is (opened.there tight uber rows pool told reads) in
-    let rests = subst (λ (r : Result Kept OpenFault). IfOk r (λ (kept : Kept). Rests tight here kept.body rows pool)) c.in-Ok.is (opened.rests tight uber rows pool told reads) in
+    let rests = subst (λ (r : Result PoolState OpenFault). IfOk r (λ (kept : PoolState). Rests tight here kept.body rows pool)) c.in-Ok.is (opened.rests tight uber rows pool told reads) in
     rests_opened here c.in-Ok.kept rows pool rests there.1

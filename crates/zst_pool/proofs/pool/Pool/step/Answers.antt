@@ -1,40 +1,40 @@
 use Rattle.std.specs.Prelude.{◌||◌, Bool, true, false, Result, Ok, Err, IfErr}
 use Rattle.std.proofs.Common.{◌≡◌, ℕ, ◌+◌, List, [], ◌∷◌, refl, sym, ap, ◌∙◌, subst, arith}
 use Rattle.std.proofs.lemmas.Bool.{or_parts}
-use Rattle.zst_model.specs.pools.Lines.{ok_line}
+use Rattle.zst_model.specs.pools.AnswerLines.{ok_line}
 use Rattle.zst_model.specs.pools.Step.{stepped}
-use Rattle.zst_image.specs.declared.kept.Kept.{Kept}
+use Rattle.zst_image.specs.declared.pool_state.PoolState.{PoolState}
 use Rattle.zst_block.specs.Blocks.{FitsDisk, Has}
 use Rattle.zst_space.specs.FreeSectors.{FreeSectors}
 use Rattle.zst_image.specs.Reads.{RunsBy, bound_of, free_by}
-use Rattle.zst_image.specs.Committing.{Ready}
+use Rattle.zst_image.specs.Commits.{Ready}
 use Rattle.zst_pool.specs.Cost.{cost_of}
 use Rattle.zst_pool.specs.Damage.{IsOf, TellsDamage}
 use Rattle.zst_pool.specs.Faults.{is_full}
 use Rattle.zst_pool.specs.Plans.{Plans, indices_end, numbers_end}
-use Rattle.zst_pool.specs.Runs.{Runs}
-use Rattle.zst_pool.specs.Stepping.{StepAnswer}
-use Rattle.zst_pool.specs.Telling.{Tells}
+use Rattle.zst_pool.specs.CommandRuns.{Runs}
+use Rattle.zst_pool.specs.StepAnswers.{StepAnswer}
+use Rattle.zst_pool.specs.Queries.{Tells}
 use Rattle.zst_pool.specs.declared.fault.PoolFault.{PoolFault}
 use Rattle.zst_pool.specs.declared.fault.PoolFault.TheVariants.{OutOfMemory}
-use Rattle.zst_image.proofs.Plain.{RunsBy-plain}
-use Rattle.zst_pool.proofs.Answering.{cause_told, fails_told, on_err, ready_read, rests_read, since_read, spares_read, spends_none, told_rests}
-use Rattle.zst_pool.proofs.Judging.{err_is}
-use Rattle.zst_pool.proofs.Planned.{plans_err, plans_ok}
-use Rattle.zst_pool.proofs.Replying.{step_reply}
-use Rattle.zst_pool.proofs.Stepped.{free_again, spends_apart, spends_err, spends_ok, spares_err}
-use Rattle.zst_pool.proofs.Resting.{commit_next_of, free_by_fits}
+use Rattle.zst_image.proofs.PlainReads.{RunsBy-plain}
+use Rattle.zst_pool.proofs.QuerySteps.{cause_told, fails_told, on_err, ready_read, rests_read, since_read, spares_read, spends_none, told_rests}
+use Rattle.zst_pool.proofs.CheckLemmas.{err_is}
+use Rattle.zst_pool.proofs.PlanLemmas.{plans_err, plans_ok}
+use Rattle.zst_pool.proofs.Replies.{step_reply}
+use Rattle.zst_pool.proofs.StepCosts.{free_again, spends_apart, spends_err, spends_ok, spares_err}
+use Rattle.zst_pool.proofs.PoolsAtRest.{commit_next_of, free_by_fits}
 use Rattle.zst_pool.proofs.pool.Pool.step.Given.{Over}
 use Rattle.zst_pool.proofs.pool.Pool.step.Goals as goal
 use Rattle.zst_pool.proofs.pool.Pool.step.Goals.{After-settle_command, After-tell}
 
 -- what was run, over the disk that the pool then has
-ran : (g : Over) (c : After-settle_command g) (answer : Result Kept PoolFault) → answer ≡ c.run-ran.result
+ran : (g : Over) (c : After-settle_command g) (answer : Result PoolState PoolFault) → answer ≡ c.run-ran.result
     → Runs (λ pool. stepped [] c.args.now c.args.command pool) (cost_of c.args.command) (TellsDamage c.args.command c.args.self.now.kept.dir (g.D.Disk.state c.args.self.now.io.disk.now) (free_by c.args.self.now.kept.body)) c.args.self.now.kept
     (g.D.Disk.state c.args.self.now.io.disk.now) c.args.self.now.io.failed (g.D.Disk.state c.settle_command.new.self.io.disk.now) c.run-ran.new.io.space c.settle_command.new.self.io.failed answer
 ran g c answer same = rw (c.settle_command.ensures.disk, c.settle_command.ensures.failed, same) c.run-ran.ensures.runs
 
-planned : (g : Over) (c : After-settle_command g) (answer : Result Kept PoolFault) → answer ≡ c.run-ran.result
+planned : (g : Over) (c : After-settle_command g) (answer : Result PoolState PoolFault) → answer ≡ c.run-ran.result
     → Plans (λ pool. stepped [] c.args.now c.args.command pool) (numbers_end c.args.command) (indices_end c.args.command) c.args.self.now.kept answer
 planned g c answer same = rw same c.run-ran.ensures.plans
 
@@ -82,11 +82,11 @@ returns-clause-ready g c = λ standing.
 pub returns-clause-works : goal.returns-clause-works
 returns-clause-works g c = λ standing.
     let runs = ran g (goal.at.returns-clause-works g c).After-settle_command (Ok c.settle_command.new.self.kept) c.in_ok-settle_command.ensures.kept in
-    let free = c.settle_command.ensures.space (subst (λ (r : Result Kept PoolFault). is_full r ≡ false) c.in_ok-settle_command.ensures.kept refl) in
+    let free = c.settle_command.ensures.space (subst (λ (r : Result PoolState PoolFault). is_full r ≡ false) c.in_ok-settle_command.ensures.kept refl) in
     commit_next_of (g.D.Disk.state c.settle_command.new.self.io.disk.now) c.settle_command.new.self.io.space c.settle_command.new.self.kept.body free runs.ran.ready
 
 pub returns-clause-space : goal.returns-clause-space
-returns-clause-space g c = λ told. c.settle_command.ensures.space (subst (λ (r : Result Kept PoolFault). is_full r ≡ false) c.in_ok-settle_command.ensures.kept refl)
+returns-clause-space g c = λ told. c.settle_command.ensures.space (subst (λ (r : Result PoolState PoolFault). is_full r ≡ false) c.in_ok-settle_command.ensures.kept refl)
 
 -- where it was refused
 
@@ -101,7 +101,7 @@ returns-in_err-settle_command-clause-answer g c = λ tight running told standing
     let runs = ran g (goal.at.returns-in_err-settle_command-clause-answer g c).After-settle_command (Err c.in_err-settle_command.field-0.0) c.in_err-settle_command.ensures.kept in
     let did = runs.ran.did tight running told rested in
     let fell = c.from_residual-in_err-settle_command in
-    subst (λ (k : Kept). StepAnswer tight (g.D.Disk.state c.settle_command.new.self.io.disk.now) k running (stepped [] c.args.now c.args.command running) fell.result) (sym c.in_err-settle_command.ensures.stays)
+    subst (λ (k : PoolState). StepAnswer tight (g.D.Disk.state c.settle_command.new.self.io.disk.now) k running (stepped [] c.args.now c.args.command running) fell.result) (sym c.in_err-settle_command.ensures.stays)
     (subst (StepAnswer tight (g.D.Disk.state c.settle_command.new.self.io.disk.now) c.args.self.now.kept running (stepped [] c.args.now c.args.command running)) (sym (err_is fell.result c.in_err-settle_command.field-0.0 fell.ensures.1)) did.answer)
 
 pub returns-in_err-settle_command-clause-sound : goal.returns-in_err-settle_command-clause-sound
@@ -115,7 +115,7 @@ returns-in_err-settle_command-clause-spends g c = λ standing.
     let spends = runs.ran.spends in
     let cost = cost_of c.args.command in
     let fell = c.from_residual-in_err-settle_command in
-    (spends.0, spends.1, spends_err cost.cells spends.0 c.args.self.now.kept c.run-ran.new.io.space c.settle_command.new.self.kept fault fell.result c.settle_command.new.self.io.space (err_is fell.result fault fell.ensures.1) (λ is. c.settle_command.ensures.left (subst (λ (r : Result Kept PoolFault). is_full r ≡ true) kept is)) spends.2)
+    (spends.0, spends.1, spends_err cost.cells spends.0 c.args.self.now.kept c.run-ran.new.io.space c.settle_command.new.self.kept fault fell.result c.settle_command.new.self.io.space (err_is fell.result fault fell.ensures.1) (λ is. c.settle_command.ensures.left (subst (λ (r : Result PoolState PoolFault). is_full r ≡ true) kept is)) spends.2)
 
 pub returns-in_err-settle_command-clause-exact : goal.returns-in_err-settle_command-clause-exact
 returns-in_err-settle_command-clause-exact g c = λ running told standing rested.
@@ -124,7 +124,7 @@ returns-in_err-settle_command-clause-exact g c = λ running told standing rested
     let runs = ran g (goal.at.returns-in_err-settle_command-clause-exact g c).After-settle_command (Err fault) kept in
     let cost = cost_of c.args.command in
     let fell = c.from_residual-in_err-settle_command in
-    spends_err cost.cells (cost.block running) c.args.self.now.kept c.run-ran.new.io.space c.settle_command.new.self.kept fault fell.result c.settle_command.new.self.io.space (err_is fell.result fault fell.ensures.1) (λ is. c.settle_command.ensures.left (subst (λ (r : Result Kept PoolFault). is_full r ≡ true) kept is)) (runs.ran.exact running told rested)
+    spends_err cost.cells (cost.block running) c.args.self.now.kept c.run-ran.new.io.space c.settle_command.new.self.kept fault fell.result c.settle_command.new.self.io.space (err_is fell.result fault fell.ensures.1) (λ is. c.settle_command.ensures.left (subst (λ (r : Result PoolState PoolFault). is_full r ≡ true) kept is)) (runs.ran.exact running told rested)
 
 pub returns-in_err-settle_command-clause-spares : goal.returns-in_err-settle_command-clause-spares
 returns-in_err-settle_command-clause-spares g c =
@@ -161,14 +161,14 @@ returns-in_err-settle_command-clause-works g c = λ told.
     let fell = c.from_residual-in_err-settle_command in
     let here = g.D.Disk.state c.settle_command.new.self.io.disk.now in
     let free = c.settle_command.ensures.space (free_again fault _ fell.result _ (err_is fell.result fault fell.ensures.1) c.in_err-settle_command.ensures.kept told) in
-    commit_next_of here c.settle_command.new.self.io.space c.settle_command.new.self.kept.body free (subst (λ (k : Kept). Ready here k.body) (sym c.in_err-settle_command.ensures.stays) (runs.ran.stays (or_parts _ _ told).0))
+    commit_next_of here c.settle_command.new.self.io.space c.settle_command.new.self.kept.body free (subst (λ (k : PoolState). Ready here k.body) (sym c.in_err-settle_command.ensures.stays) (runs.ran.stays (or_parts _ _ told).0))
 
 pub returns-in_err-settle_command-clause-ready : goal.returns-in_err-settle_command-clause-ready
 returns-in_err-settle_command-clause-ready g c = λ standing.
     let fault = c.in_err-settle_command.field-0.0 in
     let runs = ran g (goal.at.returns-in_err-settle_command-clause-ready g c).After-settle_command (Err fault) c.in_err-settle_command.ensures.kept in
     let here = g.D.Disk.state c.settle_command.new.self.io.disk.now in
-    subst (λ (k : Kept). Ready here k.body) (sym c.in_err-settle_command.ensures.stays) (runs.ran.stays standing)
+    subst (λ (k : PoolState). Ready here k.body) (sym c.in_err-settle_command.ensures.stays) (runs.ran.stays standing)
 
 -- where no memory was left for its reply
 

@@ -1,6 +1,6 @@
 use Rattle.std.proofs.Common.{◌++◌, take, ap, ◌∙◌, arith}
 use Rattle.zst_fletcher.specs.WeightSum.{weight_sum}
-use Rattle.zst_reader.proofs.Judged.{two-parts, whole-part}
+use Rattle.zst_reader.proofs.VerdictLemmas.{two-parts, whole-part}
 use Rattle.zst_reader.proofs.place.Place.sum_with.Goals as goal
 
 pub returns : goal.returns

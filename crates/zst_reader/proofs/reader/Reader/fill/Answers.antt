@@ -1,8 +1,8 @@
 use Rattle.std.proofs.Common.{◌≡◌, ◌+◌, ◌^◌, ◌≤◌, length, refl, ap, ◌∙◌, arith, rules, length-append}
 use Rattle.std.proofs.lemmas.Result.{err_from_is_err_and}
 use Rattle.zst_reader.specs.Window.{items}
-use Rattle.zst_reader.proofs.Judged.{still-known}
-use Rattle.zst_reader.proofs.Stands.{pushed}
+use Rattle.zst_reader.proofs.VerdictLemmas.{still-known}
+use Rattle.zst_reader.proofs.StandsForLemmas.{pushed}
 use Rattle.zst_reader.proofs.reader.Reader.fill.Goals as goal
 
 pub invariant_of-self-2 : goal.invariant_of-self-2

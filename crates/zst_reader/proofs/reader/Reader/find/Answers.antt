@@ -1,7 +1,7 @@
 use Rattle.std.proofs.Common.{◌≡◌, refl, sym, ap, ◌∙◌}
 use Rattle.zst_stream.specs.Reading.{ruling, wait, refuse, more, last}
 use Rattle.zst_reader.specs.Window.{items}
-use Rattle.zst_reader.proofs.Stands.{at_front, has_failed, has_ended, waits, refused, finds_more, finds_last}
+use Rattle.zst_reader.proofs.StandsForLemmas.{at_front, has_failed, has_ended, waits, refused, finds_more, finds_last}
 use Rattle.zst_reader.proofs.reader.Reader.find.Goals as goal
 
 pub returns-in-Failed-clause-finds : goal.returns-in-Failed-clause-finds

@@ -3,7 +3,7 @@ use Rattle.zst_record.specs.Heads.{Covered, size_of}
 use Rattle.zst_record.specs.declared.head.Head.{Head}
 use Rattle.zst_reader.specs.Mark.{mark_after}
 use Rattle.zst_reader.specs.StandsFor.{StandsFor}
-use Rattle.zst_reader.specs.Stepping.{Counts}
+use Rattle.zst_reader.specs.Steps.{Counts}
 use Rattle.zst_reader.proofs.reader.Reader.next.Goals as goal
 
 pub returns-in-Ok-Record : goal.returns-in-Ok-Record

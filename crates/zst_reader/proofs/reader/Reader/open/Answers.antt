@@ -1,5 +1,5 @@
 use Rattle.std.proofs.Common.{refl}
-use Rattle.zst_reader.proofs.Stands.{opened}
+use Rattle.zst_reader.proofs.StandsForLemmas.{opened}
 use Rattle.zst_reader.proofs.reader.Reader.open.Goals as goal
 
 pub returns-clause-stands : goal.returns-clause-stands

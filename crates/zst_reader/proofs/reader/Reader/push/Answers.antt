@@ -1,7 +1,7 @@
 use Rattle.std.proofs.Common.{◌≡◌, ◌+◌, ◌^◌, ◌≤◌, length, take, refl, ap, ◌∙◌, arith, rules, length-append}
 use Rattle.zst_reader.specs.Window.{items}
-use Rattle.zst_reader.proofs.Judged.{still-known}
-use Rattle.zst_reader.proofs.Stands.{pushed}
+use Rattle.zst_reader.proofs.VerdictLemmas.{still-known}
+use Rattle.zst_reader.proofs.StandsForLemmas.{pushed}
 use Rattle.zst_reader.proofs.reader.Reader.push.Goals as goal
 
 pub invariant_of-self : goal.invariant_of-self

@@ -1,14 +1,14 @@
 use Rattle.std.proofs.Common.{◌≡◌, sym, subst, ◌∙◌}
 use Rattle.zst_block.specs.Blocks.{Has}
 use Rattle.zst_plan.specs.RecvPlan.{recv_plan}
-use Rattle.zst_recv.specs.Receiving.{opened}
+use Rattle.zst_recv.specs.ReceiveSteps.{opened}
 use Rattle.zst_recv.specs.Stages.{IsStage, IsWork}
 use Rattle.zst_recv.specs.declared.batch.Batch.{Batch}
 use Rattle.zst_recv.specs.declared.stage.Stage as coded
 use Rattle.zst_recv.specs.declared.stage.Stage.TheVariants as stages
-use Rattle.zst_recv.proofs.Answering.{err_alike}
-use Rattle.zst_recv.proofs.Behind.{refused_begin, waits_tell}
-use Rattle.zst_recv.proofs.Planning.{begun_planned, refused_planned}
+use Rattle.zst_recv.proofs.AlikeAnswers.{err_alike}
+use Rattle.zst_recv.proofs.HandedRecords.{refused_begin, waits_tell}
+use Rattle.zst_recv.proofs.PlanRefusals.{begun_planned, refused_planned}
 use Rattle.zst_recv.proofs.batch.Batch.begin.Goals.{in-Waits, in_default}
 use Rattle.zst_recv.proofs.batch.Batch.begin.Goals as goal
 

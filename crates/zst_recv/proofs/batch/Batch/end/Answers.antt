@@ -1,6 +1,6 @@
 use Rattle.std.proofs.Common.{sym, ◌∙◌}
 use Rattle.zst_block.specs.Blocks.{Has}
-use Rattle.zst_recv.proofs.Moving.{ended_is}
+use Rattle.zst_recv.proofs.RecordEffects.{ended_is}
 use Rattle.zst_recv.proofs.batch.Batch.end.Goals as goal
 
 pub returns-in-Lives-clause-ended : goal.returns-in-Lives-clause-ended

@@ -2,16 +2,16 @@ use Rattle.std.proofs.Common.{◌≡◌, ◌+◌, ℕ, Option, Ok, Result, ap, s
 use Rattle.zst_image.specs.Reads.{PartialIs, bound_of}
 use Rattle.zst_block.specs.Blocks.{Has}
 use Rattle.zst_record.specs.Heads.{covered_of}
-use Rattle.zst_model.specs.states.Apply.{◌>>=◌}
+use Rattle.zst_model.specs.states.AppliedItems.{◌>>=◌}
 use Rattle.zst_model.specs.pools.Pool as plain
 use Rattle.zst_model.specs.declared.refusals.refusal.Refusal.{Refusal}
-use Rattle.zst_recv.proofs.Answering.{err_is}
-use Rattle.zst_recv.specs.Receiving.{moved_by, taken, with_applied}
+use Rattle.zst_recv.proofs.AlikeAnswers.{err_is}
+use Rattle.zst_recv.specs.ReceiveSteps.{moved_by, taken, with_applied}
 use Rattle.zst_recv.specs.Stages.{IsWork, StageFits}
-use Rattle.zst_recv.specs.Taking.{Takes}
+use Rattle.zst_recv.specs.TakenRecords.{Takes}
 use Rattle.zst_recv.specs.declared.batch.Batch.{Batch}
 use Rattle.zst_recv.specs.declared.stage.Stage.TheVariants as stages
-use Rattle.zst_recv.proofs.Moving.{one_more, refuses_on, taken_is, under_way, work_stays}
+use Rattle.zst_recv.proofs.RecordEffects.{one_more, refuses_on, taken_is, under_way, work_stays}
 use Rattle.zst_recv.specs.Costs.{Spends}
 use Rattle.zst_recv.specs.Faults.{stop_of}
 use Rattle.zst_recv.specs.declared.fault.RecvFault.{RecvFault}

@@ -1,10 +1,10 @@
 use Rattle.std.proofs.Common.{◌+◌}
 use Rattle.zst_image.specs.Reads.{bound_of}
 use Rattle.zst_record.specs.Heads.{covered_of}
-use Rattle.zst_recv.proofs.Damaging.{told_none}
-use Rattle.zst_recv.proofs.Moving.{next_number, runs_now}
+use Rattle.zst_recv.proofs.DamageLemmas.{told_none}
+use Rattle.zst_recv.proofs.RecordEffects.{next_number, runs_now}
 use Rattle.std.proofs.Common.{[], ◌∷◌, refl}
-use Rattle.zst_recv.proofs.Spending.{spends_idle}
+use Rattle.zst_recv.proofs.CostLemmas.{spends_idle}
 use Rattle.zst_recv.proofs.batch.Batch.take.Goals as goal
 
 pub returns-in-Begin-clause-took : goal.returns-in-Begin-clause-took

@@ -1,5 +1,5 @@
 use Rattle.zst_block.specs.Blocks.{Has}
-use Rattle.zst_recv.proofs.Serving.{left_rests}
+use Rattle.zst_recv.proofs.FeedEnds.{left_rests}
 use Rattle.zst_recv.proofs.recv.Recv.cut.Goals as goal
 
 pub returns-clause-rests : goal.returns-clause-rests

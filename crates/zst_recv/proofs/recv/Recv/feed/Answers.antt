@@ -6,44 +6,44 @@ use Rattle.zst_reader.specs.declared.reader.Reader.{Reader}
 use Rattle.zst_record.specs.Heads.{Covered, size_of}
 use Rattle.zst_outside.specs.Images.{DiskState}
 use Rattle.zst_block.specs.Blocks.{FillsFree, Has}
-use Rattle.zst_image.specs.Committing.{Ready}
+use Rattle.zst_image.specs.Commits.{Ready}
 use Rattle.zst_image.specs.Reads.{bound_of, free_by}
-use Rattle.zst_image.specs.declared.kept.Kept.{Kept}
+use Rattle.zst_image.specs.declared.pool_state.PoolState.{PoolState}
 use Rattle.zst_model.specs.pools.Pool.{Pool}
 use Rattle.zst_plan.specs.declared.receive.RecvAsk.{RecvAsk}
 use Rattle.zst_pool.specs.Calls.{CallGrows, CanCommit, IsAtRest, IsCallFull, IsUnderWay}
 use Rattle.zst_pool.specs.Partials.{without_unkept}
 use Rattle.zst_pool.specs.declared.fault.PoolFault.{PoolFault}
 use Rattle.zst_pool.specs.declared.fault.PoolFault.TheVariants as pools
-use Rattle.zst_pool.proofs.Resting.{commit_still, rests_on, rests_still}
+use Rattle.zst_pool.proofs.PoolsAtRest.{commit_still, rests_on, rests_still}
 use Rattle.zst_model.specs.declared.refusals.faults.Quantity.TheVariants as quantities
 use Rattle.zst_model.specs.declared.refusals.plan_fault.PlanFault.{PlanFault}
 use Rattle.zst_model.specs.declared.refusals.plan_fault.PlanFault.TheVariants as plans
 use Rattle.zst_recv.specs.Faults.{IsFeedFault, keeps_before, recv_refusal, stop_at, stop_of, stream_limit}
-use Rattle.zst_recv.specs.Receiving.{Stage, Work, at_stage, is_kept, left_by, put}
+use Rattle.zst_recv.specs.ReceiveSteps.{Stage, Work, at_stage, is_kept, left_by, put}
 use Rattle.zst_recv.specs.Answers.{is_done}
 use Rattle.zst_recv.specs.Feeds.{new_records}
-use Rattle.zst_recv.specs.Settling.{Puts}
+use Rattle.zst_recv.specs.Commits.{Puts}
 use Rattle.zst_recv.specs.Stages.{HasRead, IsStage, IsWork, Receives, StageFits, TellsBefore, has_partial, is_live, received_at, waits_at}
-use Rattle.zst_recv.specs.Taking.{Reads, TakesAll, fault_in, taken_of}
+use Rattle.zst_recv.specs.TakenRecords.{Reads, TakesAll, fault_in, taken_of}
 use Rattle.zst_recv.specs.declared.batch.Batch as batches
-use Rattle.zst_recv.specs.declared.recv.Fed as coded_recv
+use Rattle.zst_recv.specs.declared.recv.FeedReport as coded_recv
 use Rattle.zst_recv.specs.declared.stage.Stage as coded
-use Rattle.zst_recv.proofs.Ending.{untaken}
-use Rattle.zst_recv.proofs.Feeding.{due_some}
-use Rattle.zst_recv.proofs.Going.{done_is}
-use Rattle.zst_recv.proofs.Putting.{put_none, put_stands, same_ok}
+use Rattle.zst_recv.proofs.BatchStages.{untaken}
+use Rattle.zst_recv.proofs.FeedAnswers.{due_some}
+use Rattle.zst_recv.proofs.PieceStages.{done_is}
+use Rattle.zst_recv.proofs.CommitLemmas.{put_none, put_stands, same_ok}
 use Rattle.zst_recv.specs.declared.fault.RecvFault.{RecvFault}
 use Rattle.zst_recv.specs.declared.fault.RecvFault.TheVariants as faults
-use Rattle.zst_recv.proofs.Damaging.{damaged_renewed, err_told, told_call}
-use Rattle.zst_recv.proofs.Behind.{over_reads}
-use Rattle.zst_recv.proofs.Serving.{behind_fits, both_false, by_test, fed_so, first_stage, first_way, fits_within, kept_is, left_rests, live_fits, loose, lost, not_false, not_not, over_fits, received_then, stopped, too_long, unmade, untaken_stands, waits_behind, known_call, still_open}
+use Rattle.zst_recv.proofs.DamageLemmas.{damaged_renewed, err_told, told_call}
+use Rattle.zst_recv.proofs.HandedRecords.{over_reads}
+use Rattle.zst_recv.proofs.FeedEnds.{behind_fits, both_false, by_test, fed_so, first_stage, first_way, fits_within, kept_is, left_rests, live_fits, loose, lost, not_false, not_not, over_fits, received_then, stopped, too_long, unmade, untaken_stands, waits_behind, known_call, still_open}
 use Rattle.zst_stream.specs.Reading.{reading, waiting}
 use Rattle.zst_recv.specs.Costs.{PieceIsShort, Spends, records_behind}
-use Rattle.zst_recv.proofs.Spending.{full_keeps_none, same_pool, short_put, short_read, piece_grows}
-use Rattle.zst_recv.specs.Planning.{RefusesEach, RefusesOne, is_planned}
-use Rattle.zst_recv.proofs.Keeping.{keeps_behind, live_partial}
-use Rattle.zst_recv.proofs.Planning.{both_planned, call_unplanned, over_waits, waits_ahead, waits_kept}
+use Rattle.zst_recv.proofs.CostLemmas.{full_keeps_none, same_pool, short_put, short_read, piece_grows}
+use Rattle.zst_recv.specs.Plans.{RefusesEach, RefusesOne, is_planned}
+use Rattle.zst_recv.proofs.KeptBlocks.{keeps_behind, live_partial}
+use Rattle.zst_recv.proofs.PlanRefusals.{both_planned, call_unplanned, over_waits, waits_ahead, waits_kept}
 use Rattle.zst_recv.proofs.recv.Recv.feed.Given.{Over}
 use Rattle.zst_recv.proofs.recv.Recv.feed.Goals as goal
 use Rattle.zst_recv.proofs.recv.Recv.feed.Goals.{After-has_partial-held, After-read, Then-is_kept, then-keeps_before+else-is_kept, else-keeps_before}
@@ -76,7 +76,7 @@ reads_piece g c tight running text stage result was honest rested tells is =
     let way = first_way old one kept same space disk c.renew.ensures.kept c.renew.ensures.space running rested in
     let stands = first_stage old one kept same space disk c.renew.ensures.kept c.renew.ensures.space tight running.number recv.stage stage is.stands in
     let work = c.new-batch.ensures.work bound one.seen space stage (subst (λ (s : coded.Stage). IsStage bound (Has one.seen space) s stage) (sym c.replace.ensures.value) stands) in
-    let read = c.read.ensures.read tight c.args.pool.now.io.disk.now running (at_stage stage) text is.handed honest way (subst (λ (k : Kept). TellsBefore recv.ask stage k.dir running) (sym c.renew.ensures.kept) tells) is.reads work in
+    let read = c.read.ensures.read tight c.args.pool.now.io.disk.now running (at_stage stage) text is.handed honest way (subst (λ (k : PoolState). TellsBefore recv.ask stage k.dir running) (sym c.renew.ensures.kept) tells) is.reads work in
     record {
       way = rests_still old one space same running way two c.read.new.io.space c.read.ensures.fills.fills;
       taken = subst (Reads recv.ask running c.read.new.reader text c.args.piece.now (IsWork bound (Has two.seen c.read.new.io.space) c.read.new.batch) (at_stage stage)) was read;
@@ -95,7 +95,7 @@ keeps_read g c tight running text stage read =
 
 -- where it is given up, the receive leaves the pool at rest
 left : (g : Over) (c : After-has_partial-held g) {tight : Bool} (running : Pool) (text : List ℕ) (stage : Stage)
-    → Receives (bound_of tight running.number) (Has (g.D.Disk.state c.args.pool.now.io.disk.now).seen (free_by c.args.pool.now.kept.body)) c.args.self.now text stage → (now : DiskState) (after : Kept)
+    → Receives (bound_of tight running.number) (Has (g.D.Disk.state c.args.pool.now.io.disk.now).seen (free_by c.args.pool.now.kept.body)) c.args.self.now text stage → (now : DiskState) (after : PoolState)
     → IsAtRest tight now after (cond c.has_partial-held.result (without_unkept c.args.self.now.ask.target running) running) → IsAtRest tight now after (left_by stage running)
 left g c {tight = tight} running text stage is now after rests =
     let recv = c.args.self.now in
@@ -210,10 +210,10 @@ returns-in-Ok-put-clause-feeds g c = λ tight running text stage told alive rest
     let unmade = untaken recv.ask running (new_records text piece) (at_stage stage) (sym read.is.taken ∙ none) in
     let code : batch.stage ≡ recv.stage = ap (λ (b : batches.Batch). b.stage) (c.read.ensures.idle none) ∙ c.new-batch.ensures.stage ∙ c.replace.ensures.value in
     let number = bound_of tight running.number in
-    let first = subst (λ (k : Kept). IsStage number (Has old.seen (free_by k.body)) recv.stage stage) (sym c.renew.ensures.kept) is.stands in
+    let first = subst (λ (k : PoolState). IsStage number (Has old.seen (free_by k.body)) recv.stage stage) (sym c.renew.ensures.kept) is.stands in
     let second = untaken_stands number old two c.read.new.io.space same running reads.way recv.stage stage first in
     let third = subst (λ (d : DiskState). IsStage number (Has d.seen (free_by same.body)) recv.stage stage) (sym (ap (λ (d : g.row.D.Denot). g.D.Disk.state d) (c.put.ensures.idle_disk none))) second in
-    let fourth = subst (λ (k : Kept). IsStage number (Has three.seen (free_by k.body)) recv.stage stage) (sym (c.put.ensures.idle_kept none)) third in
+    let fourth = subst (λ (k : PoolState). IsStage number (Has three.seen (free_by k.body)) recv.stage stage) (sym (c.put.ensures.idle_kept none)) third in
     let still : running ≡ next = same_ok running next (sym (put_none taken running (sym read.is.taken ∙ none)) ∙ made) in
     let fifth = subst (λ (s : coded.Stage). IsStage number (Has three.seen (free_by after.body)) s taken.stage) (sym code)
     (subst (λ (w : Work). IsStage number (Has three.seen (free_by after.body)) recv.stage w.stage) (sym unmade) fourth) in
@@ -307,7 +307,7 @@ pub read-requires-clause-stage : goal.read-requires-clause-stage
 read-requires-clause-stage g c =
     let recv = c.args.self.now in
     let fits = live_fits c.args.pool.now.kept.dir recv.ask.target recv.stage c.requires.live c.requires.recv.stage in
-    subst (λ (k : Kept). StageFits k.dir recv.ask.target c.new-batch.result.stage) (sym c.renew.ensures.kept)
+    subst (λ (k : PoolState). StageFits k.dir recv.ask.target c.new-batch.result.stage) (sym c.renew.ensures.kept)
     (subst (StageFits c.args.pool.now.kept.dir recv.ask.target) (sym (c.new-batch.ensures.stage ∙ c.replace.ensures.value)) fits)
 
 pub returns-in-Ok-put-clause-received : goal.returns-in-Ok-put-clause-received
@@ -359,22 +359,22 @@ returns-in-Err-2-clause-damaged g c = λ sector stated found honest alive is.
     let gave = c.give_up-in-Err-2 in
     let last = ap (λ (io : _). g.D.Disk.state io.disk.now) gave.ensures.io in
     let now = subst (λ (d : DiskState). d.honest) last honest in
-    let told = c.in-Err.ensures.damaged sector stated found now (ap (λ (f : RecvFault). Err f) (sym gave.ensures.fault ∙ err_told coded_recv.Fed _ _ is)) in
+    let told = c.in-Err.ensures.damaged sector stated found now (ap (λ (f : RecvFault). Err f) (sym gave.ensures.fault ∙ err_told coded_recv.FeedReport _ _ is)) in
     damaged_renewed (g.D.Disk.state c.args.pool.now.io.disk.now) (g.D.Disk.state c.renew.new.self.io.disk.now) c.renew.new.self.io.space c.args.pool.now.kept c.renew.new.self.kept c.args.self.now.ask.target sector stated found
     (ap (λ (d : g.row.D.Denot). g.D.Disk.state d) c.renew.ensures.disk) c.renew.ensures.space c.renew.ensures.kept told
 
 pub returns-in-Err-put-clause-damaged : goal.returns-in-Err-put-clause-damaged
 returns-in-Err-put-clause-damaged g c = λ sector stated found honest alive is.
-    absurd (told_call c.in-Err-put.fault sector stated found c.in-Err-put.ensures.known (sym c.give_up-in-Err-put.ensures.fault ∙ err_told coded_recv.Fed _ _ is))
+    absurd (told_call c.in-Err-put.fault sector stated found c.in-Err-put.ensures.known (sym c.give_up-in-Err-put.ensures.fault ∙ err_told coded_recv.FeedReport _ _ is))
 
 pub returns-in-Err-put-2-clause-damaged : goal.returns-in-Err-put-2-clause-damaged
 returns-in-Err-put-2-clause-damaged g c = λ sector stated found honest alive is.
-    absurd (told_call c.in-Err-put-2.other sector stated found c.in-Err-put-2.ensures.known (sym c.give_up-in-Err-put-2.ensures.fault ∙ err_told coded_recv.Fed _ _ is))
+    absurd (told_call c.in-Err-put-2.other sector stated found c.in-Err-put-2.ensures.known (sym c.give_up-in-Err-put-2.ensures.fault ∙ err_told coded_recv.FeedReport _ _ is))
 
 pub returns-in-Ok-put-2-clause-damaged : goal.returns-in-Ok-put-2-clause-damaged
 returns-in-Ok-put-2-clause-damaged g c = λ sector stated found honest alive is.
     absurd (let keeps : keeps_before c.in-Err.fault ≡ true = sym c.keeps_before.ensures ∙ c.if-keeps_before.true in
-    let none : keeps_before c.in-Err.fault ≡ false = ap keeps_before (err_told coded_recv.Fed c.in-Err.fault _ is) in cc)
+    let none : keeps_before c.in-Err.fault ≡ false = ap keeps_before (err_told coded_recv.FeedReport c.in-Err.fault _ is) in cc)
 
 pub returns-then-pool-clause-stream : goal.returns-then-pool-clause-stream
 returns-then-pool-clause-stream g c = λ text handed fault stands is. absurd (cc is)
@@ -385,7 +385,7 @@ returns-then-piece-started-clause-stream g c = λ text handed fault stands is.
 
 pub returns-in-Err-2-clause-stream : goal.returns-in-Err-2-clause-stream
 returns-in-Err-2-clause-stream g c = λ text handed fault stands is.
-    c.in-Err.ensures.stream text handed fault stands (ap (λ (f : RecvFault). Err f) (sym c.give_up-in-Err-2.ensures.fault ∙ err_told coded_recv.Fed _ _ is))
+    c.in-Err.ensures.stream text handed fault stands (ap (λ (f : RecvFault). Err f) (sym c.give_up-in-Err-2.ensures.fault ∙ err_told coded_recv.FeedReport _ _ is))
 
 pub returns-in-Err-put-clause-stream : goal.returns-in-Err-put-clause-stream
 returns-in-Err-put-clause-stream g c = λ text handed fault stands is.
@@ -396,7 +396,7 @@ returns-in-Err-put-2-clause-stream g c = λ text handed fault stands is.
     absurd (cc (c.give_up-in-Err-put-2.ensures.fault, is))
 
 pub returns-in-Ok-put-2-clause-stream : goal.returns-in-Ok-put-2-clause-stream
-returns-in-Ok-put-2-clause-stream g c = λ text handed fault stands is. c.in-Err.ensures.stream text handed fault stands (ap (λ (f : RecvFault). Err f) (err_told coded_recv.Fed _ _ is))
+returns-in-Ok-put-2-clause-stream g c = λ text handed fault stands is. c.in-Err.ensures.stream text handed fault stands (ap (λ (f : RecvFault). Err f) (err_told coded_recv.FeedReport _ _ is))
 
 pub returns-in-Ok-put-clause-stands : goal.returns-in-Ok-put-clause-stands
 returns-in-Ok-put-clause-stands g c = λ text handed stands goes.
@@ -422,7 +422,7 @@ returns-in-Err-2-clause-short g c = λ text handed need largest stands is.
     let gave = c.give_up-in-Err-2 in
     let records = records_behind handed (text ++ c.args.piece.now) in
     let kept = c.args.pool.now.kept in
-    let full = ap stop_at (sym gave.ensures.fault ∙ err_told coded_recv.Fed _ _ is) in
+    let full = ap stop_at (sym gave.ensures.fault ∙ err_told coded_recv.FeedReport _ _ is) in
     let told = c.in-Err.ensures.fills.full need largest full in
     let spends = subst (λ (s : FreeSectors). Spends records s c.read.new.io.space (stop_at c.in-Err.fault)) c.renew.ensures.space (c.in-Err.ensures.spends text handed stands) in
     subst (λ (s : FreeSectors). PieceIsShort records kept s need largest) (sym (ap (λ (io : _). io.space) gave.ensures.io))
@@ -436,23 +436,23 @@ short_by g c text handed need largest after last stands full same =
     let kept = c.args.pool.now.kept in
     let spends = subst (λ (s : FreeSectors). Spends records s c.read.new.io.space (stop_of c.read.result)) c.renew.ensures.space (c.read.ensures.spends text handed stands) in
     subst (λ (s : FreeSectors). PieceIsShort records kept s need largest) (sym same)
-    (short_put records kept c.read.new.io.space after (stop_of c.read.result) need largest spends (subst (λ (k : Kept). IsCallFull c.read.new.io.space after k.dir need largest) c.renew.ensures.kept full))
+    (short_put records kept c.read.new.io.space after (stop_of c.read.result) need largest spends (subst (λ (k : PoolState). IsCallFull c.read.new.io.space after k.dir need largest) c.renew.ensures.kept full))
 
 pub returns-in-Err-put-clause-short : goal.returns-in-Err-put-clause-short
 returns-in-Err-put-clause-short g c = λ text handed need largest stands is.
     let gave = c.give_up-in-Err-put in
-    let full = ap (λ (f : PoolFault). Err f) (same_pool _ _ (sym gave.ensures.fault ∙ err_told coded_recv.Fed _ _ is)) in
+    let full = ap (λ (f : PoolFault). Err f) (same_pool _ _ (sym gave.ensures.fault ∙ err_told coded_recv.FeedReport _ _ is)) in
     short_by g (goal.at.returns-in-Err-put-clause-short g c).After-read text handed need largest c.put.new.pool.io.space gave.new.pool.io.space stands (c.in-Err-put.ensures.short need largest full) (ap (λ (io : _). io.space) gave.ensures.io)
 
 pub returns-in-Err-put-2-clause-short : goal.returns-in-Err-put-2-clause-short
 returns-in-Err-put-2-clause-short g c = λ text handed need largest stands is.
     let gave = c.give_up-in-Err-put-2 in
-    let full = ap (λ (f : PoolFault). Err f) (same_pool _ _ (sym gave.ensures.fault ∙ err_told coded_recv.Fed _ _ is)) in
+    let full = ap (λ (f : PoolFault). Err f) (same_pool _ _ (sym gave.ensures.fault ∙ err_told coded_recv.FeedReport _ _ is)) in
     short_by g (goal.at.returns-in-Err-put-2-clause-short g c).After-read text handed need largest c.put-in-Err.new.pool.io.space gave.new.pool.io.space stands (c.in-Err-put-2.ensures.short need largest full) (ap (λ (io : _). io.space) gave.ensures.io)
 
 pub returns-in-Ok-put-2-clause-short : goal.returns-in-Ok-put-2-clause-short
 returns-in-Ok-put-2-clause-short g c = λ text handed need largest stands is.
-    absurd (full_keeps_none c.in-Err.fault need largest (sym c.keeps_before.ensures ∙ c.if-keeps_before.true) (err_told coded_recv.Fed c.in-Err.fault _ is))
+    absurd (full_keeps_none c.in-Err.fault need largest (sym c.keeps_before.ensures ∙ c.if-keeps_before.true) (err_told coded_recv.FeedReport c.in-Err.fault _ is))
 
 pub returns-in-Ok-put-clause-hands_out : goal.returns-in-Ok-put-clause-hands_out
 returns-in-Ok-put-clause-hands_out g c = λ text handed hands goes.
@@ -467,17 +467,17 @@ pub returns-then-piece-started-clause-stays : goal.returns-then-piece-started-cl
 returns-then-piece-started-clause-stays g c = λ need largest is. c.give_up.ensures.body
 
 pub returns-in-Err-2-clause-stays : goal.returns-in-Err-2-clause-stays
-returns-in-Err-2-clause-stays g c = λ need largest is. c.give_up-in-Err-2.ensures.body ∙ ap (λ (k : Kept). k.body) c.renew.ensures.kept
+returns-in-Err-2-clause-stays g c = λ need largest is. c.give_up-in-Err-2.ensures.body ∙ ap (λ (k : PoolState). k.body) c.renew.ensures.kept
 
 pub returns-in-Err-put-clause-stays : goal.returns-in-Err-put-clause-stays
-returns-in-Err-put-clause-stays g c = λ need largest is. c.give_up-in-Err-put.ensures.body ∙ ap (λ (k : Kept). k.body) (c.in-Err-put.ensures.stays ∙ c.renew.ensures.kept)
+returns-in-Err-put-clause-stays g c = λ need largest is. c.give_up-in-Err-put.ensures.body ∙ ap (λ (k : PoolState). k.body) (c.in-Err-put.ensures.stays ∙ c.renew.ensures.kept)
 
 pub returns-in-Err-put-2-clause-stays : goal.returns-in-Err-put-2-clause-stays
-returns-in-Err-put-2-clause-stays g c = λ need largest is. c.give_up-in-Err-put-2.ensures.body ∙ ap (λ (k : Kept). k.body) (c.in-Err-put-2.ensures.stays ∙ c.renew.ensures.kept)
+returns-in-Err-put-2-clause-stays g c = λ need largest is. c.give_up-in-Err-put-2.ensures.body ∙ ap (λ (k : PoolState). k.body) (c.in-Err-put-2.ensures.stays ∙ c.renew.ensures.kept)
 
 pub returns-in-Ok-put-2-clause-stays : goal.returns-in-Ok-put-2-clause-stays
 returns-in-Ok-put-2-clause-stays g c = λ need largest is.
-    absurd (full_keeps_none c.in-Err.fault need largest (sym c.keeps_before.ensures ∙ c.if-keeps_before.true) (err_told coded_recv.Fed c.in-Err.fault _ is))
+    absurd (full_keeps_none c.in-Err.fault need largest (sym c.keeps_before.ensures ∙ c.if-keeps_before.true) (err_told coded_recv.FeedReport c.in-Err.fault _ is))
 
 pub returns-then-pool-clause-planned : goal.returns-then-pool-clause-planned
 returns-then-pool-clause-planned g c = λ text handed fault alive waits stands none within refuses. absurd (let failed = c.if-pool.true in cc)
@@ -501,7 +501,7 @@ planned_so : (g : Over) (c : After-read g) (text : List ℕ) (handed : List Cove
     → RefusesOne c.args.pool.now.kept.dir c.args.self.now.ask (text ++ c.args.piece.now) fault → (c.read.result ≡ Err (faults.Pool (pools.Plan fault))) × (waits_at c.read.new.batch.stage ≡ true)
 planned_so g c text handed fault stands waits none refuses =
     c.read.ensures.planned text handed fault stands (ap waits_at (c.new-batch.ensures.stage ∙ c.replace.ensures.value) ∙ waits) none
-    (subst (λ (k : Kept). RefusesOne k.dir c.args.self.now.ask (text ++ c.args.piece.now) fault) (sym c.renew.ensures.kept) refuses)
+    (subst (λ (k : PoolState). RefusesOne k.dir c.args.self.now.ask (text ++ c.args.piece.now) fault) (sym c.renew.ensures.kept) refuses)
 
 pub returns-in-Err-2-clause-planned : goal.returns-in-Err-2-clause-planned
 returns-in-Err-2-clause-planned g c = λ text handed fault alive waits stands none within refuses.
@@ -510,8 +510,8 @@ returns-in-Err-2-clause-planned g c = λ text handed fault alive waits stands no
 
 pub returns-in-Err-2-clause-because : goal.returns-in-Err-2-clause-because
 returns-in-Err-2-clause-because g c = λ text handed fault alive stands kind is.
-    let told = c.in-Err.ensures.because text handed fault stands kind (ap (λ (f : RecvFault). Err f) (sym c.give_up-in-Err-2.ensures.fault ∙ err_told coded_recv.Fed _ _ is)) in
-    (ap waits_at (sym (c.new-batch.ensures.stage ∙ c.replace.ensures.value)) ∙ told.0, subst (λ (k : Kept). RefusesEach k.dir c.args.self.now.ask (text ++ c.args.piece.now) fault) c.renew.ensures.kept told.1)
+    let told = c.in-Err.ensures.because text handed fault stands kind (ap (λ (f : RecvFault). Err f) (sym c.give_up-in-Err-2.ensures.fault ∙ err_told coded_recv.FeedReport _ _ is)) in
+    (ap waits_at (sym (c.new-batch.ensures.stage ∙ c.replace.ensures.value)) ∙ told.0, subst (λ (k : PoolState). RefusesEach k.dir c.args.self.now.ask (text ++ c.args.piece.now) fault) c.renew.ensures.kept told.1)
 
 pub returns-in-Err-2-clause-uncovered : goal.returns-in-Err-2-clause-uncovered
 returns-in-Err-2-clause-uncovered g c = λ text handed stands none waits. absurd (over_waits c.give_up-in-Err-2.new.self.stage c.give_up-in-Err-2.ensures.over waits)
@@ -523,7 +523,7 @@ returns-in-Err-put-clause-planned g c = λ text handed fault alive waits stands 
 
 pub returns-in-Err-put-clause-because : goal.returns-in-Err-put-clause-because
 returns-in-Err-put-clause-because g c = λ text handed fault alive stands kind is.
-    absurd (both_planned fault kind (call_unplanned c.in-Err-put.fault fault c.in-Err-put.ensures.known (sym c.give_up-in-Err-put.ensures.fault ∙ err_told coded_recv.Fed _ _ is)))
+    absurd (both_planned fault kind (call_unplanned c.in-Err-put.fault fault c.in-Err-put.ensures.known (sym c.give_up-in-Err-put.ensures.fault ∙ err_told coded_recv.FeedReport _ _ is)))
 
 pub returns-in-Err-put-clause-uncovered : goal.returns-in-Err-put-clause-uncovered
 returns-in-Err-put-clause-uncovered g c = λ text handed stands none waits. absurd (over_waits c.give_up-in-Err-put.new.self.stage c.give_up-in-Err-put.ensures.over waits)
@@ -535,7 +535,7 @@ returns-in-Err-put-2-clause-planned g c = λ text handed fault alive waits stand
 
 pub returns-in-Err-put-2-clause-because : goal.returns-in-Err-put-2-clause-because
 returns-in-Err-put-2-clause-because g c = λ text handed fault alive stands kind is.
-    absurd (both_planned fault kind (call_unplanned c.in-Err-put-2.other fault c.in-Err-put-2.ensures.known (sym c.give_up-in-Err-put-2.ensures.fault ∙ err_told coded_recv.Fed _ _ is)))
+    absurd (both_planned fault kind (call_unplanned c.in-Err-put-2.other fault c.in-Err-put-2.ensures.known (sym c.give_up-in-Err-put-2.ensures.fault ∙ err_told coded_recv.FeedReport _ _ is)))
 
 pub returns-in-Err-put-2-clause-uncovered : goal.returns-in-Err-put-2-clause-uncovered
 returns-in-Err-put-2-clause-uncovered g c = λ text handed stands none waits. absurd (over_waits c.give_up-in-Err-put-2.new.self.stage c.give_up-in-Err-put-2.ensures.over waits)
@@ -547,8 +547,8 @@ returns-in-Ok-put-2-clause-planned g c = λ text handed fault alive waits stands
 
 pub returns-in-Ok-put-2-clause-because : goal.returns-in-Ok-put-2-clause-because
 returns-in-Ok-put-2-clause-because g c = λ text handed fault alive stands kind is.
-    let told = c.in-Err.ensures.because text handed fault stands kind (ap (λ (f : RecvFault). Err f) (err_told coded_recv.Fed _ _ is)) in
-    (ap waits_at (sym (c.new-batch.ensures.stage ∙ c.replace.ensures.value)) ∙ told.0, subst (λ (k : Kept). RefusesEach k.dir c.args.self.now.ask (text ++ c.args.piece.now) fault) c.renew.ensures.kept told.1)
+    let told = c.in-Err.ensures.because text handed fault stands kind (ap (λ (f : RecvFault). Err f) (err_told coded_recv.FeedReport _ _ is)) in
+    (ap waits_at (sym (c.new-batch.ensures.stage ∙ c.replace.ensures.value)) ∙ told.0, subst (λ (k : PoolState). RefusesEach k.dir c.args.self.now.ask (text ++ c.args.piece.now) fault) c.renew.ensures.kept told.1)
 
 pub returns-in-Ok-put-2-clause-uncovered : goal.returns-in-Ok-put-2-clause-uncovered
 returns-in-Ok-put-2-clause-uncovered g c = λ text handed stands none waits. absurd (over_waits _ c.replace.ensures.after waits)
@@ -585,7 +585,7 @@ returns-in-Ok-put-clause-blocks g c = λ goes.
     let fills = subst (λ (d : DiskState). FillsFree d free two c.read.new.io.space) (ap (λ (d : g.row.D.Denot). g.D.Disk.state d) c.renew.ensures.disk)
     (subst (λ (s : FreeSectors). FillsFree (g.D.Disk.state c.renew.new.self.io.disk.now) s two c.read.new.io.space) c.renew.ensures.space c.read.ensures.fills.fills) in
     keeps_behind old two three free c.read.new.io.space (free_by c.put.new.pool.kept.body) batch.taken fills
-    (λ idle. (ap (λ (d : g.row.D.Denot). g.D.Disk.state d) (c.put.ensures.idle_disk idle), ap (λ (k : Kept). free_by k.body) (c.put.ensures.idle_kept idle ∙ c.renew.ensures.kept)))
+    (λ idle. (ap (λ (d : g.row.D.Denot). g.D.Disk.state d) (c.put.ensures.idle_disk idle), ap (λ (k : PoolState). free_by k.body) (c.put.ensures.idle_kept idle ∙ c.renew.ensures.kept)))
     (λ taken. c.in-Ok-put.ensures.blocks taken (live_partial batch.stage live (λ waits. let both = sym taken ∙ none waits in cc (both))))
 
 pub returns-in-Ok-put-clause-grows : goal.returns-in-Ok-put-clause-grows
@@ -593,4 +593,4 @@ returns-in-Ok-put-clause-grows g c = λ text handed stands.
     let records = records_behind handed (text ++ c.args.piece.now) in
     let spends = subst (λ (s : FreeSectors). Spends records s c.read.new.io.space None) c.renew.ensures.space (c.in-Ok.ensures.spends text handed stands) in
     piece_grows records c.args.pool.now.kept c.put.new.pool.kept c.read.new.io.space spends.takes c.read.ensures.fills.fits.extents.end
-    (subst (λ (k : Kept). (c.put.new.pool.kept ≡ k) ⊎ CallGrows c.read.new.io.space k c.put.new.pool.kept) c.renew.ensures.kept c.in-Ok-put.ensures.grows)
+    (subst (λ (k : PoolState). (c.put.new.pool.kept ≡ k) ⊎ CallGrows c.read.new.io.space k c.put.new.pool.kept) c.renew.ensures.kept c.in-Ok-put.ensures.grows)

@@ -1,5 +1,5 @@
 use Rattle.std.proofs.Common.{[], refl}
-use Rattle.zst_recv.proofs.Ordering.{nothing_read}
+use Rattle.zst_recv.proofs.RecordOrder.{nothing_read}
 use Rattle.zst_recv.proofs.recv.Recv.open.Goals as goal
 
 pub returns-clause-opens : goal.returns-clause-opens

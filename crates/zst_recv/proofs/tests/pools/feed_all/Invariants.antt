@@ -1,5 +1,5 @@
 use Rattle.std.proofs.Common.{◌≡◌, true, false}
-use Rattle.zst_image.specs.Committing.{Ready}
+use Rattle.zst_image.specs.Commits.{Ready}
 use Rattle.zst_recv.specs.Stages.{RecvFits, is_live}
 use Rattle.zst_recv.proofs.tests.pools.feed_all.Given as goal
 

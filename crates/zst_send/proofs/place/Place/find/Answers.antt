@@ -1,21 +1,21 @@
 use Rattle.std.proofs.Common.{Option, Some, ◌<◌, sym, subst}
 use Rattle.zst_send.specs.Costs.{cells_due}
-use Rattle.zst_send.proofs.Costing.{found_counts}
+use Rattle.zst_send.proofs.LookCosts.{found_counts}
 use Rattle.std.proofs.lemmas.Result.{err_from_is_err_and}
 use Rattle.zst_block.specs.Blocks.{Has}
 use Rattle.zst_model.specs.sends.View.{view_of}
 use Rattle.zst_traverse.specs.Cells.{IsNextCell, choice_after}
-use Rattle.zst_traverse.specs.declared.found.Found.{Found}
-use Rattle.zst_send.specs.Due.{due_of}
+use Rattle.zst_traverse.specs.declared.walk_entry.WalkEntry.{WalkEntry}
+use Rattle.zst_send.specs.DueItems.{due_of}
 use Rattle.zst_send.specs.Places.{GoesTo}
-use Rattle.zst_send.specs.declared.due.Due.{Due}
+use Rattle.zst_send.specs.declared.due_items.DueItems.{DueItems}
 use Rattle.zst_send.specs.declared.place.Place.{Place}
-use Rattle.zst_send.proofs.Steps.{WalkLaws, found_goes, none_goes}
+use Rattle.zst_send.proofs.WalkSteps.{WalkLaws, found_goes, none_goes}
 use Rattle.std.specs.Prelude.{IfSome}
 use Rattle.zst_tree.specs.Damage.{IsSeen}
-use Rattle.zst_traverse.specs.Standing.{FoundStands}
-use Rattle.zst_send.specs.Knowing.{DueStands, IsAmong}
-use Rattle.zst_send.proofs.Knowing.{due_stands, found_more, seen_among}
+use Rattle.zst_traverse.specs.StandingEntries.{FoundStands}
+use Rattle.zst_send.specs.KnownPointers.{DueStands, IsAmong}
+use Rattle.zst_send.proofs.KnownPointers.{due_stands, found_more, seen_among}
 use Rattle.zst_send.proofs.place.Place.find.Goals as goal
 
 pub returns-in_err-found-clause-found : goal.returns-in_err-found-clause-found
@@ -28,7 +28,7 @@ returns-in_default-clause-found g c = λ header snap honest holds of.
     let has = Has (g.D.Disk.state c.next_found.new.io.disk.now).seen c.next_found.new.io.space in
     let old = c.args.self.now in
     let laws : WalkLaws = record { ends = c.walk_ends.ensures; object = c.object_is_next.ensures; gone = c.gone_run_is_next.ensures; blocks = c.block_run_is_next.ensures } in
-    let next = subst (λ (f : Option Found). IsNextCell has snap (choice_after c.args.source) old.point old.slot f) c.in_default.is (c.in_ok-found.ensures.found snap honest holds) in
+    let next = subst (λ (f : Option WalkEntry). IsNextCell has snap (choice_after c.args.source) old.point old.slot f) c.in_default.is (c.in_ok-found.ensures.found snap honest holds) in
     none_goes has header snap c.args.source laws old c.at_end.result next c.at_end.ensures.point c.at_end.ensures.slot
 
 pub due_of-due-requires-clause-found : goal.due_of-due-requires-clause-found
@@ -39,11 +39,11 @@ returns-clause-found g c = λ header snap honest holds of.
     let has = Has (g.D.Disk.state c.next_found.new.io.disk.now).seen c.next_found.new.io.space in
     let old = c.args.self.now in
     let laws : WalkLaws = record { ends = c.walk_ends.ensures; object = c.object_is_next.ensures; gone = c.gone_run_is_next.ensures; blocks = c.block_run_is_next.ensures } in
-    let next = subst (λ (f : Option Found). IsNextCell has snap (choice_after c.args.source) old.point old.slot f) c.in-Some.is (c.in_ok-found.ensures.found snap honest holds) in
+    let next = subst (λ (f : Option WalkEntry). IsNextCell has snap (choice_after c.args.source) old.point old.slot f) c.in-Some.is (c.in_ok-found.ensures.found snap honest holds) in
     let goes = found_goes has header snap c.args.source laws holds.lawful old c.in-Some.found c.requires.place.some of next in
     let place = c.place_after-place.result in
     let there = subst (λ (p : Place). GoesTo has snap (view_of header snap (choice_after c.args.source)) old p (Some (due_of c.in-Some.found p.type_ p.block_size))) (sym c.place_after-place.ensures.place) goes in
-    subst (λ (d : Due). GoesTo has snap (view_of header snap (choice_after c.args.source)) old place (Some d)) (sym c.due_of-due.ensures.due) there
+    subst (λ (d : DueItems). GoesTo has snap (view_of header snap (choice_after c.args.source)) old place (Some d)) (sym c.due_of-due.ensures.due) there
 
 pub returns-clause-stands : goal.returns-clause-stands
 returns-clause-stands g c = λ images among honest.
@@ -51,9 +51,9 @@ returns-clause-stands g c = λ images among honest.
     let set = c.args.set.now in
     let found = c.in-Some.found in
     let place = c.place_after-place.result in
-    let told = subst (λ (f : Option Found). IfSome f (FoundStands (IsSeen seen) set)) c.in-Some.is (c.in_ok-found.ensures.stands honest) in
+    let told = subst (λ (f : Option WalkEntry). IfSome f (FoundStands (IsSeen seen) set)) c.in-Some.is (c.in_ok-found.ensures.stands honest) in
     let stands = found_more (IsSeen seen) (IsAmong images) (seen_among images seen among) set found told in
-    subst (λ (d : Due). DueStands (IsAmong images) set d) (sym c.due_of-due.ensures.due) (due_stands (IsAmong images) set found place.type_ place.block_size stands)
+    subst (λ (d : DueItems). DueStands (IsAmong images) set d) (sym c.due_of-due.ensures.due) (due_stands (IsAmong images) set found place.type_ place.block_size stands)
 
 pub returns-in_err-found-clause-counted : goal.returns-in_err-found-clause-counted
 returns-in_err-found-clause-counted g c = λ snap honest holds of.
@@ -64,7 +64,7 @@ pub returns-clause-counted : goal.returns-clause-counted
 returns-clause-counted g c = λ snap honest holds of.
     let has = Has (g.D.Disk.state c.next_found.new.io.disk.now).seen c.next_found.new.io.space in
     let old = c.args.self.now in
-    let next = subst (λ (f : Option Found). IsNextCell has snap (choice_after c.args.source) old.point old.slot f) c.in-Some.is (c.in_ok-found.ensures.found snap honest holds) in
+    let next = subst (λ (f : Option WalkEntry). IsNextCell has snap (choice_after c.args.source) old.point old.slot f) c.in-Some.is (c.in_ok-found.ensures.found snap honest holds) in
     let counts = found_counts has snap (choice_after c.args.source) old c.in-Some.found c.requires.place.some of next in
     let there = subst (λ (p : Place). 0 < cells_due snap (due_of c.in-Some.found p.type_ p.block_size)) (sym c.place_after-place.ensures.place) counts in
-    subst (λ (d : Due). 0 < cells_due snap d) (sym c.due_of-due.ensures.due) there
+    subst (λ (d : DueItems). 0 < cells_due snap d) (sym c.due_of-due.ensures.due) there

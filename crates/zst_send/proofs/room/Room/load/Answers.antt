@@ -2,7 +2,7 @@ use Rattle.std.proofs.Common.{◌≡◌, length, arith}
 use Rattle.zst_block.proofs.BlocksLaws.{IsBlock-length}
 use Rattle.std.proofs.lemmas.Result.{err_from_is_err_and}
 use Rattle.zst_tree.specs.Damage.{IsSeen}
-use Rattle.zst_send.proofs.Damaging.{load_told}
+use Rattle.zst_send.proofs.BlockDamage.{load_told}
 use Rattle.zst_send.proofs.room.Room.load.Goals as goal
 
 pub returns-then-ptr-gt-LONGEST_PAYLOAD-clause-there : goal.returns-then-ptr-gt-LONGEST_PAYLOAD-clause-there

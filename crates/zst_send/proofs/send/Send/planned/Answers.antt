@@ -10,12 +10,12 @@ use Rattle.zst_send.specs.Sends.{begun_view}
 use Rattle.zst_stream.specs.Image.{front_of}
 use Rattle.zst_stream.specs.Records.{view_text}
 use Rattle.zst_send.specs.Records.{HasPut}
-use Rattle.zst_send.specs.Standing.{StandsAt}
-use Rattle.zst_send.specs.Working.{HasBlock}
+use Rattle.zst_send.specs.SendState.{StandsAt}
+use Rattle.zst_send.specs.Work.{HasBlock}
 use Rattle.zst_objset.specs.Sets.{SetHolds}
-use Rattle.zst_objset.specs.Tight.{SetIsTight}
-use Rattle.zst_pool.proofs.Naming.{rows_named}
-use Rattle.zst_send.proofs.Planning.{plan_choice, plan_holds, set_at}
+use Rattle.zst_objset.specs.TightSets.{SetIsTight}
+use Rattle.zst_pool.proofs.NamedPools.{rows_named}
+use Rattle.zst_send.proofs.PlanRows.{plan_choice, plan_holds, set_at}
 use Rattle.zst_send.proofs.send.Send.planned.Goals as goal
 
 pub returns-clause-sends : goal.returns-clause-sends

@@ -2,10 +2,10 @@ use Rattle.std.proofs.Common.{sym, subst, Result, ◌==◌}
 use Rattle.zst_block.specs.Blocks.{Has}
 use Rattle.zst_pool.specs.declared.fault.PoolFault.{PoolFault}
 use Rattle.zst_pool.specs.declared.fault.PoolFault.TheVariants.{OutOfMemory, Plan}
-use Rattle.zst_pool.proofs.Naming.{rows_named}
-use Rattle.zst_send.specs.Opening.{Resumes, built}
+use Rattle.zst_pool.proofs.NamedPools.{rows_named}
+use Rattle.zst_send.specs.Openings.{Resumes, built}
 use Rattle.zst_send.specs.declared.send.Send.{Send}
-use Rattle.zst_send.proofs.Planning.{err_is, passed, plan_lacks, plan_refuses}
+use Rattle.zst_send.proofs.PlanRows.{err_is, passed, plan_lacks, plan_refuses}
 use Rattle.zst_send.proofs.send.Send.resume.Goals as goal
 
 pub returns-in_err-check_built-clause-resumes : goal.returns-in_err-check_built-clause-resumes

@@ -2,7 +2,7 @@ use Rattle.std.proofs.Common.{◌≡◌, ℕ, ◌+◌, List, ◌++◌, take, dro
 use Rattle.std.proofs.lemmas.List.{take-append-drop, length-take-le}
 use Rattle.zst_space.specs.FreeSectors.{FreeSectors}
 use Rattle.zst_block.specs.Blocks.{Has}
-use Rattle.zst_model.specs.sends.Included.{Choice}
+use Rattle.zst_model.specs.sends.Inclusion.{Choice}
 use Rattle.zst_model.specs.sends.View.{view_of}
 use Rattle.zst_objset.proofs.LeafLaws.{look_on}
 use Rattle.zst_objset.specs.Sets.{SetHolds}
@@ -12,19 +12,19 @@ use Rattle.zst_pool.specs.Faults.{of_block}
 use Rattle.zst_tree.specs.Indices.{IsNoDamage}
 use Rattle.zst_send.specs.Sends.{IsTakeFault, SendsFrom, begun, begun_view}
 use Rattle.zst_record.specs.Payload.{stated_point}
-use Rattle.zst_send.specs.Standing.{StandsAt}
+use Rattle.zst_send.specs.SendState.{StandsAt}
 use Rattle.std.proofs.lemmas.Result.{err_from_is_err_and}
-use Rattle.zst_pool.proofs.Telling.{set_told}
+use Rattle.zst_pool.proofs.QueryLemmas.{set_told}
 use Rattle.zst_objset.specs.declared.fault.ObjFault.TheVariants as set_faults
 use Rattle.zst_model.specs.sends.Items.{items}
 use Rattle.zst_stream.specs.Image.{front_of}
 use Rattle.zst_traverse.specs.Cells.{choice_after}
 use Rattle.zst_send.specs.Costs.{Pays, blocks_in, cells_in}
 use Rattle.zst_send.specs.Records.{AreLeft, HasPut, touched}
-use Rattle.zst_send.proofs.Paying.{take_pays, take_puts}
+use Rattle.zst_send.proofs.ItemCosts.{take_pays, take_puts}
 use Rattle.zst_send.specs.Damage.{IsDamagedSend}
-use Rattle.zst_send.specs.Knowing.{IsAmong}
-use Rattle.zst_send.proofs.Planning.{never_planned}
+use Rattle.zst_send.specs.KnownPointers.{IsAmong}
+use Rattle.zst_send.proofs.PlanRows.{never_planned}
 use Rattle.zst_pool.specs.declared.fault.PoolFault.TheVariants.{Plan}
 use Rattle.zst_send.proofs.send.Send.take.Goals as goal
 

@@ -3,17 +3,17 @@ use Rattle.std.specs.Prelude.{Ok, Some}
 use Rattle.std.proofs.lemmas.Result.{err_from_is_err_and}
 use Rattle.zst_space.specs.FreeSectors.{FreeSectors}
 use Rattle.zst_block.specs.Blocks.{Has}
-use Rattle.zst_block.proofs.Working.{Looks-then}
+use Rattle.zst_block.proofs.IoCallLemmas.{Looks-then}
 use Rattle.zst_model.specs.sends.View.{View, view_of}
 use Rattle.zst_objset.proofs.LeafLaws.{look_on}
 use Rattle.zst_objset.specs.Sets.{SetHolds}
-use Rattle.zst_objset.specs.Tight.{SetIsTight}
+use Rattle.zst_objset.specs.TightSets.{SetIsTight}
 use Rattle.zst_traverse.specs.Cells.{choice_after}
 use Rattle.zst_send.specs.Places.{ComesFirst}
-use Rattle.zst_send.proofs.Costing.{joined_counts, look_ahead}
-use Rattle.zst_send.proofs.Joining.{RunComes, run_begins, run_ends, run_goes_on}
-use Rattle.zst_send.specs.Knowing.{IsAmong}
-use Rattle.zst_send.proofs.Knowing.{among_on, run_stands}
+use Rattle.zst_send.proofs.LookCosts.{joined_counts, look_ahead}
+use Rattle.zst_send.proofs.ItemRuns.{RunComes, run_begins, run_ends, run_goes_on}
+use Rattle.zst_send.specs.KnownPointers.{IsAmong}
+use Rattle.zst_send.proofs.KnownPointers.{among_on, run_stands}
 use Rattle.zst_send.proofs.walk.Walk.lengthened.Goals as goal
 
 pub returns-in_err-next-clause-gives : goal.returns-in_err-next-clause-gives

@@ -1,19 +1,19 @@
 use Rattle.std.proofs.Common.{◌≡◌, ◌+◌, ◌*◌, ◌-◌, ◌^◌, ◌≤◌, true, ℕ, List, min}
 use Rattle.std.specs.Prelude.{Contains, None, Some, IfSome}
 use Rattle.zst_block.specs.Blocks.{FitsDisk, Has}
-use Rattle.zst_block.specs.Working.{Looks}
+use Rattle.zst_block.specs.IoCalls.{Looks}
 use Rattle.zst_model.specs.declared.sends.header.Header.{Header}
 use Rattle.zst_model.specs.declared.states.item.Item.{Item}
 use Rattle.zst_model.specs.sends.View.{view_of}
-use Rattle.zst_model.specs.states.Dated.{DatedState}
+use Rattle.zst_model.specs.states.DatedState.{DatedState}
 use Rattle.zst_objset.specs.Sets.{SetHolds}
-use Rattle.zst_objset.specs.Tight.{SetIsTight}
+use Rattle.zst_objset.specs.TightSets.{SetIsTight}
 use Rattle.zst_traverse.specs.Cells.{choice_after}
 use Rattle.zst_send.specs.Costs.{cells_due, cells_next, ended}
-use Rattle.zst_send.specs.Due.{DueFits, is_run, size_of_run}
-use Rattle.zst_send.specs.Knowing.{DueStands, IsAmong}
+use Rattle.zst_send.specs.DueItems.{DueFits, is_run, size_of_run}
+use Rattle.zst_send.specs.KnownPointers.{DueStands, IsAmong}
 use Rattle.zst_send.specs.Places.{ComesFirst, WalkFits}
-use Rattle.zst_send.proofs.Joining.{RunComes}
+use Rattle.zst_send.proofs.ItemRuns.{RunComes}
 use Rattle.zst_send.proofs.walk.Walk.lengthened.Given as goal
 
 abbrev pub invariant-loop-both : goal.invariant-loop-both

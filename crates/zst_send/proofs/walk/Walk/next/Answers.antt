@@ -7,17 +7,17 @@ use Rattle.zst_model.specs.declared.states.item.Item.{Item}
 use Rattle.zst_model.specs.sends.View.{View, view_of}
 use Rattle.zst_objset.proofs.LeafLaws.{look_on}
 use Rattle.zst_objset.specs.Sets.{SetHolds}
-use Rattle.zst_objset.specs.Tight.{SetIsTight}
+use Rattle.zst_objset.specs.TightSets.{SetIsTight}
 use Rattle.zst_send.specs.Costs.{cells_next}
 use Rattle.zst_traverse.specs.Cells.{choice_after}
-use Rattle.zst_send.specs.Due.{AreHeld}
+use Rattle.zst_send.specs.DueItems.{AreHeld}
 use Rattle.zst_send.specs.Places.{ComesFirst, Gives, items_left}
-use Rattle.zst_send.specs.declared.due.Due.{Due}
-use Rattle.zst_send.proofs.Costing.{given_counts}
-use Rattle.zst_send.proofs.Joining.{gives_alone}
+use Rattle.zst_send.specs.declared.due_items.DueItems.{DueItems}
+use Rattle.zst_send.proofs.LookCosts.{given_counts}
+use Rattle.zst_send.proofs.ItemRuns.{gives_alone}
 use Rattle.std.specs.Prelude.{IfSome}
-use Rattle.zst_send.specs.Knowing.{DueStands, IsAmong}
-use Rattle.zst_send.proofs.Knowing.{among_on, behind_stands}
+use Rattle.zst_send.specs.KnownPointers.{DueStands, IsAmong}
+use Rattle.zst_send.proofs.KnownPointers.{among_on, behind_stands}
 use Rattle.zst_send.proofs.walk.Walk.next.Goals as goal
 
 pub returns-in_err-due-clause-gives : goal.returns-in_err-due-clause-gives
@@ -29,8 +29,8 @@ pub returns-in_default-clause-gives : goal.returns-in_default-clause-gives
 returns-in_default-clause-gives g c = λ header snap held honest holds walk.
     let has = Has (g.D.Disk.state c.first.new.io.disk.now).seen c.first.new.io.space in
     let view : View = view_of header snap (choice_after c.args.source) in
-    let first = subst (λ (d : Option Due). ComesFirst has snap view (items_left view c.args.self.now held) c.first.new.self.place d) c.in_default.is (c.in_ok-due.ensures.goes header snap held honest holds walk) in
-    (first.0, record { held_are = subst (λ (h : Option Due). AreHeld has h []) (sym c.in_ok-due.ensures.held) refl; place_is = first.1 })
+    let first = subst (λ (d : Option DueItems). ComesFirst has snap view (items_left view c.args.self.now held) c.first.new.self.place d) c.in_default.is (c.in_ok-due.ensures.goes header snap held honest holds walk) in
+    (first.0, record { held_are = subst (λ (h : Option DueItems). AreHeld has h []) (sym c.in_ok-due.ensures.held) refl; place_is = first.1 })
 
 pub returns-in_err-lengthened-clause-gives : goal.returns-in_err-lengthened-clause-gives
 returns-in_err-lengthened-clause-gives g c = λ header snap held honest holds walk.
@@ -40,7 +40,7 @@ returns-in_err-lengthened-clause-gives g c = λ header snap held honest holds wa
     let p = err_from_is_err_and c.from_residual-in_err-lengthened.result c.from_residual-in_err-lengthened.ensures.1 in
     let was = c.in_err-lengthened.ensures.looks.reads.honest honest in
     let on = look_on (λ (seen : List ℕ) (space : FreeSectors). SetHolds (Has seen space) c.args.set.now snap) _ _ _ _ _ _ _ c.in_ok-due.ensures.looks holds in
-    let first = subst (λ (d : Option Due). ComesFirst has snap view left c.first.new.self.place d) c.in-Some.is (c.in_ok-due.ensures.goes header snap held was holds walk) in
+    let first = subst (λ (d : Option DueItems). ComesFirst has snap view left c.first.new.self.place d) c.in-Some.is (c.in_ok-due.ensures.goes header snap held was holds walk) in
     rw (p.1, p.2) (c.in_err-lengthened.ensures.gives header snap left honest on first)
 
 pub returns-then-is_run-clause-gives : goal.returns-then-is_run-clause-gives
@@ -50,7 +50,7 @@ returns-then-is_run-clause-gives g c = λ header snap held honest holds walk.
     let left : List Item = items_left view c.args.self.now held in
     let was = c.in_ok-lengthened.ensures.looks.reads.honest honest in
     let on = look_on (λ (seen : List ℕ) (space : FreeSectors). SetHolds (Has seen space) c.args.set.now snap) _ _ _ _ _ _ _ c.in_ok-due.ensures.looks holds in
-    let first = subst (λ (d : Option Due). ComesFirst has snap view left c.first.new.self.place d) c.in-Some.is (c.in_ok-due.ensures.goes header snap held was holds walk) in
+    let first = subst (λ (d : Option DueItems). ComesFirst has snap view left c.first.new.self.place d) c.in-Some.is (c.in_ok-due.ensures.goes header snap held was holds walk) in
     c.in_ok-lengthened.ensures.gives header snap left honest on first
 
 pub returns-clause-gives : goal.returns-clause-gives
@@ -59,9 +59,9 @@ returns-clause-gives g c = λ header snap held honest holds walk.
     let view : View = view_of header snap (choice_after c.args.source) in
     let left : List Item = items_left view c.args.self.now held in
     let place = c.first.new.self.place in
-    let first = subst (λ (d : Option Due). ComesFirst has snap view left place d) c.in-Some.is (c.in_ok-due.ensures.goes header snap held honest holds walk) in
+    let first = subst (λ (d : Option DueItems). ComesFirst has snap view left place d) c.in-Some.is (c.in_ok-due.ensures.goes header snap held honest holds walk) in
     let alone = gives_alone has snap view left place c.in-Some.due (sym c.is_run.ensures ∙ c.if-is_run.false) first in
-    subst (λ (h : Option Due). Gives has snap view left (record { place = place; held = h }) (Some c.in-Some.due)) (sym c.behind-self.ensures.behind) alone
+    subst (λ (h : Option DueItems). Gives has snap view left (record { place = place; held = h }) (Some c.in-Some.due)) (sym c.behind-self.ensures.behind) alone
 
 pub returns-in_default-clause-stands : goal.returns-in_default-clause-stands
 returns-in_default-clause-stands g c = λ images among honest was. ((c.in_ok-due.ensures.stands images among honest was).0, tt)
@@ -83,8 +83,8 @@ returns-then-is_run-clause-stands g c = λ images among honest was.
 pub returns-clause-stands : goal.returns-clause-stands
 returns-clause-stands g c = λ images among honest was.
     let first = c.in_ok-due.ensures.stands images among honest was in
-    let due = subst (λ (d : Option Due). IfSome d (DueStands (IsAmong images) c.args.set.now)) c.in-Some.is first.1 in
-    (subst (λ (h : Option Due). IfSome h (DueStands (IsAmong images) c.args.set.now)) (sym c.behind-self.ensures.behind) (behind_stands (IsAmong images) c.args.set.now c.in-Some.due due), due)
+    let due = subst (λ (d : Option DueItems). IfSome d (DueStands (IsAmong images) c.args.set.now)) c.in-Some.is first.1 in
+    (subst (λ (h : Option DueItems). IfSome h (DueStands (IsAmong images) c.args.set.now)) (sym c.behind-self.ensures.behind) (behind_stands (IsAmong images) c.args.set.now c.in-Some.due due), due)
 
 pub returns-in_err-due-clause-few : goal.returns-in_err-due-clause-few
 returns-in_err-due-clause-few g c = λ header snap held honest tight walk.
@@ -110,7 +110,7 @@ returns-then-is_run-clause-few g c = λ header snap held honest tight walk.
     let left : List Item = items_left view c.args.self.now held in
     let was = c.in_ok-lengthened.ensures.looks.reads.honest honest in
     let on = look_on (λ (seen : List ℕ) (space : FreeSectors). SetIsTight (Has seen space) c.args.set.now snap) _ _ _ _ _ _ _ c.in_ok-due.ensures.looks tight in
-    let first = subst (λ (d : Option Due). ComesFirst has snap view left c.first.new.self.place d) c.in-Some.is (c.in_ok-due.ensures.goes header snap held was tight.holds walk) in
+    let first = subst (λ (d : Option DueItems). ComesFirst has snap view left c.first.new.self.place d) c.in-Some.is (c.in_ok-due.ensures.goes header snap held was tight.holds walk) in
     let ahead = c.in_ok-due.ensures.ahead snap was tight walk.place_is in
     let found = ap (cells_next snap) c.in-Some.is in
     omega (arith, ahead, found, c.in_ok-lengthened.ensures.few header snap left honest on first)

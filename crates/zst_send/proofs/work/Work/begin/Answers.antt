@@ -1,7 +1,7 @@
 use Rattle.std.proofs.Common.{List, ℕ, ◌++◌, ap, sym, subst, ◌∙◌, []}
 use Rattle.zst_fletcher.specs.WeightSum.{IsWhole}
 use Rattle.zst_writer.specs.Writes.{HasWritten}
-use Rattle.zst_send.proofs.Putting.{begin_whole, front_taken, is_front}
+use Rattle.zst_send.proofs.ItemRecords.{begin_whole, front_taken, is_front}
 use Rattle.zst_send.proofs.work.Work.begin.Goals as goal
 
 pub put-requires-clause-words : goal.put-requires-clause-words

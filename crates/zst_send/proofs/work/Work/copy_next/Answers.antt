@@ -1,11 +1,11 @@
 use Rattle.std.proofs.Common.{◌≡◌, ℕ, ◌-◌, ◌≤◌, List, length, take, drop, min, arith, subst, ◌∙◌, sym}
 use Rattle.zst_block.specs.Blocks.{Has}
-use Rattle.zst_send.specs.Working.{IsPayload, PayloadFits}
+use Rattle.zst_send.specs.Work.{IsPayload, PayloadFits}
 use Rattle.zst_send.specs.declared.work.Payload.{Payload}
-use Rattle.zst_send.proofs.Giving.{payload_given}
+use Rattle.zst_send.proofs.RecordPieces.{payload_given}
 use Rattle.std.proofs.lemmas.Result.{err_from_is_err_and}
 use Rattle.zst_tree.specs.Damage.{IsSeen}
-use Rattle.zst_send.proofs.Damaging.{short_told}
+use Rattle.zst_send.proofs.BlockDamage.{short_told}
 use Rattle.zst_send.proofs.work.Work.copy_next.Goals as goal
 
 pub returns-in-Bonus-clause-gives : goal.returns-in-Bonus-clause-gives

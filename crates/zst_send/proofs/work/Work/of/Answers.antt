@@ -1,8 +1,8 @@
 use Rattle.std.proofs.Common.{ℕ, List, ◌++◌, sym, ◌∙◌, ap, subst}
 use Rattle.zst_record.specs.Heads.{payload_len}
-use Rattle.zst_stream.specs.Found.{found_item}
+use Rattle.zst_stream.specs.FoundItems.{found_item}
 use Rattle.zst_writer.specs.Writes.{HasWritten}
-use Rattle.zst_send.proofs.Putting.{is_lone_piece}
+use Rattle.zst_send.proofs.ItemRecords.{is_lone_piece}
 use Rattle.zst_send.proofs.work.Work.of.Goals as goal
 
 pub alone-requires : goal.alone-requires

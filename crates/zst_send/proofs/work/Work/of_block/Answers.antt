@@ -1,7 +1,7 @@
 use Rattle.std.proofs.Common.{ℕ, List, ◌++◌, sym, subst}
-use Rattle.zst_stream.specs.Found.{found_item}
+use Rattle.zst_stream.specs.FoundItems.{found_item}
 use Rattle.zst_writer.specs.Writes.{HasWritten}
-use Rattle.zst_send.proofs.Putting.{is_piece}
+use Rattle.zst_send.proofs.ItemRecords.{is_piece}
 use Rattle.zst_send.proofs.work.Work.of_block.Goals as goal
 
 pub returns-clause-put : goal.returns-clause-put

@@ -2,35 +2,35 @@ use Rattle.std.proofs.Common.{ℕ, ◌++◌, drop, length, sym, ◌∙◌, ap, s
 use Rattle.std.proofs.lemmas.Result.{err_from_is_err_and}
 use Rattle.zst_block.specs.Blocks.{Has}
 use Rattle.zst_stream.specs.Records.{item_payload}
-use Rattle.zst_send.specs.Due.{IsFirst}
+use Rattle.zst_send.specs.DueItems.{IsFirst}
 use Rattle.zst_block.proofs.BlocksLaws.{IsBlock-length}
 use Rattle.zst_model.specs.declared.states.item.Item.{Item}
 use Rattle.zst_send.specs.Records.{blocks_behind, reads_of}
-use Rattle.zst_send.specs.Working.{IsPayload, payload_size}
+use Rattle.zst_send.specs.Work.{IsPayload, payload_size}
 use Rattle.zst_send.specs.declared.work.Payload.{Payload}
-use Rattle.zst_send.specs.declared.due.Due.{Due}
+use Rattle.zst_send.specs.declared.due_items.DueItems.{DueItems}
 use Rattle.zst_tree.specs.Damage.{IsSeen}
-use Rattle.zst_send.specs.Due.{DueFits}
-use Rattle.zst_send.proofs.Damaging.{short_told}
+use Rattle.zst_send.specs.DueItems.{DueFits}
+use Rattle.zst_send.proofs.BlockDamage.{short_told}
 use Rattle.zst_send.proofs.Sizes.{spill_size_most}
 use Rattle.zst_send.proofs.work.Work.put.Goals as goal
 
 pub returns-in_err-load-in-Spill-clause-put : goal.returns-in_err-load-in-Spill-clause-put
 returns-in_err-load-in-Spill-clause-put g c = λ text item honest loaded written first.
     let p = err_from_is_err_and c.from_residual.result c.from_residual.ensures.1 in
-    let named = subst (λ (d : Due). IsFirst (Has (g.D.Disk.state c.args.io.now.disk.now).seen c.args.io.now.space) d item) c.in-Spill.is first in
+    let named = subst (λ (d : DueItems). IsFirst (Has (g.D.Disk.state c.args.io.now.disk.now).seen c.args.io.now.space) d item) c.in-Spill.is first in
     rw (p.1, p.2) (c.in_err-load-in-Spill.ensures.there named.0 honest loaded named.1 named.2)
 
 pub returns-in_err-load-in-Block-clause-put : goal.returns-in_err-load-in-Block-clause-put
 returns-in_err-load-in-Block-clause-put g c = λ text item honest loaded written first.
     let p = err_from_is_err_and c.from_residual-in_err-load-in-Block.result c.from_residual-in_err-load-in-Block.ensures.1 in
-    let named = subst (λ (d : Due). IsFirst (Has (g.D.Disk.state c.args.io.now.disk.now).seen c.args.io.now.space) d item) c.in-Block.is first in
+    let named = subst (λ (d : DueItems). IsFirst (Has (g.D.Disk.state c.args.io.now.disk.now).seen c.args.io.now.space) d item) c.in-Block.is first in
     rw (p.1, p.2) (c.in_err-load-in-Block.ensures.there named.0 honest loaded named.1 named.2)
 
 pub returns-in-Object-clause-put : goal.returns-in-Object-clause-put
 returns-in-Object-clause-put g c = λ text item honest loaded written first.
     let has = Has (g.D.Disk.state c.args.io.now.disk.now).seen c.args.io.now.space in
-    let named = subst (λ (d : Due). IsFirst has d item) c.in-Object.is first in
+    let named = subst (λ (d : DueItems). IsFirst has d item) c.in-Object.is first in
     let put = c.of_object.ensures.put text item written named in
     let field = c.of_object.ensures.payload in
     record {
@@ -65,7 +65,7 @@ returns-in_err-load-in-Block-clause-size g c = λ item first.
 
 pub returns-in_ok-load-in-Spill-clause-size : goal.returns-in_ok-load-in-Spill-clause-size
 returns-in_ok-load-in-Spill-clause-size g c = λ item first.
-    let named = subst (λ (d : Due). IsFirst (Has (g.D.Disk.state c.args.io.now.disk.now).seen c.args.io.now.space) d item) c.in-Spill.is first in
+    let named = subst (λ (d : DueItems). IsFirst (Has (g.D.Disk.state c.args.io.now.disk.now).seen c.args.io.now.space) d item) c.in-Spill.is first in
     let long = IsBlock-length _ c.in-Spill.ptr named.0 named.1.block in
     record {
       size = ap payload_size c.of_block.ensures.payload ∙ sym long ∙ sym (ap (λ (i : Item). length (item_payload i)) named.3);
@@ -74,7 +74,7 @@ returns-in_ok-load-in-Spill-clause-size g c = λ item first.
 
 pub returns-in_ok-load-in-Block-clause-size : goal.returns-in_ok-load-in-Block-clause-size
 returns-in_ok-load-in-Block-clause-size g c = λ item first.
-    let named = subst (λ (d : Due). IsFirst (Has (g.D.Disk.state c.args.io.now.disk.now).seen c.args.io.now.space) d item) c.in-Block.is first in
+    let named = subst (λ (d : DueItems). IsFirst (Has (g.D.Disk.state c.args.io.now.disk.now).seen c.args.io.now.space) d item) c.in-Block.is first in
     let long = IsBlock-length _ c.in-Block.ptr named.0 named.1.block in
     record {
       size = ap payload_size c.of_block-in-Block.ensures.payload ∙ sym long ∙ sym (ap (λ (i : Item). length (item_payload i)) named.3);

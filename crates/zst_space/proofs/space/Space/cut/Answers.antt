@@ -1,9 +1,9 @@
 use Rattle.std.proofs.Common.{◌≡◌, ℕ, ◌+◌, ◌-◌, ◌≤◌, ◌<◌, List, cond, length, set, sym, ◌∙◌, ap, subst, arith, cond}
 use Rattle.std.specs.List.{remove}
 use Rattle.std.proofs.lemmas.Bool.{cond-true, cond-false, eq-eqb, ne_eqb}
-use Rattle.zst_space.proofs.Fit.{cut_is, cut_inside, without_is, cut_whole, cut_part}
+use Rattle.zst_space.proofs.FirstFit.{cut_is, cut_inside, without_is, cut_whole, cut_part}
 use Rattle.zst_space.specs.FreeSectors.{FreeSectors}
-use Rattle.zst_space.specs.Taking.{without}
+use Rattle.zst_space.specs.TakenExtents.{without}
 use Rattle.zst_space.proofs.space.Space.cut.Goals as goal
 
 pub overflow_add-extent : goal.overflow_add-extent

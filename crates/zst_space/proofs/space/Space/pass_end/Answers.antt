@@ -1,5 +1,5 @@
 use Rattle.std.proofs.Common.{◌≡◌, ℕ, ◌+◌, ◌≤◌, sym, ◌∙◌, ap, subst, arith}
-use Rattle.zst_space.proofs.Fit.{pass_is}
+use Rattle.zst_space.proofs.FirstFit.{pass_is}
 use Rattle.zst_space.specs.FreeSectors.{FreeSectors}
 use Rattle.zst_space.proofs.space.Space.pass_end.Goals as goal
 

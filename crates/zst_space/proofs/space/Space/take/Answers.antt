@@ -1,8 +1,8 @@
 use Rattle.std.proofs.Common.{◌≡◌, ℕ, ◌+◌, ◌≤◌, sym, ◌∙◌, ap, subst, arith}
-use Rattle.zst_space.proofs.Fit.{none_fits}
-use Rattle.zst_space.proofs.Taken.{takes, keeps}
+use Rattle.zst_space.proofs.FirstFit.{none_fits}
+use Rattle.zst_space.proofs.TakenExtentLemmas.{takes, keeps}
 use Rattle.zst_space.specs.FreeSectors.{FreeSectors, IsSpaceFrom}
-use Rattle.zst_space.specs.Taking.{Takes}
+use Rattle.zst_space.specs.TakenExtents.{Takes}
 use Rattle.zst_space.proofs.space.Space.take.Goals as goal
 
 pub pass_end-requires-clause-room : goal.pass_end-requires-clause-room

@@ -1,5 +1,5 @@
 use Rattle.std.proofs.Common.{ap, sym, ◌∙◌}
-use Rattle.zst_token.specs.Reading.{token_of}
+use Rattle.zst_token.specs.Parser.{token_of}
 use Rattle.zst_token.proofs.Texts.{printed, token_exact}
 use Rattle.zst_token.proofs.token.Token.parse.Goals as goal
 

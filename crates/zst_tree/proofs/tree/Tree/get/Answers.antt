@@ -1,6 +1,6 @@
 use Rattle.std.proofs.Common.{arith, inl}
 use Rattle.std.proofs.lemmas.Result.{IfOk-weaker}
-use Rattle.zst_tree.proofs.Finding.{shows_in}
+use Rattle.zst_tree.proofs.LookupLemmas.{shows_in}
 use Rattle.zst_tree.proofs.Results.{delivers_if}
 use Rattle.zst_tree.proofs.Span.{span_limit}
 use Rattle.zst_tree.proofs.tree.Tree.get.Goals as goal

@@ -1,4 +1,4 @@
-use Rattle.zst_writer.proofs.Sealed.{record-put}
+use Rattle.zst_writer.proofs.SealedRecords.{record-put}
 use Rattle.zst_writer.proofs.writer.Writer.put.Goals as goal
 
 pub returns-clause-record : goal.returns-clause-record

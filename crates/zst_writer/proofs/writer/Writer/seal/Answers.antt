@@ -1,6 +1,6 @@
 use Rattle.std.proofs.Common.{◌++◌, take, sym, arith, refl}
 use Rattle.std.proofs.lemmas.List.{length-take-le}
-use Rattle.zst_writer.proofs.Sealed.{sealed-text}
+use Rattle.zst_writer.proofs.SealedRecords.{sealed-text}
 use Rattle.zst_writer.proofs.writer.Writer.seal.Goals as goal
 
 pub slice_bounds-add-end-2 : goal.slice_bounds-add-end-2

@@ -1,7 +1,7 @@
 use Rattle.std.proofs.Common.{◌≡◌, ap, sym, ◌∙◌, ◌+◌, ◌++◌, [], ◌∷◌, true, take, get_or, List, ℕ, subst}
 use Rattle.std.proofs.lemmas.List.{take_more}
 use Rattle.zst_model.specs.fields.Guids.{IsGuidSet}
-use Rattle.zst_model.proofs.Fronts.{IsGuidSet-front}
+use Rattle.zst_model.proofs.GuidFronts.{IsGuidSet-front}
 use Rattle.zst_model.proofs.fields.guids.GuidSet.from_slice.Goals as goal
 
 pub returns-then-not-insert_last-clause-exact : goal.returns-then-not-insert_last-clause-exact

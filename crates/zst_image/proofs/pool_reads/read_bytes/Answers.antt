@@ -1,0 +1,51 @@
+use Rattle.std.specs.Prelude.{Vec, Err}
+use Rattle.std.specs.declared.alloc.Global.{Global}
+use Rattle.std.proofs.Common.{rules, ◌≡◌, ℕ, [], refl, sym, ap, subst}
+use Rattle.zst_space.specs.FreeSectors.{FreeSectors}
+use Rattle.zst_block.specs.Blocks.{Has}
+use Rattle.zst_leaves.specs.Damage.{TellsText}
+use Rattle.zst_leaves.specs.Leaves.{HasLeaves, stop_of_leaves}
+use Rattle.zst_leaves.specs.declared.fault.LeavesFault.{LeavesFault}
+use Rattle.zst_image.specs.Reads.{free_by}
+use Rattle.zst_image.proofs.Causes.{leaves_cause, leaves_load, leaves_read, tells_leaves}
+use Rattle.zst_image.proofs.pool_reads.read_bytes.Goals as goal
+
+pub returns-in-Ok-clause-there : goal.returns-in-Ok-clause-there
+returns-in-Ok-clause-there g c = λ text told has long.
+    let here : (g.D.Disk.state c.read_leaves-read.new.io.disk.now).honest = search (rules, told) in
+    let space : c.new-space.result ≡ free_by c.args.body.now = rw (c.new-space.ensures, c.new.ensures.items) refl in
+    c.in-Ok.ensures.there text here (subst (λ (s : FreeSectors). HasLeaves (Has (g.D.Disk.state c.args.disk.now).seen s) c.args.body.now.dir_levels c.args.body.now.dir_root text) (sym space) has) long
+
+pub returns-in-Ok-clause-only : goal.returns-in-Ok-clause-only
+returns-in-Ok-clause-only g c = λ told.
+    let here : (g.D.Disk.state c.read_leaves-read.new.io.disk.now).honest = search (rules, told) in
+    let space : c.new-space.result ≡ free_by c.args.body.now = rw (c.new-space.ensures, c.new.ensures.items) refl in
+    let none : c.new-space.result.free ≡ [] = rw space refl in
+    subst (λ (s : FreeSectors). HasLeaves (Has (g.D.Disk.state c.args.disk.now).seen s) c.args.body.now.dir_levels c.args.body.now.dir_root c.in-Ok.bytes.items) space (c.in-Ok.ensures.stands here none)
+
+pub of_leaves-requires : goal.of_leaves-requires
+of_leaves-requires g c = λ need largest is. c.in-Err.ensures.looks.never_full need largest (ap (λ (f : LeavesFault). stop_of_leaves {T = Vec ℕ Global} (Err f)) is)
+
+pub returns-in-Err-clause-there : goal.returns-in-Err-clause-there
+returns-in-Err-clause-there g c = λ text told has long.
+    let here : (g.D.Disk.state c.read_leaves-read.new.io.disk.now).honest = search (rules, told) in
+    let space : c.new-space.result ≡ free_by c.args.body.now = rw (c.new-space.ensures, c.new.ensures.items) refl in
+    leaves_read (Vec ℕ Global) text (λ read. read.items) c.in-Err.fault c.of_leaves.result c.of_leaves.ensures
+    (c.in-Err.ensures.there text here (subst (λ (s : FreeSectors). HasLeaves (Has (g.D.Disk.state c.args.disk.now).seen s) c.args.body.now.dir_levels c.args.body.now.dir_root text) (sym space) has) long)
+
+pub returns-in-Err-clause-fault : goal.returns-in-Err-clause-fault
+returns-in-Err-clause-fault g c = leaves_load c.in-Err.fault c.of_leaves.result c.of_leaves.ensures
+
+pub returns-in-Err-clause-cause : goal.returns-in-Err-clause-cause
+returns-in-Err-clause-cause g c =
+    let made = leaves_cause (Vec ℕ Global) (Vec ℕ Global) _ _ c.in-Err.fault c.of_leaves.result c.of_leaves.ensures c.in-Err.ensures.looks.cause in
+    search (rules, made)
+
+pub returns-in-Err-clause-damaged : goal.returns-in-Err-clause-damaged
+returns-in-Err-clause-damaged g c = λ told.
+    let here : (g.D.Disk.state c.read_leaves-read.new.io.disk.now).honest = search (rules, told) in
+    let space : c.new-space.result ≡ free_by c.args.body.now = rw (c.new-space.ensures, c.new.ensures.items) refl in
+    let body = c.args.body.now in
+    let disk = g.D.Disk.state c.args.disk.now in
+    tells_leaves (Vec ℕ Global) disk body c.in-Err.fault c.of_leaves.result c.of_leaves.ensures
+    (subst (λ (s : FreeSectors). TellsText {T = Vec ℕ Global} s.end disk.seen disk.size body.dir_levels body.dir_root body.dir_bytes (Err c.in-Err.fault)) space (c.in-Err.ensures.damaged here))

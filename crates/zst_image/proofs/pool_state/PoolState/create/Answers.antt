@@ -1,0 +1,65 @@
+use Rattle.std.specs.Prelude.{None}
+use Rattle.std.proofs.Common.{rules, ◌≡◌, [], refl, ap, arith}
+use Rattle.std.proofs.lemmas.Result.{err_from_is_err_and}
+use Rattle.zst_space.specs.FreeSectors.{FreeSectors}
+use Rattle.zst_uber.specs.Slots.{latest}
+use Rattle.zst_uber.specs.declared.uber.Uber.{Uber}
+use Rattle.zst_image.proofs.CreateAnswers.{NextIs-new, CreateAnswers-made, IfOk-commit, IfOk-made, RefusedLeaves-reads, create-moments, create-refused, made-cause, never-full, new-made}
+use Rattle.zst_image.proofs.pool_state.PoolState.create.Goals as goal
+
+pub answer-requires : goal.answer-requires
+answer-requires g c =
+    let start : FreeSectors = record { end = 8; sectors = c.args.sectors; free = [] } in
+    let space : c.new-space.result ≡ start = rw (c.new-space.ensures, c.new.ensures.items) refl in
+    never-full c.new-space.result c.commit_dir-made.new.io.space c.args.sectors c.new-3.result c.commit_dir-made.result space c.new-3.ensures c.requires.sectors.0 c.commit_dir-made.ensures.full
+
+pub returns-clause-answer : goal.returns-clause-answer
+returns-clause-answer g c = λ told.
+    let here : (g.D.Disk.state c.commit_dir-made.new.io.disk.now).honest = search (rules, told) in
+    let old = g.D.Disk.state c.args.disk.now in
+    let none : latest old.seen ≡ None = c.in_ok-find_none.ensures.answer (c.commit_dir-made.ensures.honest here) in
+    CreateAnswers-made old.size (latest old.seen) c.args.sectors c.commit_dir-made.result c.answer.result none (λ few. omega (arith, few, c.if-bytes-sectors.false, c.bytes.ensures, c.find_none.ensures.reads.size)) c.answer.ensures
+
+pub returns-clause-made : goal.returns-clause-made
+returns-clause-made g c = λ tight told.
+    let here : (g.D.Disk.state c.commit_dir-made.new.io.disk.now).honest = search (rules, told) in
+    let next = NextIs-new {tight = tight} _ c.unborn.result c.new-3.result c.args.id c.requires.id (ap (λ (u : Uber). u.id) c.unborn.ensures) (ap (λ (u : Uber). u.number) c.unborn.ensures) c.new-3.ensures in
+    let over = c.commit_dir-made.ensures.over tight _ here next in
+    let made = IfOk-made _ c.commit_dir-made.result c.answer.result c.answer.ensures (IfOk-commit _ _ c.commit_dir-made.result over.answer) in
+    search (rules, made)
+
+pub returns-clause-ready : goal.returns-clause-ready
+returns-clause-ready g c =
+    let ready = IfOk-made _ c.commit_dir-made.result c.answer.result c.answer.ensures c.commit_dir-made.ensures.ready in
+    search (rules, ready)
+
+pub returns-clause-moments : goal.returns-clause-moments
+returns-clause-moments g c = λ tight told.
+    let here : (g.D.Disk.state c.commit_dir-made.new.io.disk.now).honest = search (rules, told) in
+    let old = g.D.Disk.state c.args.disk.now in
+    let next = NextIs-new {tight = tight} _ c.unborn.result c.new-3.result c.args.id c.requires.id (ap (λ (u : Uber). u.id) c.unborn.ensures) (ap (λ (u : Uber). u.number) c.unborn.ensures) c.new-3.ensures in
+    let over = c.commit_dir-made.ensures.over tight _ here next in
+    create-moments old _ _ _ c.new-space.result _ (search rules) c.find_none.ensures.reads over.moments
+
+pub returns-in_err-find_none-clause-refused : goal.returns-in_err-find_none-clause-refused
+returns-in_err-find_none-clause-refused g c =
+    let p = err_from_is_err_and c.from_residual.result c.from_residual.ensures.1 in
+    rw (p.1, p.2) (RefusedLeaves-reads (g.D.Disk.state c.args.disk.now) _ _ c.find_none.ensures.reads)
+
+pub returns-clause-refused : goal.returns-clause-refused
+returns-clause-refused g c =
+    create-refused (g.D.Disk.state c.args.disk.now) _ (g.D.Disk.state c.commit_dir-made.new.io.disk.now) _ c.commit_dir-made.result c.answer.result (search rules) c.answer.ensures c.find_none.ensures.reads c.commit_dir-made.ensures.refused
+
+pub returns-clause-cause : goal.returns-clause-cause
+returns-clause-cause g c =
+    let cause = made-cause _ _ _ c.commit_dir-made.result c.answer.result c.answer.ensures c.find_none.ensures.cause.later c.commit_dir-made.ensures.cause in
+    search (rules, cause)
+
+pub returns-clause-new : goal.returns-clause-new
+returns-clause-new g c =
+    let commit = c.commit_dir-made.ensures in
+    let start : FreeSectors = record { end = 8; sectors = c.args.sectors; free = [] } in
+    let space : c.new-space.result ≡ start = rw (c.new-space.ensures, c.new.ensures.items) refl in
+    IfOk-made _ c.commit_dir-made.result c.answer.result c.answer.ensures
+    (new-made (g.D.Disk.state c.commit_dir-made.new.io.disk.now) c.args.sectors c.new-space.result c.commit_dir-made.new.io.space c.unborn.result c.new-3.result c.commit_dir-made.result space c.new-3.ensures c.requires.sectors.0
+    (ap (λ (u : Uber). u.sectors) c.unborn.ensures) commit.takes commit.one_leaf commit.ends commit.ready)

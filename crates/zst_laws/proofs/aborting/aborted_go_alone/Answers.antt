@@ -1,5 +1,0 @@
-use Rattle.zst_laws.proofs.pools.Aborted.{aborted_goes, abort_leaves}
-use Rattle.zst_laws.proofs.aborting.aborted_go_alone.Goals as goal
-
-pub returns : goal.returns
-returns c = record { made = aborted_goes; values = abort_leaves }

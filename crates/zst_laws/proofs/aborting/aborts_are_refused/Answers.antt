@@ -1,5 +1,0 @@
-use Rattle.zst_laws.proofs.pools.Aborted.{nothing_to_abort, only_nothing, abort_number}
-use Rattle.zst_laws.proofs.aborting.aborts_are_refused.Goals as goal
-
-pub returns : goal.returns
-returns c = record { absent = nothing_to_abort; only = only_nothing; number = abort_number }

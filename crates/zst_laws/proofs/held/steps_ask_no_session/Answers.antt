@@ -1,5 +1,0 @@
-use Rattle.zst_laws.proofs.pools.HeldBy.{steps_ask_none}
-use Rattle.zst_laws.proofs.held.steps_ask_no_session.Goals as goal
-
-pub returns : goal.returns
-returns c = steps_ask_none

@@ -1,5 +1,0 @@
-use Rattle.zst_laws.proofs.pools.KeptPools.{keeping_done}
-use Rattle.zst_laws.proofs.kept.keeping_is_done.Goals as goal
-
-pub returns : goal.returns
-returns c = keeping_done

@@ -1,5 +1,0 @@
-use Rattle.zst_laws.proofs.sends.Taken.{writes_far, redacts_far, others_have_none}
-use Rattle.zst_laws.proofs.receiving.far_records_are_refused.Goals as goal
-
-pub returns : goal.returns
-returns c = record { writes = writes_far; redacts = redacts_far; others = others_have_none }

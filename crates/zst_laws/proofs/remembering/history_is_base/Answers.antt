@@ -1,5 +1,0 @@
-use Rattle.zst_laws.proofs.pools.SourceBases.{history_base}
-use Rattle.zst_laws.proofs.remembering.history_is_base.Goals as goal
-
-pub returns : goal.returns
-returns c = history_base

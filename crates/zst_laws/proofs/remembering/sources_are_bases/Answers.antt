@@ -1,5 +1,0 @@
-use Rattle.zst_laws.proofs.pools.SourceBases.{sources_bases}
-use Rattle.zst_laws.proofs.remembering.sources_are_bases.Goals as goal
-
-pub returns : goal.returns
-returns c = sources_bases

@@ -1,5 +1,0 @@
-use Rattle.zst_laws.proofs.pools.SoundSteps.{steps_remember}
-use Rattle.zst_laws.proofs.remembering.steps_remember.Goals as goal
-
-pub returns : goal.returns
-returns c = steps_remember

@@ -1,5 +1,0 @@
-use Rattle.zst_laws.proofs.pools.SoundSteps.{steps_sound}
-use Rattle.zst_laws.proofs.stepping.steps_keep_sound.Goals as goal
-
-pub returns : goal.returns
-returns c = steps_sound

@@ -1,0 +1,153 @@
+// A text is read from its leaves.
+ghost use Rattle.std.specs.Prelude.{◌≡◌, ◌↔◌, ◌+◌, ◌/◌, ◌<◌, ◌≤◌, ℕ, List, [], All, IsTrue, IfErr, IfOk, OnOk, Vec, length};
+ghost use Rattle.zst_block.specs.Blocks.{FitsDisk, Has};
+ghost use Rattle.zst_block.specs.ReadAnswers.{GivesBlock};
+ghost use Rattle.zst_block.specs.IoCalls.{Looks, stop_of};
+ghost use Rattle.zst_leaves.specs.Damage.{Names, TellsBelow, TellsPtr, TellsText};
+ghost use Rattle.zst_leaves.specs.Leaves.{Appends, BlocksBefore, GivesText, HasLeaves, LeavesBelow, StandsBefore, TellsNone, blocks_for, bytes_below, leaves_for, stop_of_leaves};
+
+use crate::fault::LeavesFault;
+use crate::sizes::{is_least, length_of};
+use std::alloc::Global;
+use std::mem;
+use zst_block::{BlockFault, Io, Node, Ptr, load};
+use zst_outside::Disk;
+use zst_tree::child_at;
+
+// Whether what a pointer names stands behind sectors 0 to 7, and before this sector.
+fn stands_before(ptr: &Ptr, end: u64) -> bool
+    ensures { IsTrue result ↔ StandsBefore end ptr.now }
+{
+    let count = u64::from(ptr.length).div_ceil(512);
+    8 <= ptr.sector && ptr.sector <= end && count <= end - ptr.sector
+}
+
+// Reads the block that a pointer names, where it has this kind and this level, and stands where
+// blocks may.
+fn load_named<D: Disk>(io: &mut Io<'_, D>, kind: u8, level: u8, ptr: Ptr) -> Result<(), BlockFault>
+    requires fits { FitsDisk (D.state io.old.disk.now).size io.old.space }
+    ensures block { (D.state io.new.disk.now).honest → OnOk result (BlocksBefore io.old.space.end (D.state io.old.disk.now).seen ptr io.new.node) }
+    ensures kind { OnOk result (ptr.kind ≡ kind) }
+    ensures level { OnOk result (ptr.level ≡ level) }
+    ensures there { (bytes : List ℕ) → (D.state io.new.disk.now).honest → ptr.kind ≡ kind → ptr.level ≡ level → Has (D.state io.old.disk.now).seen io.old.space ptr bytes → length bytes ≡ 8192 → GivesBlock bytes io.new.node result }
+    ensures damaged { (D.state io.new.disk.now).honest → IfErr result (TellsPtr (D.state io.old.disk.now).seen (D.state io.old.disk.now).size (¬ Names kind level io.old.space.end ptr) ptr) }
+    ensures long { OnOk result (length io.new.node ≡ 8192) }
+    ensures looks { Looks (D.state io.old.disk.now) io.old.space io.old.failed (D.state io.new.disk.now) io.new.space io.new.failed (stop_of result) }
+    ensures calls { (D.state io.new.disk.now).calls ≤ (D.state io.old.disk.now).calls + 1 }
+    ensures kept_fit { FitsDisk (D.state io.new.disk.now).size io.new.space }
+    ensures same { io.new.disk.ghost_name ≡ io.old.disk.ghost_name }
+{
+    if ptr.kind != kind || ptr.level != level || !stands_before(&ptr, io.space.end()) {
+        return Err(BlockFault::of_layout(&ptr));
+    }
+    load(io, ptr)
+}
+
+fn are_zeros(bytes: &[u8]) -> bool
+    ensures { IsTrue result ↔ All (λ byte. byte ≡ 0) bytes.now }
+{
+    bytes.iter().all(|byte| *byte == 0)
+}
+
+// Appends so many bytes of the leaf that a pointer names. What stands behind them must be zeros.
+fn read_leaf<D: Disk>(
+    io: &mut Io<'_, D>,
+    text: &mut Vec<u8>,
+    ptr: Ptr,
+    count: u64,
+) -> Result<(), LeavesFault>
+    requires some { 0 < count }
+    requires room { count ≤ 8192 }
+    requires fits { FitsDisk (D.state io.old.disk.now).size io.old.space }
+    ensures there { (leaf : List ℕ) → (D.state io.new.disk.now).honest → LeavesBelow (Has (D.state io.old.disk.now).seen io.old.space) 0 ptr leaf → length leaf ≡ count → TellsNone result }
+    ensures only { (D.state io.new.disk.now).honest → OnOk result (Appends (BlocksBefore io.old.space.end (D.state io.old.disk.now).seen) 0 ptr count text.old.items text.new.items) }
+    ensures damaged { (D.state io.new.disk.now).honest → TellsBelow io.old.space.end (D.state io.old.disk.now).seen (D.state io.old.disk.now).size 0 ptr count result }
+    ensures long { OnOk result (length text.new.items ≡ length text.old.items + count) }
+    ensures looks { Looks (D.state io.old.disk.now) io.old.space io.old.failed (D.state io.new.disk.now) io.new.space io.new.failed (stop_of_leaves result) }
+    ensures calls { (D.state io.new.disk.now).calls ≤ (D.state io.old.disk.now).calls + 1 }
+    ensures kept_fit { FitsDisk (D.state io.new.disk.now).size io.new.space }
+    ensures same { io.new.disk.ghost_name ≡ io.old.disk.ghost_name }
+{
+    load_named(io, 1, 0, ptr)?;
+    let (front, rest) = io.node.as_slice().split_at(count as usize);
+    if !are_zeros(rest) {
+        return Err(LeavesFault::Block(BlockFault::of_layout(&ptr)));
+    }
+    text.extend_from_slice(front)?;
+    Ok(())
+}
+
+// Appends so many bytes from the leaves below a pointer at a level. Without any it must be a hole.
+fn read_below<D: Disk>(
+    io: &mut Io<'_, D>,
+    text: &mut Vec<u8>,
+    level: u8,
+    ptr: Ptr,
+    count: u64,
+) -> Result<(), LeavesFault>
+    requires level { level ≤ 3 }
+    requires room { count ≤ bytes_below level }
+    requires fits { FitsDisk (D.state io.old.disk.now).size io.old.space }
+    ensures there { (leaves : List ℕ) → (D.state io.new.disk.now).honest → LeavesBelow (Has (D.state io.old.disk.now).seen io.old.space) level ptr leaves → length leaves ≡ count → TellsNone result }
+    ensures only { (D.state io.new.disk.now).honest → OnOk result (Appends (BlocksBefore io.old.space.end (D.state io.old.disk.now).seen) level ptr count text.old.items text.new.items) }
+    ensures damaged { (D.state io.new.disk.now).honest → TellsBelow io.old.space.end (D.state io.old.disk.now).seen (D.state io.old.disk.now).size level ptr count result }
+    ensures long { OnOk result (length text.new.items ≡ length text.old.items + count) }
+    ensures looks { Looks (D.state io.old.disk.now) io.old.space io.old.failed (D.state io.new.disk.now) io.new.space io.new.failed (stop_of_leaves result) }
+    ensures calls { (D.state io.new.disk.now).calls ≤ (D.state io.old.disk.now).calls + blocks_for level count }
+    ensures kept_fit { FitsDisk (D.state io.new.disk.now).size io.new.space }
+    ensures same { io.new.disk.ghost_name ≡ io.old.disk.ghost_name }
+{
+    if count == 0 {
+        return if ptr == Ptr::hole(0) {
+            Ok(())
+        } else {
+            Err(LeavesFault::Block(BlockFault::of_layout(&ptr)))
+        };
+    }
+    if level == 0 {
+        return read_leaf(io, text, ptr, count);
+    }
+    load_named(io, 3, level, ptr)?;
+    let node = mem::replace(&mut io.node, Node::new());
+    for k in 0..128 {
+        let child = child_at(&node, k);
+        read_below(io, text, level - 1, child, length_of(count, level - 1, k))?;
+    }
+    Ok(())
+}
+
+/// Reads a text of so many bytes from the leaves below the root of a tree.
+///
+/// What isn't as `write_leaves` writes it is damaged, with both sums alike: the levels, a pointer's
+/// kind, level or length, a hole, a place in sectors 0 to 7 or behind the end, or what stands behind
+/// the text in the last leaf.
+pub fn read_leaves<D: Disk>(
+    io: &mut Io<'_, D>,
+    alloc: Global,
+    levels: u8,
+    root: Ptr,
+    count: u64,
+) -> Result<Vec<u8>, LeavesFault>
+    requires fits { FitsDisk (D.state io.old.disk.now).size io.old.space }
+
+    // A text that is there is read, unless the disk or the memory fails, and what is read is there.
+    // What is damaged is a block to which the root leads: with other sums, or of a pointer that is wrong.
+    ensures there { (text : List ℕ) → (D.state io.new.disk.now).honest → HasLeaves (Has (D.state io.old.disk.now).seen io.old.space) levels root text → length text ≡ count → GivesText text (λ read. read.items) result }
+    ensures only { (D.state io.new.disk.now).honest → IfOk result (λ text. HasLeaves (BlocksBefore io.old.space.end (D.state io.old.disk.now).seen) levels root text.items) }
+    ensures stands { (D.state io.new.disk.now).honest → io.old.space.free ≡ [] → IfOk result (λ text. HasLeaves (Has (D.state io.old.disk.now).seen io.old.space) levels root text.items) }
+    ensures long { IfOk result (λ text. length text.items ≡ count) }
+    ensures damaged { (D.state io.new.disk.now).honest → TellsText io.old.space.end (D.state io.old.disk.now).seen (D.state io.old.disk.now).size levels root count result }
+
+    // It only reads, each block once.
+    ensures looks { Looks (D.state io.old.disk.now) io.old.space io.old.failed (D.state io.new.disk.now) io.new.space io.new.failed (stop_of_leaves result) }
+    ensures calls { (D.state io.new.disk.now).calls ≤ (D.state io.old.disk.now).calls + (leaves_for count + leaves_for count / 127 + 3) }
+    ensures kept_fit { FitsDisk (D.state io.new.disk.now).size io.new.space }
+    ensures same { io.new.disk.ghost_name ≡ io.old.disk.ghost_name }
+{
+    if !is_least(levels, count) {
+        return Err(LeavesFault::Block(BlockFault::of_layout(&root)));
+    }
+    let mut text = Vec::new(alloc);
+    read_below(io, &mut text, levels, root, count)?;
+    Ok(text)
+}

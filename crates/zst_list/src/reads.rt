@@ -1,0 +1,73 @@
+// A list is read from its leaves.
+ghost use Rattle.std.specs.Prelude.{◌≡◌, ◌≤◌, [], IfOk};
+ghost use Rattle.zst_fletcher.specs.WeightSum.{parts_of};
+ghost use Rattle.zst_block.specs.Blocks.{FitsDisk, Has};
+ghost use Rattle.zst_block.specs.IoCalls.{Looks};
+ghost use Rattle.zst_block.specs.declared.fault.BlockFault.TheVariants.{Damaged};
+ghost use Rattle.zst_leaves.specs.Leaves.{stop_of_leaves};
+ghost use Rattle.zst_leaves.specs.declared.fault.LeavesFault.TheVariants.{Block};
+ghost use Rattle.zst_model.specs.fields.Lists.{Runs};
+ghost use Rattle.zst_list.specs.declared.reads.TheConstants.{MOST_RUNS};
+ghost use Rattle.zst_list.specs.StoredLists.{GivesList, HasList, TellsList, list_length};
+
+use crate::coding::{RUNS_IN_LEAF, decode_list};
+use std::alloc::Global;
+use zst_block::{BlockFault, Io, Ptr};
+use zst_leaves::{LeavesFault, MOST_BYTES, read_leaves};
+use zst_model::List;
+use zst_outside::Disk;
+
+/// A list whose bytes fit leaves has at most so many runs.
+const MOST_RUNS: u64 = MOST_BYTES / 24;
+
+// How many bytes a list of so many runs has.
+fn length_of(count: u64) -> u64
+    requires { count ≤ MOST_RUNS }
+    ensures { result ≡ list_length count }
+{
+    24 * count + 8 * (count / RUNS_IN_LEAF)
+}
+
+// What is below the root isn't a list.
+fn no_list(root: &Ptr) -> LeavesFault
+    ensures { result ≡ Block (Damaged root.now.sector (parts_of root.now.sum) (parts_of root.now.sum)) }
+{
+    LeavesFault::Block(BlockFault::of_layout(root))
+}
+
+/// Reads a list of so many runs from the leaves below the root of a tree. One of none stands nowhere.
+///
+/// What isn't the text of a list there is damaged, with both sums alike.
+pub fn read_list<D: Disk>(
+    io: &mut Io<'_, D>,
+    alloc: Global,
+    levels: u8,
+    root: Ptr,
+    count: u64,
+) -> Result<List, LeavesFault>
+    requires fits { FitsDisk (D.state io.old.disk.now).size io.old.space }
+
+    // A list that is there is read, unless the disk or the memory fails, and what is read is there.
+    ensures there { (runs : Runs) → (D.state io.new.disk.now).honest → HasList (Has (D.state io.old.disk.now).seen io.old.space) levels root count runs → GivesList runs (λ list. list) result }
+    ensures stands { (D.state io.new.disk.now).honest → io.old.space.free ≡ [] → IfOk result (λ list. HasList (Has (D.state io.old.disk.now).seen io.old.space) levels root count list) }
+
+    // What is damaged is a block to which the root leads, or what stands there is the text of no list.
+    ensures damaged { (D.state io.new.disk.now).honest → TellsList io.old.space.end (D.state io.old.disk.now).seen (D.state io.old.disk.now).size levels root count result }
+
+    // It only reads.
+    ensures looks { Looks (D.state io.old.disk.now) io.old.space io.old.failed (D.state io.new.disk.now) io.new.space io.new.failed (stop_of_leaves result) }
+    ensures kept_fit { FitsDisk (D.state io.new.disk.now).size io.new.space }
+    ensures same { io.new.disk.ghost_name ≡ io.old.disk.ghost_name }
+{
+    if count == 0 {
+        return Ok(List::empty(alloc));
+    }
+    if count > MOST_RUNS {
+        return Err(no_list(&root));
+    }
+    let bytes = read_leaves(io, alloc, levels, root, length_of(count))?;
+    match decode_list(alloc, &bytes, count)? {
+        Some(list) => Ok(list),
+        None => Err(no_list(&root)),
+    }
+}

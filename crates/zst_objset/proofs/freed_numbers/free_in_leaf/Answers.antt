@@ -1,0 +1,23 @@
+use Rattle.zst_objset.proofs.FreeLaws.{freed_puts}
+use Rattle.zst_objset.proofs.TightLaws.{freed_tight}
+use Rattle.std.proofs.Common.{subst, sym}
+use Rattle.zst_block.specs.Blocks.{Has}
+use Rattle.zst_objset.specs.TightSets.{SetIsTight}
+use Rattle.zst_objset.proofs.FreeLaws.{freed-none}
+use Rattle.zst_objset.proofs.freed_numbers.free_in_leaf.Goals as goal
+
+pub returns-clause-frees : goal.returns-clause-frees
+returns-clause-frees g c = λ state honest holds.
+    c.put_in_leaf.ensures.put state _ honest holds (freed_puts c.args.number c.args.first c.args.below state _ holds.lawful holds.bounded)
+
+pub returns-then-first-below-clause-within : goal.returns-then-first-below-clause-within
+returns-then-first-below-clause-within g c = λ honest sector stated found damaged. damaged
+
+pub returns-clause-tight : goal.returns-clause-tight
+returns-clause-tight g c = λ state honest tight.
+    let puts = freed_puts c.args.number c.args.first c.args.below state _ tight.holds.lawful tight.holds.bounded in
+    c.put_in_leaf.ensures.tight state _ honest tight puts (freed_tight _ c.args.number c.args.first c.args.below state puts c.requires.first c.requires.bound)
+
+pub returns-then-first-below-clause-tight : goal.returns-then-first-below-clause-tight
+returns-then-first-below-clause-tight g c = λ state honest tight.
+    subst (SetIsTight (Has (g.D.Disk.state c.args.io.now.disk.now).seen c.args.io.now.space) c.args.set) (sym (freed-none c.args.number c.args.first c.args.below state c.if-first-below.true)) tight

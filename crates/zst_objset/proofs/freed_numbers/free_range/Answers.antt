@@ -1,0 +1,65 @@
+use Rattle.std.proofs.Common.{◌*◌, ◌/◌, arith, subst}
+use Rattle.std.proofs.lemmas.Result.{err_from_is_err_and}
+use Rattle.zst_block.specs.Blocks.{Has}
+use Rattle.zst_block.proofs.BlocksLaws.{FillsFree-then}
+use Rattle.zst_block.proofs.IoCallLemmas.{Works-more, Works-then}
+use Rattle.zst_model.specs.states.DatedState.{DatedState}
+use Rattle.zst_tree.specs.Indices.{Delivers}
+use Rattle.zst_objset.specs.Sets.{SetHolds}
+use Rattle.zst_objset.proofs.FreeLaws.{freed-parts}
+use Rattle.zst_objset.proofs.DamageLaws.{fault_within, result_within, set_within}
+use Rattle.std.specs.Prelude.{IfOk}
+use Rattle.zst_objset.specs.TightSets.{SetIsTight}
+use Rattle.zst_objset.proofs.freed_numbers.free_range.Goals as goal
+
+pub returns-in_err-begun-clause-frees : goal.returns-in_err-begun-clause-frees
+returns-in_err-begun-clause-frees g c = λ state honest holds.
+    let p = err_from_is_err_and c.from_residual.result c.from_residual.ensures.1 in
+    rw (p.1, p.2) (c.in_err-begun.ensures.frees state honest holds)
+
+pub returns-in_err-made-clause-frees : goal.returns-in_err-made-clause-frees
+returns-in_err-made-clause-frees g c = λ state honest holds.
+    let p = err_from_is_err_and c.from_residual-in_err-made.result c.from_residual-in_err-made.ensures.1 in
+    let begun = c.in_ok-begun.ensures.frees state (c.in_err-made.ensures.works.fills.honest honest) holds in
+    rw (p.1, p.2) (c.in_err-made.ensures.frees _ honest begun)
+
+pub returns-in_err-made-clause-works : goal.returns-in_err-made-clause-works
+returns-in_err-made-clause-works g c =
+    let p = err_from_is_err_and c.from_residual-in_err-made.result c.from_residual-in_err-made.ensures.1 in
+    rw (p.1, p.2) (Works-more (omega arith) (Works-then c.in_ok-begun.ensures.works c.in_err-made.ensures.works))
+
+pub returns-clause-frees : goal.returns-clause-frees
+returns-clause-frees g c = λ state honest holds.
+    let was_made = c.free_in_leaf-3.ensures.works.fills.honest honest in
+    let begun = c.in_ok-begun.ensures.frees state (c.in_ok-made.ensures.works.fills.honest was_made) holds in
+    let made = c.in_ok-made.ensures.frees _ was_made begun in
+    subst (λ (after : DatedState). Delivers (λ set. SetHolds (Has (g.D.Disk.state c.free_in_leaf-3.new.io.disk.now).seen c.free_in_leaf-3.new.io.space) set after) c.free_in_leaf-3.result)
+    (freed-parts c.args.number c.args.first (16 * c.div_ceil-whole.result) (16 * (c.args.below / 16)) c.args.below state (omega arith) (omega arith) (omega arith))
+    (c.free_in_leaf-3.ensures.frees _ honest made)
+
+pub returns-clause-works : goal.returns-clause-works
+returns-clause-works g c = Works-then (Works-then c.in_ok-begun.ensures.works c.in_ok-made.ensures.works) c.free_in_leaf-3.ensures.works
+
+pub returns-in_err-made-clause-damaged : goal.returns-in_err-made-clause-damaged
+returns-in_err-made-clause-damaged g c = λ honest.
+    let p = err_from_is_err_and c.from_residual-in_err-made.result c.from_residual-in_err-made.ensures.1 in
+    let begun = c.in_ok-begun.ensures in
+    rw (p.1, p.2) (fault_within _ _ _ c.args.set _ c.in_ok-begun.begun begun.works.fills.size (begun.within (c.in_err-made.ensures.works.fills.honest honest)) _ (c.in_err-made.ensures.damaged honest))
+
+pub returns-clause-damaged : goal.returns-clause-damaged
+returns-clause-damaged g c = λ honest.
+    let begun = c.in_ok-begun.ensures in
+    let made = c.in_ok-made.ensures in
+    let was_made = c.free_in_leaf-3.ensures.works.fills.honest honest in
+    let filled = FillsFree-then _ _ _ _ _ _ begun.works.fills made.works.fills in
+    let within = set_within _ _ _ c.args.set _ c.in_ok-begun.begun _ c.in_ok-made.made begun.works.fills.size (begun.within (made.works.fills.honest was_made)) (made.within was_made) in
+    result_within _ _ _ c.args.set _ c.in_ok-made.made filled.size within c.free_in_leaf-3.result (c.free_in_leaf-3.ensures.damaged honest)
+
+pub returns-clause-tight : goal.returns-clause-tight
+returns-clause-tight g c = λ state honest tight.
+    let was_made = c.free_in_leaf-3.ensures.works.fills.honest honest in
+    let begun = c.in_ok-begun.ensures.tight state (c.in_ok-made.ensures.works.fills.honest was_made) tight in
+    let made = c.in_ok-made.ensures.tight _ was_made begun in
+    subst (λ (after : DatedState). IfOk c.free_in_leaf-3.result (λ set. SetIsTight (Has (g.D.Disk.state c.free_in_leaf-3.new.io.disk.now).seen c.free_in_leaf-3.new.io.space) set after))
+    (freed-parts c.args.number c.args.first (16 * c.div_ceil-whole.result) (16 * (c.args.below / 16)) c.args.below state (omega arith) (omega arith) (omega arith))
+    (c.free_in_leaf-3.ensures.tight _ honest made)

@@ -1,0 +1,169 @@
+//! The call that allocates an object, or gives it other attributes.
+ghost use Rattle.std.specs.Prelude.{◌≡◌, ◌<◌, ◌≤◌, ℕ, true, List, IfSome, OnErr, OnOk, ◌+◌, IfErr};
+ghost use Rattle.zst_space.specs.FreeSectors.{FreeSectors};
+ghost use Rattle.zst_block.specs.Blocks.{FitsDisk, Has, SparesTaken};
+ghost use Rattle.zst_block.specs.IoCalls.{Works};
+ghost use Rattle.zst_dnode.specs.Dnode.{DnodeFits};
+ghost use Rattle.zst_dnode.specs.declared.slot.Slot.TheVariants.{There};
+ghost use Rattle.zst_model.specs.declared.refusals.faults.Quantity.TheVariants as quantities;
+ghost use Rattle.zst_model.specs.declared.states.item.Change.TheVariants.{Put};
+ghost use Rattle.zst_model.specs.pools.Soundness.{DatedUpTo};
+ghost use Rattle.zst_model.specs.pools.Step.{filled};
+ghost use Rattle.zst_model.specs.states.DatedState.{DatedState};
+ghost use Rattle.zst_model.specs.states.State.{IsBonus, IsHead, is_number, number_bound};
+ghost use Rattle.zst_tree.specs.Sets.{SetFits};
+ghost use Rattle.zst_objset.specs.KeptBlocks.{kept_blocks, kept_spill, no_blocks};
+ghost use Rattle.zst_objset.specs.Answers.{Changes, LimitOnly, stop_of, NotRedacted};
+ghost use Rattle.zst_objset.specs.Changes.{object_put};
+ghost use Rattle.zst_objset.specs.Damage.{IfSetDamaged, IsDamagedSet, IsSetWithin};
+ghost use Rattle.zst_objset.specs.Dnodes.{DnodeIs};
+ghost use Rattle.zst_objset.specs.SlotPuts.{MakesDnode};
+ghost use Rattle.zst_objset.specs.Sets.{date_in, SetHolds};
+ghost use Rattle.zst_objset.specs.TightSets.{SetIsTight};
+
+use crate::changes::put_dnode;
+use crate::fault::ObjFault;
+use crate::slot_reads::dnode_at;
+use zst_block::{Io, Ptr};
+use zst_dnode::Dnode;
+use zst_model::limits::NUMBER_BOUND;
+use zst_model::{ObjectHead, Quantity};
+use zst_outside::Disk;
+use zst_tree::{ObjSet, Tree};
+
+// The tree of an object's blocks, and the end of the object.
+#[derive(Clone, Copy)]
+struct BlockTree {
+    tree: Tree,
+    end: u64,
+}
+
+// No block: each index is a hole of this date.
+fn no_blocks(number: u64) -> BlockTree
+    ensures { result ≡ no_blocks number }
+{
+    BlockTree {
+        tree: Tree {
+            levels: 0,
+            past: number,
+            root: Ptr::hole(number),
+        },
+        end: 0,
+    }
+}
+
+// The blocks of what was there, where it has this block size.
+fn kept_blocks(was: &Option<Dnode>, block_size: u32, number: u64) -> BlockTree
+    ensures { result ≡ kept_blocks block_size number was.now }
+{
+    match was {
+        Some(dnode) if dnode.block_size == block_size => BlockTree {
+            tree: Tree {
+                levels: dnode.levels,
+                past: dnode.past,
+                root: dnode.root,
+            },
+            end: dnode.end,
+        },
+        _ => no_blocks(number),
+    }
+}
+
+// The spill of what was there, where it is to be kept.
+fn kept_spill(was: &Option<Dnode>, keep_spill: bool, number: u64) -> Ptr
+    ensures { result ≡ kept_spill keep_spill number was.now }
+{
+    match was {
+        Some(dnode) if keep_spill => dnode.spill,
+        _ => Ptr::hole(number),
+    }
+}
+
+// A bonus, and zeros behind it.
+fn bonus_field(bonus: &[u8]) -> [u8; 320]
+    requires { IsBonus bonus.now }
+    ensures { result ≡ filled 320 bonus.now }
+{
+    let mut field = [0; 320];
+    field[..bonus.len()].copy_from_slice(bonus);
+    field
+}
+
+// The dnode that this change makes of what was at a number.
+fn made_dnode(
+    was: &Option<Dnode>,
+    head: ObjectHead,
+    bonus: &[u8],
+    keep_spill: bool,
+    number: u64,
+) -> Dnode
+    requires head { IsHead head }
+    requires bonus { IsBonus bonus.now }
+    requires ranges { IfSome was.now DnodeFits }
+    ensures fits { DnodeFits result }
+    ensures dated { IfSome was.now (λ dnode. date_in (There dnode) ≤ number) → date_in (There result) ≤ number }
+    ensures made { (image : List ℕ) (space : FreeSectors) (object : ℕ) (state : DatedState) → is_number object ≡ true → DnodeIs (Has image space) state object was.now
+        → MakesDnode (Has image space) number object (Put head bonus.now keep_spill 0) state result }
+{
+    let blocks = kept_blocks(was, head.block_size, number);
+    Dnode {
+        type_: head.type_,
+        bonus_type: head.bonus_type,
+        block_size: head.block_size,
+        bonus_len: bonus.len() as u32,
+        date: number,
+        levels: blocks.tree.levels,
+        past: blocks.tree.past,
+        end: blocks.end,
+        root: blocks.tree.root,
+        spill: kept_spill(was, keep_spill, number),
+        bonus: bonus_field(bonus),
+    }
+}
+
+/// Allocates an object, or gives it other attributes. With an equal block size its blocks stay;
+/// otherwise, and in a new object, all indices are holes. Its spill block goes unless it is to be
+/// kept.
+pub(crate) fn put_object<D: Disk>(
+    set: &mut ObjSet,
+    io: &mut Io<'_, D>,
+    object: u64,
+    head: ObjectHead,
+    bonus: &[u8],
+    keep_spill: bool,
+    number: u64,
+) -> Result<(), ObjFault>
+    requires object { 0 < object }
+    requires head { IsHead head }
+    requires bonus { IsBonus bonus.now }
+    requires fits { FitsDisk (D.state io.old.disk.now).size io.old.space }
+    ensures changed { (state : DatedState) → (D.state io.new.disk.now).honest → SetHolds (Has (D.state io.old.disk.now).seen io.old.space) set.old state
+        → Changes (SetHolds (Has (D.state io.new.disk.now).seen io.new.space) set.new) (object_put number object head bonus.now keep_spill state) result }
+    ensures tight { (state : DatedState) → (D.state io.new.disk.now).honest → SetIsTight (Has (D.state io.old.disk.now).seen io.old.space) set.old state → DatedUpTo number state
+        → Changes (SetIsTight (Has (D.state io.new.disk.now).seen io.new.space) set.new) (object_put number object head bonus.now keep_spill state) result }
+    ensures limits { IfErr result (LimitOnly quantities.Object number_bound (object + 1)) }
+    ensures unredacted { IfErr result NotRedacted }
+    ensures damaged { (D.state io.new.disk.now).honest → IfSetDamaged result (IsDamagedSet (SparesTaken io.old.space (D.state io.old.disk.now).seen) (D.state io.old.disk.now).size set.old) }
+    ensures within { (D.state io.new.disk.now).honest → OnOk result (IsSetWithin (SparesTaken io.old.space (D.state io.old.disk.now).seen) (D.state io.old.disk.now).size set.old (SparesTaken io.new.space (D.state io.new.disk.now).seen) set.new) }
+    ensures kept { OnErr result (set.new ≡ set.old) }
+    ensures levels { OnOk result (SetFits set.new) }
+    ensures works { Works 640 16 (D.state io.old.disk.now) io.old.space io.old.failed (D.state io.new.disk.now) io.new.space io.new.failed (stop_of result) }
+    ensures same { io.new.disk.ghost_name ≡ io.old.disk.ghost_name }
+{
+    if object >= NUMBER_BOUND {
+        return Err(ObjFault::Limit {
+            which: Quantity::Object,
+            number: NUMBER_BOUND,
+        });
+    }
+    let found = match dnode_at(set, io, object) {
+        Ok(found) => found,
+        Err(fault) => return Err(ObjFault::Block(fault)),
+    };
+    put_dnode(
+        set,
+        io,
+        object,
+        made_dnode(&found, head, bonus, keep_spill, number),
+    )
+}

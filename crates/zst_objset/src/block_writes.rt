@@ -1,0 +1,127 @@
+//! The call that writes a block of an object.
+ghost use Rattle.std.specs.Prelude.{◌≡◌, ◌+◌, ◌/◌, ◌%◌, ◌<◌, ◌≤◌, ◌^◌, ◌&&◌, not, nat_lt, IfErr, IfOk, None, OnErr, OnOk, length};
+ghost use Rattle.zst_block.specs.Blocks.{FitsDisk, Has, SparesTaken};
+ghost use Rattle.zst_block.specs.IoCalls.{Works, stop_of as block_stop};
+ghost use Rattle.zst_model.specs.declared.refusals.faults.Quantity.TheVariants as quantities;
+ghost use Rattle.zst_model.specs.pools.Soundness.{DatedUpTo};
+ghost use Rattle.zst_model.specs.states.DatedState.{DatedState};
+ghost use Rattle.zst_model.specs.states.State.{index_bound, is_odd_size};
+ghost use Rattle.zst_tree.specs.Changes.{TreeDatedUpTo};
+ghost use Rattle.zst_tree.specs.Damage.{NamesDamage, NamesNode};
+ghost use Rattle.zst_tree.specs.Indices.{Delivers, Map, TreeIs};
+ghost use Rattle.zst_tree.specs.Sets.{SetFits};
+ghost use Rattle.zst_objset.specs.Answers.{Changes, stop_of, LimitOnly, NotRedacted};
+ghost use Rattle.zst_objset.specs.Changes.{block_written};
+ghost use Rattle.zst_objset.specs.Damage.{IfSetDamaged, IsDamagedObject};
+ghost use Rattle.zst_objset.specs.Sets.{SetHolds};
+ghost use Rattle.zst_objset.specs.TightSets.{SetIsTight};
+ghost use Rattle.zst_objset.specs.BlockWrites.{PutsData, PutsDataRoot, write_judged};
+
+use crate::answers::object_there;
+use crate::changes::{put_dnode, with_tree};
+use crate::fault::ObjFault;
+use crate::trees::tree_of;
+use zst_block::{BlockFault, Io, write};
+use zst_dnode::Dnode;
+use zst_model::limits::INDEX_BOUND;
+use zst_model::{ApplyFault, Quantity};
+use zst_outside::Disk;
+use zst_tree::{ObjSet, Tree};
+
+// Whether an object with blocks of this size may have one at an index.
+fn may_have_block(size: u32, index: u64) -> bool
+    ensures { result ≡ not (is_odd_size size && nat_lt 0 index) }
+{
+    index == 0 || size.is_power_of_two()
+}
+
+// Whether an object may be written so many bytes at an index. The limit is judged last.
+#[tactic(auto, unfolding(zst_model::specs::states::State::index_bound))]
+fn judge_write(dnode: &Dnode, index: u64, count: usize) -> Result<(), ObjFault>
+    ensures judged { result ≡ write_judged dnode.now.block_size index count }
+    ensures index { OnOk result (index < 2 ^ 43) }
+    ensures limits { IfErr result (LimitOnly quantities.Block index_bound (index + 1)) }
+    ensures unredacted { IfErr result NotRedacted }
+    ensures stop { stop_of result ≡ None }
+{
+    if count != dnode.block_size as usize {
+        return Err(ObjFault::CannotApply(ApplyFault::SizeDiffers));
+    }
+    if !may_have_block(dnode.block_size, index) {
+        return Err(ObjFault::CannotApply(ApplyFault::OddBlock));
+    }
+    if index >= INDEX_BOUND {
+        return Err(ObjFault::Limit {
+            which: Quantity::Block,
+            number: INDEX_BOUND,
+        });
+    }
+    Ok(())
+}
+
+// Writes the data of an index, and gives the tree that has it there.
+fn put_data<D: Disk>(
+    io: &mut Io<'_, D>,
+    tree: Tree,
+    index: u64,
+    bytes: &[u8],
+    number: u64,
+) -> Result<Tree, BlockFault>
+    requires levels { tree.levels ≤ 7 }
+    requires index { index < 2 ^ 44 }
+    requires some { 0 < length bytes.now }
+    requires whole { length bytes.now % 512 ≡ 0 }
+    requires small { length bytes.now < 2 ^ 32 }
+    requires fits { FitsDisk (D.state io.old.disk.now).size io.old.space }
+    ensures puts { (map : Map) → (D.state io.new.disk.now).honest → TreeIs (Has (D.state io.old.disk.now).seen io.old.space) tree map
+        → Delivers (PutsData (Has (D.state io.new.disk.now).seen io.new.space) map index bytes.now number) result }
+    ensures dated { (map : Map) → (D.state io.new.disk.now).honest → TreeIs (Has (D.state io.old.disk.now).seen io.old.space) tree map → TreeDatedUpTo number tree → IfOk result (TreeDatedUpTo number) }
+    ensures levels { IfOk result (λ made. made.levels ≤ 7) }
+    ensures root { IfOk result (PutsDataRoot tree (length bytes.now)) }
+    ensures damaged { (D.state io.new.disk.now).honest → NamesDamage (SparesTaken io.old.space (D.state io.old.disk.now).seen) (D.state io.old.disk.now).size NamesNode tree.levels tree.root result }
+    ensures works { Works (length bytes.now / 512 + 224) (length bytes.now / 512) (D.state io.old.disk.now) io.old.space io.old.failed (D.state io.new.disk.now) io.new.space io.new.failed (block_stop result) }
+    ensures same { io.new.disk.ghost_name ≡ io.old.disk.ghost_name }
+{
+    let block = write(io, bytes, 0, number)?;
+    let mut made = tree;
+    made.set(io, index, block)?;
+    Ok(made)
+}
+
+/// Writes the whole block of one index.
+pub(crate) fn write_block<D: Disk>(
+    set: &mut ObjSet,
+    io: &mut Io<'_, D>,
+    object: u64,
+    index: u64,
+    bytes: &[u8],
+    number: u64,
+) -> Result<(), ObjFault>
+    requires object { 0 < object }
+    requires fits { FitsDisk (D.state io.old.disk.now).size io.old.space }
+    ensures changed { (state : DatedState) → (D.state io.new.disk.now).honest → SetHolds (Has (D.state io.old.disk.now).seen io.old.space) set.old state
+        → Changes (SetHolds (Has (D.state io.new.disk.now).seen io.new.space) set.new) (block_written number object index bytes.now state) result }
+    ensures tight { (state : DatedState) → (D.state io.new.disk.now).honest → SetIsTight (Has (D.state io.old.disk.now).seen io.old.space) set.old state → DatedUpTo number state
+        → Changes (SetIsTight (Has (D.state io.new.disk.now).seen io.new.space) set.new) (block_written number object index bytes.now state) result }
+    ensures limits { IfErr result (LimitOnly quantities.Block index_bound (index + 1)) }
+    ensures unredacted { IfErr result NotRedacted }
+    ensures damaged { (D.state io.new.disk.now).honest → IfSetDamaged result (IsDamagedObject (SparesTaken io.old.space (D.state io.old.disk.now).seen) (D.state io.old.disk.now).size NamesNode set.old) }
+    ensures kept { OnErr result (set.new ≡ set.old) }
+    ensures levels { OnOk result (SetFits set.new) }
+    ensures works { Works (640 + length bytes.now / 512) (length bytes.now / 512) (D.state io.old.disk.now) io.old.space io.old.failed (D.state io.new.disk.now) io.new.space io.new.failed (stop_of result) }
+    ensures same { io.new.disk.ghost_name ≡ io.old.disk.ghost_name }
+{
+    let dnode = match object_there(set, io, object) {
+        Ok(dnode) => dnode,
+        Err(fault) => return Err(fault),
+    };
+    if let Err(fault) = judge_write(&dnode, index, bytes.len()) {
+        return Err(fault);
+    }
+    let tree = match put_data(io, tree_of(&dnode), index, bytes, number) {
+        Ok(tree) => tree,
+        Err(fault) => return Err(ObjFault::Block(fault)),
+    };
+    let end = dnode.end.max(index + 1);
+    put_dnode(set, io, object, with_tree(dnode, tree, end))
+}

@@ -1,0 +1,125 @@
+//! The calls that change a set.
+ghost use Rattle.std.specs.Prelude.{◌≡◌, ◌+◌, ◌/◌, ◌<◌, ◌^◌, ℕ, OnErr, OnOk, length, IfErr};
+ghost use Rattle.zst_block.specs.Blocks.{FitsDisk, Has, SparesTaken};
+ghost use Rattle.zst_block.specs.Ptr.{PtrFits};
+ghost use Rattle.zst_block.specs.IoCalls.{Works};
+ghost use Rattle.zst_dnode.specs.Dnode.{DnodeFits};
+ghost use Rattle.zst_model.specs.declared.states.item.Change.{Change};
+ghost use Rattle.zst_model.specs.declared.states.item.Item.TheVariants.{At};
+ghost use Rattle.zst_model.specs.pools.Soundness.{DatedUpTo};
+ghost use Rattle.zst_model.specs.states.DatedState.{DatedState};
+ghost use Rattle.zst_model.specs.states.State.{IsSpill};
+ghost use Rattle.zst_tree.specs.Sets.{SetFits};
+ghost use Rattle.zst_objset.specs.Answers.{Changes, stop_of, NotLimit, NotRedacted};
+ghost use Rattle.zst_objset.specs.Changes.{changed, spill_put};
+ghost use Rattle.zst_objset.specs.Damage.{IfSetDamaged, IsDamagedSet, IsSetWithin};
+ghost use Rattle.zst_objset.specs.SlotPuts.{MakesDnode};
+ghost use Rattle.zst_objset.specs.Sets.{SetHolds};
+ghost use Rattle.zst_objset.specs.TightSets.{IsTightDnode, SetIsTight};
+
+use crate::answers::object_there;
+use crate::fault::ObjFault;
+use crate::slot_puts::put_in_leaf;
+use zst_block::{Io, Ptr, write};
+use zst_dnode::{Dnode, Slot};
+use zst_laws::applied_is_state;
+use zst_outside::Disk;
+use zst_tree::{ObjSet, Tree};
+
+// A dnode with another spill pointer, of a date.
+fn with_spill(dnode: Dnode, spill: Ptr, number: u64) -> Dnode
+    ensures made { result ≡ record dnode { spill = spill; date = number } }
+    ensures fits { PtrFits spill }
+    ensures date { number < 2 ^ 64 }
+{
+    Dnode {
+        spill,
+        date: number,
+        ..dnode
+    }
+}
+
+/// A dnode with another tree and another end. Its date stays: a change of its indices doesn't date
+/// the number.
+pub(crate) fn with_tree(dnode: Dnode, tree: Tree, end: u64) -> Dnode
+    ensures made { result ≡ record dnode { levels = tree.levels; past = tree.past; end = end; root = tree.root } }
+    ensures root { PtrFits tree.root }
+    ensures past { tree.past < 2 ^ 64 }
+{
+    Dnode {
+        levels: tree.levels,
+        past: tree.past,
+        end,
+        root: tree.root,
+        ..dnode
+    }
+}
+
+/// Puts the dnode of what a change makes of an object.
+pub(crate) fn put_dnode<D: Disk>(
+    set: &mut ObjSet,
+    io: &mut Io<'_, D>,
+    object: u64,
+    dnode: Dnode,
+) -> Result<(), ObjFault>
+    requires object { (0 < object) × (object < 2 ^ 48) }
+    requires dnode { DnodeFits dnode }
+    requires fits { FitsDisk (D.state io.old.disk.now).size io.old.space }
+    ensures changed { (number : ℕ) (change : Change) (state : DatedState) → (D.state io.new.disk.now).honest → SetHolds (Has (D.state io.old.disk.now).seen io.old.space) set.old state
+        → MakesDnode (Has (D.state io.old.disk.now).seen io.old.space) number object change state dnode
+        → Changes (SetHolds (Has (D.state io.new.disk.now).seen io.new.space) set.new) (changed number (At object change) state) result }
+    ensures tight { (number : ℕ) (change : Change) (state : DatedState) → (D.state io.new.disk.now).honest → SetIsTight (Has (D.state io.old.disk.now).seen io.old.space) set.old state
+        → MakesDnode (Has (D.state io.old.disk.now).seen io.old.space) number object change state dnode → IsTightDnode number object change state dnode
+        → Changes (SetIsTight (Has (D.state io.new.disk.now).seen io.new.space) set.new) (changed number (At object change) state) result }
+    ensures limits { IfErr result NotLimit }
+    ensures unredacted { IfErr result NotRedacted }
+    ensures damaged { (D.state io.new.disk.now).honest → IfSetDamaged result (IsDamagedSet (SparesTaken io.old.space (D.state io.old.disk.now).seen) (D.state io.old.disk.now).size set.old) }
+    ensures within { (D.state io.new.disk.now).honest → OnOk result (IsSetWithin (SparesTaken io.old.space (D.state io.old.disk.now).seen) (D.state io.old.disk.now).size set.old (SparesTaken io.new.space (D.state io.new.disk.now).seen) set.new) }
+    ensures kept { OnErr result (set.new ≡ set.old) }
+    ensures levels { OnOk result (SetFits set.new) }
+    ensures works { Works 240 16 (D.state io.old.disk.now) io.old.space io.old.failed (D.state io.new.disk.now) io.new.space io.new.failed (stop_of result) }
+    ensures same { io.new.disk.ghost_name ≡ io.old.disk.ghost_name }
+{
+    applied_is_state();
+    match put_in_leaf(*set, io, object, object + 1, &Slot::There(dnode)) {
+        Ok(made) => {
+            *set = made;
+            Ok(())
+        }
+        Err(fault) => Err(ObjFault::Block(fault)),
+    }
+}
+
+/// Gives an object another spill block.
+pub(crate) fn put_spill<D: Disk>(
+    set: &mut ObjSet,
+    io: &mut Io<'_, D>,
+    object: u64,
+    bytes: &[u8],
+    number: u64,
+) -> Result<(), ObjFault>
+    requires object { 0 < object }
+    requires spill { IsSpill bytes.now }
+    requires fits { FitsDisk (D.state io.old.disk.now).size io.old.space }
+    ensures changed { (state : DatedState) → (D.state io.new.disk.now).honest → SetHolds (Has (D.state io.old.disk.now).seen io.old.space) set.old state
+        → Changes (SetHolds (Has (D.state io.new.disk.now).seen io.new.space) set.new) (spill_put number object bytes.now state) result }
+    ensures tight { (state : DatedState) → (D.state io.new.disk.now).honest → SetIsTight (Has (D.state io.old.disk.now).seen io.old.space) set.old state → DatedUpTo number state
+        → Changes (SetIsTight (Has (D.state io.new.disk.now).seen io.new.space) set.new) (spill_put number object bytes.now state) result }
+    ensures limits { IfErr result NotLimit }
+    ensures unredacted { IfErr result NotRedacted }
+    ensures damaged { (D.state io.new.disk.now).honest → IfSetDamaged result (IsDamagedSet (SparesTaken io.old.space (D.state io.old.disk.now).seen) (D.state io.old.disk.now).size set.old) }
+    ensures kept { OnErr result (set.new ≡ set.old) }
+    ensures levels { OnOk result (SetFits set.new) }
+    ensures works { Works (640 + length bytes.now / 512) (length bytes.now / 512) (D.state io.old.disk.now) io.old.space io.old.failed (D.state io.new.disk.now) io.new.space io.new.failed (stop_of result) }
+    ensures same { io.new.disk.ghost_name ≡ io.old.disk.ghost_name }
+{
+    let dnode = match object_there(set, io, object) {
+        Ok(dnode) => dnode,
+        Err(fault) => return Err(fault),
+    };
+    let spill = match write(io, bytes, 0, number) {
+        Ok(ptr) => ptr,
+        Err(fault) => return Err(ObjFault::Block(fault)),
+    };
+    put_dnode(set, io, object, with_spill(dnode, spill, number))
+}

@@ -1,0 +1,65 @@
+//! A slot, put at some numbers of one leaf of a set.
+ghost use Rattle.std.specs.Prelude.{◌≡◌, ◌+◌, ◌*◌, ◌/◌, ◌<◌, ◌≤◌, ◌^◌, ℕ, IfOk};
+ghost use Rattle.zst_block.specs.Blocks.{FitsDisk, Has, SparesTaken};
+ghost use Rattle.zst_block.specs.IoCalls.{Works, stop_of};
+ghost use Rattle.zst_dnode.specs.Slot.{SlotFits};
+ghost use Rattle.zst_model.specs.states.DatedState.{DatedState};
+ghost use Rattle.zst_tree.specs.Indices.{Delivers};
+ghost use Rattle.zst_tree.specs.Sets.{SetFits};
+ghost use Rattle.zst_objset.specs.Damage.{IfDamaged, IsDamagedSet, IsSetWithin};
+ghost use Rattle.zst_objset.specs.SlotPuts.{PutsSlot};
+ghost use Rattle.zst_objset.specs.Sets.{SetHolds};
+ghost use Rattle.zst_objset.specs.TightSets.{IsTightSlot, SetIsTight};
+
+use crate::leaves::{find_slots, save_slots};
+use crate::slots::put_slots;
+use zst_block::{BlockFault, Io};
+use zst_dnode::Slot;
+use zst_outside::Disk;
+use zst_tree::{ObjSet, Tree};
+
+/// The set over a tree.
+pub(crate) fn set_over(tree: Tree) -> ObjSet
+    requires { tree.levels ≤ 7 }
+    ensures made { result ≡ record { tree = tree } }
+    ensures fits { SetFits result }
+{
+    ObjSet { tree }
+}
+
+/// The set with this slot from one number on and below another, all of one leaf.
+pub(crate) fn put_in_leaf<D: Disk>(
+    set: ObjSet,
+    io: &mut Io<'_, D>,
+    first: u64,
+    below: u64,
+    slot: &Slot,
+) -> Result<ObjSet, BlockFault>
+    requires first { 0 < first }
+    requires some { first < below }
+    requires bound { below ≤ 2 ^ 48 }
+    requires leaf { below ≤ 16 * (first / 16) + 16 }
+    requires slot { SlotFits slot.now }
+    requires fits { FitsDisk (D.state io.old.disk.now).size io.old.space }
+    ensures put { (snap after : DatedState) → (D.state io.new.disk.now).honest → SetHolds (Has (D.state io.old.disk.now).seen io.old.space) set snap
+        → PutsSlot (Has (D.state io.old.disk.now).seen io.old.space) snap after first below slot.now
+        → Delivers (λ made. SetHolds (Has (D.state io.new.disk.now).seen io.new.space) made after) result }
+    ensures tight { (snap after : DatedState) → (D.state io.new.disk.now).honest → SetIsTight (Has (D.state io.old.disk.now).seen io.old.space) set snap
+        → PutsSlot (Has (D.state io.old.disk.now).seen io.old.space) snap after first below slot.now → ((k : ℕ) → first ≤ k → k < below → IsTightSlot after k slot.now)
+        → IfOk result (λ made. SetIsTight (Has (D.state io.new.disk.now).seen io.new.space) made after) }
+    ensures damaged { (D.state io.new.disk.now).honest → IfDamaged result (IsDamagedSet (SparesTaken io.old.space (D.state io.old.disk.now).seen) (D.state io.old.disk.now).size set) }
+    ensures within { (D.state io.new.disk.now).honest → IfOk result (IsSetWithin (SparesTaken io.old.space (D.state io.old.disk.now).seen) (D.state io.old.disk.now).size set (SparesTaken io.new.space (D.state io.new.disk.now).seen)) }
+    ensures works { Works 240 16 (D.state io.old.disk.now) io.old.space io.old.failed (D.state io.new.disk.now) io.new.space io.new.failed (stop_of result) }
+    ensures levels { IfOk result SetFits }
+    ensures same { io.new.disk.ghost_name ≡ io.old.disk.ghost_name }
+{
+    let leaf = first / 16;
+    let from = first - 16 * leaf;
+    let to = below - 16 * leaf;
+    let was = find_slots(&set, io, leaf)?;
+    put_slots(&mut io.node, from as usize, to as usize, slot);
+    let ptr = save_slots(io, &was)?;
+    let mut tree = set.tree;
+    tree.set(io, leaf, ptr)?;
+    Ok(set_over(tree))
+}

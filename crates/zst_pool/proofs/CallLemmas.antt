@@ -1,0 +1,84 @@
+-- What a call of a receive did, from what its commit did.
+use Rattle.std.specs.Prelude.{Result, Ok, Err, IfOk, OnOk, OnErr, false}
+use Rattle.std.proofs.Common.{◌≡◌, ◌⊎◌, inl, inr, ⊎_elim, ℕ, ◌+◌, ◌<◌, List, refl, sym, ap, subst, ◌∙◌, Bool}
+use Rattle.zst_outside.specs.Images.{DiskState, Leaves, Leaves-weaker}
+use Rattle.zst_space.specs.FreeSectors.{FreeSectors}
+use Rattle.zst_block.specs.Blocks.{KeepsBlocks}
+use Rattle.zst_model.specs.declared.refusals.refusal.Refusal.{Refusal}
+use Rattle.zst_model.specs.pools.KeptPool.{kept_of}
+use Rattle.zst_model.specs.pools.Pool.{Pool}
+use Rattle.zst_dir.specs.Rows.{Rows}
+use Rattle.zst_pool.specs.Calls.{CallDid, CallFault, IsAtRest, IsUnderWay, keeping}
+use Rattle.zst_pool.specs.Faults.{is_full, of_committed}
+use Rattle.zst_image.specs.declared.commit_fault.CommitFault.{CommitFault}
+use Rattle.zst_image.specs.declared.commit_fault.CommitFault.TheVariants as commits
+use Rattle.zst_image.specs.Reads.{Reads, free_by}
+use Rattle.zst_image.specs.Commits.{Commits}
+use Rattle.zst_pool.specs.declared.fault.PoolFault.{PoolFault}
+use Rattle.zst_pool.specs.declared.fault.PoolFault.TheVariants.{Plan, CannotApply, Redacted, Full, Damaged, DiskFault, Failed, OutOfMemory}
+use Rattle.zst_image.specs.declared.pool_state.PoolState.{PoolState}
+use Rattle.zst_pool.proofs.PoolsAtRest.{rests_on, since}
+
+-- an image reads as what is kept of the pool before a call, or of the one that its definition makes
+abbrev EitherReads : (tight : Bool) → Pool → Result Pool Refusal → List ℕ → Type 0
+EitherReads tight running definition c = Reads tight (kept_of running) c ⊎ ((next : Pool) × (definition ≡ Ok next) × Reads tight (kept_of next) c)
+
+-- where the pool still stands, it does after each fault that came before the commit
+fell_still : (before : Type 0) (definition : Result Pool Refusal) → before → (fault : PoolFault) → CallFault (Unit {0}) definition fault → CallFault before definition fault
+fell_still before definition is (Plan fault) fell = (fell.0, is)
+fell_still before definition is (CannotApply fault) fell = fell
+fell_still before definition is (Redacted object block) fell = fell
+fell_still before definition is (Full need largest) fell = (fell.0, fell.1, is)
+fell_still before definition is (Damaged sector stated found) fell = fell
+fell_still before definition is DiskFault fell = tt
+fell_still before definition is Failed fell = fell
+fell_still before definition is OutOfMemory fell = is
+
+-- a call that fell before its commit
+pub call_fell : {tight : Bool} (start now : DiskState) (space : FreeSectors) (kept : PoolState) (running : Pool) (definition : Result Pool Refusal) (fault : PoolFault) → IsUnderWay tight start now space kept running
+    → CallFault (Unit {0}) definition fault → CallDid tight start now kept running definition (Err fault)
+call_fell {tight = tight} start now space kept running definition fault way fell = record {
+  moments = Leaves-weaker start now (Reads tight (kept_of running)) (EitherReads tight running definition) (since start now space kept running way) (λ c reads. inl reads);
+  answer = fell_still (IsAtRest tight now kept running) definition (rests_on start now space kept running way) fault fell;
+}
+
+-- one that came to it
+module _ (start now : DiskState) (kept : PoolState) (rows : Rows) (running next : Pool) (definition : Result Pool Refusal) (is : definition ≡ Ok next) where
+  moments_of : {tight : Bool} (made : Result PoolState CommitFault) → Commits tight start now kept.body rows (kept_of running) (kept_of next) made → Leaves start now (EitherReads tight running definition)
+  moments_of {tight = tight} made event =
+      Leaves-weaker start now (λ c. Reads tight (kept_of running) c ⊎ Reads tight (kept_of next) c) (EitherReads tight running definition) event.moments
+      (λ c either. ⊎_elim (λ before. inl before) (λ after. inr (next, is, after)) either)
+
+  pub call_did : {tight : Bool} (made : Result PoolState CommitFault) → ((need largest : ℕ) → made ≡ Err (commits.Full need largest) → largest < need) → Commits tight start now kept.body rows (kept_of running) (kept_of next) made
+      → IfOk made (λ after. after.body.number ≡ next.number) → IfOk made (λ after. IsAtRest tight now after next) → (¬ (made ≡ Err commits.DiskFault) → OnErr made (IsAtRest tight now kept running))
+      → CallDid tight start now kept running definition (of_committed made)
+  call_did (Ok after) shorter event number rests before = record { moments = moments_of (Ok after) event; answer = (next, is, number, rests) }
+  call_did (Err (commits.Full need largest)) shorter event number rests before = record {
+    moments = moments_of (Err (commits.Full need largest)) event;
+    answer = (shorter need largest refl, (next, is), before (λ disk. cc));
+  }
+  call_did (Err commits.DiskFault) shorter event number rests before = record { moments = moments_of (Err commits.DiskFault) event; answer = tt }
+  call_did (Err commits.OutOfMemory) shorter event number rests before = record { moments = moments_of (Err commits.OutOfMemory) event; answer = before (λ disk. cc) }
+
+-- the number that was committed is the next pool's
+pub number_after : (made : Result PoolState CommitFault) (number next : ℕ) → next ≡ number → IfOk made (λ kept. kept.body.number ≡ number + 1) → IfOk made (λ kept. kept.body.number ≡ next + 1)
+number_after (Ok kept) number next same is = is ∙ ap (λ n. n + 1) (sym same)
+number_after (Err fault) number next same is = tt
+
+-- what holds of what was committed holds of what the pool then keeps
+pub kept_has : (P : PoolState → Type 0) (kept : PoolState) (answer : Result ℕ PoolFault) (made : Result PoolState PoolFault) → keeping kept answer ≡ made → IfOk made P → OnOk answer (P kept)
+kept_has P kept answer made is holds = by_answer answer (subst (λ (r : Result PoolState PoolFault). IfOk r P) (sym is) holds)
+  where
+    by_answer : (a : Result ℕ PoolFault) → IfOk (keeping kept a) P → OnOk a (P kept)
+    by_answer (Ok number) h = h
+    by_answer (Err fault) h = tt
+
+-- the blocks that were there before still are, over what the latest body leaves free
+pub blocks_last : (old mid new : List ℕ) (space less : FreeSectors) (kept : PoolState) (answer : Result ℕ PoolFault) (made : Result PoolState PoolFault) → keeping kept answer ≡ made
+    → IfOk made (λ next. KeepsBlocks old space mid (free_by next.body)) → (is_full made ≡ false → less ≡ free_by kept.body) → new ≡ mid → OnOk answer (KeepsBlocks old space new less)
+blocks_last old mid new space less kept answer made is keeps free same =
+    by_answer answer (subst (λ (r : Result PoolState PoolFault). IfOk r (λ next. KeepsBlocks old space mid (free_by next.body))) (sym is) keeps) (subst (λ (r : Result PoolState PoolFault). is_full r ≡ false → less ≡ free_by kept.body) (sym is) free)
+  where
+    by_answer : (a : Result ℕ PoolFault) → IfOk (keeping kept a) (λ next. KeepsBlocks old space mid (free_by next.body)) → (is_full (keeping kept a) ≡ false → less ≡ free_by kept.body) → OnOk a (KeepsBlocks old space new less)
+    by_answer (Ok number) h f = subst (λ (s : FreeSectors). KeepsBlocks old space new s) (sym (f refl)) (subst (λ (i : List ℕ). KeepsBlocks old space i (free_by kept.body)) (sym same) h)
+    by_answer (Err fault) h f = tt

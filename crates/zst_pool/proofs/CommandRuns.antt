@@ -1,0 +1,234 @@
+-- What a command does, from what its parts do.
+use Rattle.std.specs.Prelude.{Option, None, Result, Ok, Err, IfErr, IfOk, OnErr}
+use Rattle.std.proofs.Common.{◌≡◌, ℕ, ◌+◌, ◌*◌, ◌≤◌, ◌^◌, Bool, false, ◌||◌, List, length, refl, sym, ap, ◌∙◌, subst, arith}
+use Rattle.zst_outside.specs.Causes.{Rose-earlier}
+use Rattle.zst_outside.specs.Images.{DiskState}
+use Rattle.zst_space.specs.FreeSectors.{FreeSectors}
+use Rattle.zst_block.specs.Blocks.{Has, FillsFree, SparesTaken}
+use Rattle.zst_block.specs.IoCalls as blocks
+use Rattle.zst_block.specs.IoCalls.{TakesAtMost}
+use Rattle.zst_block.specs.declared.fault.BlockFault.{BlockFault}
+use Rattle.zst_block.proofs.BlocksLaws.{FillsFree-then}
+use Rattle.zst_model.specs.declared.refusals.refusal.Refusal.{Refusal}
+use Rattle.zst_model.specs.states.DatedState.{DatedState}
+use Rattle.zst_model.specs.states.AppliedItems.{◌>>=◌}
+use Rattle.zst_model.specs.pools.Pool.{Pool, IsPool}
+use Rattle.zst_model.specs.pools.Step.{Stepped, committed, last_number, on_head}
+use Rattle.zst_tree.specs.declared.tree.ObjSet.{ObjSet}
+use Rattle.zst_objset.specs.Sets.{SetHolds}
+use Rattle.zst_dir.specs.Rows.{Rows}
+use Rattle.zst_dir.specs.Spelling.{dir_bytes}
+use Rattle.zst_pool.specs.Checks.{FindsHead, with_head_of}
+use Rattle.zst_block.specs.declared.fault.BlockFault.TheVariants as block_faults
+use Rattle.zst_objset.specs.Damage.{DamageFact}
+use Rattle.zst_objset.specs.declared.fault.ObjFault.TheVariants as set_faults
+use Rattle.zst_model.specs.declared.refusals.plan_fault.PlanFault.{PlanFault}
+use Rattle.zst_model.specs.refusals.Refusal.{refusal_of}
+use Rattle.zst_pool.specs.Calls.{IsAtRest}
+use Rattle.zst_pool.specs.Cost.{Cost, HasNoRoom, Spends}
+use Rattle.zst_pool.specs.Damage.{HasHead, IfHeadDamaged, IsOf, OfHead}
+use Rattle.zst_pool.specs.declared.head_fault.HeadFault.TheVariants.{Set}
+use Rattle.zst_pool.proofs.HeadAnswers.{memory_stops, plan_stops}
+use Rattle.zst_pool.specs.Faults.{StepFault, is_disk_fault, of_committed}
+use Rattle.zst_pool.specs.Heads.{ChangedHead, ChangesHead, Stops, Works, stop_of}
+use Rattle.zst_dir.specs.RowNames.{AreNamed}
+use Rattle.zst_image.specs.Reads.{DatasetIs, RunsBy, SetIs, bound_of, dir_sectors, free_by}
+use Rattle.zst_image.specs.Commits.{IsDirFull}
+use Rattle.zst_pool.specs.CommandRuns.{Did, Ran, Runs, as_kept}
+use Rattle.zst_image.specs.Commits.{Ready}
+use Rattle.zst_pool.specs.declared.fault.PoolFault.{PoolFault}
+use Rattle.zst_pool.specs.declared.fault.PoolFault.TheVariants.{Damaged, DiskFault, OutOfMemory, Plan}
+use Rattle.zst_pool.specs.declared.head_fault.HeadFault.{HeadFault}
+use Rattle.zst_image.specs.Faults as images
+use Rattle.zst_image.specs.Faults.{stop_of_commit}
+use Rattle.zst_image.specs.declared.commit_fault.CommitFault.{CommitFault}
+use Rattle.zst_image.specs.declared.commit_fault.CommitFault.TheVariants as commits
+use Rattle.zst_image.specs.declared.pool_state.PoolState.{PoolState}
+use Rattle.zst_pool.proofs.Bounds.{SetIs-later}
+use Rattle.zst_pool.proofs.CommandEnds.{fell}
+use Rattle.zst_pool.proofs.PoolsAtRest.{begun, free_by_fits, rest_plain, way_runs}
+use Rattle.zst_pool.proofs.CommitAnswers.{committed_cause, committed_err, committed_fails, committed_ok, committed_open}
+use Rattle.zst_dir.proofs.Matches.{Match-alike}
+use Rattle.zst_pool.proofs.NamedPools.{rows_named}
+use Rattle.zst_pool.proofs.CommandParts.{disk_fault_same, failed_then}
+use Rattle.zst_pool.proofs.Room.{spends_fell, spends_full, spends_grows}
+use Rattle.zst_pool.proofs.TakenSectors.{works_none}
+
+-- what a command wrote before it fell or came to its commit: at most so much, and in a pool as much as it costs there
+abbrev pub Wrote : PoolState → Cost → DiskState → Bool → DiskState → FreeSectors → Bool → Option BlockFault → Type 0
+Wrote kept cost old old_failed new less new_failed stop =
+    ((block : ℕ) × (block ≤ cost.most) × Works cost.cells block old (free_by kept.body) old_failed new less new_failed stop)
+    × ((running : Pool) → new.honest → IsAtRest false old kept running → Works cost.cells (cost.block running) old (free_by kept.body) old_failed new less new_failed stop)
+
+module _ (definition : Pool → Result Stepped Refusal) (cost : Cost) (kept : PoolState) where
+  -- a command that fell once it had written into free sectors alone
+  pub runs_fell : {old : DiskState} {old_failed : Bool} {new : DiskState} {less : FreeSectors} {new_failed : Bool} {stop : Option BlockFault} (fault : PoolFault) {answer : Result PoolState PoolFault} → answer ≡ Err fault → Ready new kept.body
+      → Stops stop fault → Wrote kept cost old old_failed new less new_failed stop
+      → ((running : Pool) → new.honest → IsAtRest false old kept running → StepFault (Unit {0}) (definition running) fault) → Ran definition cost kept old old_failed new less new_failed answer
+  runs_fell {old = old} {old_failed = old_failed} {new = new} {less = less} {new_failed = new_failed} {stop = stop} fault same ready stops wrote refused =
+      let one = wrote.0 in
+      let works = one.2 in
+      let fell_so : Ran definition cost kept old old_failed new less new_failed (Err fault) = record {
+        did = λ tight running told rested. fell old new less kept running (record { rested = rested; fills = works.fills }) (definition running) fault (refused running told (rest_plain old kept running rested));
+        open_still = λ is. stops.open_still (cc);
+        spends = (one.0, one.1, spends_fell kept cost.cells one.0 fault stops works);
+        exact = λ running told rested. spends_fell kept cost.cells (cost.block running) fault stops (wrote.1 running told rested);
+        spares = λ apart. works.fills.seen;
+        ready = tt;
+        stays = λ standing. ready;
+        failed = works.failed ∙ ap (λ (b : Bool). old_failed || b) (stops.fails ∙ disk_fault_same (Unit {0}) PoolState fault);
+        cause = record { later = works.cause.later; fault = λ is. works.cause.fault (stops.disk (cc)) };
+        honest = works.fills.honest;
+      } in
+      subst (Ran definition cost kept old old_failed new less new_failed) (sym same) fell_so
+
+  -- one that came to its commit
+  pub runs_committed : {old : DiskState} {old_failed : Bool} {new : DiskState} {less : FreeSectors} {new_failed : Bool} {last : DiskState} {least : FreeSectors} {last_failed : Bool} (dir : Rows) (made : Result PoolState CommitFault) {answer : Result PoolState PoolFault} → answer ≡ of_committed made
+      → Ready new kept.body → Wrote kept cost old old_failed new less new_failed None
+      → ((tight : Bool) (running : Pool) → last.honest → IsAtRest tight old kept running → Did tight old last kept running (definition running) (of_committed made))
+      → length (dir_bytes dir) ≤ length (dir_bytes kept.dir) + 1024
+      → ((need largest : ℕ) → made ≡ Err (commits.Full need largest) → IsDirFull less least dir need largest)
+      → TakesAtMost (dir_sectors (length (dir_bytes dir))) less least → IfOk made (λ next. (next.body.end ≡ least.end) × (next.body.sectors ≡ kept.body.sectors))
+      → (¬ (made ≡ Err commits.DiskFault) → OnErr made (FillsFree new less last least))
+      → IfOk made (λ kept. Ready last kept.body) → (last_failed ≡ false → OnErr made (Ready last kept.body))
+      → last_failed ≡ (new_failed || blocks.fails (stop_of_commit made)) → images.HasDiskCause commits.DiskFault new.faults last.faults made → (last.honest → new.honest) → Ran definition cost kept old old_failed last least last_failed answer
+  runs_committed {old = old} {old_failed = old_failed} {new = new} {less = less} {new_failed = new_failed} {last = last} {least = least} {last_failed = last_failed} dir made same old_ready wrote did grows full takes ends fills ready stays failed cause falls =
+      let one = wrote.0 in
+      let works = one.2 in
+      let answer = of_committed made in
+      let disk = committed_cause new.faults last.faults made cause in
+      let runs : Ran definition cost kept old old_failed last least last_failed answer = record {
+        did = did;
+        open_still = committed_open made;
+        spends = (one.0, one.1, spends made full ends fills ready one.0 works);
+        exact = λ running told rested. spends made full ends fills ready (cost.block running) (wrote.1 running (falls told) rested);
+        spares = λ apart. spares made works.fills fills apart;
+        ready = committed_ok (λ kept. Ready last kept.body) made ready;
+        stays = λ standing. committed_err (Ready last kept.body) made (stays standing);
+        failed = failed_then old_failed new_failed last_failed (is_disk_fault answer) works.failed (failed ∙ ap (λ (b : Bool). new_failed || b) (committed_fails made));
+        cause = record { later = omega (arith, works.cause.later, disk.later); fault = λ is. Rose-earlier old.faults new.faults last.faults works.cause.later (disk.fault is) };
+        honest = λ told. works.fills.honest (falls told);
+      } in
+      subst (Ran definition cost kept old old_failed last least last_failed) (sym same) runs
+    where
+      spends : (r : Result PoolState CommitFault) → ((need largest : ℕ) → r ≡ Err (commits.Full need largest) → IsDirFull less least dir need largest)
+          → IfOk r (λ next. (next.body.end ≡ least.end) × (next.body.sectors ≡ kept.body.sectors)) → (¬ (r ≡ Err commits.DiskFault) → OnErr r (FillsFree new less last least)) → IfOk r (λ kept. Ready last kept.body)
+          → (block : ℕ) → Works cost.cells block old (free_by kept.body) old_failed new less new_failed None → Spends cost.cells block kept least as_kept (of_committed r)
+      spends (Ok next) full ends fills ready block works =
+          record { full = tt; grows = spends_grows kept cost.cells block dir works takes grows next old_ready.in_range.end.1 ready.in_range.end.1 ends.0 ends.1 }
+      spends (Err (commits.Full need largest)) full ends fills ready block works =
+          let apart : ¬ (◌≡◌ {A = Result PoolState CommitFault} (Err (commits.Full need largest)) (Err commits.DiskFault)) = λ is. cc in
+          let told = spends_full kept cost.cells block dir works takes grows need largest (fills apart) (full need largest refl) in
+          record {
+            full = λ n l same.
+                let needed : need ≡ n = cc in
+                let left : largest ≡ l = cc in
+                subst (λ (m : ℕ). HasNoRoom cost.cells block kept.body kept.dir least m l) needed (subst (λ (m : ℕ). HasNoRoom cost.cells block kept.body kept.dir least need m) left told);
+            grows = tt;
+          }
+      spends (Err commits.DiskFault) full ends fills ready block works = record { full = λ n l same. absurd (cc); grows = tt }
+      spends (Err commits.OutOfMemory) full ends fills ready block works = record { full = λ n l same. absurd (cc); grows = tt }
+
+      spares : (r : Result PoolState CommitFault) → FillsFree old (free_by kept.body) new less → (¬ (r ≡ Err commits.DiskFault) → OnErr r (FillsFree new less last least)) → ¬ (of_committed r ≡ Err DiskFault)
+          → OnErr (of_committed r) (SparesTaken (free_by kept.body) old.seen last.seen)
+      spares (Ok next) first second apart = tt
+      spares (Err (commits.Full need largest)) first second apart = let both = FillsFree-then old new last (free_by kept.body) less least first (second (λ is. cc)) in both.seen
+      spares (Err commits.DiskFault) first second apart = absurd (apart refl)
+      spares (Err commits.OutOfMemory) first second apart = let both = FillsFree-then old new last (free_by kept.body) less least first (second (λ is. cc)) in both.seen
+
+-- before its first part a command wrote nothing
+pub idle_wrote : (kept : PoolState) (cost : Cost) (disk : DiskState) (space : FreeSectors) (failed : Bool) (stop : Option BlockFault) → stop ≡ None → space ≡ free_by kept.body → Ready disk kept.body
+    → Wrote kept cost disk failed disk space failed stop
+idle_wrote kept cost disk space failed stop none free ready =
+    let idle = λ (block : ℕ). subst (Works cost.cells block disk (free_by kept.body) failed disk space failed) (sym none)
+    (subst (λ (s : FreeSectors). Works cost.cells block disk (free_by kept.body) failed disk s failed None) (sym free)
+    (works_none (block + 640 * cost.cells) block disk (free_by kept.body) failed (free_by_fits disk.size kept.body ready.in_range))) in
+    ((0, omega arith, idle 0), λ running told rested. idle (cost.block running))
+
+module _ (definition : Pool → Result Stepped Refusal) (cost : Cost) (kept : PoolState) where
+  -- one that fell before it did anything
+  pub runs_idle : {disk : DiskState} {space : FreeSectors} {failed : Bool} (fault : PoolFault) {answer : Result PoolState PoolFault} → answer ≡ Err fault → space ≡ free_by kept.body → Ready disk kept.body → Stops None fault
+      → ((running : Pool) → IsAtRest false disk kept running → StepFault (Unit {0}) (definition running) fault) → Ran definition cost kept disk failed disk space failed answer
+  runs_idle {disk = disk} {space = space} {failed = failed} fault same free ready stops refused =
+      runs_fell definition cost kept fault same ready stops (idle_wrote kept cost disk space failed None refl free ready) (λ running told rested. refused running rested)
+
+-- what is so of each damage that is answered
+pub told_of : (Is : DamageFact) (answer : Result PoolState PoolFault) → ((sector : ℕ) (stated found : List ℕ) → answer ≡ Err (Damaged sector stated found) → Is sector stated found) → IfErr answer (IsOf Is)
+told_of Is (Ok kept) is = tt
+told_of Is (Err fault) is = λ sector stated found same. is sector stated found (ap (λ (f : PoolFault). Err f) same)
+
+module _ (definition : Pool → Result Stepped Refusal) (cost : Cost) (damage : DamageFact) (kept : PoolState) where
+  -- a command that tells no damage
+  pub runs_sound : {old : DiskState} {old_failed : Bool} {new : DiskState} {less : FreeSectors} {new_failed : Bool} (answer : Result PoolState PoolFault) → ((sector : ℕ) (stated found : List ℕ) → ¬ (answer ≡ Err (Damaged sector stated found)))
+      → Ran definition cost kept old old_failed new less new_failed answer → Runs definition cost damage kept old old_failed new less new_failed answer
+  runs_sound answer never ran = record { ran = ran; damaged = λ told. told_of damage answer (λ sector stated found is. absurd (never sector stated found is)) }
+
+  -- one that fell before it did anything, for a plan or for memory
+  pub runs_planned : {disk : DiskState} {space : FreeSectors} {failed : Bool} (plan : PlanFault) {answer : Result PoolState PoolFault} → answer ≡ Err (Plan plan) → space ≡ free_by kept.body → Ready disk kept.body
+      → ((running : Pool) → IsAtRest false disk kept running → definition running ≡ Err (refusal_of plan)) → Runs definition cost damage kept disk failed disk space failed answer
+  runs_planned plan {answer = answer} same free ready refused =
+      runs_sound answer (λ sector stated found is. cc) (runs_idle definition cost kept (Plan plan) same free ready (plan_stops None plan refl) (λ running rested. (refused running rested, tt)))
+
+  pub runs_starved : {disk : DiskState} {space : FreeSectors} {failed : Bool} {answer : Result PoolState PoolFault} → answer ≡ Err OutOfMemory → space ≡ free_by kept.body → Ready disk kept.body
+      → Runs definition cost damage kept disk failed disk space failed answer
+  runs_starved {answer = answer} same free ready =
+      runs_sound answer (λ sector stated found is. cc) (runs_idle definition cost kept OutOfMemory same free ready (memory_stops None refl) (λ running rested. tt))
+
+-- one that changed the head of a dataset, or fell as that did
+pub runs_head : (definition : Pool → Result Stepped Refusal) (cost : Cost) (kept : PoolState) (name : List ℕ) (Is : FreeSectors → ObjSet → DamageFact) {old : DiskState} {old_failed : Bool} {new : DiskState} {less : FreeSectors} {new_failed : Bool} (mid : DiskState) (space : FreeSectors) (set : ObjSet) (changed : Result (Unit {0}) HeadFault) (answer : Result PoolState PoolFault)
+    → space ≡ free_by kept.body → HasHead kept.dir name set → (mid.honest → IfHeadDamaged changed (Is space set)) → (new.honest → mid.honest)
+    → ((sector : ℕ) (stated found : List ℕ) → answer ≡ Err (Damaged sector stated found) → changed ≡ Err (Set (set_faults.Block (block_faults.Damaged sector stated found))))
+    → Ran definition cost kept old old_failed new less new_failed answer → Runs definition cost (OfHead kept.dir name (Is (free_by kept.body))) kept old old_failed new less new_failed answer
+runs_head definition cost kept name Is mid space set changed answer free there tells falls same ran = record {
+  ran = ran;
+  damaged = λ told. told_of (OfHead kept.dir name (Is (free_by kept.body))) answer (λ sector stated found is.
+      let over = subst (λ (s : FreeSectors). IfHeadDamaged changed (Is s set)) free (tells (falls told)) in
+      (set, there, subst (λ (r : Result (Unit {0}) HeadFault). IfHeadDamaged r (Is (free_by kept.body) set)) (same sector stated found is) over));
+}
+
+-- the number of the next commit, of a pool
+number_is : (number next : ℕ) (pool : Pool) → IsPool pool → pool.number ≡ number → (number ≤ 2 ^ 63 → next ≡ number + 1) → pool.number + 1 ≡ next
+unfolding last_number
+number_is number next pool lawful same is = let le : number ≤ 2 ^ 63 = omega (arith, same, lawful.number) in omega (arith, same, is le)
+
+-- what a set holds that was opened
+head_there : {bound : Option ℕ} (kept : PoolState) (name : List ℕ) (old : DiskState) (space : FreeSectors) (was : ObjSet) (pool : Pool) → RunsBy bound (Has old.seen space) kept.dir pool → FindsHead kept.dir name pool (Ok was)
+    → (head : DatedState) × SetIs bound (Has old.seen space) was head × ((change : DatedState → Result DatedState Refusal) → on_head name pool change ≡ (change head >>= λ after. committed (with_head_of name after pool)))
+head_there {bound = bound} kept name old space was pool runs_by there =
+    let has = Has old.seen space in
+    let stands = Match-alike (DatasetIs bound has) kept.dir.datasets pool.datasets there.0 there.1 runs_by.datasets there.2 in
+    (there.1.head, subst (λ (set : ObjSet). SetIs bound has set there.1.head) there.3 stands.head, there.4)
+
+-- a head that was opened and changed
+pub changed_head : (kept : PoolState) (name : List ℕ) (make : Pool → DatedState → Result DatedState Refusal) (cost : Cost) {number : ℕ} {old : DiskState} {space : FreeSectors} {old_failed : Bool} {new : DiskState} {less : FreeSectors} {new_failed : Bool} {was set : ObjSet} {changed : Result (Unit {0}) HeadFault}
+    → space ≡ free_by kept.body → (kept.body.number ≤ 2 ^ 63 → number ≡ kept.body.number + 1)
+    → ((pool : Pool) → AreNamed kept.dir pool → FindsHead kept.dir name pool (Ok was))
+    → ((tight : Bool) (pool : Pool) (head : DatedState) → new.honest → pool.number + 1 ≡ number → SetIs (bound_of tight number) (Has old.seen space) was head → ChangesHead (bound_of tight number) (Has new.seen less) set (make pool head) changed)
+    → ((block : ℕ) × (block ≤ cost.most) × Works cost.cells block old space old_failed new less new_failed (stop_of changed))
+    → ((pool : Pool) (head : DatedState) → new.honest → SetHolds (Has old.seen space) was head
+    → ((change : DatedState → Result DatedState Refusal) → on_head name pool change ≡ (change head >>= λ after. committed (with_head_of name after pool)))
+    → Works cost.cells (cost.block pool) old space old_failed new less new_failed (stop_of changed))
+    → ChangedHead kept name make cost old old_failed new less new_failed set changed
+changed_head kept name make cost {number = number} {old = old} {space = space} {old_failed = old_failed} {new = new} {less = less} {new_failed = new_failed} {was = was} {set = set} {changed = changed} free next found changes works exact =
+    let over = λ (block : ℕ) (w : Works cost.cells block old space old_failed new less new_failed (stop_of changed)).
+    subst (λ (s : FreeSectors). Works cost.cells block old s old_failed new less new_failed (stop_of changed)) free w in
+    record {
+      made = made_so;
+      works = (works.0, works.1, over works.0 works.2);
+      exact = λ running told rested.
+          let runs = way_runs old old space kept running (begun old kept running rested space free) in
+          let there = head_there kept name old space was running runs.runs_by (found running (rows_named (Has old.seen space) kept.dir running runs.runs_by)) in
+          over (cost.block running) (exact running there.0 told there.1 there.2);
+    }
+  where
+    made_so : {tight : Bool} (running : Pool) → new.honest → IsAtRest tight old kept running
+        → (head : DatedState) × ChangesHead (bound_of tight (running.number + 1)) (Has new.seen less) set (make running head) changed
+        × (on_head name running (make running) ≡ (make running head >>= λ after. committed (with_head_of name after running)))
+    made_so {tight = tight} running told rested =
+        let has = Has old.seen space in
+        let runs = way_runs old old space kept running (begun old kept running rested space free) in
+        let there = head_there kept name old space was running runs.runs_by (found running (rows_named has kept.dir running runs.runs_by)) in
+        let is = number_is kept.body.number number running runs.lawful runs.number next in
+        let known = SetIs-later tight running.number number (omega (arith, is)) has was there.0 there.1 in
+        let changed_so = changes tight running there.0 told is known in
+        (there.0, subst (λ (n : ℕ). ChangesHead (bound_of tight n) (Has new.seen less) set (make running there.0) changed) (sym is) changed_so, there.2 (make running))

@@ -1,0 +1,52 @@
+-- What stands for a pool names it.
+use Rattle.std.proofs.Common.{◌≡◌, suc, List, [], ◌∷◌, map, refl, arith, Option, ℕ}
+use Rattle.std.specs.List.{All}
+use Rattle.zst_uber.specs.declared.uber.Uber.{Uber}
+use Rattle.zst_model.specs.pools.Pool.{Pool}
+use Rattle.zst_tree.specs.Indices.{Blocks}
+use Rattle.zst_dir.specs.Rows.{Rows}
+use Rattle.zst_dir.specs.declared.rows.Bookmark.{Bookmark}
+use Rattle.zst_pool.specs.Plans.{bare_bookmark, bare_dataset, bare_partial, bare_pool, bare_snapshot}
+use Rattle.zst_dir.specs.RowNames.{AreNamed, Match, NamesBookmark, NamesDataset, NamesPartial, NamesSnapshot}
+use Rattle.zst_image.specs.Reads.{BookmarkIs, DatasetIs, IsNamedBy, PartialIs, RunsBy, SnapshotIs}
+
+each_named : {A B : Type 0} (Is Named : A → B → Type 0) → ((a : A) (b : B) → Is a b → Named a b) → (xs : List A) (ys : List B) → Match Is xs ys → Match Named xs ys
+each_named Is Named of [] [] is = is
+each_named Is Named of [] (y ∷ ys) is = is
+each_named Is Named of (x ∷ xs) [] is = is
+each_named Is Named of (x ∷ xs) (y ∷ ys) is = (of x y is.0, each_named Is Named of xs ys is.1)
+
+-- rows that stand for what a pool lists name it
+pub rows_named : {bound : Option ℕ} (has : Blocks) (rows : Rows) (pool : Pool) → RunsBy bound has rows pool → AreNamed rows pool
+rows_named {bound = bound} has rows pool is = record {
+  datasets = each_named (DatasetIs bound has) NamesDataset (λ row dataset stands. stands.named) rows.datasets pool.datasets is.datasets;
+  snapshots = each_named (SnapshotIs bound has) NamesSnapshot (λ row snapshot stands. stands.named) rows.snapshots pool.snapshots is.snapshots;
+  bookmarks = each_named (BookmarkIs has) NamesBookmark (λ row bookmark stands. stands.named) rows.bookmarks pool.bookmarks is.bookmarks;
+  partials = each_named (PartialIs bound has) NamesPartial (λ row partial stands. stands.named) rows.partials pool.partials is.partials;
+}
+
+-- rows name what is made of each of them
+each_made : {A B : Type 0} (Named : A → B → Type 0) (make : A → B) → ((a : A) → Named a (make a)) → (xs : List A) → Match Named xs (map make xs)
+each_made Named make of [] = tt
+each_made Named make of (x ∷ xs) = (of x, each_made Named make of xs)
+
+each_bookmark : (rows : List Bookmark) → All (λ bookmark. bookmark.redact ≡ [] → bookmark.runs ≡ 0) rows → Match NamesBookmark rows (map bare_bookmark rows)
+each_bookmark [] none = tt
+each_bookmark (row ∷ rows) none = (
+  record { name = refl; guid = refl; time = refl; number = refl; redact = refl; no_list = none 0 row (omega arith) },
+  each_bookmark rows (λ k other below. none (suc k) other (omega (arith, below))),
+)
+
+-- a body and its rows name the pool whose objects nothing touched
+pub bare_is_named : (uber : Uber) (rows : Rows) → All (λ bookmark. bookmark.redact ≡ [] → bookmark.runs ≡ 0) rows.bookmarks → IsNamedBy uber rows (bare_pool uber rows)
+bare_is_named uber rows none = record {
+  id = refl;
+  number = refl;
+  guids = refl;
+  are_named = record {
+    datasets = each_made NamesDataset bare_dataset (λ row. record { name = refl; kind = refl; origin = refl; redact = refl }) rows.datasets;
+    snapshots = each_made NamesSnapshot bare_snapshot (λ row. record { name = refl; guid = refl; time = refl; number = refl; redact = refl }) rows.snapshots;
+    bookmarks = each_bookmark rows.bookmarks none;
+    partials = each_made NamesPartial bare_partial (λ row. record { target = refl; component = refl; keep = refl; header = refl; base = refl; point = refl }) rows.partials;
+  };
+}

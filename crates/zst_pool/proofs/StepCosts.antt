@@ -1,0 +1,41 @@
+-- What a step spends and spares, from what its run did.
+use Rattle.std.specs.Prelude.{◌||◌, Bool, true, false, Result, Ok, Err, OnErr}
+use Rattle.std.proofs.lemmas.Bool.{or_parts}
+use Rattle.std.proofs.Common.{◌≡◌, ℕ, sym, ap, ◌∙◌, subst}
+use Rattle.zst_space.specs.FreeSectors.{FreeSectors}
+use Rattle.zst_pool.specs.Cost.{FindsNoRoom, HasNoRoom, Spends}
+use Rattle.zst_pool.specs.Faults.{is_full, tells_full}
+use Rattle.zst_pool.specs.CommandRuns.{as_kept}
+use Rattle.zst_pool.specs.declared.fault.PoolFault.{PoolFault}
+use Rattle.zst_pool.specs.declared.fault.PoolFault.TheVariants.{DiskFault, Full}
+use Rattle.zst_image.specs.declared.pool_state.PoolState.{PoolState}
+
+module _ {T : Type 0} (cells block : ℕ) (kept : PoolState) (left : FreeSectors) where
+  -- a step that went well
+  pub spends_ok : (next : PoolState) (reply : T) (later : FreeSectors) → Spends cells block kept left as_kept (Ok next) → Spends cells block kept later (λ value. next) (Ok reply)
+  spends_ok next reply later spends = record { full = tt; grows = spends.grows }
+
+  -- one that fell as its run did, whose sectors stay where the disk was full
+  pub spends_err : (next : PoolState) (fault : PoolFault) (r : Result T PoolFault) (later : FreeSectors) → r ≡ Err fault → (tells_full fault ≡ true → later ≡ left)
+      → Spends cells block kept left as_kept (Err fault) → Spends cells block kept later (λ value. next) r
+  spends_err next fault r later same stays spends =
+      let found : FindsNoRoom cells block kept later fault = λ need largest is. subst (λ (space : FreeSectors). HasNoRoom cells block kept.body kept.dir space need largest) (sym (stays (ap tells_full is))) (spends.full need largest is) in
+      let fell : Spends {T = T} cells block kept later (λ value. next) (Err fault) = record { full = found; grows = tt } in
+      subst (Spends cells block kept later (λ value. next)) (sym same) fell
+
+  -- one that fell apart from E24
+  pub spends_apart : (next : PoolState) (fault : PoolFault) (r : Result T PoolFault) → r ≡ Err fault → ((need largest : ℕ) → ¬ (fault ≡ Full need largest)) → Spends cells block kept left (λ value. next) r
+  spends_apart next fault r same apart =
+      let fell : Spends {T = T} cells block kept left (λ value. next) (Err fault) = record { full = λ need largest is. absurd (apart need largest is); grows = tt } in
+      subst (Spends cells block kept left (λ value. next)) (sym same) fell
+
+-- what holds unless the disk failed does so of each answer with that fault
+pub spares_err : {T : Type 0} (P : Type 0) (fault : PoolFault) (r : Result T PoolFault) → r ≡ Err fault → (¬ (◌≡◌ {A = Result PoolState PoolFault} (Err fault) (Err DiskFault)) → P) → ¬ (r ≡ Err DiskFault) → OnErr r P
+spares_err {T = T} P fault r same spares apart =
+    subst (λ (x : Result T PoolFault). OnErr x P) (sym same) (spares (λ is. let disk : fault ≡ DiskFault = cc in apart (same ∙ ap (λ (f : PoolFault). Err f) disk)))
+
+-- a run whose fault isn't a full disk is none
+pub free_again : {T U : Type 0} (fault : PoolFault) (failed : Bool) (r : Result T PoolFault) (run : Result U PoolFault) → r ≡ Err fault → Err fault ≡ run → (failed || is_full r) ≡ false → is_full run ≡ false
+free_again {T = T} {U = U} fault failed r run same ran told =
+    let apart : is_full {T = T} (Err fault) ≡ false = subst (λ (x : Result T PoolFault). is_full x ≡ false) same (or_parts failed (is_full r) told).1 in
+    subst (λ (x : Result U PoolFault). is_full x ≡ false) ran apart

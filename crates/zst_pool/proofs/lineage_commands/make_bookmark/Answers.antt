@@ -1,0 +1,52 @@
+use Rattle.std.proofs.Common.{refl, sym, ap, ◌∙◌, subst, ◌+◌, arith}
+use Rattle.zst_block.specs.Blocks.{Has}
+use Rattle.zst_model.specs.pools.Pool.{is_before, inserted}
+use Rattle.zst_model.specs.pools.Step.{bookmark_of, with_bookmark}
+use Rattle.zst_dir.specs.Rows.{Rows}
+use Rattle.zst_dir.specs.declared.rows.Bookmark.{Bookmark}
+use Rattle.zst_image.specs.Reads.{RunsBy, bound_of}
+use Rattle.zst_pool.specs.Lineage.{with_marked}
+use Rattle.zst_pool.specs.Cost.{cells_only}
+use Rattle.zst_pool.specs.Damage.{NoDamage}
+use Rattle.zst_pool.specs.declared.fault.PoolFault.TheVariants.{OutOfMemory, Plan}
+use Rattle.zst_pool.proofs.Bounds.{RunsBy-later}
+use Rattle.zst_pool.proofs.CheckLemmas.{err_is}
+use Rattle.zst_pool.proofs.LineageRows.{bookmark_runs}
+use Rattle.zst_pool.proofs.PoolsAtRest.{few_guids, rest_named, runs_named}
+use Rattle.zst_pool.proofs.CommandRuns.{runs_planned, runs_starved}
+use Rattle.zst_pool.proofs.lineage_commands.make_bookmark.Goals as goal
+
+pub returns-in_err-row-clause-runs : goal.returns-in_err-row-clause-runs
+returns-in_err-row-clause-runs g c =
+    let kept = c.args.kept.now in
+    let plan = c.in_err-row.field-0.0 in
+    runs_planned (with_bookmark c.args.snapshot.now c.args.name.now) (cells_only 0) NoDamage kept plan (err_is c.from_residual.result (Plan plan) c.from_residual.ensures.1) c.requires.space c.requires.ready
+    (λ running rested. let named = rest_named (g.D.Disk.state c.args.io.now.disk.now) kept running rested in c.in_err-row.ensures.judged running named.are_named named.number)
+
+pub returns-in_err-add_bookmark-clause-runs : goal.returns-in_err-add_bookmark-clause-runs
+returns-in_err-add_bookmark-clause-runs g c =
+    let fell = c.from_residual-in_err-add_bookmark in
+    runs_starved (with_bookmark c.args.snapshot.now c.args.name.now) (cells_only 0) NoDamage c.args.kept.now (err_is fell.result OutOfMemory fell.ensures.1) c.requires.space c.requires.ready
+
+pub returns-clause-runs : goal.returns-clause-runs
+returns-clause-runs g c =
+    let kept = c.args.kept.now in
+    let name = c.args.name.now in
+    let row = c.in_ok-row.row in
+    let dir = c.in_ok-add_bookmark.ensures.added ∙ ap (λ (d : Rows). record d { bookmarks = inserted (λ (a b : Bookmark). is_before a.name b.name) row d.bookmarks }) c.in_ok-dir.ensures in
+    c.commit_rows.ensures.runs (with_bookmark c.args.snapshot.now name) (λ tight image space running runs.
+    let has = Has image space in
+    let named = runs_named has kept running runs in
+    let judged = c.in_ok-row.ensures.judged running named.are_named named.number in
+    let next = with_marked (bookmark_of name judged.1) running in
+    let rows = dir ∙ ap (λ (b : Bookmark). record kept.dir { bookmarks = inserted (λ (x y : Bookmark). is_before x.name y.name) b kept.dir.bookmarks }) judged.3 in
+    record {
+      next = next;
+      made = judged.4;
+      id = refl;
+      number = refl;
+      guid_counter = runs.guids;
+      few = few_guids has kept running runs;
+      runs_by = RunsBy-later tight running.number (running.number + 1) (omega arith) has _ next
+          (subst (λ (r : Rows). RunsBy (bound_of tight running.number) has r next) (sym rows) (bookmark_runs has kept.dir running runs.runs_by name judged.0 judged.1 judged.2));
+    })

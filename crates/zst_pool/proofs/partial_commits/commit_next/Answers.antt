@@ -1,0 +1,56 @@
+use Rattle.std.proofs.Common.{◌≡◌, length, sym, ◌∙◌, subst}
+use Rattle.std.specs.Prelude.{Result}
+use Rattle.zst_block.specs.Blocks.{Has}
+use Rattle.zst_model.specs.pools.KeptPool.{kept_of}
+use Rattle.zst_dir.specs.Rows.{IsLawful}
+use Rattle.zst_dir.specs.Spelling.{dir_bytes}
+use Rattle.zst_image.specs.Reads.{dir_sectors}
+use Rattle.zst_image.specs.declared.pool_state.PoolState.{PoolState}
+use Rattle.zst_pool.specs.Calls.{CallDid}
+use Rattle.zst_pool.specs.Checks.{next_of}
+use Rattle.zst_pool.specs.Partials.{next_commit}
+use Rattle.zst_pool.specs.declared.fault.PoolFault.{PoolFault}
+use Rattle.zst_pool.specs.declared.fault.PoolFault.TheVariants.{Plan}
+use Rattle.zst_pool.proofs.CallLemmas.{call_did, call_fell, number_after}
+use Rattle.zst_pool.proofs.CheckLemmas.{err_is}
+use Rattle.zst_pool.proofs.NamedPools.{rows_named}
+use Rattle.zst_pool.proofs.PoolsAtRest.{few_guids, kept_is_next, next_lawful, rests_next, rests_unless, way_runs}
+use Rattle.zst_pool.proofs.TakenSectors.{taken_none}
+use Rattle.zst_pool.proofs.partial_commits.commit_next.Goals as goal
+
+pub returns-in_err-check_limits-clause-did : goal.returns-in_err-check_limits-clause-did
+returns-in_err-check_limits-clause-did g c = λ tight start running next told way anew runs.
+    let old = g.D.Disk.state c.args.io.now.disk.now in
+    let kept = c.args.kept.now in
+    let space = c.args.io.now.space in
+    let fault = Plan c.in_err-check_limits.field-0.0 in
+    let number : next.number ≡ kept.body.number = anew.number ∙ way.rested.rests.reads.described.number in
+    subst (λ (r : Result PoolState PoolFault). CallDid tight (g.D.Disk.state start) old kept running (next_commit next) r) (sym (err_is c.from_residual.result fault c.from_residual.ensures.1))
+    (call_fell (g.D.Disk.state start) old space kept running (next_commit next) fault way (c.in_err-check_limits.ensures.judged next (rows_named (Has old.seen space) c.args.dir next runs) number, tt))
+
+pub returns-in_err-check_limits-clause-takes : goal.returns-in_err-check_limits-clause-takes
+returns-in_err-check_limits-clause-takes g c = taken_none (dir_sectors (length (dir_bytes c.args.dir))) c.args.io.now.space
+
+pub returns-clause-did : goal.returns-clause-did
+returns-clause-did g c = λ tight start running next told way anew runs.
+    let from = g.D.Disk.state start in
+    let old = g.D.Disk.state c.args.io.now.disk.now in
+    let new = g.D.Disk.state c.commit_dir.new.io.disk.now in
+    let kept = c.args.kept.now in
+    let space = c.args.io.now.space in
+    let has = Has old.seen space in
+    let commit = c.commit_dir.ensures in
+    let made = c.commit_dir.result in
+    let was = way_runs from old space kept running way in
+    let number : next.number ≡ kept.body.number = anew.number ∙ was.number in
+    let judged = c.in_ok-check_limits.ensures.judged next (rows_named has c.args.dir next runs) number in
+    let lawful : IsLawful c.args.dir = subst IsLawful c.dir.view_is c.dir.invariant in
+    let few = few_guids has kept running was in
+    let below = c.in_ok-check_limits.ensures.below in
+    let is = kept_is_next has kept running next kept.body.guids c.args.dir lawful was anew.id anew.number (anew.guids ∙ was.guids) few below runs in
+    let after = next_lawful has kept running next kept.body.guids c.args.dir lawful was anew.id anew.number (anew.guids ∙ was.guids) few below runs in
+    let commits = commit.commits tight start way.rested.rows (kept_of running) (kept_of (next_of next).pool) told way.rested.rests way.fills is in
+    subst (λ (r : Result PoolState PoolFault). CallDid tight from new kept running (next_commit next) r) (sym c.of_committed.ensures)
+    (call_did from new kept way.rested.rows running (next_of next).pool (next_commit next) judged made (λ need largest full. (commit.full need largest full).shorter) commits
+    (number_after made kept.body.number next.number number commit.number)
+    (rests_next from old new space kept way.rested.rows c.args.dir running next made commits anew.number runs after commit.dir commit.blocks) (rests_unless from old new space c.commit_dir.new.io.space kept running made way commit.fills))

@@ -1,0 +1,37 @@
+use Rattle.std.proofs.Common.{◌≡◌, refl, sym, subst, ◌+◌, arith}
+use Rattle.std.specs.Prelude.{Result, IfOk}
+use Rattle.zst_block.specs.Blocks.{Has}
+use Rattle.zst_dir.specs.Rows.{Rows}
+use Rattle.zst_image.specs.declared.pool_state.PoolState.{PoolState}
+use Rattle.zst_pool.specs.Calls.{CallDid}
+use Rattle.zst_image.specs.Reads.{RunsBy, bound_of}
+use Rattle.zst_pool.specs.Partials.{partial_put, with_partial}
+use Rattle.zst_pool.specs.declared.fault.PoolFault.{PoolFault}
+use Rattle.zst_pool.specs.declared.fault.PoolFault.TheVariants.{OutOfMemory}
+use Rattle.zst_pool.proofs.Bounds.{RunsBy-later}
+use Rattle.zst_pool.proofs.CallLemmas.{call_fell}
+use Rattle.zst_pool.proofs.CheckLemmas.{err_is}
+use Rattle.zst_pool.proofs.PartialRows.{partial_is_put}
+use Rattle.zst_pool.proofs.PoolsAtRest.{way_runs}
+use Rattle.zst_pool.proofs.partial_commits.commit_partial.Goals as goal
+
+pub returns-in_err-dir-clause-did : goal.returns-in_err-dir-clause-did
+returns-in_err-dir-clause-did g c = λ tight start running plain told way is.
+    let old = g.D.Disk.state c.args.io.now.disk.now in
+    let kept = c.args.kept.now in
+    let definition = partial_put c.args.roll plain running in
+    subst (λ (r : Result PoolState PoolFault). CallDid tight (g.D.Disk.state start) old kept running definition r) (sym (err_is c.from_residual.result OutOfMemory c.from_residual.ensures.1))
+    (call_fell (g.D.Disk.state start) old c.args.io.now.space kept running definition OutOfMemory way tt)
+
+pub returns-clause-did : goal.returns-clause-did
+returns-clause-did g c = λ tight start running plain told way is.
+    let old = g.D.Disk.state c.args.io.now.disk.now in
+    let has = Has old.seen c.args.io.now.space in
+    let next = with_partial c.args.roll plain running in
+    let was = way_runs (g.D.Disk.state start) old c.args.io.now.space c.args.kept.now running way in
+    let over = RunsBy-later tight running.number (running.number + 1) (omega arith) has c.args.kept.now.dir running was.runs_by in
+    let runs = subst (λ (r : Rows). RunsBy (bound_of tight (running.number + 1)) has r next) (sym c.in_ok-dir.ensures.put) (partial_is_put has c.args.kept.now.dir running over c.args.partial plain is c.args.roll) in
+    c.commit_next.ensures.did tight start running next told way (record { id = refl; number = refl; guids = refl }) runs
+
+pub returns-clause-rows : goal.returns-clause-rows
+returns-clause-rows g c = subst (λ (r : Rows). IfOk c.commit_next.result (λ next. next.dir ≡ r)) c.in_ok-dir.ensures.put c.commit_next.ensures.rows

@@ -1,0 +1,43 @@
+use Rattle.std.specs.Prelude.{Err}
+use Rattle.std.proofs.Common.{[], sym, ap, ◌∙◌, subst}
+use Rattle.std.proofs.lemmas.Result.{err_from_is_err_and}
+use Rattle.zst_block.specs.IoCalls.{Looks}
+use Rattle.zst_model.specs.declared.pools.command.Command.TheVariants as commands
+use Rattle.zst_model.specs.declared.pools.reply.Reply.{Reply}
+use Rattle.zst_model.specs.pools.Step.{answered, stepped}
+use Rattle.zst_pool.specs.Damage.{look_damage}
+use Rattle.zst_pool.specs.Faults.{of_list}
+use Rattle.zst_pool.proofs.ListQueries.{list_missing, list_open, list_refused, list_there, list_told, stop_list}
+use Rattle.zst_pool.proofs.QueryLemmas.{of_named, tells_missing}
+use Rattle.zst_pool.proofs.queries.list_named.Goals as goal
+
+pub returns-in_err-set-clause-tells : goal.returns-in_err-set-clause-tells
+returns-in_err-set-clause-tells g c = λ now.
+    let p = err_from_is_err_and c.from_residual.result c.from_residual.ensures.1 in
+    rw (p.1, p.2, c.in_err-set.ensures.missing) (tells_missing (λ pool. stepped [] now (commands.ListObjects c.args.name) pool) _ c.args.kept.now _ _ _ c.args.name
+    (λ pool none. list_missing now c.args.name pool none) c.in_err-set.ensures.absent)
+
+pub returns-in_err-list_objects-clause-tells : goal.returns-in_err-list_objects-clause-tells
+returns-in_err-list_objects-clause-tells g c = λ now.
+    let fault = c.in_err-list_objects.field-0.0 in
+    let is = c.in_err-list_objects.ensures in
+    let disk = g.D.Disk.state c.args.io.now.disk.now in
+    let p = err_from_is_err_and c.from_residual-in_err-list_objects.result c.from_residual-in_err-list_objects.ensures.1 in
+    rw (p.1, p.2) (record {
+      told = λ pool honest runs.
+          let named = c.in_ok-set.ensures.holds _ _ pool runs in
+          list_refused (stepped [] now (commands.ListObjects c.args.name) pool) named.state fault (is.told named.state honest named.holds);
+      looks = subst (Looks _ _ _ _ _ _) (stop_list Reply Reply fault) is.looks;
+      open_still = λ same. list_open fault (cc);
+      damaged = λ honest. of_named {T = Reply} c.args.kept.now.dir c.args.name (look_damage disk) c.in_ok-set.set c.in_ok-set.ensures.set (Err (of_list fault)) (list_told Reply (look_damage disk c.in_ok-set.set) fault (is.damaged honest));
+    })
+
+pub returns-clause-tells : goal.returns-clause-tells
+returns-clause-tells g c = λ now. record {
+  told = λ pool honest runs.
+      let named = c.in_ok-set.ensures.holds _ _ pool runs in
+      list_there now c.args.name pool named.state named.named ∙ ap (answered pool) (sym (c.in_ok-list_objects.ensures.told named.state honest named.holds));
+  looks = c.in_ok-list_objects.ensures.looks;
+  open_still = λ same. absurd (cc);
+  damaged = λ honest. tt;
+}

@@ -1,7 +1,0 @@
-use Rattle.std.proofs.Common.{◌≡◌, take}
-use Rattle.zst_dir.specs.Going.{takes_snapshot}
-use Rattle.zst_pool.proofs.Least.{least_where}
-use Rattle.zst_pool.proofs.rolling.least_going.Given as goal
-
-abbrev pub invariant-loop-snapshot : goal.invariant-loop-snapshot
-invariant-loop-snapshot l = l.least ≡ least_where (λ snapshot. snapshot.name) (takes_snapshot l.going) (take l.snapshot-index l.snapshot-items)

@@ -1,0 +1,53 @@
+-- What running a command does.
+use Rattle.std.specs.Prelude.{◌≡◌, ◌||◌, ◌≤◌, ℕ, Bool, false, Result, Ok, Err, IfOk, OnErr, IfErr}
+use Rattle.zst_outside.specs.Images.{DiskState, Leaves}
+use Rattle.zst_space.specs.FreeSectors.{FreeSectors}
+use Rattle.zst_block.specs.Blocks.{SparesTaken}
+use Rattle.zst_model.specs.declared.refusals.refusal.Refusal.{Refusal}
+use Rattle.zst_model.specs.pools.Pool.{Pool}
+use Rattle.zst_model.specs.pools.Step.{Stepped}
+use Rattle.zst_objset.specs.Damage.{DamageFact}
+use Rattle.zst_pool.specs.Cost.{Cost, Spends}
+use Rattle.zst_pool.specs.Damage.{IsOf}
+use Rattle.zst_pool.specs.Faults.{HasDiskCause, is_disk_fault, StepFault}
+use Rattle.zst_image.specs.Reads.{free_by}
+use Rattle.zst_pool.specs.Calls.{IsAtRest}
+use Rattle.zst_pool.specs.StepAnswers.{BeforeOrAfter}
+use Rattle.zst_image.specs.Commits.{Ready}
+use Rattle.zst_pool.specs.declared.fault.PoolFault.{PoolFault}
+use Rattle.zst_pool.specs.declared.fault.PoolFault.TheVariants.{DiskFault, Failed}
+use Rattle.zst_image.specs.declared.pool_state.PoolState.{PoolState}
+
+-- what stands after a command's answer: what the definition makes of the pool, or the pool as it was
+abbrev pub DidAnswer : (tight : Bool) → DiskState → PoolState → Pool → Result Stepped Refusal → Result PoolState PoolFault → Type 0
+DidAnswer tight now old running definition (Ok kept) = (done : Stepped) × (definition ≡ Ok done) × IsAtRest tight now kept done.pool
+DidAnswer tight now old running definition (Err fault) = StepFault (IsAtRest tight now old running) definition fault
+
+-- a command that commits: inside it each image reads as what is kept of the pool before or of what the definition makes of it, and then by its answer
+pub record Did (tight : Bool) (start now : DiskState) (kept : PoolState) (running : Pool) (definition : Result Stepped Refusal) (result : Result PoolState PoolFault) : Type 0 where
+  pub moments : Leaves start now (BeforeOrAfter tight running definition)
+  pub answer : DidAnswer tight now kept running definition result
+
+-- what is kept after a command that went well is what it answers
+abbrev pub as_kept : PoolState → PoolState
+as_kept kept = kept
+
+-- what a command at this cost did: by its definition where a pool was at rest, and what stands then whatever the image was
+pub record Ran (definition : Pool → Result Stepped Refusal) (cost : Cost) (kept : PoolState) (old : DiskState) (old_failed : Bool) (new : DiskState) (left : FreeSectors) (new_failed : Bool) (result : Result PoolState PoolFault) : Type 0 where
+  pub did : (tight : Bool) (running : Pool) → new.honest → IsAtRest tight old kept running → Did tight old new kept running (definition running) result
+  pub open_still : ¬ (result ≡ Err Failed)
+  -- it takes no more than the cost at most, and no more than the cost in the pool
+  pub spends : (block : ℕ) × (block ≤ cost.most) × Spends cost.cells block kept left as_kept result
+  pub exact : (running : Pool) → new.honest → IsAtRest false old kept running → Spends cost.cells (cost.block running) kept left as_kept result
+  -- where it is refused, unless the disk failed, free sectors alone were written
+  pub spares : ¬ (result ≡ Err DiskFault) → OnErr result (SparesTaken (free_by kept.body) old.seen new.seen)
+  pub ready : IfOk result (λ kept. Ready new kept.body)
+  pub stays : new_failed ≡ false → OnErr result (Ready new kept.body)
+  pub failed : new_failed ≡ (old_failed || is_disk_fault result)
+  pub cause : HasDiskCause old.faults new.faults result
+  pub honest : new.honest → old.honest
+
+-- and which damage it told
+pub record Runs (definition : Pool → Result Stepped Refusal) (cost : Cost) (damage : DamageFact) (kept : PoolState) (old : DiskState) (old_failed : Bool) (new : DiskState) (left : FreeSectors) (new_failed : Bool) (result : Result PoolState PoolFault) : Type 0 where
+  pub ran : Ran definition cost kept old old_failed new left new_failed result
+  pub damaged : new.honest → IfErr result (IsOf damage)

@@ -1,0 +1,111 @@
+// The commands that make clones and bookmarks, and those that leave rows out.
+ghost use Rattle.std.specs.Prelude.{◌≡◌, ◌+◌, ◌≤◌, [], IfOk, length};
+ghost use Rattle.zst_model.specs.pools.Step.{with_bookmark, with_clone, with_destroyed, with_rollback};
+ghost use Rattle.zst_dir.specs.Removal.{AreUnused, without};
+ghost use Rattle.zst_dir.specs.Spelling.{dir_bytes};
+ghost use Rattle.zst_image.specs.Commits.{Ready};
+ghost use Rattle.zst_image.specs.Reads.{free_by};
+ghost use Rattle.zst_pool.specs.Cost.{cells_only};
+ghost use Rattle.zst_pool.specs.Damage.{NoDamage};
+ghost use Rattle.zst_pool.specs.Plans.{Plans};
+ghost use Rattle.zst_pool.specs.CommandRuns.{Runs};
+
+use crate::commands::commit_rows;
+use crate::fault::PoolFault;
+use crate::lineage::{plan_bookmark, plan_clone, plan_destroy};
+use crate::rollbacks::{dir_rolled_back, plan_rollback};
+use std::alloc::{AllocError, Global};
+use zst_block::Io;
+use zst_dir::{Dir, Removal};
+use zst_image::PoolState;
+use zst_model::Name;
+use zst_names::{BookName, DatasetName, SnapName};
+use zst_outside::Disk;
+
+/// Makes a dataset of a snapshot's objects.
+pub fn make_clone<D: Disk>(
+    io: &mut Io<'_, D>,
+    alloc: Global,
+    kept: &PoolState,
+    origin: &SnapName,
+    name: &DatasetName,
+) -> Result<PoolState, PoolFault>
+    requires space { io.old.space ≡ free_by kept.now.body }
+    requires ready { Ready (D.state io.old.disk.now) kept.now.body }
+    ensures runs { Runs (with_clone origin.now name.now) (cells_only 0) NoDamage kept.now (D.state io.old.disk.now) io.old.failed (D.state io.new.disk.now) io.new.space io.new.failed result }
+    ensures plans { Plans (with_clone origin.now name.now) 0 0 kept.now result }
+    ensures same { io.new.disk.ghost_name ≡ io.old.disk.ghost_name }
+{
+    let row = plan_clone(kept, origin, name)?;
+    let mut dir = kept.dir.copy(alloc)?;
+    dir.add_dataset(row)?;
+    commit_rows(io, alloc, kept, kept.body.guids, dir)
+}
+
+/// Makes a bookmark of a snapshot.
+pub fn make_bookmark<D: Disk>(
+    io: &mut Io<'_, D>,
+    alloc: Global,
+    kept: &PoolState,
+    snapshot: &SnapName,
+    name: &BookName,
+) -> Result<PoolState, PoolFault>
+    requires space { io.old.space ≡ free_by kept.now.body }
+    requires ready { Ready (D.state io.old.disk.now) kept.now.body }
+    ensures runs { Runs (with_bookmark snapshot.now name.now) (cells_only 0) NoDamage kept.now (D.state io.old.disk.now) io.old.failed (D.state io.new.disk.now) io.new.space io.new.failed result }
+    ensures plans { Plans (with_bookmark snapshot.now name.now) 0 0 kept.now result }
+    ensures same { io.new.disk.ghost_name ≡ io.old.disk.ghost_name }
+{
+    let row = plan_bookmark(kept, snapshot, name)?;
+    let mut dir = kept.dir.copy(alloc)?;
+    dir.add_bookmark(row)?;
+    commit_rows(io, alloc, kept, kept.body.guids, dir)
+}
+
+// The directory without what goes.
+fn dir_without(alloc: Global, dir: &Dir, going: &Removal) -> Result<Dir, AllocError>
+    requires { AreUnused going.now dir.now }
+    ensures left { IfOk result (λ next. next ≡ without going.now dir.now) }
+    ensures shrinks { IfOk result (λ next. length (dir_bytes next) ≤ length (dir_bytes dir.now)) }
+{
+    let mut next = dir.copy(alloc)?;
+    next.leave_out(going);
+    Ok(next)
+}
+
+/// Destroys a dataset with its snapshots and bookmarks, a snapshot or a bookmark.
+pub fn destroy<D: Disk>(
+    io: &mut Io<'_, D>,
+    alloc: Global,
+    kept: &PoolState,
+    name: Name,
+) -> Result<PoolState, PoolFault>
+    requires space { io.old.space ≡ free_by kept.now.body }
+    requires ready { Ready (D.state io.old.disk.now) kept.now.body }
+    ensures runs { Runs (with_destroyed [] name) (cells_only 0) NoDamage kept.now (D.state io.old.disk.now) io.old.failed (D.state io.new.disk.now) io.new.space io.new.failed result }
+    ensures plans { Plans (with_destroyed [] name) 0 0 kept.now result }
+    ensures same { io.new.disk.ghost_name ≡ io.old.disk.ghost_name }
+{
+    let going = plan_destroy(kept, name)?;
+    let dir = dir_without(alloc, &kept.dir, &going)?;
+    commit_rows(io, alloc, kept, kept.body.guids, dir)
+}
+
+/// Makes the head of a snapshot's dataset as that, without what is newer where it destroys.
+pub fn roll_back<D: Disk>(
+    io: &mut Io<'_, D>,
+    alloc: Global,
+    kept: &PoolState,
+    destroys: bool,
+    name: &SnapName,
+) -> Result<PoolState, PoolFault>
+    requires space { io.old.space ≡ free_by kept.now.body }
+    requires ready { Ready (D.state io.old.disk.now) kept.now.body }
+    ensures runs { Runs (with_rollback [] destroys name.now) (cells_only 0) NoDamage kept.now (D.state io.old.disk.now) io.old.failed (D.state io.new.disk.now) io.new.space io.new.failed result }
+    ensures plans { Plans (with_rollback [] destroys name.now) 0 0 kept.now result }
+    ensures same { io.new.disk.ghost_name ≡ io.old.disk.ghost_name }
+{
+    let snapshot = plan_rollback(kept, destroys, name)?;
+    let dir = dir_rolled_back(alloc, &kept.dir, snapshot)?;
+    commit_rows(io, alloc, kept, kept.body.guids, dir)
+}

@@ -1,0 +1,72 @@
+// The commands that only answer.
+ghost use Rattle.std.specs.Prelude.{◌≡◌, ℕ, [], false};
+ghost use Rattle.zst_block.specs.Blocks.{FitsDisk};
+ghost use Rattle.zst_image.specs.Reads.{free_by};
+ghost use Rattle.zst_model.specs.pools.Step.{IsCommand, commits, stepped};
+ghost use Rattle.zst_pool.specs.Damage.{OfSet, TellsDamage, look_damage};
+ghost use Rattle.zst_pool.specs.Plans.{Plans, indices_end, numbers_end};
+ghost use Rattle.zst_pool.specs.Queries.{Tells};
+
+use crate::block_reads::{open_set, read_block};
+use crate::fault::PoolFault;
+use std::alloc::Global;
+use zst_block::Io;
+use zst_image::PoolState;
+use zst_listing::{list_objects, list_rows};
+use zst_model::{Command, Name, Reply};
+use zst_outside::Disk;
+
+/// Lists the objects of a dataset's head or of a snapshot.
+#[tactic(auto, unfolding(zst_model::specs::pools::Step::stepped))]
+fn list_named<D: Disk>(
+    io: &mut Io<'_, D>,
+    alloc: Global,
+    kept: &PoolState,
+    name: Name,
+) -> Result<Reply, PoolFault>
+    requires fits { FitsDisk (D.state io.old.disk.now).size io.old.space }
+    ensures tells { (now : ℕ) → Tells (λ pool. stepped [] now (Command.ListObjects name) pool) (OfSet kept.now.dir name (look_damage (D.state io.old.disk.now))) kept.now (D.state io.old.disk.now) io.old.space io.old.failed (D.state io.new.disk.now) io.new.space io.new.failed result }
+    ensures plans { (now : ℕ) → Plans (λ pool. stepped [] now (Command.ListObjects name) pool) 0 0 kept.now result }
+    ensures same { io.new.disk.ghost_name ≡ io.old.disk.ghost_name }
+{
+    let set = open_set(&kept.dir, name)?;
+    Ok(list_objects(io, alloc, &set)?)
+}
+
+/// Answers a command that commits nothing.
+#[tactic(auto, unfolding(zst_model::specs::pools::Step::stepped))]
+pub fn tell<D: Disk>(
+    io: &mut Io<'_, D>,
+    alloc: Global,
+    kept: &PoolState,
+    command: Command,
+) -> Result<Reply, PoolFault>
+    requires command { IsCommand command }
+    requires answers { commits command ≡ false }
+    requires fits { FitsDisk (D.state io.old.disk.now).size io.old.space }
+    ensures tells { (now : ℕ) → Tells (λ pool. stepped [] now command pool) (TellsDamage command kept.now.dir (D.state io.old.disk.now) (free_by kept.now.body)) kept.now (D.state io.old.disk.now) io.old.space io.old.failed (D.state io.new.disk.now) io.new.space io.new.failed result }
+    ensures plans { (now : ℕ) → Plans (λ pool. stepped [] now command pool) (numbers_end command) (indices_end command) kept.now result }
+    ensures same { io.new.disk.ghost_name ≡ io.old.disk.ghost_name }
+{
+    match command {
+        Command::Read {
+            name,
+            object,
+            index,
+        } => read_block(io, alloc, kept, name, object, index),
+        Command::List => Ok(list_rows(alloc, &kept.dir)?),
+        Command::ListObjects { name } => list_named(io, alloc, kept, name),
+        Command::Fs { .. }
+        | Command::Volume { .. }
+        | Command::Object { .. }
+        | Command::Write { .. }
+        | Command::Punch { .. }
+        | Command::Free { .. }
+        | Command::Snapshot { .. }
+        | Command::Clone { .. }
+        | Command::Bookmark { .. }
+        | Command::Rollback { .. }
+        | Command::Destroy { .. }
+        | Command::Abort { .. } => unreachable!(),
+    }
+}

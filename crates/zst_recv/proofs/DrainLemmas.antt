@@ -1,0 +1,162 @@
+-- What is drained of a text: the covered records that are there are taken, one after another.
+use Rattle.std.proofs.Common.{◌≡◌, ℕ, ◌≤◌, ◌^◌, ◌||◌, Bool, true, false, List, [], ◌∷◌, ◌++◌, length, sum_by, refl, sym, ap, ◌∙◌, subst, arith, append_assoc}
+use Rattle.std.specs.Prelude.{Option, Some, None, Result, Ok, Err}
+use Rattle.std.specs.List.{All}
+use Rattle.std.proofs.lemmas.List.{append-nil, drop_at}
+use Rattle.std.proofs.lemmas.List.Elements.{All-drop, All-head}
+use Rattle.std.proofs.lemmas.List.Sums.{sum_by-append}
+use Rattle.zst_outside.specs.Causes.{Rose-earlier}
+use Rattle.zst_outside.specs.Images.{DiskState, OnlyReads-none}
+use Rattle.zst_space.specs.FreeSectors.{FreeSectors}
+use Rattle.zst_block.specs.Blocks.{FitsDisk}
+use Rattle.zst_block.specs.IoCalls.{fails}
+use Rattle.zst_block.specs.declared.fault.BlockFault.{BlockFault}
+use Rattle.zst_block.proofs.BlocksLaws.{FillsFree-reads, FillsFree-then}
+use Rattle.zst_image.specs.Reads.{free_by}
+use Rattle.zst_image.specs.declared.pool_state.PoolState.{PoolState}
+use Rattle.zst_model.specs.declared.refusals.refusal.Refusal.{Refusal}
+use Rattle.zst_model.specs.pools.Pool.{Pool}
+use Rattle.zst_plan.specs.declared.receive.RecvAsk.{RecvAsk}
+use Rattle.zst_pool.specs.Calls.{IsUnderWay}
+use Rattle.zst_reader.specs.StandsFor.{StandsFor, HandsOut, handed_of}
+use Rattle.zst_reader.specs.declared.reader.Reader.{Reader}
+use Rattle.zst_record.specs.Decoding.{features_in}
+use Rattle.zst_record.specs.Heads.{Covered, size_of}
+use Rattle.zst_record.specs.Laws.{AreBytes}
+use Rattle.zst_stream.specs.PassedRecords.{HasPassed}
+use Rattle.zst_stream.specs.Reading.{Outcome, reading}
+use Rattle.zst_stream.proofs.PassedRecords.{passed}
+use Rattle.zst_recv.specs.Faults.{Fills}
+use Rattle.zst_recv.specs.ReceiveSteps.{Work, Batch, batch, batch_by, taken}
+use Rattle.zst_recv.specs.TakenRecords.{AreTaken, Drained, Drains, IsRead, Takes}
+use Rattle.zst_recv.specs.declared.fault.RecvFault.{RecvFault}
+use Rattle.zst_recv.specs.declared.fault.RecvFault.TheVariants as faults
+
+-- ---- what is written
+
+-- nothing is
+pub Fills-none : (disk : DiskState) (space : FreeSectors) (failed : Bool) → FitsDisk disk.size space → Fills disk space failed disk space failed None
+Fills-none disk space failed fits = record {
+  fills = FillsFree-reads disk disk space (OnlyReads-none disk);
+  fits = fits;
+  sectors = refl;
+  full = λ need largest is. absurd (cc);
+  failed = sym (or_false failed);
+  cause = record { later = omega arith; fault = λ is. absurd (cc) };
+}
+  where
+    or_false : (b : Bool) → (b || false) ≡ b
+    or_false true = refl
+    or_false false = refl
+
+-- and then more
+pub Fills-then : (old mid new : DiskState) (space less least : FreeSectors) (failed failed' failed'' : Bool) (stop : Option BlockFault)
+    → Fills old space failed mid less failed' None → Fills mid less failed' new least failed'' stop → Fills old space failed new least failed'' stop
+Fills-then old mid new space less least failed failed' failed'' stop first second = record {
+  fills = FillsFree-then old mid new space less least first.fills second.fills;
+  fits = second.fits;
+  sectors = second.sectors ∙ first.sectors;
+  full = second.full;
+  failed = second.failed ∙ ap (λ (b : Bool). b || fails stop) (first.failed ∙ or_false failed);
+  cause = record {
+    later = let one = first.cause.later in let two = second.cause.later in omega (arith, one, two);
+    fault = λ is. Rose-earlier old.faults mid.faults new.faults first.cause.later (second.cause.fault is);
+  };
+}
+  where
+    or_false : (b : Bool) → (b || false) ≡ b
+    or_false true = refl
+    or_false false = refl
+
+-- so the event goes on
+pub goes_under : {tight : Bool} (start old now : DiskState) (space less : FreeSectors) (kept : PoolState) (running : Pool) (failed failed' : Bool) (stop : Option BlockFault)
+    → IsUnderWay tight start old space kept running → Fills old space failed now less failed' stop → IsUnderWay tight start now less kept running
+goes_under start old now space less kept running failed failed' stop way fills =
+    record { rested = way.rested; fills = FillsFree-then start old now (free_by kept.body) space less way.fills fills.fills }
+
+-- ---- records
+
+-- what was handed out passed its checks
+pub is_read : (r : Reader) (text : List ℕ) (handed : List Covered) (c : Covered) → AreBytes text → StandsFor r text (handed ++ c ∷ []) → IsRead c
+is_read r text handed c bytes stands =
+    let f = stands.front [] in
+    let P : Covered → Type 0 = HasPassed (features_in text) in
+    let is : (reading text).covered ≡ handed ++ (c ∷ f.0) = ap (λ (t : List ℕ). (reading t).covered) (sym (append-nil text)) ∙ f.1 ∙ append_assoc handed (c ∷ []) f.0 in
+    let all : All P (handed ++ (c ∷ f.0)) = subst (All P) is (passed text bytes) in
+    let from : All P (c ∷ f.0) = subst (All P) (drop_at handed (c ∷ f.0) (length handed) refl) (All-drop P (length handed) (handed ++ (c ∷ f.0)) all) in
+    let one : HasPassed (features_in text) c = All-head P c f.0 from in
+    record { features = features_in text; fits = one.fits; payload = one.len; stated = one.stated }
+
+few : (cs : List Covered) → length cs ≤ sum_by (λ c. size_of c.head) cs
+few [] = omega arith
+few (c ∷ cs) = let first = sum_by-append (λ (c : Covered). size_of c.head) (c ∷ []) cs in omega (arith, few cs)
+
+-- a stream has no more records than bytes
+pub handed_within : (r : Reader) (text : List ℕ) (handed : List Covered) → StandsFor r text handed → handed_of r ≤ 2 ^ 62
+handed_within r text handed s = let a = s.number in let b = s.sizes in let d = s.bounded in omega (arith, few handed)
+
+module _ (ask : RecvAsk) (pool : Pool) (ys : List Covered) where
+  then_by : (xs : List Covered) (work after : Work) → ((w : Work) → AreTaken ask pool xs w after → batch ask pool (xs ++ ys) w ≡ batch ask pool ys after) → (r : Result Work Refusal)
+      → batch_by r work (batch ask pool xs) ≡ record { work = after; fault = None } → batch_by r work (batch ask pool (xs ++ ys)) ≡ batch ask pool ys after
+  then_by xs work after later (Err refusal) is = let e : Some refusal ≡ None = ap (λ (b : Batch). b.fault) is in absurd (cc e)
+  then_by xs work after later (Ok next) is = later next is
+
+  -- where all of a list were taken the others are taken from there
+  pub batch_then : (xs : List Covered) (work after : Work) → AreTaken ask pool xs work after → batch ask pool (xs ++ ys) work ≡ batch ask pool ys after
+  unfolding batch
+  batch_then [] work after is = ap (λ (b : Batch). batch ask pool ys b.work) is
+  batch_then (c ∷ xs) work after is = then_by xs work after (λ w. batch_then xs w after) (taken ask pool c work) is
+
+-- ---- draining
+
+-- These records were handed out behind the others, and taken.
+pub record Draining (ask : RecvAsk) (pool : Pool) (reader : Reader) (text : List ℕ) (handed : List Covered) (Is : Work → Type 0) (work : Work) : Type 0 where
+  pub records : List Covered
+  pub after : Work
+  pub stands : StandsFor reader text (handed ++ records)
+  pub were_taken : AreTaken ask pool records work after
+  pub is : Is after
+
+module _ (ask : RecvAsk) (pool : Pool) (text : List ℕ) (handed : List Covered) (work : Work) where
+  pub drain_begins : (reader : Reader) (Is : Work → Type 0) → StandsFor reader text handed → Is work → Draining ask pool reader text handed Is work
+  unfolding batch
+  drain_begins reader Is stands is = record {
+    records = [];
+    after = work;
+    stands = subst (StandsFor reader text) (sym (append-nil handed)) stands;
+    were_taken = refl;
+    is = is;
+  }
+
+  module _ (old new : Reader) (Was Is : Work → Type 0) (d : Draining ask pool old text handed Was work) where
+    taken_more : (c : Covered) (after : Work) → taken ask pool c d.after ≡ Ok after → AreTaken ask pool (d.records ++ c ∷ []) work after
+    unfolding batch
+    taken_more c after is = batch_then ask pool (c ∷ []) d.records work d.after d.were_taken ∙ ap (λ (r : Result Work Refusal). batch_by r d.after (batch ask pool [])) is
+
+    pub drain_goes_on : (c : Covered) → StandsFor new text ((handed ++ d.records) ++ c ∷ []) → Takes Is d.after (taken ask pool c d.after) (Ok tt)
+        → Draining ask pool new text handed Is work
+    drain_goes_on c stands takes = record {
+      records = d.records ++ c ∷ [];
+      after = takes.0;
+      stands = subst (StandsFor new text) (append_assoc handed d.records (c ∷ [])) stands;
+      were_taken = taken_more c takes.0 takes.1;
+      is = takes.2;
+    }
+
+    pub drain_ends : (outcome : Outcome) → HandsOut new text (handed ++ d.records) outcome → Is d.after
+        → (after : Work) × Drained ask pool new text handed work after outcome × Is after
+    drain_ends outcome hands is = (d.after, record { records = d.records; reads = hands; were_taken = d.were_taken }, is)
+
+    pub drain_refused : (c : Covered) (fault : RecvFault) → StandsFor new text ((handed ++ d.records) ++ c ∷ []) → Takes Is d.after (taken ask pool c d.after) (Err fault)
+        → Drains ask pool new text handed Is work (Err fault)
+    drain_refused c (faults.Stream fault) stands takes = absurd takes.0
+    drain_refused c (faults.Pool fault) stands takes = (
+      d.after,
+      record { records = d.records; next = c; reads = subst (StandsFor new text) (append_assoc handed d.records (c ∷ [])) stands; were_taken = d.were_taken; refused = takes.0 },
+      takes.1,
+    )
+    drain_refused c (faults.CannotApply index fault) stands takes = (
+      d.after,
+      record { records = d.records; next = c; reads = subst (StandsFor new text) (append_assoc handed d.records (c ∷ [])) stands; were_taken = d.were_taken; refused = takes.0 },
+      takes.1,
+    )

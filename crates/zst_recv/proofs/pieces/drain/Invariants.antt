@@ -1,0 +1,44 @@
+use Rattle.std.proofs.Common.{◌≡◌, ◌+◌, ◌-◌, Bool, ◌^◌, List, ℕ, false, true, ◌++◌, []}
+use Rattle.std.specs.Prelude.{None}
+use Rattle.zst_block.specs.Blocks.{Has}
+use Rattle.zst_image.specs.Reads.{bound_of}
+use Rattle.zst_model.specs.declared.refusals.plan_fault.PlanFault.{PlanFault}
+use Rattle.zst_model.specs.pools.Pool.{Pool}
+use Rattle.zst_pool.specs.Calls.{IsUnderWay}
+use Rattle.zst_reader.specs.StandsFor.{StandsFor, handed_of, pushed_of}
+use Rattle.zst_record.specs.Heads.{Covered}
+use Rattle.zst_stream.specs.Reading.{complete, reading}
+use Rattle.zst_recv.specs.Costs.{Spends}
+use Rattle.zst_recv.specs.Faults.{Fills}
+use Rattle.zst_recv.specs.Plans.{RefusesOne}
+use Rattle.zst_recv.specs.ReceiveSteps.{Work}
+use Rattle.zst_recv.specs.Stages.{IsWork, StageFits, StandsBehind, TellsBefore, is_live, waits_at}
+use Rattle.zst_recv.proofs.DrainLemmas.{Draining}
+use Rattle.zst_recv.proofs.pieces.drain.Given as goal
+
+-- what was handed out so far was taken
+abbrev pub invariant-records : goal.invariant-records
+invariant-records g l =
+    let disk = g.D.Disk in
+    record {
+      drained : (tight : Bool) (start : g.row.D.Denot) (running : Pool) (work : Work) (text : List ℕ) (handed : List Covered) → (disk.state l.io.disk.now).honest
+          → IsUnderWay tight (disk.state start) (disk.state l.fn.io.disk.now) l.fn.io.space l.kept running → TellsBefore l.ask work.stage l.kept.dir running
+          → StandsFor l.fn.reader text handed → IsWork (bound_of tight (running.number + 1)) (Has (disk.state l.fn.io.disk.now).seen l.fn.io.space) l.fn.batch work
+          → Draining l.ask running l.reader text handed (IsWork (bound_of tight (running.number + 1)) (Has (disk.state l.io.disk.now).seen l.io.space) l.batch) work;
+      stage : StageFits l.kept.dir l.ask.target l.batch.stage;
+      idle : l.batch.taken ≡ false → l.batch ≡ l.fn.batch;
+      waits : waits_at l.batch.stage ≡ true → l.batch ≡ l.fn.batch;
+      reads : (text : List ℕ) (handed : List Covered) → StandsFor l.fn.reader text handed → (later : List Covered) × StandsFor l.reader text later;
+      over : (text : List ℕ) (handed : List Covered) → StandsFor l.fn.reader text handed → is_live l.fn.batch.stage ≡ true → is_live l.batch.stage ≡ false → (reading text).outcome ≡ complete;
+      behind : (text : List ℕ) (handed : List Covered) → StandsFor l.fn.reader text handed → StandsBehind handed l.fn.batch.stage → (later : List Covered) × StandsFor l.reader text later × StandsBehind later l.batch.stage;
+      planned : (text : List ℕ) (handed : List Covered) (fault : PlanFault) → StandsFor l.fn.reader text handed → waits_at l.fn.batch.stage ≡ true → RefusesOne l.kept.dir l.ask text fault → waits_at l.batch.stage ≡ true;
+      still : (text : List ℕ) (handed : List Covered) → StandsFor l.fn.reader text handed → waits_at l.fn.batch.stage ≡ true → (reading text).covered ≡ [] → waits_at l.batch.stage ≡ true;
+      pushed : pushed_of l.reader ≡ pushed_of l.fn.reader;
+      fills : Fills (disk.state l.fn.io.disk.now) l.fn.io.space l.fn.io.failed (disk.state l.io.disk.now) l.io.space l.io.failed None;
+      spent : (text : List ℕ) (handed : List Covered) → StandsFor l.fn.reader text handed → (records : List Covered) × StandsFor l.reader text (handed ++ records) × Spends records l.fn.io.space l.io.space None;
+      same : l.io.disk.ghost_name ≡ l.fn.io.disk.ghost_name;
+    }
+
+-- a stream has at most so many records
+abbrev pub decreases-records : goal.decreases-records
+decreases-records g l = 2 ^ 62 - handed_of l.reader

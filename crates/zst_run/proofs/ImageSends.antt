@@ -1,0 +1,189 @@
+-- What a send from an image leaves, from what opening the pool and giving its text say.
+use Rattle.std.proofs.Common.{◌≡◌, ◌≢◌, inl, inr, ⊎_elim, ℕ, ◌≤◌, Bool, true, false, Result, List, [], Ok, Err, IfErr, refl, sym, ap, ◌∙◌, subst, arith, None, Option}
+use Rattle.std.proofs.lemmas.Bool.{false≢true}
+use Rattle.zst_outside.specs.Causes.{Rose, Rose-earlier}
+use Rattle.zst_outside.specs.Images.{DiskState, OnlyReads, OnlyReads-then}
+use Rattle.zst_outside.specs.States.{SinkState}
+use Rattle.zst_outside.specs.Printing.{Wrote-start}
+use Rattle.zst_block.specs.Blocks.{Has}
+use Rattle.zst_uber.specs.declared.uber.Uber.{Uber}
+use Rattle.zst_model.specs.declared.refusals.plan_fault.PlanFault.{PlanFault}
+use Rattle.zst_model.specs.declared.refusals.refusal.Refusal.{Refusal}
+use Rattle.zst_model.specs.declared.refusals.refusal.Refusal.TheVariants as refusals
+use Rattle.zst_model.specs.declared.sends.header.Point.{Point}
+use Rattle.zst_model.specs.pools.Pool.{Pool}
+use Rattle.zst_model.specs.sends.Headers.{Sent}
+use Rattle.zst_dir.specs.RowNames.{AreNamed}
+use Rattle.zst_dir.specs.Rows.{Rows}
+use Rattle.zst_image.specs.Faults.{open_refusal}
+use Rattle.zst_image.specs.Faults as image_faults
+use Rattle.zst_image.specs.OpenAnswers.{GivesPool, OpenAnswers, ReadFault}
+use Rattle.zst_image.specs.Reads.{ReadsAs, RunsBy, free_by, kept_rows}
+use Rattle.zst_image.specs.declared.pool_state.PoolState.{PoolState}
+use Rattle.zst_image.specs.declared.open_fault.OpenFault.{OpenFault}
+use Rattle.zst_image.specs.declared.open_fault.OpenFault.TheVariants as opens
+use Rattle.zst_tree.specs.Damage.{IsSeen}
+use Rattle.zst_pool.specs.Faults.{pool_refusal}
+use Rattle.zst_pool.specs.declared.fault.PoolFault.{PoolFault}
+use Rattle.zst_pool.specs.declared.fault.PoolFault.TheVariants as faults
+use Rattle.zst_send.specs.Damage.{IsDamagedSend}
+use Rattle.zst_send.specs.Sends.{begun_text}
+use Rattle.zst_run.specs.Commands.{Opens}
+use Rattle.zst_run.specs.SendPieces.{IfUnplanned}
+use Rattle.zst_run.specs.declared.send.SendRequest.{SendRequest}
+use Rattle.zst_run.specs.Sends.{IsSendRefusal, OfAsked, OfGiving, OfSending, RefusalEnds, SendOpened, SendRan, Sends, SendsBy, TellsOf, send_damage, start_of, to_send}
+use Rattle.zst_run.proofs.CommandLemmas.{of_plan, open_alive, open_disk, told_before}
+use Rattle.zst_run.proofs.SendLemmas.{sent_earlier}
+
+-- ---- where the pool can't be opened
+
+-- where the image reads as a pool, the disk failed or no memory was left, and nothing is written
+unopened_ends : (start : Option Point) (planned : Result Sent PlanFault) (before after : ℕ) (out : SinkState) (fault : OpenFault) → ReadFault fault → (fault ≡ opens.DiskFault → Rose before after)
+    → SendsBy start planned before after out out (Err (open_refusal fault))
+unopened_ends start (Ok sent) before after out opens.DiskFault is rose = record { front = (begun_text sent start, Wrote-start out (begun_text sent start)); ends = (rose refl, inl refl) }
+unopened_ends start (Ok sent) before after out opens.OutOfMemory is rose = record { front = (begun_text sent start, Wrote-start out (begun_text sent start)); ends = refl }
+unopened_ends start (Err refused) before after out opens.DiskFault is rose = record { front = ([], Wrote-start out []); ends = (rose refl, refl) }
+unopened_ends start (Err refused) before after out opens.OutOfMemory is rose = record { front = ([], Wrote-start out []); ends = (tt, refl) }
+unopened_ends start planned before after out (opens.Damaged sector stated found) is rose = absurd is
+unopened_ends start planned before after out opens.NoPool is rose = absurd is
+unopened_ends start planned before after out (opens.BadVersion version) is rose = absurd is
+
+unopened_says : (asked : SendRequest) (here : DiskState) (out : SinkState) (fault : OpenFault) → OpenAnswers here (Err fault) → SendOpened asked here out out (Err (open_refusal fault))
+unopened_says asked here out (opens.Damaged sector stated found) is = inl (is, refl)
+unopened_says asked here out opens.NoPool is = (is, refl)
+unopened_says asked here out (opens.BadVersion version) is = (record { body = is.0; there = is.1; version = is.2; other = is.3 }, refl)
+unopened_says asked here out opens.DiskFault is = inl refl
+unopened_says asked here out opens.OutOfMemory is = inl refl
+
+-- a fault of opening is never the output's, nor a full disk's
+open_no_sink : (fault : OpenFault) → open_refusal fault ≢ refusals.SinkFault
+open_no_sink (opens.Damaged sector stated found) is = absurd (cc is)
+open_no_sink opens.NoPool is = absurd (cc is)
+open_no_sink (opens.BadVersion version) is = absurd (cc is)
+open_no_sink opens.DiskFault is = absurd (cc is)
+open_no_sink opens.OutOfMemory is = absurd (cc is)
+
+open_never_full : (fault : OpenFault) (need largest : ℕ) → open_refusal fault ≢ refusals.Full need largest
+open_never_full (opens.Damaged sector stated found) need largest is = absurd (cc is)
+open_never_full opens.NoPool need largest is = absurd (cc is)
+open_never_full (opens.BadVersion version) need largest is = absurd (cc is)
+open_never_full opens.DiskFault need largest is = absurd (cc is)
+open_never_full opens.OutOfMemory need largest is = absurd (cc is)
+
+pub unopened : (asked : SendRequest) (here here' : DiskState) (out : SinkState) (fault : OpenFault)
+    → ((tight : Bool) (uber : Uber) (rows : Rows) (pool : Pool) → here'.honest → ReadsAs tight uber rows pool here.seen → GivesPool uber rows (Err fault))
+    → (here'.honest → OpenAnswers here (Err fault)) → OnlyReads here here' → image_faults.HasDiskCause {T = PoolState} opens.DiskFault here.faults here'.faults (Err fault)
+    → Sends asked here here' out out (Err (open_refusal fault))
+unopened asked here here' out fault there answer reads cause = record {
+  reads = reads;
+  sends = λ pool told is.
+      unopened_ends (start_of asked) (to_send asked pool) here.faults here'.faults out fault (there false is.0 is.1 pool told is.2) (λ e. cause.fault (ap (λ (f : OpenFault). Err f) e));
+  opened = λ told. unopened_says asked here out fault (answer told);
+  refused = record {
+    pool = record { one = inl (fault, refl); alive = open_alive fault; cause = λ is. cause.fault (ap (λ (f : OpenFault). Err f) (open_disk fault is)) };
+    never_full = open_never_full fault;
+    cause = λ is. absurd (open_no_sink fault is);
+  };
+  later = cause.later;
+}
+
+-- ---- where it is opened
+
+-- a refusal that only opening gives
+abbrev pub is_of_opening : Refusal → Bool
+is_of_opening refusals.NoPool = true
+is_of_opening (refusals.BadVersion number) = true
+is_of_opening refusal = false
+
+pub pool_is_open : (fault : PoolFault) → is_of_opening (pool_refusal fault) ≡ false
+pool_is_open (faults.Plan fault) = of_plan (λ r. is_of_opening r ≡ false) (λ f. refl) (λ which number. refl) fault
+pool_is_open (faults.CannotApply fault) = refl
+pool_is_open (faults.Redacted object block) = refl
+pool_is_open (faults.Full need largest) = refl
+pool_is_open (faults.Damaged sector stated found) = refl
+pool_is_open faults.DiskFault = refl
+pool_is_open faults.Failed = refl
+pool_is_open faults.OutOfMemory = refl
+
+is_open : (refusal : Refusal) → OfGiving refusal → is_of_opening refusal ≡ false
+is_open refusal is =
+    ⊎_elim (λ pool. ap is_of_opening pool.1 ∙ pool_is_open pool.0) (⊎_elim (λ sink. ap is_of_opening sink) (λ limit. ap is_of_opening limit)) is
+
+-- what an answer says of each plan of the rows in memory, and of damage
+pub record SaysOfRows (asked : SendRequest) (dir : Rows) (disk disk' : DiskState) (out out' : SinkState) (result : Result (Unit {0}) Refusal) : Type 0 where
+  pub planned : (pool : Pool) → AreNamed dir pool → IfUnplanned (to_send asked pool) out out' result
+  pub because : (pool : Pool) (fault : PlanFault) → AreNamed dir pool → result ≡ Err (refusals.Plan fault) → to_send asked pool ≡ Err fault
+  pub damaged : disk'.honest → TellsOf (OfAsked asked dir (send_damage disk)) result
+
+-- so it is of the body and the rows that a pool was opened by
+ran : (asked : SendRequest) (here mid here' : DiskState) (out out' : SinkState) (kept : PoolState) (rows : Rows) (result : Result (Unit {0}) Refusal) → kept.dir ≡ kept_rows rows → Opens here kept.body rows
+    → OnlyReads here mid → here'.honest → SaysOfRows asked kept.dir mid here' out out' result → SendRan asked here out out' result kept.body rows
+ran asked here mid here' out out' kept rows result same opens reads honest says = record {
+  opens = opens;
+  planned = λ pool fault named refused. rw refused at (says.planned pool (rw same named.are_named));
+  because = λ pool fault named is. says.because pool fault (rw same named.are_named) is;
+  damaged = λ sector stated found is.
+      told_before here mid (λ seen size. OfAsked asked (kept_rows rows) (IsDamagedSend (IsSeen seen) size) sector stated found) reads
+      (subst (λ (r : Rows). OfAsked asked r (send_damage mid) sector stated found) same (says.damaged honest sector stated found is));
+}
+
+opened_says : (asked : SendRequest) (here : DiskState) (out out' : SinkState) (result : Result (Unit {0}) Refusal)
+    → ((uber : Uber) × (rows : Rows) × SendRan asked here out out' result uber rows) → IfErr result OfGiving → SendOpened asked here out out' result
+opened_says asked here out out' (Ok done) has is = has
+opened_says asked here out out' (Err refusals.NoPool) has is = absurd (false≢true (sym (is_open refusals.NoPool is)))
+opened_says asked here out out' (Err (refusals.BadVersion number)) has is = absurd (false≢true (sym (is_open (refusals.BadVersion number) is)))
+opened_says asked here out out' (Err (refusals.Damaged sector stated found)) has is = inr has
+opened_says asked here out out' (Err refusals.DiskFault) has is = inr has
+opened_says asked here out out' (Err refusals.OutOfMemory) has is = inr has
+opened_says asked here out out' (Err other) has is = has
+
+-- what it refused is one of its refusals
+of_giving : (mid here' : DiskState) (out out' : SinkState) (result : Result (Unit {0}) Refusal) → IfErr result (IsSendRefusal OfGiving mid here' out out') → IfErr result OfGiving
+of_giving mid here' out out' (Ok done) is = tt
+of_giving mid here' out out' (Err refusal) is = is.pool.one
+
+whole_refusal : (here mid here' : DiskState) (out out' : SinkState) (result : Result (Unit {0}) Refusal) → here.faults ≤ mid.faults → IfErr result (IsSendRefusal OfGiving mid here' out out')
+    → IfErr result (IsSendRefusal OfSending here here' out out')
+whole_refusal here mid here' out out' (Ok done) later is = tt
+whole_refusal here mid here' out out' (Err refusal) later is = record {
+  pool = record { one = inr is.pool.one; alive = is.pool.alive; cause = λ e. Rose-earlier here.faults mid.faults here'.faults later (is.pool.cause e) };
+  never_full = is.never_full;
+  cause = is.cause;
+}
+
+plan_earlier : (fault : PlanFault) (before mid after : ℕ) (result : Result (Unit {0}) Refusal) → before ≤ mid → RefusalEnds fault mid after result → RefusalEnds fault before after result
+plan_earlier fault before mid after (Ok done) later is = absurd is
+plan_earlier fault before mid after (Err refusals.DiskFault) later is = Rose-earlier before mid after later is
+plan_earlier fault before mid after (Err refusals.OutOfMemory) later is = tt
+plan_earlier fault before mid after (Err refusal) later is = is
+
+sends_earlier : (start : Option Point) (planned : Result Sent PlanFault) (before mid after : ℕ) (out out' : SinkState) (result : Result (Unit {0}) Refusal) → before ≤ mid → SendsBy start planned mid after out out' result
+    → SendsBy start planned before after out out' result
+sends_earlier start (Ok sent) before mid after out out' result later s = sent_earlier start sent before mid after out out' result later s
+sends_earlier start (Err fault) before mid after out out' result later s = record { front = s.front; ends = (plan_earlier fault before mid after result later s.ends.0, s.ends.1) }
+
+-- the rows in memory stand for the pool that the image reads as
+runs : (here mid : DiskState) (kept : PoolState) (uber : Uber) (rows : Rows) (pool : Pool) → OnlyReads here mid → GivesPool uber rows (Ok kept) → ReadsAs false uber rows pool here.seen
+    → RunsBy None (Has mid.seen (free_by kept.body)) kept.dir pool
+runs here mid kept uber rows pool reads same is =
+    subst (λ (seen : List ℕ). RunsBy None (Has seen (free_by kept.body)) kept.dir pool) (sym reads.seen)
+    (subst (λ (u : Uber). RunsBy None (Has here.seen (free_by u)) kept.dir pool) (sym same.0)
+    (subst (λ (r : Rows). RunsBy None (Has here.seen (free_by uber)) r pool) (sym same.1) is.described.rows_are))
+
+pub opened : (asked : SendRequest) (here mid here' : DiskState) (out out' : SinkState) (kept : PoolState) (result : Result (Unit {0}) Refusal)
+    → ((tight : Bool) (uber : Uber) (rows : Rows) (pool : Pool) → mid.honest → ReadsAs tight uber rows pool here.seen → GivesPool uber rows (Ok kept))
+    → (mid.honest → OpenAnswers here (Ok kept)) → OnlyReads here mid → here.faults ≤ mid.faults → OnlyReads mid here' → mid.faults ≤ here'.faults
+    → ((pool : Pool) → here'.honest → RunsBy None (Has mid.seen (free_by kept.body)) kept.dir pool → SendsBy (start_of asked) (to_send asked pool) mid.faults here'.faults out out' result)
+    → IfErr result (IsSendRefusal OfGiving mid here' out out') → SaysOfRows asked kept.dir mid here' out out' result
+    → Sends asked here here' out out' result
+opened asked here mid here' out out' kept result there answer reads later gave still gives refused says = record {
+  reads = OnlyReads-then here mid here' reads gave;
+  sends = λ pool told is.
+      sends_earlier (start_of asked) (to_send asked pool) here.faults mid.faults here'.faults out out' result later
+      (gives pool told (runs here mid kept is.0 is.1 pool reads (there false is.0 is.1 pool (gave.honest told) is.2) is.2));
+  opened = λ told. let was = answer (gave.honest told) in
+      opened_says asked here out out' result (kept.body, was.1, ran asked here mid here' out out' kept was.1 result was.4 (was.0, was.2, was.3) reads told says)
+      (of_giving mid here' out out' result refused);
+  refused = whole_refusal here mid here' out out' result later refused;
+  later = omega (arith, later, still);
+}

@@ -1,0 +1,99 @@
+-- What the line `token` tells, from what opening the pool and asking it say.
+use Rattle.std.proofs.Common.{◌≡◌, inl, inr, ℕ, ◌≤◌, Bool, false, List, Option, Result, Ok, Err, IfErr, refl, sym, ap, subst, None}
+use Rattle.zst_outside.specs.Images.{DiskState, OnlyReads}
+use Rattle.zst_block.specs.Blocks.{Has}
+use Rattle.zst_uber.specs.declared.uber.Uber.{Uber}
+use Rattle.zst_model.specs.declared.refusals.plan_fault.PlanFault.{PlanFault}
+use Rattle.zst_model.specs.declared.refusals.plan_fault.PlanFault.TheVariants.{NoPartial}
+use Rattle.zst_model.specs.pools.Pool.{Pool}
+use Rattle.zst_model.specs.refusals.Refusal.{refusal_of}
+use Rattle.zst_dir.specs.RowNames.{AreNamed}
+use Rattle.zst_dir.specs.Rows.{Rows}
+use Rattle.zst_space.specs.FreeSectors.{FreeSectors}
+use Rattle.zst_image.specs.Faults.{open_refusal}
+use Rattle.zst_image.specs.Faults as image_faults
+use Rattle.zst_image.specs.OpenAnswers.{GivesPool, OpenAnswers, ReadFault}
+use Rattle.zst_image.specs.Reads.{ReadsAs, RunsBy, free_by}
+use Rattle.zst_image.specs.declared.pool_state.PoolState.{PoolState}
+use Rattle.zst_image.specs.declared.open_fault.OpenFault.{OpenFault}
+use Rattle.zst_image.specs.declared.open_fault.OpenFault.TheVariants as opens
+use Rattle.zst_recv.specs.Tokens.{token_told}
+use Rattle.zst_token.specs.declared.token.Token.{Token}
+use Rattle.zst_run.specs.Commands.{IsPoolRefusal}
+use Rattle.zst_run.specs.Tokens.{AnswersBy, OfToken, TellsToken, TokenOpened, TokenRan, as_answer}
+use Rattle.zst_run.proofs.CommandLemmas.{open_alive, open_disk}
+
+-- ---- where the pool can't be opened
+
+-- where the image reads as a pool, the disk failed or no memory was left
+unopened_answers : (told : Result Token PlanFault) (fault : OpenFault) → ReadFault fault → AnswersBy told (Err (open_refusal fault))
+unopened_answers told opens.DiskFault is = tt
+unopened_answers told opens.OutOfMemory is = tt
+unopened_answers told (opens.Damaged sector stated found) is = absurd is
+unopened_answers told opens.NoPool is = absurd is
+unopened_answers told (opens.BadVersion version) is = absurd is
+
+unopened_says : (dataset : List ℕ) (here : DiskState) (fault : OpenFault) → OpenAnswers here (Err fault) → TokenOpened dataset here (Err (open_refusal fault))
+unopened_says dataset here (opens.Damaged sector stated found) is = is
+unopened_says dataset here opens.NoPool is = is
+unopened_says dataset here (opens.BadVersion version) is = record { body = is.0; there = is.1; version = is.2; other = is.3 }
+unopened_says dataset here opens.DiskFault is = tt
+unopened_says dataset here opens.OutOfMemory is = tt
+
+pub unopened : (dataset : List ℕ) (here here' : DiskState) (fault : OpenFault)
+    → ((tight : Bool) (uber : Uber) (rows : Rows) (pool : Pool) → here'.honest → ReadsAs tight uber rows pool here.seen → GivesPool uber rows (Err fault))
+    → (here'.honest → OpenAnswers here (Err fault)) → OnlyReads here here' → image_faults.HasDiskCause {T = PoolState} opens.DiskFault here.faults here'.faults (Err fault)
+    → TellsToken dataset here here' (Err (open_refusal fault))
+unopened dataset here here' fault there answer reads cause = record {
+  reads = reads;
+  answers = λ pool told is. unopened_answers (token_told dataset pool) fault (there false is.0 is.1 pool told is.2);
+  opened = λ told. unopened_says dataset here fault (answer told);
+  refused = record { one = inl (fault, refl); alive = open_alive fault; cause = λ is. cause.fault (ap (λ (f : OpenFault). Err f) (open_disk fault is)) };
+  later = cause.later;
+}
+
+-- ---- where it is opened
+
+-- a pool that tells no token tells E14
+abbrev pub IsMissing : List ℕ → Result Token PlanFault → Type 0
+IsMissing dataset told = IfErr told (λ fault. fault ≡ NoPartial dataset)
+
+asked_answers : (told asked : Result Token PlanFault) → asked ≡ told → (dataset : List ℕ) → IsMissing dataset asked → AnswersBy told (as_answer asked)
+asked_answers told (Ok token) same dataset missing = ap as_answer same
+asked_answers told (Err fault) same dataset missing =
+    subst (λ (f : PlanFault). AnswersBy told (Err (refusal_of f))) (sym missing) (subst (λ (f : PlanFault). Err (refusal_of f) ≡ as_answer told) missing (ap as_answer same))
+
+asked_says : (dataset : List ℕ) (here : DiskState) (asked : Result Token PlanFault) → IsMissing dataset asked → ((uber : Uber) × (rows : Rows) × TokenRan dataset here (as_answer asked) uber rows)
+    → TokenOpened dataset here (as_answer asked)
+asked_says dataset here (Ok token) missing has = has
+asked_says dataset here (Err fault) missing has =
+    subst (λ (f : PlanFault). TokenOpened dataset here (Err (refusal_of f))) (sym missing)
+    (subst (λ (f : PlanFault). (uber : Uber) × (rows : Rows) × TokenRan dataset here (Err (refusal_of f)) uber rows) missing has)
+
+asked_refused : (dataset : List ℕ) (here here' : DiskState) (asked : Result Token PlanFault) → IsMissing dataset asked → IfErr (as_answer asked) (IsPoolRefusal (OfToken dataset) here here')
+asked_refused dataset here here' (Ok token) missing = tt
+asked_refused dataset here here' (Err fault) missing =
+    subst (λ (f : PlanFault). IsPoolRefusal (OfToken dataset) here here' (refusal_of f)) (sym missing)
+    (record { one = inr refl; alive = λ is. absurd (cc is); cause = λ is. absurd (cc is) })
+
+pub opened : (dataset : List ℕ) (here here' : DiskState) (kept : PoolState) (asked : Result Token PlanFault)
+    → ((tight : Bool) (uber : Uber) (rows : Rows) (pool : Pool) → here'.honest → ReadsAs tight uber rows pool here.seen → GivesPool uber rows (Ok kept))
+    → (here'.honest → OpenAnswers here (Ok kept)) → OnlyReads here here' → here.faults ≤ here'.faults
+    → ((pool : Pool) → AreNamed kept.dir pool → asked ≡ token_told dataset pool)
+    → ((bound : Option ℕ) (image : List ℕ) (space : FreeSectors) (pool : Pool) → RunsBy bound (Has image space) kept.dir pool → asked ≡ token_told dataset pool) → IsMissing dataset asked
+    → TellsToken dataset here here' (as_answer asked)
+opened dataset here here' kept asked there answer reads later named runs missing = record {
+  reads = reads;
+  answers = λ pool told is.
+      let gives = there false is.0 is.1 pool told is.2 in
+      asked_answers (token_told dataset pool) asked
+      (runs None here.seen (free_by is.0) pool (subst (λ (r : Rows). RunsBy None (Has here.seen (free_by is.0)) r pool) (sym gives.1) is.2.described.rows_are)) dataset missing;
+  opened = λ told. let was = answer told in
+      asked_says dataset here asked missing (
+        kept.body,
+        was.1,
+        record { opens = (was.0, was.2, was.3); told = λ pool names. ap as_answer (named pool (subst (λ (r : Rows). AreNamed r pool) (sym was.4) names.are_named)) },
+      );
+  refused = asked_refused dataset here here' asked missing;
+  later = later;
+}

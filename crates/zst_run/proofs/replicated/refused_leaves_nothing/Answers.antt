@@ -1,5 +1,0 @@
-use Rattle.zst_run.proofs.Piped.{refused_so}
-use Rattle.zst_run.proofs.replicated.refused_leaves_nothing.Goals as goal
-
-pub returns : goal.returns
-returns g c = λ there later. refused_so (c.keeping_is_done.ensures, c.images_keep_partials.ensures) c.cut_leaves_nothing.ensures c.left_is_kept.ensures _ _

@@ -1,5 +1,0 @@
-use Rattle.zst_run.proofs.Piped.{sound_so}
-use Rattle.zst_run.proofs.replicated.sound_stays_sound.Goals as goal
-
-pub returns : goal.returns
-returns g c = λ there later. sound_so c.receives_keep_sound.ensures _ _

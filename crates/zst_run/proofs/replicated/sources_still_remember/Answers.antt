@@ -1,5 +1,0 @@
-use Rattle.zst_run.proofs.Piped.{remembered_so}
-use Rattle.zst_run.proofs.replicated.sources_still_remember.Goals as goal
-
-pub returns : goal.returns
-returns g c = λ there later. remembered_so c.receives_remember.ensures.sources _ _

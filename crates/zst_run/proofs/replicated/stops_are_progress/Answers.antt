@@ -1,6 +1,0 @@
-use Rattle.zst_run.proofs.Piped.{stops_so}
-use Rattle.zst_run.proofs.replicated.stops_are_progress.Goals as goal
-
-pub returns : goal.returns
-returns g c = λ here there later.
-    stops_so (c.keeping_is_done.ensures, c.images_keep_partials.ensures) (c.plain_can_be_sent.ensures, c.bases_match.ensures) c.stops_are_progress.ensures _ _ _

@@ -1,0 +1,72 @@
+-- What a line does.
+use Rattle.std.specs.Prelude.{ℕ, ◌≡◌, IfSome, List, Option, None, Some, Result, Ok, Err}
+use Rattle.zst_outside.specs.Images.{DiskState}
+use Rattle.zst_model.specs.pools.Step.{IsCommand}
+use Rattle.zst_model.specs.declared.refusals.faults.Lack.TheVariants as lacks
+use Rattle.zst_model.specs.declared.refusals.plan_fault.PlanFault.TheVariants as plans
+use Rattle.zst_model.specs.declared.refusals.refusal.Refusal.{Refusal}
+use Rattle.zst_model.specs.declared.refusals.refusal.Refusal.TheVariants as refusals
+use Rattle.zst_line.specs.Line.{IsCreate, refusal_of}
+use Rattle.zst_line.specs.declared.line.Line.{Line}
+use Rattle.zst_line.specs.declared.line.Line.TheVariants.{Dump, Create, Step, Send, Resume, Receive, Token}
+use Rattle.zst_line.specs.declared.line.LineFault.{LineFault}
+use Rattle.zst_plan.specs.declared.receive.RecvAsk.{RecvAsk}
+use Rattle.zst_run.specs.Commands.{Creates, Steps}
+use Rattle.zst_run.specs.Devices.{Devices}
+use Rattle.zst_run.specs.Dumps.{Dumps}
+use Rattle.zst_run.specs.Receives.{IsTarget, Receives, receipt_of}
+use Rattle.zst_run.specs.declared.send.SendRequest.{SendRequest}
+use Rattle.zst_run.specs.declared.send.SendRequest.TheVariants.{Named, Rest}
+use Rattle.zst_run.specs.Sends.{IsSource, Sends, ask_of}
+use Rattle.zst_run.specs.Tokens.{Tokens}
+
+-- a line whose values are in their ranges
+abbrev pub IsInRange : Line → Type 0
+IsInRange (Create image sectors id) = IsCreate sectors id
+IsInRange (Step image command) = IsCommand command
+IsInRange (Send image from redacts snapshot) = IfSome from IsSource
+IsInRange (Receive image keeps forces origin target) = IsTarget target
+IsInRange line = Unit {0}
+
+-- what a line asks to be sent
+abbrev pub asked : Line → Option SendRequest
+asked (Send image from redacts snapshot) = Some (Named (ask_of from redacts snapshot))
+asked (Resume image token) = Some (Rest token)
+asked line = None
+
+-- what a line asks to be received
+abbrev pub wanted : Line → Option RecvAsk
+wanted (Receive image keeps forces origin target) = Some (receipt_of keeps forces origin target)
+wanted line = None
+
+-- the dataset whose token a line asks for
+abbrev pub told_of : Line → Option (List ℕ)
+told_of (Token image dataset) = Some dataset
+told_of line = None
+
+-- E19: what the line asks for isn't built yet
+abbrev pub not_built : Refusal
+not_built = refusals.Plan (plans.Unsupported lacks.NotBuilt)
+
+-- What a line does: `dump` reads the input and leaves the image alone, `receive` reads the input, and all others leave it alone. Those
+-- that redact, check, make room or run scripts aren't built yet: they are refused, and nothing is done.
+abbrev pub DoesLine : {D : Type 0} → (D → DiskState) → ℕ → Line → Devices D → Devices D → Result (Unit {0}) Refusal → Type 0
+DoesLine state now Dump old new result = Dumps old.input new.input old.out new.out result × (new.here ≡ old.here)
+DoesLine state now (Create image sectors id) old new result =
+    Creates sectors id (state old.here) (state new.here) old.out new.out result × (new.input ≡ old.input)
+DoesLine state now (Step image command) old new result =
+    Steps now command (state old.here) (state new.here) old.out new.out result × (new.input ≡ old.input)
+DoesLine state now (Send image from redacts snapshot) old new result =
+    Sends (Named (ask_of from redacts snapshot)) (state old.here) (state new.here) old.out new.out result × (new.input ≡ old.input)
+DoesLine state now (Resume image token) old new result =
+    Sends (Rest token) (state old.here) (state new.here) old.out new.out result × (new.input ≡ old.input)
+DoesLine state now (Receive image keeps forces origin target) old new result =
+    Receives (receipt_of keeps forces origin target) (state old.here) (state new.here) old.input new.input old.out new.out result
+DoesLine state now (Token image dataset) old new result =
+    Tokens dataset (state old.here) (state new.here) old.out new.out result × (new.input ≡ old.input)
+DoesLine state now line old new result = (result ≡ Err not_built) × (new ≡ old)
+
+-- What words do: those that are no line are refused, and nothing is done.
+abbrev pub Does : {D : Type 0} → (D → DiskState) → ℕ → Result Line LineFault → Devices D → Devices D → Result (Unit {0}) Refusal → Type 0
+Does state now (Ok line) old new result = DoesLine state now line old new result
+Does state now (Err fault) old new result = (result ≡ Err (refusal_of fault)) × (new ≡ old)

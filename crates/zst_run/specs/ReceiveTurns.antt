@@ -1,0 +1,245 @@
+-- A receive that is under way, piece by piece.
+use Rattle.std.specs.Prelude.{ℕ, ◌+◌, ◌*◌, ◌-◌, ◌≡◌, ◌⊎◌, ◌<◌, ◌≤◌, Bool, true, false, IsTrue, IsSome, All, List, [], ◌∷◌, ◌++◌, length, take, Option, None, Some, Result, Ok, Err}
+use Rattle.std.specs.List.{concat}
+use Rattle.zst_outside.specs.Causes.{Rose}
+use Rattle.zst_outside.specs.Images.{DiskState, Leaves}
+use Rattle.zst_outside.specs.States.{SourceState, Gave}
+use Rattle.zst_block.specs.Blocks.{Has}
+use Rattle.zst_dir.specs.Rows.{Rows}
+use Rattle.zst_model.specs.declared.refusals.plan_fault.PlanFault.{PlanFault}
+use Rattle.zst_model.specs.declared.refusals.refusal.Refusal.{Refusal}
+use Rattle.zst_model.specs.declared.refusals.refusal.Refusal.TheVariants as refusals
+use Rattle.zst_model.specs.declared.refusals.stream_fault.StreamFault.{StreamFault}
+use Rattle.zst_model.specs.declared.refusals.stream_fault.StreamFault.TheVariants.{Truncated}
+use Rattle.zst_model.specs.pools.KeptPool.{kept_of}
+use Rattle.zst_model.specs.pools.Pool.{Pool, Partial}
+use Rattle.zst_dir.specs.Spelling.{dir_bytes}
+use Rattle.zst_image.specs.Reads.{Reads, bound_of, free_by}
+use Rattle.zst_image.specs.declared.pool_state.PoolState.{PoolState}
+use Rattle.zst_plan.specs.declared.receive.RecvAsk.{RecvAsk}
+use Rattle.zst_pool.specs.Calls.{IsAtRest}
+use Rattle.zst_record.specs.Laws.{AreBytes}
+use Rattle.zst_reader.specs.StandsFor.{HandsOut, StandsFor}
+use Rattle.zst_record.specs.Heads.{Covered}
+use Rattle.zst_stream.specs.Findings.{IsFound}
+use Rattle.zst_stream.specs.Reading.{complete, faulty, reading, waiting}
+use Rattle.zst_recv.specs.Answers.{received_of}
+use Rattle.zst_recv.specs.Faults.{IsFeedFault, recv_refusal, stream_limit}
+use Rattle.zst_recv.specs.Feeds.{receives, new_records}
+use Rattle.zst_recv.specs.Plans.{RefusesOne}
+use Rattle.zst_recv.specs.Costs.{PieceGrows, piece_cost}
+use Rattle.zst_recv.specs.ReceiveSteps.{Stage, Goes, Ends, pool_of}
+use Rattle.zst_recv.specs.Stages as standing
+use Rattle.zst_recv.specs.Stages.{TellsBefore, TellsTarget, fed_of, is_live, is_waiting, received_by}
+use Rattle.zst_recv.specs.declared.fault.RecvFault.{RecvFault}
+use Rattle.zst_recv.specs.declared.recv.Recv.{Recv}
+use Rattle.zst_replication.specs.RecordCounts.{Counts}
+use Rattle.zst_run.specs.Dumps.{NoFault}
+use Rattle.zst_run.specs.Receives.{ArePieces, IsOpen, ReceiveEnds, SaysOfPlan, SaysOfText, piece_size, receipt_line, CostMore, pieces_cost}
+use Rattle.zst_run.specs.declared.receive.End.{End}
+use Rattle.zst_run.specs.declared.receive.End.TheVariants.{Ended, Failed}
+use Rattle.zst_run.specs.declared.receive.Receipt.{Receipt}
+use Rattle.zst_run.specs.declared.receive.Turn.{Turn}
+use Rattle.zst_run.specs.declared.receive.Turn.TheVariants as turns
+
+-- ---- reading a piece
+
+-- the input gave so many bytes into a room of some size: as many as that has, unless it ended or failed behind them
+abbrev pub Fills : SourceState → SourceState → (size count : ℕ) → Option End → Type 0
+Fills input input' size count None = (count ≡ size) × NoFault input input'
+Fills input input' size count (Some Ended) = IsTrue input'.ended × NoFault input input'
+Fills input input' size count (Some Failed) = Rose input.faults input'.faults
+
+-- the pieces with one more, unless it is empty
+abbrev pub with_piece : List (List ℕ) → List ℕ → List (List ℕ)
+with_piece pieces [] = pieces
+with_piece pieces (byte ∷ rest) = pieces ++ (byte ∷ rest) ∷ []
+
+-- ---- between two pieces
+
+-- the pieces left the receive waiting for more
+abbrev pub WentOn : RecvAsk → Pool → List (List ℕ) → Type 0
+WentOn ask pool pieces = (after : Pool) × (stage : Stage) × (receives ask pool pieces ≡ Goes after stage) × IsOpen stage
+
+-- so did those before each of them
+abbrev pub Wanted : RecvAsk → Pool → List (List ℕ) → Type 0
+Wanted ask pool pieces = (n : ℕ) → n < length pieces → WentOn ask pool (take n pieces)
+
+-- an image that reads as what is kept of the pool that stands after some of the pieces
+abbrev pub ReadsAlong : (tight : Bool) → RecvAsk → Pool → List (List ℕ) → List ℕ → Type 0
+ReadsAlong tight ask pool pieces image = (n : ℕ) × Reads tight (kept_of (pool_of (receives ask pool (take n pieces)))) image
+
+-- the pool at rest is what the pieces make of the one at the start, and the receive was fed them all and waits for more
+pub record WaitsForMore (tight : Bool) (now : DiskState) (kept : PoolState) (recv : Recv) (ask : RecvAsk) (pool : Pool) (pieces : List (List ℕ)) (items : ℕ) : Type 0 where
+  pub after : Pool
+  pub stage : Stage
+  pub is : receives ask pool pieces ≡ Goes after stage
+  pub live : IsOpen stage
+  pub rests : IsAtRest tight now kept after
+  pub tells : TellsBefore ask stage kept.dir after
+  pub fed : standing.Receives (bound_of tight after.number) (Has now.seen (free_by kept.body)) recv (concat pieces) stage
+  pub bytes : AreBytes (concat pieces)
+  pub counted : Counts (concat pieces) stage items
+  pub wanted : Wanted ask pool pieces
+
+-- with the last of them END was covered: the snapshot stands, and the receive tells it
+pub record IsReceived (tight : Bool) (now : DiskState) (kept : PoolState) (recv : Recv) (ask : RecvAsk) (pool : Pool) (pieces : List (List ℕ)) (items : ℕ) : Type 0 where
+  pub after : Pool
+  pub partial : Partial
+  pub is : receives ask pool pieces ≡ Goes after (Ends partial)
+  pub rests : IsAtRest tight now kept after
+  pub snapshot : received_by recv ≡ Some (received_of partial)
+  pub counted : items ≡ length (reading (concat pieces)).covered - 2
+
+-- ---- one piece more
+
+-- a piece that goes on is whole, and one that was fed has some bytes
+abbrev pub IsPieceOf : Turn → List ℕ → Type 0
+IsPieceOf turns.More piece = length piece ≡ piece_size
+IsPieceOf turns.Received piece = (0 < length piece) × (length piece ≤ piece_size)
+IsPieceOf (turns.Over end) piece = length piece ≤ piece_size
+IsPieceOf (turns.Refused refusal) piece = (0 < length piece) × (length piece ≤ piece_size)
+
+-- what follows a piece that left the receive waiting
+abbrev pub turn_behind : Option End → Turn
+turn_behind None = turns.More
+turn_behind (Some end) = turns.Over end
+
+-- what became of the input meanwhile
+abbrev pub IsInputOf : SourceState → SourceState → Turn → Type 0
+IsInputOf input input' turns.More = NoFault input input'
+IsInputOf input input' turns.Received = Unit {0}
+IsInputOf input input' (turns.Over Ended) = IsTrue input'.ended × NoFault input input'
+IsInputOf input input' (turns.Over Failed) = Rose input.faults input'.faults
+IsInputOf input input' (turns.Refused refusal) = Unit {0}
+
+-- what stands after a turn: more is waited for, the snapshot, or what a refusal leaves
+abbrev pub TurnStands : (tight : Bool) → DiskState → PoolState → Recv → RecvAsk → Pool → List (List ℕ) → ℕ → Turn → Type 0
+TurnStands tight now kept recv ask pool pieces items turns.More = WaitsForMore tight now kept recv ask pool pieces items
+TurnStands tight now kept recv ask pool pieces items turns.Received = IsReceived tight now kept recv ask pool pieces items
+TurnStands tight now kept recv ask pool pieces items (turns.Over end) = WaitsForMore tight now kept recv ask pool pieces items
+TurnStands tight now kept recv ask pool pieces items (turns.Refused refusal) = (input input' : SourceState) → ReceiveEnds tight ask pool pieces now input input' (Err refusal)
+
+-- a receive of these pieces came so far, from a pool at the start
+pub record Turned (tight : Bool) (old now : DiskState) (kept : PoolState) (recv : Recv) (ask : RecvAsk) (pool : Pool) (pieces : List (List ℕ)) (items : ℕ) (turn : Turn) : Type 0 where
+  pub wanted : Wanted ask pool pieces
+  pub moments : Leaves old now (ReadsAlong tight ask pool pieces)
+  pub stands : TurnStands tight now kept recv ask pool pieces items turn
+
+-- Whatever the image, the receive stands for this text
+abbrev pub HasFed : Recv → List ℕ → Type 0
+HasFed recv text = (handed : List Covered) × StandsFor recv.reader text handed
+
+-- and what a turn says of all that was fed: one that goes on stands for it, END comes where its reading is complete, and a refusal that is a fault of a stream is that of its reading.
+abbrev pub TurnReads : Recv → List ℕ → Turn → Type 0
+TurnReads recv text turns.More = HasFed recv text
+TurnReads recv text turns.Received = (reading text).outcome ≡ complete
+TurnReads recv text (turns.Over end) = HasFed recv text
+TurnReads recv text (turns.Refused refusal) = (fault : StreamFault) → refusal ≡ refusals.Stream fault → IsFound fault × ((reading text).outcome ≡ faulty fault)
+
+-- What the plan says of a receive that goes on, over the rows at its start, whatever the image: as long as it waits for BEGIN the rows stay, and nothing is
+-- covered; behind it the plan has passed, of each pool that the rows name.
+pub record PlansOn (rows : Rows) (kept : PoolState) (recv : Recv) (text : List ℕ) : Type 0 where
+  pub fed : HasFed recv text
+  pub waits : is_waiting recv ≡ true → (kept.dir ≡ rows) × ((reading text).covered ≡ [])
+  pub passed : is_waiting recv ≡ false → (more : List ℕ) (fault : PlanFault) → RefusesOne rows recv.ask (text ++ more) fault → ⊥
+
+-- and of a turn, behind which all of this text was fed
+abbrev pub TurnPlans : Rows → RecvAsk → PoolState → Recv → List ℕ → Turn → Type 0
+TurnPlans rows ask kept recv text turns.More = PlansOn rows kept recv text
+TurnPlans rows ask kept recv text turns.Received = (fault : PlanFault) → length text ≤ stream_limit → RefusesOne rows ask text fault → ⊥
+TurnPlans rows ask kept recv text (turns.Over end) = PlansOn rows kept recv text
+TurnPlans rows ask kept recv text (turns.Refused refusal) = SaysOfPlan rows ask text (Err refusal)
+
+-- Whatever the image, the receive has handed out all that this text covers
+abbrev pub HasHanded : Recv → List ℕ → Type 0
+HasHanded recv text = (handed : List Covered) × HandsOut recv.reader text handed waiting
+
+-- and behind a piece more that is taken it has again, and no more is taken than it costs; where it found no room, it costs more than was free.
+abbrev pub TurnSpends : (kept kept' : PoolState) → Recv → (text piece : List ℕ) → Turn → Type 0
+TurnSpends kept kept' recv text piece turns.More = HasHanded recv (text ++ piece) × PieceGrows (new_records text piece) kept kept'
+TurnSpends kept kept' recv text piece turns.Received = Unit {0}
+TurnSpends kept kept' recv text piece (turns.Over end) = Unit {0}
+TurnSpends kept kept' recv text piece (turns.Refused refusal) =
+    (need largest : ℕ) → refusal ≡ refusals.Full need largest → kept.body.sectors - kept.body.end < piece_cost (new_records text piece) kept.dir
+
+-- what the pool keeps has grown by no more than these pieces cost
+pub record GrewBy (first kept : PoolState) (pieces : List (List ℕ)) : Type 0 where
+  pub directory : length (dir_bytes kept.dir) ≤ length (dir_bytes first.dir) + 2048 * length pieces
+  pub sectors : kept.body.sectors ≡ first.body.sectors
+  pub end : kept.body.end ≤ first.body.end + pieces_cost (length (dir_bytes first.dir)) [] pieces
+
+-- One turn: a piece was read, and fed behind those before.
+pub record Turns (old now : DiskState) (kept kept' : PoolState) (recv recv' : Recv) (items items' : ℕ) (input input' : SourceState) (turn : Turn) : Type 0 where
+  pub piece : List ℕ
+  pub gave : Gave input input' piece
+  pub sized : IsPieceOf turn piece
+  pub input_is : IsInputOf input input' turn
+  pub reads : (text : List ℕ) → HasFed recv text → TurnReads recv' (text ++ piece) turn
+  pub spends : (text : List ℕ) → HasHanded recv text → TurnSpends kept kept' recv' text piece turn
+  pub says : (tight : Bool) (pool : Pool) (pieces : List (List ℕ)) → now.honest → WaitsForMore tight old kept recv recv.ask pool pieces items
+      → Turned tight old now kept' recv' recv.ask pool (with_piece pieces piece) items' turn
+
+-- a refusal of a feed, but not that the disk had failed before; that of the disk only where its count of faults rose
+pub record IsFeedRefusal (old now : DiskState) (refusal : Refusal) : Type 0 where
+  pub one : (fault : RecvFault) × IsFeedFault fault × (refusal ≡ recv_refusal fault)
+  pub alive : refusal ≡ refusals.Failed → ⊥
+  pub cause : refusal ≡ refusals.DiskFault → Rose old.faults now.faults
+  pub full : (need largest : ℕ) → refusal ≡ refusals.Full need largest → largest < need
+
+-- Whatever the image: a receive that goes on is live, over a pool that works, and one that doesn't has its snapshot or its refusal.
+abbrev pub TurnLeaves : (old now : DiskState) → (recv recv' : Recv) → (failed : Bool) → Turn → Type 0
+TurnLeaves old now recv recv' failed turns.More = (is_live recv'.stage ≡ true) × (failed ≡ false) × (fed_of recv' ≡ fed_of recv + piece_size)
+TurnLeaves old now recv recv' failed turns.Received = IsSome (received_by recv')
+TurnLeaves old now recv recv' failed (turns.Over end) = (is_live recv'.stage ≡ true) × (failed ≡ false)
+TurnLeaves old now recv recv' failed (turns.Refused refusal) = IsFeedRefusal old now refusal
+
+-- Whole pieces were read and fed, and the receive waits for more.
+pub record Feeding (old now : DiskState) (kept kept' : PoolState) (recv recv' : Recv) (items : ℕ) (input input' : SourceState) : Type 0 where
+  pub pieces : List (List ℕ)
+  pub whole : All (λ piece. length piece ≡ piece_size) pieces
+  pub consumed : Gave input input' (concat pieces)
+  pub no_fault : NoFault input input'
+  pub reads : HasFed recv' (concat pieces)
+  pub hands : HasHanded recv' (concat pieces)
+  pub grew : GrewBy kept kept' pieces
+  pub says : (tight : Bool) (pool : Pool) → now.honest → WaitsForMore tight old kept recv recv.ask pool [] 0 → Turned tight old now kept' recv' recv.ask pool pieces items turns.More
+
+-- ---- all of them
+
+-- so it is refused, by E20, or the input failed, and its count of faults rose
+abbrev pub IsEnd : (old now : DiskState) → (input input' : SourceState) → Refusal → Type 0
+IsEnd old now input input' refusal =
+    IsFeedRefusal old now refusal ⊎ (((at : ℕ) × (refusal ≡ refusals.Stream (Truncated at))) ⊎ ((refusal ≡ refusals.SourceFault) × Rose input.faults input'.faults))
+
+-- what ends a receive whose input gave no more
+abbrev pub cut_refusal : End → ℕ → Refusal
+cut_refusal Ended count = refusals.Stream (Truncated count)
+cut_refusal Failed count = refusals.SourceFault
+
+-- the line of what was received
+abbrev pub line_of : Receipt → List ℕ
+line_of receipt = receipt_line receipt.snapshot.target receipt.snapshot.component receipt.snapshot.guid receipt.items
+
+abbrev pub told : Result Receipt Refusal → Result (List (List ℕ)) Refusal
+told (Ok receipt) = Ok (line_of receipt ∷ [])
+told (Err refusal) = Err refusal
+
+-- how a receive of these pieces ended, from a pool at the start
+pub record Outcome (tight : Bool) (old now : DiskState) (ask : RecvAsk) (pool : Pool) (pieces : List (List ℕ)) (input input' : SourceState) (answer : Result (List (List ℕ)) Refusal) : Type 0 where
+  pub wanted : Wanted ask pool pieces
+  pub moments : Leaves old now (ReadsAlong tight ask pool pieces)
+  pub ends : ReceiveEnds tight ask pool pieces now input input' answer
+
+-- All pieces were read and fed, from each pool that starts so.
+pub record Fed (Starts : (tight : Bool) → Pool → Type 0) (first : PoolState) (old now : DiskState) (ask : RecvAsk) (input input' : SourceState) (answer : Result (List (List ℕ)) Refusal) : Type 0 where
+  pub pieces : List (List ℕ)
+  pub are_pieces : ArePieces pieces
+  pub consumed : Gave input input' (concat pieces)
+  pub text : SaysOfText pieces input input' answer
+  pub cost : (need largest : ℕ) → answer ≡ Err (refusals.Full need largest) → CostMore first pieces
+  pub says : (tight : Bool) (pool : Pool) → now.honest → Starts tight pool → Outcome tight old now ask pool pieces input input' answer
+
+-- a pool at rest, whose sets tell the dates that a plan may look at
+abbrev pub IsReady : RecvAsk → (tight : Bool) → DiskState → PoolState → Pool → Type 0
+IsReady ask tight old kept pool = IsAtRest tight old kept pool × TellsTarget ask kept.dir pool

@@ -1,0 +1,89 @@
+-- A send that is under way, piece by piece.
+use Rattle.std.specs.Prelude.{ℕ, ◌+◌, ◌≡◌, ◌⊎◌, ◌<◌, ◌≤◌, Bool, true, false, List, [], length, Option, None, Some, Result, Ok, Err}
+use Rattle.zst_outside.specs.Causes.{Rose}
+use Rattle.zst_outside.specs.Printing.{Printed, Wrote}
+use Rattle.zst_outside.specs.States.{SinkState, HandedOn}
+use Rattle.zst_model.specs.declared.refusals.faults.Quantity.TheVariants.{Stream}
+use Rattle.zst_model.specs.declared.refusals.plan_fault.PlanFault.{PlanFault}
+use Rattle.zst_model.specs.declared.refusals.refusal.Refusal.{Refusal}
+use Rattle.zst_model.specs.declared.refusals.refusal.Refusal.TheVariants as refusals
+use Rattle.zst_model.specs.declared.sends.header.Point.{Point}
+use Rattle.zst_model.specs.refusals.Refusal.{refusal_of}
+use Rattle.zst_model.specs.sends.Headers.{Sent}
+use Rattle.zst_reader.specs.InputReads.{stream_limit}
+use Rattle.zst_send.specs.Sends as given
+use Rattle.zst_send.specs.Sends.{begun_text}
+use Rattle.zst_send.specs.declared.send.Send.{Send}
+use Rattle.zst_tree.specs.Indices.{Blocks}
+use Rattle.zst_run.specs.Sends.{IsOut, SendsBy}
+
+-- ---- opening
+
+-- a plan's refusal, or want of memory
+abbrev pub IsOpenRefusal : Refusal → Type 0
+IsOpenRefusal refusal = ((fault : PlanFault) × (refusal ≡ refusal_of fault)) ⊎ (refusal ≡ refusals.OutOfMemory)
+
+-- a send is opened by its plan, and all of its text is left; it is refused by its plan, unless no memory is left
+abbrev pub OpensBy : Blocks → Option Point → Result Sent PlanFault → Result Send Refusal → Type 0
+OpensBy has start (Ok sent) (Ok send) = given.SendsFrom has send sent start [] (begun_text sent start)
+OpensBy has start (Ok sent) (Err refusal) = refusal ≡ refusals.OutOfMemory
+OpensBy has start (Err fault) (Ok send) = ⊥
+OpensBy has start (Err fault) (Err refusal) = (refusal ≡ refusal_of fault) ⊎ (refusal ≡ refusals.OutOfMemory)
+
+-- whatever the image, it is refused by its plan, or that passes: then it is opened, unless no memory is left
+abbrev pub PlansOpen : Result Sent PlanFault → Result Send Refusal → Type 0
+PlansOpen planned (Ok send) = (sent : Sent) × (planned ≡ Ok sent)
+PlansOpen planned (Err refusal) =
+    ((fault : PlanFault) × (planned ≡ Err fault) × (refusal ≡ refusal_of fault))
+    ⊎ ((sent : Sent) × (planned ≡ Ok sent) × (refusal ≡ refusals.OutOfMemory))
+
+-- where its plan refuses a send, that is its answer, and nothing is written
+abbrev pub IfUnplanned : Result Sent PlanFault → SinkState → SinkState → Result (Unit {0}) Refusal → Type 0
+IfUnplanned (Ok sent) out out' result = Unit {0}
+IfUnplanned (Err fault) out out' result = (result ≡ Err (refusal_of fault)) × (out' ≡ out)
+
+-- ---- pieces
+
+-- so many bytes were given, all of them are written, and no fault of the output was counted
+pub record Sending (has : Blocks) (start : Option Point) (sent : Sent) (send : Send) (out out' : SinkState) (count : ℕ) : Type 0 where
+  pub text : List ℕ
+  pub left : List ℕ
+  pub stands : given.SendsFrom has send sent start text left
+  pub counted : count ≡ length text
+  pub printed : Printed out out' text
+
+-- the send goes on, or it ended
+abbrev pub Passed : Blocks → Option Point → Sent → Send → (before after : ℕ) → SinkState → SinkState → ℕ → Option (Result (Unit {0}) Refusal) → Type 0
+Passed has start sent send before after out out' count None = Sending has start sent send out out' count
+Passed has start sent send before after out out' count (Some result) = SendsBy start (Ok sent) before after out out' result
+
+-- where it goes on, bytes were given, and no more than a stream may have
+abbrev pub Advances : (old new : ℕ) → Option (Result (Unit {0}) Refusal) → Type 0
+Advances old new None = (old < new) × (new ≤ stream_limit)
+Advances old new (Some result) = Unit {0}
+
+-- the whole piece is within a stream's bytes, written without a fault, and counted
+pub record PieceWritten (piece : List ℕ) (old new : ℕ) (out out' : SinkState) : Type 0 where
+  pub within : new ≤ stream_limit
+  pub counted : new ≡ old + length piece
+  pub printed : Printed out out' piece
+
+-- it would go past a stream's bytes, so nothing of it is written, and what was written before is out
+pub record PieceTooLong (piece : List ℕ) (old : ℕ) (out out' : SinkState) : Type 0 where
+  pub longer : stream_limit < old + length piece
+  pub kept : out'.written ≡ out.written
+  pub later : out.faults ≤ out'.faults
+  pub is_out : IsOut out out'
+
+-- a front of it was written, and the output failed
+pub record PieceLost (piece : List ℕ) (out out' : SinkState) : Type 0 where
+  pub front : (rest : List ℕ) × Wrote out out' piece rest
+  pub rose : Rose out.faults out'.faults
+
+-- What writing a piece behind so many bytes comes to: more pieces are to come, or the send ends.
+abbrev pub WritesPiece : List ℕ → Bool → (old new : ℕ) → SinkState → SinkState → Option (Result (Unit {0}) Refusal) → Type 0
+WritesPiece piece is_last old new out out' None = (is_last ≡ false) × PieceWritten piece old new out out'
+WritesPiece piece is_last old new out out' (Some (Ok done)) = (is_last ≡ true) × PieceWritten piece old (old + length piece) out out' × HandedOn out'
+WritesPiece piece is_last old new out out' (Some (Err (refusals.Limit which number))) = (which ≡ Stream) × (number ≡ stream_limit) × PieceTooLong piece old out out'
+WritesPiece piece is_last old new out out' (Some (Err refusals.SinkFault)) = PieceLost piece out out'
+WritesPiece piece is_last old new out out' (Some (Err other)) = ⊥

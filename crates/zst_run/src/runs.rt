@@ -1,0 +1,172 @@
+ghost use Rattle.std.specs.Prelude.{◌≡◌, None, map, string_bytes};
+ghost use Rattle.zst_run.specs.Devices.{devices};
+ghost use Rattle.zst_run.specs.LineEffects.{DoesLine, IsInRange, asked, told_of, wanted};
+ghost use Rattle.zst_run.specs.Runs.{DoesWords, Runs};
+
+use crate::dump::dump;
+use crate::note::{note_refusal, status_of};
+use crate::pools::{create_pool, step_pool};
+use crate::receive::{receipt_of, receive};
+use crate::send::{SendRequest, ask_of, ask_rest, send};
+use crate::tokens::tell_token;
+use std::alloc::Global;
+use zst_line::{Line, parse};
+use zst_model::{Lack, PlanFault, Refusal};
+use zst_names::DatasetName;
+use zst_outside::{Disk, Sink, Source};
+use zst_recv::RecvAsk;
+
+/// Does what the words after the program's name ask for, and answers the program's status. A refusal goes to `note`.
+///
+/// `here` is the image that a line names, `now` is the time in seconds since 1970. No line uses `there` yet.
+pub fn run<D: Disk, E: Disk, S: Source, K: Sink, N: Sink>(
+    alloc: Global,
+    words: &[String],
+    now: u64,
+    here: &mut D,
+    there: &mut E,
+    input: &mut S,
+    out: &mut K,
+    note: &mut N,
+) -> u8
+    ensures runs { Runs D.state now (map string_bytes words.now)
+        (devices here.old (S.state input.old) (K.state out.old)) (devices here.new (S.state input.new) (K.state out.new))
+        (N.state note.old) (N.state note.new) result }
+    ensures there { there.new ≡ there.old }
+{
+    match run_words(alloc, words, now, here, input, out) {
+        Ok(()) => 0,
+        Err(refusal) => {
+            note_refusal(&refusal, note);
+            status_of(&refusal)
+        }
+    }
+}
+
+/// Does what words ask for that are a line.
+fn run_words<D: Disk, S: Source, K: Sink>(
+    alloc: Global,
+    words: &[String],
+    now: u64,
+    here: &mut D,
+    input: &mut S,
+    out: &mut K,
+) -> Result<(), Refusal>
+    ensures { DoesWords D.state now (map string_bytes words.now)
+        (devices here.old (S.state input.old) (K.state out.old)) (devices here.new (S.state input.new) (K.state out.new)) result }
+{
+    let line = parse(alloc, words)?;
+    match asked(&line) {
+        Some(asked) => send(alloc, here, &asked, out),
+        None => run_unsent(alloc, line, now, here, input, out),
+    }
+}
+
+/// Does what a line asks for that sends nothing.
+fn run_unsent<D: Disk, S: Source, K: Sink>(
+    alloc: Global,
+    line: Line,
+    now: u64,
+    here: &mut D,
+    input: &mut S,
+    out: &mut K,
+) -> Result<(), Refusal>
+    requires range { IsInRange line }
+    requires other { asked line ≡ None }
+    ensures { DoesLine D.state now line
+        (devices here.old (S.state input.old) (K.state out.old)) (devices here.new (S.state input.new) (K.state out.new)) result }
+{
+    match wanted(&line) {
+        Some(ask) => receive(alloc, here, ask, input, out),
+        None => run_here(alloc, line, now, here, input, out),
+    }
+}
+
+/// Does what a line asks for that sends and receives nothing.
+fn run_here<D: Disk, S: Source, K: Sink>(
+    alloc: Global,
+    line: Line,
+    now: u64,
+    here: &mut D,
+    input: &mut S,
+    out: &mut K,
+) -> Result<(), Refusal>
+    requires range { IsInRange line }
+    requires other { asked line ≡ None }
+    requires unwanted { wanted line ≡ None }
+    ensures { DoesLine D.state now line
+        (devices here.old (S.state input.old) (K.state out.old)) (devices here.new (S.state input.new) (K.state out.new)) result }
+{
+    match told_of(&line) {
+        Some(dataset) => tell_token(alloc, here, &dataset, out),
+        None => run_line(alloc, line, now, here, input, out),
+    }
+}
+
+/// What a line asks to be sent.
+fn asked(line: &Line) -> Option<SendRequest>
+    requires { IsInRange line.now }
+    ensures { result ≡ asked line.now }
+{
+    match line {
+        Line::Send {
+            from,
+            redacts,
+            snapshot,
+            ..
+        } => Some(ask_of(from, redacts, snapshot)),
+        Line::Resume { token, .. } => Some(ask_rest(token)),
+        _ => None,
+    }
+}
+
+/// What a line asks to be received.
+fn wanted(line: &Line) -> Option<RecvAsk>
+    requires { IsInRange line.now }
+    ensures { result ≡ wanted line.now }
+{
+    match line {
+        Line::Receive {
+            keeps,
+            forces,
+            origin,
+            target,
+            ..
+        } => Some(receipt_of(*keeps, *forces, origin, target)),
+        _ => None,
+    }
+}
+
+/// The dataset whose token a line asks for.
+fn told_of(line: &Line) -> Option<DatasetName>
+    ensures { result ≡ told_of line.now }
+{
+    match line {
+        Line::Token { dataset, .. } => Some(dataset.duplicate()),
+        _ => None,
+    }
+}
+
+/// Does what a line asks for that sends, receives and tells nothing, where it is built.
+fn run_line<D: Disk, S: Source, K: Sink>(
+    alloc: Global,
+    line: Line,
+    now: u64,
+    here: &mut D,
+    input: &mut S,
+    out: &mut K,
+) -> Result<(), Refusal>
+    requires range { IsInRange line }
+    requires other { asked line ≡ None }
+    requires unwanted { wanted line ≡ None }
+    requires untold { told_of line ≡ None }
+    ensures { DoesLine D.state now line
+        (devices here.old (S.state input.old) (K.state out.old)) (devices here.new (S.state input.new) (K.state out.new)) result }
+{
+    match line {
+        Line::Dump => dump(alloc, input, out),
+        Line::Create { sectors, id, .. } => create_pool(alloc, here, sectors, id, out),
+        Line::Step { command, .. } => step_pool(alloc, here, now, command, out),
+        _ => Err(Refusal::Plan(PlanFault::Unsupported(Lack::NotBuilt))),
+    }
+}

@@ -1,0 +1,100 @@
+-- What a look at a leaf that is loaded shows.
+use Rattle.std.proofs.Common.{◌≡◌, ◌≢◌, ⊎_elim, ℕ, ◌+◌, ◌*◌, ◌^◌, ◌<◌, ◌≤◌, true, List, sym, ◌∙◌, ap, subst, arith}
+use Rattle.std.specs.Prelude.{Option, Result, Ok, Err, IfOk}
+use Rattle.zst_block.specs.declared.fault.BlockFault.{BlockFault}
+use Rattle.zst_space.specs.FreeSectors.{FreeSectors}
+use Rattle.zst_block.specs.Blocks.{Has, named}
+use Rattle.zst_dnode.specs.declared.dnode.Dnode.{Dnode}
+use Rattle.zst_dnode.specs.declared.slot.Slot.{Slot}
+use Rattle.zst_dnode.specs.declared.slot.Slot.TheVariants as slots
+use Rattle.zst_model.specs.sends.Inclusion.{is_after}
+use Rattle.zst_model.specs.states.DatedState.{DatedState}
+use Rattle.zst_tree.specs.Damage.{IsSeen, MayHave}
+use Rattle.zst_objset.specs.Damage.{IsLoaded}
+use Rattle.zst_objset.specs.Dnodes.{IsThere}
+use Rattle.zst_objset.specs.Sets.{date_in, IsLeaf, Spells}
+use Rattle.zst_objset.proofs.LeafLaws.{leaf_of}
+use Rattle.zst_traverse.specs.Cells.{choice_after, IsNextGone, NoNumber}
+use Rattle.zst_traverse.specs.Leaves.{EndsAll, EndsLeaf, IfNothing, IsNext, ShowsAhead, StandsFor}
+use Rattle.zst_traverse.specs.Slots.{AreEarly, IsFirstSlot, ShowsAbsent}
+use Rattle.zst_objset.specs.TightSets.{IsTightLeaf, IsTightSlot}
+use Rattle.zst_traverse.specs.declared.leaves.WalkStep.{WalkStep}
+use Rattle.zst_traverse.specs.declared.leaves.WalkStep.TheVariants as ahead
+use Rattle.zst_traverse.specs.declared.leaves.Leaf.{Leaf}
+use Rattle.zst_traverse.proofs.Numbers.{ahead_behind, early_in, gone_in, leaf_late, there_in}
+
+-- the dnode at a place of a leaf is that of an object that tells a late date, and no number from one on and before it is included
+pub record ObjectShown (image : List ℕ) (space : FreeSectors) (snap : DatedState) (leaf : Leaf) (source : Option ℕ) (from at : ℕ) (dnode : Dnode) : Type 0 where
+  pub there : IsThere (Has image space) snap (16 * leaf.index + at) dnode
+  pub late : is_after source (date_in (slots.There dnode)) ≡ true
+  pub tight : IsTightLeaf (Has image space) snap leaf.index leaf.ptr → IsTightSlot snap (16 * leaf.index + at) (slots.There dnode)
+  pub behind : (shown : WalkStep) → ShowsAhead (Has image space) snap (choice_after source) (16 * leaf.index + at) shown → ShowsAhead (Has image space) snap (choice_after source) from shown
+
+module _ (image : List ℕ) (space : FreeSectors) (snap : DatedState) (leaf : Leaf) (node : List ℕ) (stands : StandsFor (Has image space) snap leaf) (some : 0 < leaf.count) (less : leaf.index < 2 ^ 44) (isnt : leaf.ptr.kind ≢ 0) (loaded : IsLoaded (IsSeen image) leaf.ptr node) where
+  pub leaf_is : IsLeaf (Has image space) snap leaf.index leaf.ptr
+  leaf_is = leaf_of (Has image space) snap leaf.index leaf.ptr (stands leaf.index (omega arith) (omega arith) less) isnt
+
+  may_same : MayHave (IsSeen image) leaf.ptr node → node ≡ leaf_is.bytes
+  may_same may = sym may.block.bytes_are ∙ ap (λ (i : List ℕ). named i leaf.ptr) may.among ∙ leaf_is.names.there.block.bytes_are
+
+  node_is : node ≡ leaf_is.bytes
+  node_is = ⊎_elim (λ hole. absurd (isnt hole.0)) (λ there. may_same there.1) loaded
+
+  -- what is loaded spells the slots of the leaf
+  pub spelled : Spells node leaf_is.slots
+  spelled = subst (λ (b : List ℕ). Spells b leaf_is.slots) (sym node_is) leaf_is.names.spells
+
+  -- a slot of a tight leaf is tight
+  tight_slot : IsTightLeaf (Has image space) snap leaf.index leaf.ptr → (at : ℕ) (dnode : Dnode) → at < 16 → leaf_is.slots at ≡ slots.There dnode → IsTightSlot snap (16 * leaf.index + at) (slots.There dnode)
+  tight_slot tight at dnode under is = subst (IsTightSlot snap (16 * leaf.index + at)) is (tight leaf_is.bytes leaf_is.slots leaf_is.names.there leaf_is.names.spells at under)
+
+  module _ (source : Option ℕ) (from place : ℕ) (split : 16 * leaf.index + place ≡ from) (pos : 0 < from) where
+    pub nothing_shown : AreEarly leaf_is.slots source place 16 → NoNumber snap (choice_after source) from (16 * leaf.index + 16)
+    nothing_shown early =
+        subst (λ (n : ℕ). NoNumber snap (choice_after source) n (16 * leaf.index + 16)) split
+        (early_in (Has image space) snap source leaf.index leaf_is.slots leaf_is.slots_are less place 16 (omega arith) (omega arith) early)
+
+    pub gone_shown : (first count : ℕ) → ShowsAbsent leaf_is.slots source leaf.index place first count → IsNextGone snap (choice_after source) from first count
+    gone_shown first count shows =
+        subst (λ (n : ℕ). IsNextGone snap (choice_after source) n first count) split
+        (gone_in (Has image space) snap source leaf.index leaf_is.slots leaf_is.slots_are less place first count (omega arith) shows)
+
+    -- an object that tells a late date
+    pub object_shown : (at : ℕ) (dnode : Dnode) → ((held : ℕ → Slot) → Spells node held → IsFirstSlot held source place (at, slots.There dnode)) → ObjectShown image space snap leaf source from at dnode
+    object_shown at dnode shows =
+        let first = shows leaf_is.slots spelled in
+        let over : place ≤ at = first.from_on in
+        let under : at < 16 = first.under in
+        record {
+          there = there_in (Has image space) snap source leaf.index leaf_is.slots leaf_is.slots_are less place at dnode (omega arith) first;
+          late = first.late;
+          tight = λ tight. tight_slot tight at dnode under first.is;
+          behind = λ shown next.
+              ahead_behind (Has image space) snap source from (16 * leaf.index + at) shown (omega arith)
+              (subst (λ (n : ℕ). NoNumber snap (choice_after source) n (16 * leaf.index + at)) split
+              (early_in (Has image space) snap source leaf.index leaf_is.slots leaf_is.slots_are less place at (omega arith) (omega arith) first.none_before))
+              next;
+        }
+
+    -- a leaf of a late pointer shows something from its first number on
+    pub late_shown : is_after source leaf.ptr.number ≡ true → from ≡ 16 * leaf.index → AreEarly leaf_is.slots source place 16 → ⊥
+    late_shown late start early =
+        let first : place ≡ 0 = omega arith in
+        leaf_late (Has image space) snap source leaf.index leaf.ptr leaf_is late (subst (λ (p : ℕ). AreEarly leaf_is.slots source p 16) first early)
+
+-- where something is shown nothing is said of what isn't
+pub next_ends : (shown : WalkStep) → IsNext shown → EndsLeaf shown
+next_ends (ahead.Next found) next = tt
+next_ends (ahead.Nothing below) next = absurd next
+
+pub next_some : (P : Type 0) (shown : WalkStep) → IsNext shown → IfNothing P shown
+next_some P (ahead.Next found) next = tt
+next_some P (ahead.Nothing below) next = absurd next
+
+pub next_all : (shown : WalkStep) → IsNext shown → EndsAll shown
+next_all (ahead.Next found) next = tt
+next_all (ahead.Nothing below) next = absurd next
+
+pub if_ok : {T : Type 0} → (P Q : T → Type 0) → ((value : T) → P value → Q value) → (result : Result T BlockFault) → IfOk result P → IfOk result Q
+if_ok P Q more (Ok value) is = more value is
+if_ok P Q more (Err fault) is = tt

@@ -1,4 +1,0 @@
-use Rattle.zst_tree.proofs.earlier.+back_along.Given as goal
-
-abbrev pub decreases-back_along : goal.decreases-back_along
-decreases-back_along g l = l.level

@@ -1,4 +1,0 @@
-use Rattle.zst_tree.proofs.earlier.+last_in.Given as goal
-
-abbrev pub decreases-last_in : goal.decreases-last_in
-decreases-last_in g l = l.level

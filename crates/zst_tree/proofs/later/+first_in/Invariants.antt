@@ -1,4 +1,0 @@
-use Rattle.zst_tree.proofs.later.+first_in.Given as goal
-
-abbrev pub decreases-first_in : goal.decreases-first_in
-decreases-first_in g l = l.level

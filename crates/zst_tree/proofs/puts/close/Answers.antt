@@ -1,0 +1,25 @@
+use Rattle.std.proofs.Common.{◌-◌, ap, ◌∙◌}
+use Rattle.zst_block.specs.declared.ptr.Ptr.{Ptr}
+use Rattle.zst_tree.proofs.BuiltSubtrees.{closes, has_kind, Parts-grows}
+use Rattle.zst_tree.proofs.SubtreeCases.{kept_works, kind_three_or_four}
+use Rattle.zst_tree.proofs.puts.close.Goals as goal
+
+pub returns-clause-whole : goal.returns-clause-whole
+returns-clause-whole g c = λ base map parts.
+    let saved = c.in_ok-ptr.ensures in
+    let kept = kept_works _ _ _ _ _ _ _ _ _ saved.works in
+    closes _ map c.args.level base c.args.io.now.node _ c.requires.inner (has_kind _ _ c.in_ok-ptr.ptr _ _ saved.wrote)
+    (ap (λ (p : Ptr). p.level) saved.pointer) c.summary_of-summary.ensures.kind (ap (λ (p : Ptr). p.number) saved.pointer ∙ c.summary_of-summary.ensures.number)
+    (Parts-grows _ _ kept (c.args.level - 1) c.args.io.now.node base map parts)
+
+pub returns-clause-wrote : goal.returns-clause-wrote
+returns-clause-wrote g c = has_kind _ _ c.in_ok-ptr.ptr _ _ c.in_ok-ptr.ensures.wrote
+
+pub returns-clause-names : goal.returns-clause-names
+returns-clause-names g c =
+    let saved = c.in_ok-ptr.ensures.pointer in
+    record {
+      kind = kind_three_or_four c.args.io.now.node _ c.summary_of-summary.ensures.kind;
+      level_is = ap (λ (p : Ptr). p.level) saved;
+      length_is = ap (λ (p : Ptr). p.length) saved;
+    }

@@ -1,0 +1,264 @@
+// A range of indices gets one leaf, on a copy of the path or of the two paths to its ends.
+ghost use Rattle.std.specs.Prelude.{◌≡◌, ◌⊎◌, ◌+◌, ◌-◌, ◌*◌, ◌<◌, ◌≤◌, ℕ, List, IfOk, OnOk, true, false, length};
+ghost use Rattle.zst_space.specs.FreeSectors.{FreeSectors};
+ghost use Rattle.zst_block.specs.Blocks.{FitsDisk, Has, SparesTaken};
+ghost use Rattle.zst_block.specs.Ptr.{is_flat, is_lawful};
+ghost use Rattle.zst_block.specs.IoCalls.{Looks, Works, stop_of};
+ghost use Rattle.zst_block.specs.declared.ptr.Ptr.{Ptr};
+ghost use Rattle.zst_tree.specs.Damage.{HangsBelow, IsBelow, IsWithin, MayHave, NamesDamage, NamesNode};
+ghost use Rattle.zst_tree.specs.Indices.{Map, child, span, greatest, kind_over, Same, Subtree, SameBeside, Changed, Delivers};
+ghost use Rattle.zst_tree.specs.Changes.{PutsChild, FillsChildren, IsPutRoot, Parts, most};
+
+use crate::nodes::{child_at, load_node};
+use crate::spans::{place_of, span_of};
+use zst_block::{BlockFault, Io, Node, Ptr, save};
+use zst_outside::Disk;
+
+/// Puts a pointer at one place of a node.
+pub fn put_child(node: &mut Node, k: usize, ptr: &Ptr)
+    requires { k < 128 }
+    ensures puts { PutsChild node.old node.new k ptr.now }
+    ensures before { length node.old ≡ 8192 }
+{
+    node.put_child(k, ptr);
+}
+
+// Puts one pointer at each place of a range of a node.
+pub(crate) fn fill(node: &mut Node, from: usize, below: usize, ptr: &Ptr)
+    requires order { from ≤ below }
+    requires below { below ≤ 128 }
+    ensures fills { FillsChildren node.old node.new from below ptr.now }
+    ensures long { from < below → length node.new ≡ 8192 }
+    ensures still_long { length node.old ≡ 8192 → length node.new ≡ 8192 }
+{
+    for k in from..below {
+        put_child(node, k, ptr);
+    }
+}
+
+// Fills the node with the pointers below this one.
+fn open<D: Disk>(io: &mut Io<'_, D>, level: u8, ptr: Ptr) -> Result<(), BlockFault>
+    requires inner { 0 < level }
+    requires fits { FitsDisk (D.state io.old.disk.now).size io.old.space }
+    ensures parts { (base : ℕ) (map : Map) → (D.state io.new.disk.now).honest → Subtree (Has (D.state io.old.disk.now).seen io.old.space) level ptr base map → Delivers (λ done. Parts (Has (D.state io.old.disk.now).seen io.old.space) (level - 1) io.new.node base map) result }
+    ensures below { (D.state io.new.disk.now).honest → OnOk result ((k : ℕ) → k < 128 → IsBelow (SparesTaken io.old.space (D.state io.old.disk.now).seen) (D.state io.old.disk.now).size NamesNode level ptr (SparesTaken io.old.space (D.state io.old.disk.now).seen) (level - 1) (child io.new.node k)) }
+    ensures hangs { (D.state io.new.disk.now).honest → OnOk result ((k : ℕ) → k < 128 → (found : Ptr) → HangsBelow (MayHave (SparesTaken io.old.space (D.state io.old.disk.now).seen)) (level - 1) (child io.new.node k) found → HangsBelow (MayHave (SparesTaken io.old.space (D.state io.old.disk.now).seen)) level ptr found) }
+    ensures damaged { (D.state io.new.disk.now).honest → NamesDamage (SparesTaken io.old.space (D.state io.old.disk.now).seen) (D.state io.old.disk.now).size NamesNode level ptr result }
+    ensures looks { Looks (D.state io.old.disk.now) io.old.space io.old.failed (D.state io.new.disk.now) io.new.space io.new.failed (stop_of result) }
+    ensures kept_fit { FitsDisk (D.state io.new.disk.now).size io.new.space }
+    ensures same { io.new.disk.ghost_name ≡ io.old.disk.ghost_name }
+{
+    if ptr.is_flat() {
+        fill(&mut io.node, 0, 128, &ptr);
+        return Ok(());
+    }
+    load_node(io, level, ptr)
+}
+
+// What a pointer to a node says of it.
+#[derive(Clone, Copy, Debug, PartialEq, Eq)]
+pub(crate) struct Summary {
+    pub kind: u8,
+    pub number: u64,
+}
+
+fn summary_of(node: &Node) -> Summary
+    ensures number { result.number ≡ greatest node.now 128 }
+    ensures kind { result.kind ≡ kind_over node.now }
+{
+    let mut number = 0;
+    let mut some = false;
+    for k in 0..128 {
+        let child = child_at(node, k);
+        number = child.number.max(number);
+        let present = child.is_present();
+        some = present | some;
+    }
+    Summary {
+        kind: if some { 3 } else { 4 },
+        number,
+    }
+}
+
+// Writes the node into free sectors.
+pub(crate) fn close<D: Disk>(io: &mut Io<'_, D>, level: u8) -> Result<Ptr, BlockFault>
+    requires inner { 0 < level }
+    requires fits { FitsDisk (D.state io.old.disk.now).size io.old.space }
+    ensures whole { (base : ℕ) (map : Map) → Parts (Has (D.state io.old.disk.now).seen io.old.space) (level - 1) io.old.node base map → Delivers (λ made. Subtree (Has (D.state io.new.disk.now).seen io.new.space) level made base map) result }
+    ensures wrote { IfOk result (λ made. Has (D.state io.new.disk.now).seen io.new.space made io.old.node) }
+    ensures names { IfOk result (NamesNode level) }
+    ensures never_damaged { (sector : ℕ) (stated found : List ℕ) → ¬ (result ≡ Err (BlockFault.Damaged sector stated found)) }
+    ensures works { Works 16 16 (D.state io.old.disk.now) io.old.space io.old.failed (D.state io.new.disk.now) io.new.space io.new.failed (stop_of result) }
+    ensures same { io.new.disk.ghost_name ≡ io.old.disk.ghost_name }
+{
+    let summary = summary_of(&io.node);
+    let ptr = save(io, level, summary.number)?;
+    Ok(Ptr {
+        kind: summary.kind,
+        ..ptr
+    })
+}
+
+// One child is put in place of another.
+fn mend_one<D: Disk>(
+    io: &mut Io<'_, D>,
+    level: u8,
+    ptr: Ptr,
+    child: usize,
+    new: Ptr,
+) -> Result<Ptr, BlockFault>
+    requires inner { 0 < level }
+    requires child { child < 128 }
+    requires fits { FitsDisk (D.state io.old.disk.now).size io.old.space }
+    ensures mended { (base : ℕ) (map put : Map) → (D.state io.new.disk.now).honest → Subtree (Has (D.state io.old.disk.now).seen io.old.space) level ptr base map
+        → Subtree (Has (D.state io.old.disk.now).seen io.old.space) (level - 1) new (base + child * span (level - 1)) put
+        → SameBeside map put base (base + child * span (level - 1)) (base + child * span (level - 1) + span (level - 1)) (base + span level)
+        → Delivers (λ made. Subtree (Has (D.state io.new.disk.now).seen io.new.space) level made base put) result }
+    ensures damaged { (D.state io.new.disk.now).honest → NamesDamage (SparesTaken io.old.space (D.state io.old.disk.now).seen) (D.state io.old.disk.now).size NamesNode level ptr result }
+    ensures names { IfOk result (NamesNode level) }
+    ensures within { (leaf : Ptr) (image : List ℕ) (space : FreeSectors) → (D.state io.new.disk.now).honest → ((c : List ℕ) → SparesTaken io.old.space (D.state io.old.disk.now).seen c → SparesTaken space image c)
+        → IsWithin (SparesTaken space image) (D.state io.old.disk.now).size level ptr leaf (SparesTaken io.old.space (D.state io.old.disk.now).seen) (level - 1) new
+        → IfOk result (IsWithin (SparesTaken space image) (D.state io.old.disk.now).size level ptr leaf (SparesTaken io.new.space (D.state io.new.disk.now).seen) level) }
+    ensures works { Works 16 16 (D.state io.old.disk.now) io.old.space io.old.failed (D.state io.new.disk.now) io.new.space io.new.failed (stop_of result) }
+    ensures same { io.new.disk.ghost_name ≡ io.old.disk.ghost_name }
+{
+    open(io, level, ptr)?;
+    put_child(&mut io.node, child, &new);
+    close(io, level)
+}
+
+// The first and the last child that a range reaches, and what is put in their place.
+#[derive(Clone, Copy, Debug, PartialEq, Eq)]
+struct ChildPair {
+    low: usize,
+    new_low: Ptr,
+    high: usize,
+    new_high: Ptr,
+}
+
+// Two children are put in place of others, and one leaf between them.
+fn mend_two<D: Disk>(
+    io: &mut Io<'_, D>,
+    level: u8,
+    ptr: Ptr,
+    mend: ChildPair,
+    leaf: Ptr,
+) -> Result<Ptr, BlockFault>
+    requires inner { 0 < level }
+    requires order { mend.low < mend.high }
+    requires high { mend.high < 128 }
+    requires flat { is_flat leaf ≡ true }
+    requires lawful { is_lawful leaf ≡ true }
+    requires fits { FitsDisk (D.state io.old.disk.now).size io.old.space }
+    ensures mended { (base : ℕ) (map put : Map) → (D.state io.new.disk.now).honest → Subtree (Has (D.state io.old.disk.now).seen io.old.space) level ptr base map
+        → Subtree (Has (D.state io.old.disk.now).seen io.old.space) (level - 1) mend.new_low (base + mend.low * span (level - 1)) put
+        → Subtree (Has (D.state io.old.disk.now).seen io.old.space) (level - 1) mend.new_high (base + mend.high * span (level - 1)) put
+        → SameBeside map put base (base + mend.low * span (level - 1)) (base + mend.high * span (level - 1) + span (level - 1)) (base + span level)
+        → Same put (base + mend.low * span (level - 1) + span (level - 1)) (base + mend.high * span (level - 1)) leaf
+        → Delivers (λ made. Subtree (Has (D.state io.new.disk.now).seen io.new.space) level made base put) result }
+    ensures damaged { (D.state io.new.disk.now).honest → NamesDamage (SparesTaken io.old.space (D.state io.old.disk.now).seen) (D.state io.old.disk.now).size NamesNode level ptr result }
+    ensures names { IfOk result (NamesNode level) }
+    ensures within { (image : List ℕ) (space : FreeSectors) → (D.state io.new.disk.now).honest → ((c : List ℕ) → SparesTaken io.old.space (D.state io.old.disk.now).seen c → SparesTaken space image c)
+        → IsWithin (SparesTaken space image) (D.state io.old.disk.now).size level ptr leaf (SparesTaken io.old.space (D.state io.old.disk.now).seen) (level - 1) mend.new_low
+        → IsWithin (SparesTaken space image) (D.state io.old.disk.now).size level ptr leaf (SparesTaken io.old.space (D.state io.old.disk.now).seen) (level - 1) mend.new_high
+        → IfOk result (IsWithin (SparesTaken space image) (D.state io.old.disk.now).size level ptr leaf (SparesTaken io.new.space (D.state io.new.disk.now).seen) level) }
+    ensures works { Works 16 16 (D.state io.old.disk.now) io.old.space io.old.failed (D.state io.new.disk.now) io.new.space io.new.failed (stop_of result) }
+    ensures same { io.new.disk.ghost_name ≡ io.old.disk.ghost_name }
+{
+    open(io, level, ptr)?;
+    put_child(&mut io.node, mend.low, &mend.new_low);
+    fill(&mut io.node, mend.low + 1, mend.high, &leaf);
+    put_child(&mut io.node, mend.high, &mend.new_high);
+    close(io, level)
+}
+
+// Whether a range is all that stands below a pointer.
+fn is_whole(level: u8, first: u64, below: u64) -> bool
+    requires level { level ≤ 7 }
+    requires some { first < below }
+    requires below { below ≤ span level }
+    ensures whole { result ≡ true → (first ≡ 0) × (below ≡ span level) }
+    ensures part { result ≡ false → (0 < level) × ((first ≡ 0) → below < span level) }
+{
+    first == 0 && below == span_of(level)
+}
+
+// Where a range begins and ends: the first child and the last, and offsets below them.
+#[derive(Clone, Copy, Debug, PartialEq, Eq)]
+struct Ends {
+    low: usize,
+    first: u64,
+    high: usize,
+    below: u64,
+}
+
+fn ends_of(level: u8, first: u64, below: u64) -> Ends
+    requires level { level ≤ 7 }
+    requires inner { 0 < level }
+    requires some { first < below }
+    requires below { below ≤ span level }
+    requires part { (first ≡ 0) → below < span level }
+    ensures order { (result.low ≤ result.high) × (result.high < 128) }
+    ensures first { (result.low * span (level - 1) + result.first ≡ first) × (result.first < span (level - 1)) }
+    ensures below { (result.high * span (level - 1) + result.below ≡ below) × (0 < result.below) × (result.below ≤ span (level - 1)) }
+    ensures single { below ≡ first + 1 → (result.low ≡ result.high) × (result.below ≡ result.first + 1) }
+    ensures one { result.low ≡ result.high → (result.first < result.below) × (1 + most (level - 1) result.first result.below ≤ most level first below) }
+    ensures two { result.low < result.high → 1 + (most (level - 1) result.first (span (level - 1)) + most (level - 1) 0 result.below) ≤ most level first below }
+{
+    let left = place_of(level, first);
+    let right = place_of(level, below - 1);
+    Ends {
+        low: left.child,
+        first: left.rest,
+        high: right.child,
+        below: right.rest + 1,
+    }
+}
+
+// Gives the leaf to the offsets of a range below a pointer, and gives the pointer to what is then
+// there.
+pub(crate) fn put_in<D: Disk>(
+    io: &mut Io<'_, D>,
+    level: u8,
+    ptr: Ptr,
+    first: u64,
+    below: u64,
+    leaf: Ptr,
+) -> Result<Ptr, BlockFault>
+    requires level { level ≤ 7 }
+    requires some { first < below }
+    requires below { below ≤ span level }
+    requires leaf { (is_flat leaf ≡ true) ⊎ (below ≡ first + 1) }
+    requires lawful { is_lawful leaf ≡ true }
+    requires fits { FitsDisk (D.state io.old.disk.now).size io.old.space }
+    ensures put { (base : ℕ) (map put : Map) → (D.state io.new.disk.now).honest → Subtree (Has (D.state io.old.disk.now).seen io.old.space) level ptr base map
+        → Changed map put base (base + first) (base + below) (base + span level) leaf
+        → Delivers (λ made. Subtree (Has (D.state io.new.disk.now).seen io.new.space) level made base put) result }
+    ensures damaged { (D.state io.new.disk.now).honest → NamesDamage (SparesTaken io.old.space (D.state io.old.disk.now).seen) (D.state io.old.disk.now).size NamesNode level ptr result }
+    ensures root { IfOk result (IsPutRoot level leaf) }
+    ensures within { (D.state io.new.disk.now).honest → IfOk result (IsWithin (SparesTaken io.old.space (D.state io.old.disk.now).seen) (D.state io.old.disk.now).size level ptr leaf (SparesTaken io.new.space (D.state io.new.disk.now).seen) level) }
+    ensures works { Works (16 * most level first below) 16 (D.state io.old.disk.now) io.old.space io.old.failed (D.state io.new.disk.now) io.new.space io.new.failed (stop_of result) }
+    ensures same { io.new.disk.ghost_name ≡ io.old.disk.ghost_name }
+{
+    if is_whole(level, first, below) {
+        return Ok(leaf);
+    }
+    let ends = ends_of(level, first, below);
+    open(io, level, ptr)?;
+    let low = child_at(&io.node, ends.low);
+    if ends.low == ends.high {
+        let made = put_in(io, level - 1, low, ends.first, ends.below, leaf)?;
+        return mend_one(io, level, ptr, ends.low, made);
+    }
+    let high = child_at(&io.node, ends.high);
+    let part = span_of(level - 1);
+    let new_low = put_in(io, level - 1, low, ends.first, part, leaf)?;
+    let new_high = put_in(io, level - 1, high, 0, ends.below, leaf)?;
+    let mend = ChildPair {
+        low: ends.low,
+        new_low,
+        high: ends.high,
+        new_high,
+    };
+    mend_two(io, level, ptr, mend, leaf)
+}

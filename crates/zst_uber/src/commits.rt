@@ -1,0 +1,153 @@
+// The commit: one body more, in the slot that isn't the latest.
+ghost use Rattle.std.specs.Prelude.{◌≡◌, ◌↔◌, ◌+◌, ◌≤◌, ◌||◌, List, ℕ, IsTrue, IfOk, OnOk, is_err};
+ghost use Rattle.zst_outside.specs.Causes.{HasCause};
+ghost use Rattle.zst_outside.specs.Images.{IsSynced, Leaves, OnlyReads, WritesIn};
+ghost use Rattle.zst_outside.specs.Ranges.{bytes_at};
+ghost use Rattle.zst_space.specs.FreeSectors.{FreeSectors};
+ghost use Rattle.zst_block.specs.Blocks.{FitsDisk, KeepsBlocks};
+ghost use Rattle.zst_uber.specs.Body.{UberFits};
+ghost use Rattle.zst_uber.specs.Slots.{gate_place, body_place, IsOpen, IsNext, Stands, latest, latest_slot, other};
+ghost use Rattle.zst_uber.specs.Commit.{LabelSettled, HasOldOrNew, KeepsOldOrNew, Closes};
+ghost use Rattle.zst_uber.specs.OpenAnswers.{HasDiskCause};
+
+use crate::fault::UberFault;
+use crate::slot::{OPEN, Slot, is_open, latest_in, read_front};
+use crate::uber::Uber;
+use zst_block::Io;
+use zst_outside::{Disk, Fault, put};
+
+/// Makes this the latest body: in the slot that isn't the latest, the first one where there is
+/// no pool yet.
+///
+/// At every moment each image that a crash may leave has the old latest body, or the new one.
+/// The disk's failure is the only fault.
+pub fn commit<D: Disk>(disk: &mut D, uber: &Uber) -> Result<(), UberFault>
+    requires room { 4096 ≤ (D.state disk.old).size }
+    requires next { (D.state disk.old).honest → IsNext uber.now.number (latest (D.state disk.old).seen) }
+    requires settled { (D.state disk.old).honest → LabelSettled (D.state disk.old) }
+
+    // Whatever it answers, and at every moment of it.
+    ensures moments { (D.state disk.new).honest → Leaves (D.state disk.old) (D.state disk.new) (HasOldOrNew uber.now (D.state disk.old)) }
+    ensures images { (c : List ℕ) → (D.state disk.new).honest → (D.state disk.new).images c → HasOldOrNew uber.now (D.state disk.old) c }
+    ensures writes { WritesIn 0 4096 (D.state disk.old) (D.state disk.new) }
+
+    // The new body stands once it is done, and nothing is pending.
+    ensures stands { (D.state disk.new).honest → OnOk result (Stands uber.now (D.state disk.new).seen) }
+    ensures following { (D.state disk.new).honest → OnOk result (IsNext (uber.now.number + 1) (latest (D.state disk.new).seen)) }
+    ensures durable { OnOk result (IsSynced (D.state disk.new)) }
+    ensures label { OnOk result (LabelSettled (D.state disk.new)) }
+    ensures fits { UberFits uber.now }
+
+    ensures cause { HasDiskCause (D.state disk.old).faults (D.state disk.new).faults result }
+    ensures only { (fault : UberFault) → result ≡ Err fault → fault ≡ UberFault.DiskFault }
+{
+    match write_body(disk, uber) {
+        Ok(()) => Ok(()),
+        Err(Fault) => Err(UberFault::DiskFault),
+    }
+}
+
+/// Commits an event: each image that a crash may leave then has the old latest body and all
+/// blocks of an image from before, or the new one and all blocks that a read gave.
+pub fn commit_event<D: Disk>(io: &mut Io<'_, D>, uber: &Uber) -> Result<(), UberFault>
+    requires fits { FitsDisk (D.state io.old.disk.now).size io.old.space }
+    requires next { (D.state io.old.disk.now).honest → IsNext uber.now.number (latest (D.state io.old.disk.now).seen) }
+    requires settled { (D.state io.old.disk.now).honest → LabelSettled (D.state io.old.disk.now) }
+
+    ensures moments { (D.state io.new.disk.now).honest → Leaves (D.state io.old.disk.now) (D.state io.new.disk.now) (HasOldOrNew uber.now (D.state io.old.disk.now)) }
+    ensures images { (c : List ℕ) → (D.state io.new.disk.now).honest → (D.state io.new.disk.now).images c → KeepsOldOrNew uber.now (D.state io.old.disk.now) c }
+    ensures kept { (space : FreeSectors) → KeepsBlocks (D.state io.old.disk.now).seen space (D.state io.new.disk.now).seen space }
+    ensures writes { WritesIn 0 4096 (D.state io.old.disk.now) (D.state io.new.disk.now) }
+
+    ensures stands { (D.state io.new.disk.now).honest → OnOk result (Stands uber.now (D.state io.new.disk.now).seen) }
+    ensures following { (D.state io.new.disk.now).honest → OnOk result (IsNext (uber.now.number + 1) (latest (D.state io.new.disk.now).seen)) }
+    ensures durable { OnOk result (IsSynced (D.state io.new.disk.now)) }
+    ensures label { OnOk result (LabelSettled (D.state io.new.disk.now)) }
+    ensures uber_fits { UberFits uber.now }
+
+    ensures cause { HasDiskCause (D.state io.old.disk.now).faults (D.state io.new.disk.now).faults result }
+    ensures only { (fault : UberFault) → result ≡ Err fault → fault ≡ UberFault.DiskFault }
+    ensures failed { io.new.failed ≡ (io.old.failed || is_err result) }
+    ensures space { io.new.space ≡ io.old.space }
+    ensures kept_fit { FitsDisk (D.state io.new.disk.now).size io.new.space }
+    ensures same { io.new.disk.ghost_name ≡ io.old.disk.ghost_name }
+{
+    let outcome = commit(io.disk, uber);
+    if outcome.is_err() {
+        io.failed = true;
+    }
+    outcome
+}
+
+fn write_body<D: Disk>(disk: &mut D, uber: &Uber) -> Result<(), Fault>
+    requires room { 4096 ≤ (D.state disk.old).size }
+    requires next { (D.state disk.old).honest → IsNext uber.now.number (latest (D.state disk.old).seen) }
+    requires settled { (D.state disk.old).honest → LabelSettled (D.state disk.old) }
+    ensures moments { (D.state disk.new).honest → Leaves (D.state disk.old) (D.state disk.new) (HasOldOrNew uber.now (D.state disk.old)) }
+    ensures writes { WritesIn 0 4096 (D.state disk.old) (D.state disk.new) }
+    ensures stands { (D.state disk.new).honest → OnOk result (Stands uber.now (D.state disk.new).seen) }
+    ensures durable { OnOk result (IsSynced (D.state disk.new)) }
+    ensures fits { UberFits uber.now }
+    ensures cause { HasCause (D.state disk.old).faults (D.state disk.new).faults result }
+{
+    let body = uber.encode();
+    let (slot, is_open) = find_idle(disk)?;
+    close(disk, slot, is_open)?;
+    fill(disk, slot, &body)?;
+    open_gate(disk, slot)
+}
+
+// The slot that isn't the latest body's, and whether its gate is open.
+fn find_idle<D: Disk>(disk: &mut D) -> Result<(Slot, bool), Fault>
+    requires { 2048 ≤ (D.state disk.old).size }
+    ensures idle { (D.state disk.new).honest → IfOk result (λ found. latest_slot (D.state disk.old).seen ≡ other found.0) }
+    ensures gate { (D.state disk.new).honest → IfOk result (λ found. IsTrue found.1 ↔ IsOpen (D.state disk.old).seen found.0) }
+    ensures reads { OnlyReads (D.state disk.old) (D.state disk.new) }
+    ensures cause { HasCause (D.state disk.old).faults (D.state disk.new).faults result }
+{
+    let mut front = [0u8; 2048];
+    let count = read_front(disk, &mut front)?;
+    let (slot, _) = latest_in(&front[..count]);
+    let idle = slot.other();
+    Ok((idle, is_open(&front[..count], idle)))
+}
+
+// Closes a gate if it is open, and syncs. A closed gate isn't written: until the sync it might
+// hold any byte.
+fn close<D: Disk>(disk: &mut D, slot: Slot, is_open: bool) -> Result<(), Fault>
+    requires room { 2048 ≤ (D.state disk.old).size }
+    requires gate { (D.state disk.old).honest → (IsTrue is_open ↔ IsOpen (D.state disk.old).seen slot) }
+    ensures closed { (D.state disk.new).honest → OnOk result (¬ (IsOpen (D.state disk.new).seen slot)) }
+    ensures durable { OnOk result (IsSynced (D.state disk.new)) }
+    ensures closes { (D.state disk.new).honest → Closes slot (D.state disk.old) (D.state disk.new) }
+    ensures writes { WritesIn (gate_place slot) 1 (D.state disk.old) (D.state disk.new) }
+    ensures cause { HasCause (D.state disk.old).faults (D.state disk.new).faults result }
+{
+    if is_open {
+        put(disk, slot.gate(), &[0])
+    } else {
+        disk.sync()
+    }
+}
+
+// Writes a body into a slot, and syncs.
+fn fill<D: Disk>(disk: &mut D, slot: Slot, body: &[u8; 512]) -> Result<(), Fault>
+    requires { 2048 ≤ (D.state disk.old).size }
+    ensures body { OnOk result (bytes_at (D.state disk.new).seen (body_place slot) 512 ≡ body.now) }
+    ensures durable { OnOk result (IsSynced (D.state disk.new)) }
+    ensures writes { WritesIn (body_place slot) 512 (D.state disk.old) (D.state disk.new) }
+    ensures cause { HasCause (D.state disk.old).faults (D.state disk.new).faults result }
+{
+    put(disk, slot.body(), body)
+}
+
+// Opens a gate by a write of one byte, and syncs.
+fn open_gate<D: Disk>(disk: &mut D, slot: Slot) -> Result<(), Fault>
+    requires { 2048 ≤ (D.state disk.old).size }
+    ensures opened { OnOk result (IsOpen (D.state disk.new).seen slot) }
+    ensures durable { OnOk result (IsSynced (D.state disk.new)) }
+    ensures writes { WritesIn (gate_place slot) 1 (D.state disk.old) (D.state disk.new) }
+    ensures cause { HasCause (D.state disk.old).faults (D.state disk.new).faults result }
+{
+    put(disk, slot.gate(), &[OPEN])
+}
