@@ -12,7 +12,8 @@ pub struct Extent {
     pub count: u64,
 }
 
-/// No free extent has `need` sectors: the longest one has `largest`.
+/// No free extent has `need` sectors: the longest one has `largest`. What is free from the end on
+/// counts as one.
 #[derive(Clone, Copy, Debug, PartialEq, Eq)]
 pub struct SpaceFault {
     pub need: u64,
@@ -70,7 +71,7 @@ impl Space {
     pub fn take(&mut self, count: u64) -> Result<u64, SpaceFault>
         requires { IsSpace self.old }
 
-        // They are the first so many in a row that are free, and are free no longer.
+        // They are the front of the first extent that has so many, or stand at the end, and are free no longer.
         ensures first { IfOk result (λ first. first ≡ place_of self.old count) }
         ensures after { OnOk result (self.new ≡ without self.old count) }
         ensures takes { IfOk result (λ first. Takes self.old self.new first count) }
