@@ -1,0 +1,286 @@
+// A line that is done over and over, each time with something else done to it.
+
+use crate::calls::{Answer, Failing, Line, done};
+use crate::counts::Counts;
+use crate::labels::label_of;
+use crate::places::bytes_of;
+use crate::pools::{Ends, Standing};
+use std::alloc::{AllocError, Global};
+use zst_outside::Disk;
+
+/// The most times that a line is tried.
+const TRIES: u64 = 1 << 20;
+
+/// What is done to a line, each time at another place.
+#[derive(Drop)]
+pub(crate) enum Trial {
+    /// The disk stops before a call, and what wasn't synced is filled with each of these bytes.
+    DiskStops(Vec<u8>),
+    /// A call of the disk fails, and then the disk stops as well.
+    DiskFails(Vec<u8>),
+    ReadFails,
+    WriteFails,
+    NoteFails,
+    /// The input ends before a byte.
+    Cut,
+    /// These bits of a byte of the input are turned.
+    Turned(u8),
+}
+
+/// What is asked of the line that follows.
+#[derive(Drop)]
+pub(crate) enum Ask {
+    Each(Trial),
+    Fails(Failing),
+    Stops { number: u64, fill: u8 },
+    AtMostCalls(u64),
+    AtMostReads(u64),
+}
+
+/// The bytes that words say, one a word.
+fn fills_of(alloc: Global, words: &str) -> Result<Vec<u8>, AllocError> {
+    let mut fills = Vec::new(alloc);
+    for word in words.split(' ') {
+        if let Some(bytes) = bytes_of(alloc, word)? {
+            fills.extend_from_slice(&bytes)?;
+        }
+    }
+    Ok(fills)
+}
+
+/// What the words of a line ask of the one that follows.
+pub(crate) fn ask_of(alloc: Global, text: &str) -> Result<Option<Ask>, AllocError> {
+    if let Some(fills) = text.strip_prefix("each disk call stops ") {
+        return Ok(Some(Ask::Each(Trial::DiskStops(fills_of(alloc, fills)?))));
+    }
+    if let Some(fills) = text.strip_prefix("each disk call fails ") {
+        return Ok(Some(Ask::Each(Trial::DiskFails(fills_of(alloc, fills)?))));
+    }
+    if let Some(bits) = text.strip_prefix("each byte turned ") {
+        let bits = bytes_of(alloc, bits)?.and_then(|bits| bits.first().copied());
+        return Ok(bits.map(|bits| Ask::Each(Trial::Turned(bits))));
+    }
+    Ok(match text {
+        "each read fails" => Some(Ask::Each(Trial::ReadFails)),
+        "each write fails" => Some(Ask::Each(Trial::WriteFails)),
+        "each note fails" => Some(Ask::Each(Trial::NoteFails)),
+        "each cut" => Some(Ask::Each(Trial::Cut)),
+        _ => one_of(text),
+    })
+}
+
+/// The same for one call, or for how many there may be.
+fn one_of(text: &str) -> Option<Ask> {
+    if let Some(rest) = text.strip_prefix("at most ") {
+        let (count, what) = rest.split_once(' ')?;
+        let count = count.parse::<u64>().ok()?;
+        return match what {
+            "calls" => Some(Ask::AtMostCalls(count)),
+            "reads" => Some(Ask::AtMostReads(count)),
+            _ => None,
+        };
+    }
+    let (what, rest) = match text.strip_prefix("disk call ") {
+        Some(rest) => ("disk", rest),
+        None => text.split_once(' ')?,
+    };
+    let (number, does) = rest.split_once(' ')?;
+    let number = number.parse::<u64>().ok()?;
+    match (what, does) {
+        ("disk", "fails") => Some(Ask::Fails(Failing::Disk(number))),
+        ("read", "fails") => Some(Ask::Fails(Failing::Read(number))),
+        ("write", "fails") => Some(Ask::Fails(Failing::Write(number))),
+        ("note", "fails") => Some(Ask::Fails(Failing::Note(number))),
+        ("disk", "stops 00") => Some(Ask::Stops { number, fill: 0 }),
+        ("disk", "stops ff") => Some(Ask::Stops { number, fill: 0xff }),
+        _ => None,
+    }
+}
+
+impl Trial {
+    /// What there is one of for each try.
+    fn places(&self) -> &'static str {
+        match self {
+            Trial::DiskStops(_) => "stops",
+            Trial::DiskFails(_) => "calls",
+            Trial::ReadFails => "reads",
+            Trial::WriteFails | Trial::NoteFails => "writes",
+            Trial::Cut => "cuts",
+            Trial::Turned(_) => "bytes",
+        }
+    }
+}
+
+/// Tries a line at each place, and tells what came of it.
+pub(crate) fn tried(
+    alloc: Global,
+    line: &Line,
+    trial: &Trial,
+    whole: &mut Answer,
+) -> Result<String, AllocError> {
+    let ends = match &line.image {
+        Some(before) => Some(Ends::new(alloc, before.to_vec(alloc)?, whole.image(alloc)?)?),
+        None => None,
+    };
+    let mut counts = Counts::new(alloc);
+    for number in 0..TRIES {
+        match one_try(alloc, line, trial, whole, &ends, number)? {
+            Some(label) => counts.add(label)?,
+            None => break,
+        }
+    }
+    counts.told(alloc, trial.places())
+}
+
+/// One try: what came of it, None where there is no such place.
+fn one_try(
+    alloc: Global,
+    line: &Line,
+    trial: &Trial,
+    whole: &Answer,
+    ends: &Option<Ends>,
+    number: u64,
+) -> Result<Option<String>, AllocError> {
+    match trial {
+        Trial::DiskStops(fills) => stopped(alloc, whole, ends, number, fills),
+        Trial::DiskFails(fills) => {
+            failed(
+                alloc,
+                line,
+                whole,
+                ends,
+                Failing::Disk(number),
+                number,
+                fills,
+            )
+        }
+        Trial::ReadFails => failed(alloc, line, whole, ends, Failing::Read(number), number, &[]),
+        Trial::WriteFails => failed(
+            alloc,
+            line,
+            whole,
+            ends,
+            Failing::Write(number),
+            number,
+            &[],
+        ),
+        Trial::NoteFails => noted(alloc, line, whole, number),
+        Trial::Cut | Trial::Turned(_) => given(alloc, line, trial, whole, ends, number),
+    }
+}
+
+/// How the pools compare that a disk may hold which stopped before the call of this number.
+fn standing_of(
+    alloc: Global,
+    found: &Answer,
+    ends: &Option<Ends>,
+    number: u64,
+    fills: &[u8],
+) -> Result<Standing, AllocError> {
+    let mut standing = Standing::none();
+    if let Some(ends) = ends {
+        for fill in fills {
+            let image = found.stopped(alloc, number, *fill)?;
+            standing = standing.or(ends.standing(alloc, &image)?);
+        }
+    }
+    Ok(standing)
+}
+
+fn stopped(
+    alloc: Global,
+    whole: &Answer,
+    ends: &Option<Ends>,
+    number: u64,
+    fills: &[u8],
+) -> Result<Option<String>, AllocError> {
+    if number > whole.disk.calls() {
+        return Ok(None);
+    }
+    let mut label = String::new(alloc);
+    standing_of(alloc, whole, ends, number, fills)?.add_to(&mut label)?;
+    Ok(Some(label))
+}
+
+/// A line of which one call fails.
+fn failed(
+    alloc: Global,
+    line: &Line,
+    whole: &Answer,
+    ends: &Option<Ends>,
+    failing: Failing,
+    number: u64,
+    fills: &[u8],
+) -> Result<Option<String>, AllocError> {
+    let mut found = done(alloc, line, failing)?;
+    if found.faults == 0 {
+        return Ok(None);
+    }
+    let mut label = label_of(alloc, whole, &found, number, line)?;
+    let calls = found.disk.calls();
+    let mut standing = standing_of(alloc, &found, ends, calls, fills)?;
+    if let Some(ends) = ends {
+        let image = found.image(alloc)?;
+        standing = standing.or(ends.standing(alloc, &image)?);
+    }
+    standing.add_to(&mut label)?;
+    Ok(Some(label))
+}
+
+/// A line whose note fails at a byte.
+fn noted(
+    alloc: Global,
+    line: &Line,
+    whole: &Answer,
+    number: u64,
+) -> Result<Option<String>, AllocError> {
+    let found = done(alloc, line, Failing::Note(number))?;
+    if found.faults == 0 {
+        return Ok(None);
+    }
+    let written = usize::try_from(number).unwrap_or(usize::MAX);
+    let is_front = whole
+        .note
+        .get(..written)
+        .is_some_and(|front| front == found.note.as_slice());
+    let is_same = found.status == whole.status && found.out == whole.out;
+    let label = if is_front && is_same {
+        "the note as far as it went"
+    } else {
+        "otherwise"
+    };
+    Ok(Some(String::from_str(alloc, label)?))
+}
+
+/// A line whose input is cut or has a byte turned.
+fn given(
+    alloc: Global,
+    line: &Line,
+    trial: &Trial,
+    whole: &Answer,
+    ends: &Option<Ends>,
+    number: u64,
+) -> Result<Option<String>, AllocError> {
+    let place = usize::try_from(number).unwrap_or(usize::MAX);
+    let Some(front) = line.input.get(..place) else {
+        return Ok(None);
+    };
+    if place == line.input.len() {
+        return Ok(None);
+    }
+    let mut input = front.to_vec(alloc)?;
+    if let Trial::Turned(bits) = trial {
+        input = line.input.to_vec(alloc)?;
+        if let Some(byte) = input.get_mut(place) {
+            *byte ^= *bits;
+        }
+    }
+    let line = line.with_input(alloc, input)?;
+    let mut found = done(alloc, &line, Failing::None)?;
+    let mut label = label_of(alloc, whole, &found, number, &line)?;
+    if let Some(ends) = ends {
+        let image = found.image(alloc)?;
+        ends.standing(alloc, &image)?.add_to(&mut label)?;
+    }
+    Ok(Some(label))
+}
