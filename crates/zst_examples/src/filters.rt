@@ -239,8 +239,7 @@ fn told(
     }
     match (number(word(rest, 0)), number(word(rest, 1))) {
         (Some(from), Some(to)) => {
-            let [a, b, c, d] = sums_of(input, from, to);
-            format!(in alloc; "{a} {b} {c} {d}\n").map(bytes_of_text)
+            format!(in alloc; "{}\n", sums_of(input, from, to)).map(bytes_of_text)
         }
         _ => Ok(None),
     }

@@ -80,7 +80,6 @@ fn sums_note(
     place: usize,
     before: usize,
 ) -> Result<String, AllocError> {
-    let [a, b, c, d] = sums_at(input, place);
-    let [e, f, g, h] = sums_of(input, 0, before);
-    format!(in alloc; "zst: E18 checksum at {place}: stated {a} {b} {c} {d}, found {e} {f} {g} {h}")
+    let (stated, found) = (sums_at(input, place), sums_of(input, 0, before));
+    format!(in alloc; "zst: E18 checksum at {place}: stated {stated}, found {found}")
 }

@@ -2,6 +2,7 @@
 
 use crate::places::{number_at, put_number};
 use std::alloc::{AllocError, Global};
+use std::fmt;
 
 /// The bytes of a record without its payload.
 const RECORD: usize = 312;
@@ -12,41 +13,67 @@ const SUMS: usize = 280;
 /// The type of END, whose first field states the sums of all before it.
 const END: u64 = 5;
 
-/// The sums of Fletcher-4 after some more words of 32 bits.
-fn sums_after(sums: [u64; 4], bytes: &[u8]) -> [u64; 4] {
-    let [mut a, mut b, mut c, mut d] = sums;
-    for word in bytes.chunks_exact(4) {
-        if let [w, x, y, z] = word {
-            a = a.wrapping_add(u64::from(u32::from_le_bytes([*w, *x, *y, *z])));
-            b = b.wrapping_add(a);
-            c = c.wrapping_add(b);
-            d = d.wrapping_add(c);
-        }
+/// The four sums of Fletcher-4.
+#[derive(Clone, Copy)]
+pub(crate) struct Sums {
+    a: u64,
+    b: u64,
+    c: u64,
+    d: u64,
+}
+
+impl fmt::Display for Sums {
+    fn fmt<W: fmt::Write>(&self, f: &mut fmt::Formatter<W>) -> fmt::Result {
+        let Sums { a, b, c, d } = *self;
+        write!(f, "{a} {b} {c} {d}")
     }
-    [a, b, c, d]
+}
+
+/// The sums of no bytes.
+const NO_SUMS: Sums = Sums {
+    a: 0,
+    b: 0,
+    c: 0,
+    d: 0,
+};
+
+impl Sums {
+    /// The sums after some more words of 32 bits.
+    fn after(mut self, bytes: &[u8]) -> Sums {
+        for word in bytes.chunks_exact(4) {
+            if let [w, x, y, z] = word {
+                let word = u32::from_le_bytes([*w, *x, *y, *z]);
+                self.a = self.a.wrapping_add(u64::from(word));
+                self.b = self.b.wrapping_add(self.a);
+                self.c = self.c.wrapping_add(self.b);
+                self.d = self.d.wrapping_add(self.c);
+            }
+        }
+        self
+    }
+
+    /// Puts them at a place.
+    fn put(self, bytes: &mut [u8], place: usize) {
+        put_number(bytes, place, self.a);
+        put_number(bytes, place.saturating_add(8), self.b);
+        put_number(bytes, place.saturating_add(16), self.c);
+        put_number(bytes, place.saturating_add(24), self.d);
+    }
 }
 
 /// The sums of the bytes from a place to another.
-pub(crate) fn sums_of(bytes: &[u8], from: usize, to: usize) -> [u64; 4] {
-    sums_after([0; 4], bytes.get(from..to).unwrap_or(&[]))
+pub(crate) fn sums_of(bytes: &[u8], from: usize, to: usize) -> Sums {
+    NO_SUMS.after(bytes.get(from..to).unwrap_or(&[]))
 }
 
 /// The sums that stand at a place.
-pub(crate) fn sums_at(bytes: &[u8], place: usize) -> [u64; 4] {
-    [
-        number_at(bytes, place, 8),
-        number_at(bytes, place.saturating_add(8), 8),
-        number_at(bytes, place.saturating_add(16), 8),
-        number_at(bytes, place.saturating_add(24), 8),
-    ]
-}
-
-fn put_sums(bytes: &mut [u8], place: usize, sums: [u64; 4]) {
-    let [a, b, c, d] = sums;
-    put_number(bytes, place, a);
-    put_number(bytes, place.saturating_add(8), b);
-    put_number(bytes, place.saturating_add(16), c);
-    put_number(bytes, place.saturating_add(24), d);
+pub(crate) fn sums_at(bytes: &[u8], place: usize) -> Sums {
+    Sums {
+        a: number_at(bytes, place, 8),
+        b: number_at(bytes, place.saturating_add(8), 8),
+        c: number_at(bytes, place.saturating_add(16), 8),
+        d: number_at(bytes, place.saturating_add(24), 8),
+    }
 }
 
 /// The bytes of the payload behind a record: BEGIN, OBJECT, WRITE and SPILL have one.
@@ -76,22 +103,22 @@ fn places_of(alloc: Global, stream: &[u8]) -> Result<Vec<usize>, AllocError> {
 }
 
 /// Makes the sums of a record those of what stands before, and gives the sums after it and its payload. BEGIN has none of its own.
-fn seal_one(stream: &mut [u8], sums: [u64; 4], place: usize, end: usize) -> [u64; 4] {
+fn seal_one(stream: &mut [u8], sums: Sums, place: usize, end: usize) -> Sums {
     if number_at(stream, place, 4) == END {
-        put_sums(stream, place.saturating_add(8), sums);
+        sums.put(stream, place.saturating_add(8));
     }
     let own = place.saturating_add(SUMS);
-    let before = sums_after(sums, stream.get(place..own).unwrap_or(&[]));
+    let before = sums.after(stream.get(place..own).unwrap_or(&[]));
     if place > 0 {
-        put_sums(stream, own, before);
+        before.put(stream, own);
     }
-    sums_after(before, stream.get(own..end).unwrap_or(&[]))
+    before.after(stream.get(own..end).unwrap_or(&[]))
 }
 
 /// Makes each sum of a stream the right one.
 pub(crate) fn seal(alloc: Global, stream: &mut Vec<u8>) -> Result<(), AllocError> {
     let places = places_of(alloc, stream)?;
-    let mut sums = [0; 4];
+    let mut sums = NO_SUMS;
     for (i, place) in places.iter().enumerate() {
         let end = places
             .get(i.saturating_add(1))
@@ -110,10 +137,10 @@ fn unnamed(alloc: Global, stream: &[u8]) -> Result<Vec<u8>, AllocError> {
     }
     for place in places_of(alloc, stream)? {
         if number_at(&bytes, place, 4) == END {
-            put_sums(&mut bytes, place.saturating_add(8), [0; 4]);
+            NO_SUMS.put(&mut bytes, place.saturating_add(8));
         }
         if place > 0 {
-            put_sums(&mut bytes, place.saturating_add(SUMS), [0; 4]);
+            NO_SUMS.put(&mut bytes, place.saturating_add(SUMS));
         }
     }
     Ok(bytes)
