@@ -234,8 +234,10 @@ fn told(
     files: &Files,
 ) -> Result<Option<Vec<u8>>, AllocError> {
     if name == "compare" {
-        let (one, other) = (word(rest, 0), word(rest, 1));
-        return compared(alloc, bytes_in(files, one), bytes_in(files, other)).map(bytes_of_text);
+        return match (files.get(word(rest, 0)), files.get(word(rest, 1))) {
+            (Some(one), Some(other)) => compared(alloc, one, other).map(bytes_of_text),
+            _ => Ok(None),
+        };
     }
     match (number(word(rest, 0)), number(word(rest, 1))) {
         (Some(from), Some(to)) => {
