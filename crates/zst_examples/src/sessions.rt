@@ -109,7 +109,10 @@ impl Session {
                 pieces_at(stages, i.checked_sub(1)),
                 pieces_at(stages, i.checked_add(1)),
             );
-            let is_last = i.saturating_add(1) == stages.len();
+            let is_last = !stages
+                .iter()
+                .skip(i.saturating_add(1))
+                .any(|later| is_zst(later));
             handed = self.command(alloc, stage, handed, pieces, is_last)?;
             if let Some(name) = &stage.to {
                 let bytes = handed.bytes.to_vec(alloc)?;
@@ -252,6 +255,14 @@ impl Session {
             status: answer.status,
         })
     }
+}
+
+/// Whether a command is a line of `zst`.
+fn is_zst(stage: &Stage) -> bool {
+    stage
+        .words
+        .first()
+        .is_some_and(|name| name.as_str() == "zst")
 }
 
 /// The size of the pieces that a command of a pipe asks for.
