@@ -2,7 +2,7 @@
 
 use crate::pipes::{Files, bytes_in};
 use crate::places::{MOST, Way, bytes_of, patches_of, put_all};
-use crate::records::{compared, seal, sums_of};
+use crate::records::{compared, put_sums, seal, sums_of};
 use std::alloc::{AllocError, Global};
 use std::str;
 
@@ -21,7 +21,8 @@ pub(crate) fn filtered(
         "head" | "tail" | "cut" | "wc" => shortened(alloc, name.as_str(), rest, input, files),
         "zeros" | "payload" | "record" => appended(alloc, name.as_str(), rest, input),
         "set" | "turn" => patched(alloc, name.as_str(), rest, input),
-        "seal" | "pieces" => same_form(alloc, name.as_str(), input).map(Some),
+        "seal" => sealed(alloc, rest, input).map(Some),
+        "pieces" => Ok(Some(input)),
         "compare" | "sums" => told(alloc, name.as_str(), rest, &input, files),
         _ => Ok(None),
     }
@@ -217,15 +218,19 @@ fn patched(
     }))
 }
 
-/// The input with right sums, or as it is.
-fn same_form(alloc: Global, name: &str, mut input: Vec<u8>) -> Result<Vec<u8>, AllocError> {
-    if name == "seal" {
-        seal(alloc, &mut input)?;
+/// The input with right sums: in each of its records, or behind the bytes that are named.
+fn sealed(alloc: Global, rest: &[String], mut input: Vec<u8>) -> Result<Vec<u8>, AllocError> {
+    match (number(word(rest, 0)), number(word(rest, 1))) {
+        (Some(from), Some(to)) => {
+            let sums = sums_of(&input, from, to);
+            put_sums(&mut input, to, sums);
+        }
+        _ => seal(alloc, &mut input)?,
     }
     Ok(input)
 }
 
-/// What is told of the input or of two files.
+/// What is told of the input, of it and a file, or of two files.
 fn told(
     alloc: Global,
     name: &str,
@@ -234,8 +239,12 @@ fn told(
     files: &Files,
 ) -> Result<Option<Vec<u8>>, AllocError> {
     if name == "compare" {
-        let (one, other) = (word(rest, 0), word(rest, 1));
-        return compared(alloc, bytes_in(files, one), bytes_in(files, other)).map(bytes_of_text);
+        let one = bytes_in(files, word(rest, 0));
+        let other = match rest.get(1) {
+            Some(other) => bytes_in(files, other.as_str()),
+            None => input,
+        };
+        return compared(alloc, one, other).map(bytes_of_text);
     }
     match (number(word(rest, 0)), number(word(rest, 1))) {
         (Some(from), Some(to)) => {

@@ -41,7 +41,8 @@ pub(crate) fn sums_at(bytes: &[u8], place: usize) -> [u64; 4] {
     ]
 }
 
-fn put_sums(bytes: &mut [u8], place: usize, sums: [u64; 4]) {
+/// Puts four sums at a place, as far as there are bytes.
+pub(crate) fn put_sums(bytes: &mut [u8], place: usize, sums: [u64; 4]) {
     let [a, b, c, d] = sums;
     put_number(bytes, place, a);
     put_number(bytes, place.saturating_add(8), b);

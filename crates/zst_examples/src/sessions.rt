@@ -8,7 +8,6 @@ use crate::{UNREAD, trials};
 use std::alloc::{AllocError, Global};
 use std::collections::BTreeMap;
 use std::str;
-use zst_outside::Disk;
 use zst_run::{OpenMode, opening_of};
 
 /// The status of the program where an image can't be opened.
@@ -109,7 +108,7 @@ impl Session {
                 pieces_at(stages, i.checked_sub(1)),
                 pieces_at(stages, i.checked_add(1)),
             );
-            let is_last = i.saturating_add(1) == stages.len();
+            let is_last = !has_line(stages, i.saturating_add(1));
             handed = self.command(alloc, stage, handed, pieces, is_last)?;
             if let Some(name) = &stage.to {
                 let bytes = handed.bytes.to_vec(alloc)?;
@@ -254,6 +253,20 @@ impl Session {
     }
 }
 
+/// Whether a command of a pipe from this place on is a line of `zst`.
+fn has_line(stages: &[Stage], from: usize) -> bool {
+    for stage in stages.iter().skip(from) {
+        if stage
+            .words
+            .first()
+            .is_some_and(|name| name.as_str() == "zst")
+        {
+            return true;
+        }
+    }
+    false
+}
+
 /// The size of the pieces that a command of a pipe asks for.
 fn pieces_at(stages: &[Stage], place: Option<usize>) -> usize {
     let words = match place.and_then(|place| stages.get(place)) {
@@ -299,7 +312,7 @@ fn add_asked(
 ) -> Result<(), AllocError> {
     let text = match ask {
         Some(Ask::Each(trial)) => tried(alloc, line, trial, answer)?,
-        Some(Ask::AtMostCalls(most)) => bounded(alloc, answer.disk.calls(), *most, "calls")?,
+        Some(Ask::AtMostCalls(most)) => bounded(alloc, answer.calls, *most, "calls")?,
         Some(Ask::AtMostReads(most)) => bounded(alloc, answer.reads() as u64, *most, "reads")?,
         _ => String::new(alloc),
     };
