@@ -16,6 +16,9 @@ pub(crate) fn label_of(
         return String::from_str(alloc, "done");
     }
     let mut label = note_of(alloc, found.note(), number, &line.input)?;
+    if found.status > 0 {
+        label.push_str(format!(in alloc; " (status {})", found.status)?.as_str())?;
+    }
     if !found.out.is_empty() {
         label.push_str(front_of(alloc, &whole.out, &found.out, number, line.pieces.1)?.as_str())?;
     }
