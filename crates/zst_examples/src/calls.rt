@@ -92,6 +92,8 @@ pub(crate) struct Answer {
     pub(crate) note: Vec<u8>,
     /// The disk as it then stands.
     pub(crate) disk: MemDisk,
+    /// How many calls the line made on it.
+    pub(crate) calls: u64,
     /// How many calls outside failed.
     pub(crate) faults: u64,
 }
@@ -106,12 +108,13 @@ impl Answer {
         seen(alloc, &mut self.disk)
     }
 
-    /// How many of the disk's calls read.
+    /// How many of the line's calls on the disk read.
     pub(crate) fn reads(&self) -> usize {
+        let calls = self.calls;
         self.disk
             .log()
             .iter()
-            .filter(|entry| matches!(entry.call, Call::Read(..)))
+            .filter(|entry| entry.number < calls && matches!(entry.call, Call::Read(..)))
             .count()
     }
 
@@ -167,11 +170,13 @@ pub(crate) fn done(alloc: Global, line: &Line, failing: Failing) -> Result<Answe
     );
     let outside = input.faults().max(out.faults()).max(note.faults());
     let faults = disk.faults().max(outside);
+    let calls = disk.calls();
     Ok(Answer {
         status,
         out: out.bytes().to_vec(alloc)?,
         note: note.bytes().to_vec(alloc)?,
         disk,
+        calls,
         faults,
     })
 }

@@ -1,8 +1,8 @@
 // What stands between the commands of a pipe: a few words of the shell, and the examples' own for streams and images.
 
 use crate::pipes::{Files, bytes_in};
-use crate::places::{MOST, Way, bytes_of, patches_of, put_all};
-use crate::records::{compared, seal, sums_of};
+use crate::places::{MOST, Patch, Way, bytes_of, patches_of, put_all};
+use crate::records::{RECORD, compared, seal, sums_of};
 use std::alloc::{AllocError, Global};
 use std::str;
 
@@ -21,7 +21,8 @@ pub(crate) fn filtered(
         "head" | "tail" | "cut" | "wc" => shortened(alloc, name.as_str(), rest, input, files),
         "zeros" | "payload" | "record" => appended(alloc, name.as_str(), rest, input),
         "set" | "turn" => patched(alloc, name.as_str(), rest, input),
-        "seal" | "pieces" => same_form(alloc, name.as_str(), input).map(Some),
+        "seal" => sealed(alloc, rest, input).map(Some),
+        "pieces" => Ok(Some(input)),
         "compare" | "sums" => told(alloc, name.as_str(), rest, &input, files),
         _ => Ok(None),
     }
@@ -176,31 +177,54 @@ fn appended(
     rest: &[String],
     mut input: Vec<u8>,
 ) -> Result<Option<Vec<u8>>, AllocError> {
-    let mut more = if name == "record" {
-        vec![in alloc; 0; 312]?
-    } else {
-        match number(word(rest, 0)) {
-            Some(count) => vec![in alloc; 0; count]?,
-            None => return Ok(None),
-        }
+    let more = match name {
+        "record" => record_of(alloc, rest)?,
+        "payload" => payload_of(alloc, number(word(rest, 0)), word(rest, 1))?,
+        _ => zeros(alloc, number(word(rest, 0)))?,
     };
-    if name == "record" {
-        match patches_of(alloc, rest)? {
-            Some(patches) => put_all(&patches, &mut more, Way::Set),
-            None => return Ok(None),
-        }
-    } else if name == "payload" && word(rest, 1) == "counted" {
-        for (i, byte) in more.iter_mut().enumerate() {
-            *byte = (i % 251) as u8;
-        }
-    } else if name == "payload" {
-        let front = bytes_of(alloc, word(rest, 1))?.unwrap_or(Vec::new(alloc));
-        for (byte, given) in more.iter_mut().zip(&front) {
-            *byte = *given;
-        }
-    }
+    let Some(more) = more else {
+        return Ok(None);
+    };
     input.extend_from_slice(&more)?;
     Ok(Some(input))
+}
+
+/// So many bytes that are zero.
+fn zeros(alloc: Global, count: Option<usize>) -> Result<Option<Vec<u8>>, AllocError> {
+    Ok(match count {
+        Some(count) => Some(vec![in alloc; 0; count]?),
+        None => None,
+    })
+}
+
+/// A record that is zero but for what words say.
+fn record_of(alloc: Global, words: &[String]) -> Result<Option<Vec<u8>>, AllocError> {
+    let mut record = vec![in alloc; 0; RECORD]?;
+    Ok(patches_of(alloc, words)?.map(|patches| {
+        put_all(&patches, &mut record, Way::Set);
+        record
+    }))
+}
+
+/// A payload of so many bytes: the numbers from 0 to 250 over and over, or these bytes and then zeros.
+fn payload_of(
+    alloc: Global,
+    count: Option<usize>,
+    form: &str,
+) -> Result<Option<Vec<u8>>, AllocError> {
+    let Some(mut payload) = zeros(alloc, count)? else {
+        return Ok(None);
+    };
+    if form == "counted" {
+        for (i, byte) in payload.iter_mut().enumerate() {
+            *byte = (i % 251) as u8;
+        }
+        return Ok(Some(payload));
+    }
+    Ok(bytes_of(alloc, form)?.map(|bytes| {
+        put_all(&[Patch::front(bytes)], &mut payload, Way::Set);
+        payload
+    }))
 }
 
 /// The input with other bytes at some places.
@@ -217,15 +241,19 @@ fn patched(
     }))
 }
 
-/// The input with right sums, or as it is.
-fn same_form(alloc: Global, name: &str, mut input: Vec<u8>) -> Result<Vec<u8>, AllocError> {
-    if name == "seal" {
-        seal(alloc, &mut input)?;
+/// The input with right sums: in each of its records, or behind the bytes that are named.
+fn sealed(alloc: Global, rest: &[String], mut input: Vec<u8>) -> Result<Vec<u8>, AllocError> {
+    match (number(word(rest, 0)), number(word(rest, 1))) {
+        (Some(from), Some(to)) => {
+            let sums = sums_of(&input, from, to);
+            sums.put(&mut input, to);
+        }
+        _ => seal(alloc, &mut input)?,
     }
     Ok(input)
 }
 
-/// What is told of the input or of two files.
+/// What is told of the input, of it and a file, or of two files.
 fn told(
     alloc: Global,
     name: &str,
@@ -234,7 +262,11 @@ fn told(
     files: &Files,
 ) -> Result<Option<Vec<u8>>, AllocError> {
     if name == "compare" {
-        return match (files.get(word(rest, 0)), files.get(word(rest, 1))) {
+        let other = match rest.get(1) {
+            Some(other) => files.get(other.as_str()).map(|bytes| bytes.as_slice()),
+            None => Some(input),
+        };
+        return match (files.get(word(rest, 0)), other) {
             (Some(one), Some(other)) => compared(alloc, one, other).map(bytes_of_text),
             _ => Ok(None),
         };

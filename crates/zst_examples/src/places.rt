@@ -56,6 +56,11 @@ pub(crate) enum Way {
 }
 
 impl Patch {
+    /// These bytes at the front.
+    pub(crate) fn front(bytes: Vec<u8>) -> Patch {
+        Patch { place: 0, bytes }
+    }
+
     /// Puts the bytes at their place, as far as there are bytes.
     fn put(&self, into: &mut [u8], way: Way) {
         for (i, byte) in self.bytes.iter().enumerate() {

@@ -5,7 +5,7 @@ use std::alloc::{AllocError, Global};
 use std::fmt;
 
 /// The bytes of a record without its payload.
-const RECORD: usize = 312;
+pub(crate) const RECORD: usize = 312;
 
 /// Where a record's own sums stand in it.
 const SUMS: usize = 280;
@@ -52,8 +52,8 @@ impl Sums {
         self
     }
 
-    /// Puts them at a place.
-    fn put(self, bytes: &mut [u8], place: usize) {
+    /// Puts them at a place, as far as there are bytes.
+    pub(crate) fn put(self, bytes: &mut [u8], place: usize) {
         put_number(bytes, place, self.a);
         put_number(bytes, place.saturating_add(8), self.b);
         put_number(bytes, place.saturating_add(16), self.c);

@@ -8,7 +8,6 @@ use crate::{UNREAD, trials};
 use std::alloc::{AllocError, Global};
 use std::collections::BTreeMap;
 use std::str;
-use zst_outside::Disk;
 use zst_run::{OpenMode, opening_of};
 
 /// The status of the program where an image can't be opened.
@@ -310,7 +309,7 @@ fn add_asked(
 ) -> Result<(), AllocError> {
     let text = match ask {
         Some(Ask::Each(trial)) => tried(alloc, line, trial, answer)?,
-        Some(Ask::AtMostCalls(most)) => bounded(alloc, answer.disk.calls(), *most, "calls")?,
+        Some(Ask::AtMostCalls(most)) => bounded(alloc, answer.calls, *most, "calls")?,
         Some(Ask::AtMostReads(most)) => bounded(alloc, answer.reads() as u64, *most, "reads")?,
         _ => String::new(alloc),
     };

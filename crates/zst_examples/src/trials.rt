@@ -6,7 +6,6 @@ use crate::labels::label_of;
 use crate::places::bytes_of;
 use crate::pools::{Ends, Standing};
 use std::alloc::{AllocError, Global};
-use zst_outside::Disk;
 
 /// The most times that a line is tried.
 const TRIES: u64 = 1 << 20;
@@ -164,7 +163,7 @@ fn one_try(
             number,
             &[],
         ),
-        Trial::NoteFails => noted(alloc, line, whole, number),
+        Trial::NoteFails => noted(alloc, line, whole, ends, number),
         Trial::Cut | Trial::Turned(_) => given(alloc, line, trial, whole, ends, number),
     }
 }
@@ -194,7 +193,7 @@ fn stopped(
     number: u64,
     fills: &[u8],
 ) -> Result<Option<String>, AllocError> {
-    if number > whole.disk.calls() {
+    if number > whole.calls {
         return Ok(None);
     }
     let mut label = String::new(alloc);
@@ -217,8 +216,7 @@ fn failed(
         return Ok(None);
     }
     let mut label = label_of(alloc, whole, &found, number, line)?;
-    let calls = found.disk.calls();
-    let mut standing = standing_of(alloc, &found, ends, calls, fills)?;
+    let mut standing = standing_of(alloc, &found, ends, found.calls, fills)?;
     if let Some(ends) = ends {
         let image = found.image(alloc)?;
         standing = standing.or(ends.standing(alloc, &image)?);
@@ -232,9 +230,10 @@ fn noted(
     alloc: Global,
     line: &Line,
     whole: &Answer,
+    ends: &Option<Ends>,
     number: u64,
 ) -> Result<Option<String>, AllocError> {
-    let found = done(alloc, line, Failing::Note(number))?;
+    let mut found = done(alloc, line, Failing::Note(number))?;
     if found.faults == 0 {
         return Ok(None);
     }
@@ -244,12 +243,19 @@ fn noted(
         .get(..written)
         .is_some_and(|front| front == found.note.as_slice());
     let is_same = found.status == whole.status && found.out == whole.out;
-    let label = if is_front && is_same {
-        "the note as far as it went"
-    } else {
-        "otherwise"
-    };
-    Ok(Some(String::from_str(alloc, label)?))
+    let mut label = String::from_str(
+        alloc,
+        if is_front && is_same {
+            "the note as far as it went"
+        } else {
+            "another answer"
+        },
+    )?;
+    if let Some(ends) = ends {
+        let image = found.image(alloc)?;
+        ends.standing(alloc, &image)?.add_to(&mut label)?;
+    }
+    Ok(Some(label))
 }
 
 /// A line whose input is cut or has a byte turned.
