@@ -33,6 +33,16 @@ impl Line {
             pieces: self.pieces,
         })
     }
+
+    /// The same line on another image.
+    pub(crate) fn with_image(&self, alloc: Global, image: Vec<u8>) -> Result<Line, AllocError> {
+        Ok(Line {
+            words: self.words.clone()?,
+            image: Some(image),
+            input: self.input.to_vec(alloc)?,
+            pieces: self.pieces,
+        })
+    }
 }
 
 /// Which call outside fails, by its number from 0.
@@ -116,6 +126,14 @@ impl Answer {
             .iter()
             .filter(|entry| entry.number < calls && matches!(entry.call, Call::Read(..)))
             .count()
+    }
+
+    /// Whether one of the line's calls wrote.
+    pub(crate) fn wrote(&self) -> bool {
+        self.disk
+            .log()
+            .iter()
+            .any(|entry| matches!(entry.call, Call::Write(..)))
     }
 
     /// What the disk holds where it stopped before the call of this number, and each range that wasn't synced is filled.

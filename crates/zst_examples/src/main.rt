@@ -4,12 +4,14 @@
 
 mod calls;
 mod counts;
+mod damage;
 mod filters;
 mod labels;
 mod pipes;
 mod places;
 mod pools;
 mod records;
+mod remnants;
 mod sessions;
 mod trials;
 

@@ -142,17 +142,27 @@ pub(crate) fn pool_of(alloc: Global, image: &[u8]) -> Result<Pool, AllocError> {
     Ok(Pool { number, rows })
 }
 
-/// The image before a line, and what the pools before and after it say.
+/// The images before and after a line, and what their pools say.
 #[derive(Drop)]
 pub(crate) struct Ends {
     before: Vec<u8>,
+    after: Vec<u8>,
     pools: (Pool, Pool),
 }
 
 impl Ends {
     pub(crate) fn new(alloc: Global, before: Vec<u8>, after: Vec<u8>) -> Result<Ends, AllocError> {
         let pools = (pool_of(alloc, &before)?, pool_of(alloc, &after)?);
-        Ok(Ends { before, pools })
+        Ok(Ends {
+            before,
+            after,
+            pools,
+        })
+    }
+
+    /// The image after the line.
+    pub(crate) fn after(&self) -> &[u8] {
+        &self.after
     }
 
     /// How the pool of an image compares with both.

@@ -2,9 +2,11 @@
 
 use crate::calls::{Answer, Failing, Line, done};
 use crate::counts::Counts;
+use crate::damage::damage_label;
 use crate::labels::label_of;
 use crate::places::bytes_of;
 use crate::pools::{Ends, Standing};
+use crate::remnants::left_each_way;
 use std::alloc::{AllocError, Global};
 
 /// The most times that a line is tried.
@@ -15,6 +17,8 @@ const TRIES: u64 = 1 << 20;
 pub(crate) enum Trial {
     /// The disk stops before a call, and what wasn't synced is filled with each of these bytes.
     DiskStops(Vec<u8>),
+    /// The disk stops before a call, and each range that wasn't synced is left in each way.
+    DiskStopsEachWay,
     /// A call of the disk fails, and then the disk stops as well.
     DiskFails(Vec<u8>),
     ReadFails,
@@ -24,6 +28,8 @@ pub(crate) enum Trial {
     Cut,
     /// These bits of a byte of the input are turned.
     Turned(u8),
+    /// These bits of a byte of the image are turned, from a place to another.
+    ImageTurned { bits: u8, from: usize, to: usize },
 }
 
 /// What is asked of the line that follows.
@@ -47,8 +53,27 @@ fn fills_of(alloc: Global, words: &str) -> Result<Vec<u8>, AllocError> {
     Ok(fills)
 }
 
+/// The bits that are turned in each byte of the image from a place to another, as words say them.
+fn turned_image(alloc: Global, words: &str) -> Result<Option<Ask>, AllocError> {
+    let mut words = words.split(' ');
+    let (Some(bits), Some(from), Some(to)) = (words.next(), words.next(), words.next()) else {
+        return Ok(None);
+    };
+    let bits = bytes_of(alloc, bits)?.and_then(|bits| bits.first().copied());
+    Ok(match (bits, from.parse::<usize>(), to.parse::<usize>()) {
+        (Some(bits), Ok(from), Ok(to)) => Some(Ask::Each(Trial::ImageTurned { bits, from, to })),
+        _ => None,
+    })
+}
+
 /// What the words of a line ask of the one that follows.
 pub(crate) fn ask_of(alloc: Global, text: &str) -> Result<Option<Ask>, AllocError> {
+    if text == "each disk call stops each way" {
+        return Ok(Some(Ask::Each(Trial::DiskStopsEachWay)));
+    }
+    if let Some(words) = text.strip_prefix("each byte of the image turned ") {
+        return turned_image(alloc, words);
+    }
     if let Some(fills) = text.strip_prefix("each disk call stops ") {
         return Ok(Some(Ask::Each(Trial::DiskStops(fills_of(alloc, fills)?))));
     }
@@ -100,12 +125,12 @@ impl Trial {
     /// What there is one of for each try.
     fn places(&self) -> &'static str {
         match self {
-            Trial::DiskStops(_) => "stops",
+            Trial::DiskStops(_) | Trial::DiskStopsEachWay => "stops",
             Trial::DiskFails(_) => "calls",
             Trial::ReadFails => "reads",
             Trial::WriteFails | Trial::NoteFails => "writes",
             Trial::Cut => "cuts",
-            Trial::Turned(_) => "bytes",
+            Trial::Turned(_) | Trial::ImageTurned { .. } => "bytes",
         }
     }
 }
@@ -121,6 +146,9 @@ pub(crate) fn tried(
         Some(before) => Some(Ends::new(alloc, before.to_vec(alloc)?, whole.image(alloc)?)?),
         None => None,
     };
+    if let (Trial::DiskStopsEachWay, Some(ends)) = (trial, &ends) {
+        return left_each_way(alloc, whole, ends);
+    }
     let mut counts = Counts::new(alloc);
     for number in 0..TRIES {
         match one_try(alloc, line, trial, whole, &ends, number)? {
@@ -164,6 +192,10 @@ fn one_try(
             &[],
         ),
         Trial::NoteFails => noted(alloc, line, whole, ends, number),
+        Trial::DiskStopsEachWay => Ok(None),
+        Trial::ImageTurned { bits, from, to } => {
+            on_turned_image(alloc, line, whole, *bits, (*from, *to), number)
+        }
         Trial::Cut | Trial::Turned(_) => given(alloc, line, trial, whole, ends, number),
     }
 }
@@ -289,4 +321,36 @@ fn given(
         ends.standing(alloc, &image)?.add_to(&mut label)?;
     }
     Ok(Some(label))
+}
+
+/// A line on whose image these bits of the byte of this number in a range are turned, None where the range has no such byte.
+fn on_turned_image(
+    alloc: Global,
+    line: &Line,
+    whole: &Answer,
+    bits: u8,
+    (from, to): (usize, usize),
+    number: u64,
+) -> Result<Option<String>, AllocError> {
+    let place = usize::try_from(number)
+        .unwrap_or(usize::MAX)
+        .saturating_add(from);
+    let Some(image) = &line.image else {
+        return Ok(None);
+    };
+    if place >= to {
+        return Ok(None);
+    }
+    let mut turned = image.to_vec(alloc)?;
+    match turned.get_mut(place) {
+        Some(byte) => *byte ^= bits,
+        None => return Ok(None),
+    }
+    let line = line.with_image(alloc, turned)?;
+    let found = done(alloc, &line, Failing::None)?;
+    let turned = match &line.image {
+        Some(turned) => turned.as_slice(),
+        None => &[],
+    };
+    Ok(Some(damage_label(alloc, whole, &found, image, turned)?))
 }
