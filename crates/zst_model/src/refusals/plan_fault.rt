@@ -12,7 +12,7 @@ use crate::refusals::text::{
 use zst_names::{BookName, DatasetName, NameFault, SnapName};
 
 /// Why a pool's command, a send or a receive can't be done: what its plan found, before anything changed.
-#[derive(Clone, Debug, Drop, PartialEq, Eq)]
+#[derive(Debug, Drop, PartialEq, Eq)]
 pub enum PlanFault {
     /// E2: the byte at which a name stops being one.
     BadName {

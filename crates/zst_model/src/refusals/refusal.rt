@@ -9,7 +9,7 @@ use crate::refusals::text::{Text, limited, numbered, paired, plain, reasoned, su
 use std::fmt;
 
 /// Why something was refused. The refusals are numbered over the whole project.
-#[derive(Clone, Debug, Drop, PartialEq, Eq)]
+#[derive(Debug, Drop, PartialEq, Eq)]
 pub enum Refusal {
     /// E1: the words aren't in the grammar; the first that can't stand where it is, counted from 0.
     Usage {
