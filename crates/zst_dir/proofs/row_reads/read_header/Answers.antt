@@ -1,36 +1,36 @@
-use Rattle.std.proofs.Common.{arith}
+use Rattle.std.proofs.Common.{arith, rules}
 use Rattle.zst_dir.proofs.RowParts.{header_parts}
 use Rattle.zst_dir.proofs.row_reads.read_header.Goals as goal
 
-pub returns-in_err-kind-clause-exact : goal.returns-in_err-kind-clause-exact
-returns-in_err-kind-clause-exact c = grind (arith, header_parts)
+pub returns-in_err-kind : goal.returns-in_err-kind
+returns-in_err-kind c = record { stated = search rules; exact = grind (arith, header_parts) }
 
-pub returns-in_err-flags-clause-exact : goal.returns-in_err-flags-clause-exact
-returns-in_err-flags-clause-exact c = grind (arith, header_parts)
+pub returns-in_err-flags : goal.returns-in_err-flags
+returns-in_err-flags c = record { stated = search rules; exact = grind (arith, header_parts) }
 
-pub returns-in_err-features-clause-exact : goal.returns-in_err-features-clause-exact
-returns-in_err-features-clause-exact c = grind (arith, header_parts)
+pub returns-in_err-features : goal.returns-in_err-features
+returns-in_err-features c = record { stated = search rules; exact = grind (arith, header_parts) }
 
-pub returns-in_err-time-clause-exact : goal.returns-in_err-time-clause-exact
-returns-in_err-time-clause-exact c = grind (arith, header_parts)
+pub returns-in_err-time : goal.returns-in_err-time
+returns-in_err-time c = record { stated = search rules; exact = grind (arith, header_parts) }
 
-pub returns-in_err-to-clause-exact : goal.returns-in_err-to-clause-exact
-returns-in_err-to-clause-exact c = grind (arith, header_parts)
+pub returns-in_err-to : goal.returns-in_err-to
+returns-in_err-to c = record { stated = search rules; exact = grind (arith, header_parts) }
 
-pub returns-in_err-from-clause-exact : goal.returns-in_err-from-clause-exact
-returns-in_err-from-clause-exact c = grind (arith, header_parts)
+pub returns-in_err-from : goal.returns-in_err-from
+returns-in_err-from c = record { stated = search rules; exact = grind (arith, header_parts) }
 
-pub returns-in_err-name-clause-exact : goal.returns-in_err-name-clause-exact
-returns-in_err-name-clause-exact c = grind (arith, header_parts)
+pub returns-in_err-name : goal.returns-in_err-name
+returns-in_err-name c = record { stated = search rules; exact = grind (arith, header_parts) }
 
-pub returns-in_err-redact-clause-exact : goal.returns-in_err-redact-clause-exact
-returns-in_err-redact-clause-exact c = grind (arith, header_parts)
+pub returns-in_err-redact : goal.returns-in_err-redact
+returns-in_err-redact c = record { stated = search rules; exact = grind (arith, header_parts) }
 
-pub returns-in_err-from_redact-clause-exact : goal.returns-in_err-from_redact-clause-exact
-returns-in_err-from_redact-clause-exact c = grind (arith, header_parts)
+pub returns-in_err-from_redact : goal.returns-in_err-from_redact
+returns-in_err-from_redact c = record { stated = search rules; exact = grind (arith, header_parts) }
 
-pub returns-then-not-go_together-clause-exact : goal.returns-then-not-go_together-clause-exact
-returns-then-not-go_together-clause-exact c = grind (arith, header_parts)
+pub returns-then-not-go_together : goal.returns-then-not-go_together
+returns-then-not-go_together c = record { stated = search rules; exact = grind (arith, header_parts) }
 
-pub returns-clause-exact : goal.returns-clause-exact
-returns-clause-exact c = grind (arith, header_parts)
+pub returns : goal.returns
+returns c = record { stated = search rules; exact = grind (arith, header_parts) }
