@@ -45,53 +45,30 @@ impl Line {
     }
 }
 
-/// Which call outside fails, by its number from 0.
+/// An end of the world that a line calls.
 #[derive(Clone, Copy, PartialEq, Eq)]
-pub(crate) enum Failing {
-    None,
-    Disk(u64),
-    Read(u64),
-    Write(u64),
-    Note(u64),
+pub(crate) enum End {
+    Disk,
+    Input,
+    Output,
+    Note,
 }
 
-impl Failing {
-    /// The numbers of the calls of a kind that fail.
-    fn numbers(alloc: Global, number: Option<u64>) -> Result<Vec<u64>, AllocError> {
-        let mut numbers = Vec::new(alloc);
-        if let Some(number) = number {
-            numbers.push(number)?;
-        }
-        Ok(numbers)
-    }
+/// A call outside that fails, by its number from 0 among those of its end.
+#[derive(Clone, Copy)]
+pub(crate) struct Failing {
+    pub(crate) end: End,
+    pub(crate) number: u64,
+}
 
-    fn of_disk(self) -> Option<u64> {
-        match self {
-            Failing::Disk(number) => Some(number),
-            _ => None,
-        }
+/// The numbers of the calls of an end that fail.
+fn failing_at(alloc: Global, failing: Option<Failing>, end: End) -> Result<Vec<u64>, AllocError> {
+    let mut numbers = Vec::new(alloc);
+    match failing {
+        Some(failing) if failing.end == end => numbers.push(failing.number)?,
+        _ => {}
     }
-
-    fn of_reads(self) -> Option<u64> {
-        match self {
-            Failing::Read(number) => Some(number),
-            _ => None,
-        }
-    }
-
-    fn of_writes(self) -> Option<u64> {
-        match self {
-            Failing::Write(number) => Some(number),
-            _ => None,
-        }
-    }
-
-    fn of_notes(self) -> Option<u64> {
-        match self {
-            Failing::Note(number) => Some(number),
-            _ => None,
-        }
-    }
+    Ok(numbers)
 }
 
 /// What came of a line.
@@ -158,43 +135,78 @@ fn seen(alloc: Global, disk: &mut MemDisk) -> Result<Vec<u8>, AllocError> {
     Ok(bytes)
 }
 
-/// Does a line.
-pub(crate) fn done(alloc: Global, line: &Line, failing: Failing) -> Result<Answer, AllocError> {
+/// The ends of the world that a line meets.
+#[derive(Drop)]
+struct Outside {
+    disk: MemDisk,
+    input: MemSource,
+    out: MemSink,
+    note: MemSink,
+}
+
+impl Outside {
+    /// How many calls failed, at the end where some did.
+    fn faults(&self) -> u64 {
+        let streams = self.input.faults().max(self.out.faults());
+        self.disk.faults().max(self.note.faults()).max(streams)
+    }
+}
+
+/// The output for what goes to standard error: one that is to fail takes a byte a call.
+fn note_for(alloc: Global, failing: Option<Failing>) -> Result<MemSink, AllocError> {
+    let numbers = failing_at(alloc, failing, End::Note)?;
+    let room = if numbers.is_empty() { usize::MAX } else { 1 };
+    Ok(MemSink::new(numbers).in_pieces_of(room))
+}
+
+/// What a line meets, where one call fails.
+fn outside_of(alloc: Global, line: &Line, failing: Option<Failing>) -> Result<Outside, AllocError> {
     let image = match &line.image {
         Some(image) => image.to_vec(alloc)?,
         None => Vec::new(alloc),
     };
     let (piece, room) = line.pieces;
-    let mut disk = MemDisk::new(image, Failing::numbers(alloc, failing.of_disk())?, None);
+    let reads = failing_at(alloc, failing, End::Input)?;
+    let writes = failing_at(alloc, failing, End::Output)?;
+    Ok(Outside {
+        disk: MemDisk::new(image, failing_at(alloc, failing, End::Disk)?, None),
+        input: MemSource::new(line.input.to_vec(alloc)?, reads).in_pieces_of(piece.max(1)),
+        out: MemSink::new(writes).in_pieces_of(room.max(1)),
+        note: note_for(alloc, failing)?,
+    })
+}
+
+/// Does a line.
+pub(crate) fn done(
+    alloc: Global,
+    line: &Line,
+    failing: Option<Failing>,
+) -> Result<Answer, AllocError> {
+    let mut outside = outside_of(alloc, line, failing)?;
     let mut there = SureDisk::new(Vec::new(alloc));
-    let reads = Failing::numbers(alloc, failing.of_reads())?;
-    let mut input = MemSource::new(line.input.to_vec(alloc)?, reads).in_pieces_of(piece.max(1));
-    let writes = Failing::numbers(alloc, failing.of_writes())?;
-    let mut out = MemSink::new(writes).in_pieces_of(room.max(1));
-    let notes = Failing::numbers(alloc, failing.of_notes())?;
-    let mut note = match failing {
-        Failing::Note(_) => MemSink::new(notes).in_pieces_of(1),
-        _ => MemSink::new(notes),
-    };
     let status = run(
         alloc,
         &line.words,
         NOW,
-        &mut disk,
+        &mut outside.disk,
         &mut there,
-        &mut input,
-        &mut out,
-        &mut note,
+        &mut outside.input,
+        &mut outside.out,
+        &mut outside.note,
     );
-    let outside = input.faults().max(out.faults()).max(note.faults());
-    let faults = disk.faults().max(outside);
-    let calls = disk.calls();
+    let faults = outside.faults();
+    let Outside {
+        disk,
+        out,
+        note,
+        ..
+    } = outside;
     Ok(Answer {
         status,
         out: out.bytes().to_vec(alloc)?,
         note: note.bytes().to_vec(alloc)?,
+        calls: disk.calls(),
         disk,
-        calls,
         faults,
     })
 }

@@ -1,6 +1,6 @@
 // What an image holds: its pool as the program itself tells it.
 
-use crate::calls::{Answer, Failing, Line, done};
+use crate::calls::{Answer, Line, done};
 use std::alloc::{AllocError, Global};
 use std::str;
 
@@ -81,7 +81,7 @@ fn line_on(alloc: Global, image: &[u8], text: &str) -> Result<Line, AllocError> 
 /// What a line that only answers says of an image.
 fn asked(alloc: Global, image: &[u8], text: &str) -> Result<Vec<u8>, AllocError> {
     let line = line_on(alloc, image, text)?;
-    let Answer { mut out, note, .. } = done(alloc, &line, Failing::None)?;
+    let Answer { mut out, note, .. } = done(alloc, &line, None)?;
     out.extend_from_slice(&note)?;
     Ok(out)
 }

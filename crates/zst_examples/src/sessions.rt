@@ -7,11 +7,11 @@ use crate::trials::{Ask, tried};
 use crate::{UNREAD, trials};
 use std::alloc::{AllocError, Global};
 use std::collections::BTreeMap;
-use std::str;
+use std::{mem, str};
 use zst_run::{OpenMode, opening_of};
 
-/// The status of the program where an image can't be opened.
-const CANNOT_OPEN: u8 = 11;
+/// What the program says where an image can't be opened, and its status then.
+const CANNOT_OPEN: &str = "zst: cannot open\n(status 11)\n";
 
 /// The most bytes of an image that is made.
 const LARGEST: u64 = 1 << 26;
@@ -33,7 +33,17 @@ pub(crate) struct Session {
 struct Handed {
     bytes: Vec<u8>,
     notes: String,
-    status: u8,
+}
+
+/// The image of a line.
+#[derive(Drop)]
+enum Image {
+    /// The line names none, or is no line.
+    Unnamed,
+    /// It is this file.
+    Named(String),
+    /// It isn't there.
+    Absent,
 }
 
 impl Session {
@@ -93,29 +103,22 @@ impl Session {
         self.pipe(alloc, &stages)
     }
 
-    /// Does the commands of a pipe, each with what the one before it gave.
+    /// Does the commands of a pipe, each with what the one before it gave. What is asked is asked of its last `zst`.
     fn pipe(&mut self, alloc: Global, stages: &[Stage]) -> Result<(), AllocError> {
+        let (ask, none) = (self.ask.take(), None);
+        let last = stages.iter().rposition(is_zst);
         let mut handed = Handed {
             bytes: Vec::new(alloc),
             notes: String::new(alloc),
-            status: 0,
         };
         for (i, stage) in stages.iter().enumerate() {
             if let Some(name) = &stage.from {
                 handed.bytes = bytes_in(&self.files, name.as_str()).to_vec(alloc)?;
             }
-            let pieces = (
-                pieces_at(stages, i.checked_sub(1)),
-                pieces_at(stages, i.checked_add(1)),
-            );
-            let is_last = !stages
-                .iter()
-                .skip(i.saturating_add(1))
-                .any(|later| is_zst(later));
-            handed = self.command(alloc, stage, handed, pieces, is_last)?;
+            let asked = if last == Some(i) { &ask } else { &none };
+            handed = self.command(alloc, stage, handed, pieces_at(stages, i), asked)?;
             if let Some(name) = &stage.to {
-                let bytes = handed.bytes.to_vec(alloc)?;
-                handed.bytes.clear();
+                let bytes = mem::replace(&mut handed.bytes, Vec::new(alloc));
                 self.files.insert(name.clone()?, bytes)?;
             }
         }
@@ -142,59 +145,41 @@ impl Session {
         stage: &Stage,
         handed: Handed,
         pieces: (usize, usize),
-        is_last: bool,
+        ask: &Option<Ask>,
     ) -> Result<Handed, AllocError> {
-        let Handed {
-            bytes,
-            mut notes,
-            status,
-        } = handed;
-        match stage.words.split_first() {
-            Some((name, words)) if name.as_str() == "zst" => {
-                let mut own = Vec::new(alloc);
-                for word in words {
-                    own.push(word.clone()?)?;
-                }
-                self.zst(alloc, own, bytes, notes, pieces, is_last)
+        if is_zst(stage) {
+            let mut words = stage.words.clone()?;
+            words.remove(0);
+            return self.zst(alloc, words, handed, pieces, ask);
+        }
+        let Handed { bytes, mut notes } = handed;
+        match filtered(alloc, &stage.words, bytes, &self.files)? {
+            Some(bytes) => Ok(Handed { bytes, notes }),
+            None => {
+                notes.push_str(UNREAD)?;
+                let bytes = Vec::new(alloc);
+                Ok(Handed { bytes, notes })
             }
-            _ => match filtered(alloc, &stage.words, bytes, &self.files)? {
-                Some(bytes) => Ok(Handed {
-                    bytes,
-                    notes,
-                    status,
-                }),
-                None => {
-                    notes.push_str(UNREAD)?;
-                    Ok(Handed {
-                        bytes: Vec::new(alloc),
-                        notes,
-                        status,
-                    })
-                }
-            },
         }
     }
 
-    /// The image that words name, with zeros for it where they make it. None for a name that isn't there.
-    fn image_of(
-        &mut self,
-        alloc: Global,
-        words: &[String],
-    ) -> Result<Option<Option<String>>, AllocError> {
+    /// The image that words name, with zeros for it where they make it.
+    fn image_of(&mut self, alloc: Global, words: &[String]) -> Result<Image, AllocError> {
         let Some((path, opening)) = opening_of(alloc, words)? else {
-            return Ok(Some(None));
+            return Ok(Image::Unnamed);
         };
         let name = String::from_str(alloc, path.as_str())?;
-        if !self.files.contains_key(name.as_str()) {
-            match opening {
-                OpenMode::Made { bytes } if bytes <= LARGEST => {
-                    let zeros = vec![in alloc; 0; bytes as usize]?;
-                    self.files.insert(name.clone()?, zeros)?;
-                }
-                _ => return Ok(None),
-            }
+        if self.files.contains_key(name.as_str()) {
+            return Ok(Image::Named(name));
         }
-        Ok(Some(Some(name)))
+        match opening {
+            OpenMode::Made { bytes } if bytes <= LARGEST => {
+                let zeros = vec![in alloc; 0; bytes as usize]?;
+                self.files.insert(name.clone()?, zeros)?;
+                Ok(Image::Named(name))
+            }
+            _ => Ok(Image::Absent),
+        }
     }
 
     /// Does a line of `zst`.
@@ -202,19 +187,22 @@ impl Session {
         &mut self,
         alloc: Global,
         words: Vec<String>,
-        input: Vec<u8>,
-        mut notes: String,
+        handed: Handed,
         pieces: (usize, usize),
-        is_last: bool,
+        ask: &Option<Ask>,
     ) -> Result<Handed, AllocError> {
-        let Some(name) = self.image_of(alloc, &words)? else {
-            notes.push_str("zst: cannot open\n")?;
-            notes.push_str(format!(in alloc; "(status {CANNOT_OPEN})\n")?.as_str())?;
-            return Ok(Handed {
-                bytes: Vec::new(alloc),
-                notes,
-                status: CANNOT_OPEN,
-            });
+        let Handed {
+            bytes: input,
+            mut notes,
+        } = handed;
+        let name = match self.image_of(alloc, &words)? {
+            Image::Unnamed => None,
+            Image::Named(name) => Some(name),
+            Image::Absent => {
+                notes.push_str(CANNOT_OPEN)?;
+                let bytes = Vec::new(alloc);
+                return Ok(Handed { bytes, notes });
+            }
         };
         let image = match &name {
             Some(name) => Some(bytes_in(&self.files, name.as_str()).to_vec(alloc)?),
@@ -226,33 +214,56 @@ impl Session {
             input,
             pieces,
         };
-        let ask = if is_last { self.ask.take() } else { None };
-        let failing = match &ask {
-            Some(Ask::Fails(failing)) => *failing,
-            _ => Failing::None,
-        };
-        let mut answer = done(alloc, &line, failing)?;
-        let image = match &ask {
-            Some(Ask::Stops { number, fill }) => answer.stopped(alloc, *number, *fill)?,
-            _ => answer.image(alloc)?,
-        };
-        if let Some(Ask::Stops { number, .. }) = &ask {
-            answer.out.clear();
-            notes.push_str(format!(in alloc; "(stopped at call {number})\n")?.as_str())?;
-        } else {
-            notes.push_str(answer.note())?;
-        }
-        let is_written = line.image.as_ref().is_some_and(|before| *before != image);
-        add_status(alloc, &mut notes, &answer, &name, is_written)?;
-        add_asked(alloc, &mut notes, &line, &ask, &mut answer)?;
+        let mut answer = done(alloc, &line, failing_of(ask))?;
+        let left = left_of(alloc, &mut answer, ask)?;
+        add_note(alloc, &mut notes, &mut answer, ask)?;
+        add_status(
+            alloc,
+            &mut notes,
+            &answer,
+            &name,
+            line.image.as_ref() != Some(&left),
+        )?;
+        add_asked(alloc, &mut notes, &line, ask, &mut answer)?;
         if let Some(name) = name {
-            self.files.insert(name, image)?;
+            self.files.insert(name, left)?;
         }
         Ok(Handed {
             bytes: answer.out,
             notes,
-            status: answer.status,
         })
+    }
+}
+
+/// The call that is to fail.
+fn failing_of(ask: &Option<Ask>) -> Option<Failing> {
+    match ask {
+        Some(Ask::Fails(failing)) => Some(*failing),
+        _ => None,
+    }
+}
+
+/// What the disk holds behind a line.
+fn left_of(alloc: Global, answer: &mut Answer, ask: &Option<Ask>) -> Result<Vec<u8>, AllocError> {
+    match ask {
+        Some(Ask::Stops { number, fill }) => answer.stopped(alloc, *number, *fill),
+        _ => answer.image(alloc),
+    }
+}
+
+/// Tells what goes to standard error. A line whose disk stopped says nothing but that.
+fn add_note(
+    alloc: Global,
+    notes: &mut String,
+    answer: &mut Answer,
+    ask: &Option<Ask>,
+) -> Result<(), AllocError> {
+    match ask {
+        Some(Ask::Stops { number, .. }) => {
+            answer.out.clear();
+            notes.push_str(format!(in alloc; "(stopped at call {number})\n")?.as_str())
+        }
+        _ => notes.push_str(answer.note()),
     }
 }
 
@@ -264,17 +275,23 @@ fn is_zst(stage: &Stage) -> bool {
         .is_some_and(|name| name.as_str() == "zst")
 }
 
-/// The size of the pieces that a command of a pipe asks for.
-fn pieces_at(stages: &[Stage], place: Option<usize>) -> usize {
-    let words = match place.and_then(|place| stages.get(place)) {
+/// The size of the pieces in which the command at a place reads, and in which what it writes is taken.
+fn pieces_at(stages: &[Stage], place: usize) -> (usize, usize) {
+    let before = place.checked_sub(1).and_then(|place| stages.get(place));
+    let behind = stages.get(place.saturating_add(1));
+    (piece_of(before), piece_of(behind))
+}
+
+/// The size of the pieces that a command asks for.
+fn piece_of(stage: Option<&Stage>) -> usize {
+    let words = match stage {
         Some(stage) => stage.words.as_slice(),
         None => &[],
     };
     match words {
-        [name, size] if name.as_str() == "pieces" => size
-            .as_str()
-            .parse::<usize>()
-            .unwrap_or(usize::MAX),
+        [name, size] if name.as_str() == "pieces" => {
+            size.as_str().parse::<usize>().unwrap_or(usize::MAX)
+        }
         _ => usize::MAX,
     }
 }

@@ -1,6 +1,6 @@
 // A line that is done over and over, each time with something else done to it.
 
-use crate::calls::{Answer, Failing, Line, done};
+use crate::calls::{Answer, End, Failing, Line, done};
 use crate::counts::Counts;
 use crate::damage::damage_label;
 use crate::labels::label_of;
@@ -19,10 +19,9 @@ pub(crate) enum Trial {
     DiskStops(Vec<u8>),
     /// The disk stops before a call, and each range that wasn't synced is left in each way.
     DiskStopsEachWay,
-    /// A call of the disk fails, and then the disk stops as well.
-    DiskFails(Vec<u8>),
-    ReadFails,
-    WriteFails,
+    /// A call of an end fails, and then the disk stops as well, and what wasn't synced is filled with each of these bytes.
+    Fails { end: End, fills: Vec<u8> },
+    /// A write of a byte to standard error fails.
     NoteFails,
     /// The input ends before a byte.
     Cut,
@@ -68,55 +67,80 @@ fn turned_image(alloc: Global, words: &str) -> Result<Option<Ask>, AllocError> {
 
 /// What the words of a line ask of the one that follows.
 pub(crate) fn ask_of(alloc: Global, text: &str) -> Result<Option<Ask>, AllocError> {
-    if text == "each disk call stops each way" {
-        return Ok(Some(Ask::Each(Trial::DiskStopsEachWay)));
-    }
     if let Some(words) = text.strip_prefix("each byte of the image turned ") {
         return turned_image(alloc, words);
-    }
-    if let Some(fills) = text.strip_prefix("each disk call stops ") {
-        return Ok(Some(Ask::Each(Trial::DiskStops(fills_of(alloc, fills)?))));
-    }
-    if let Some(fills) = text.strip_prefix("each disk call fails ") {
-        return Ok(Some(Ask::Each(Trial::DiskFails(fills_of(alloc, fills)?))));
     }
     if let Some(bits) = text.strip_prefix("each byte turned ") {
         let bits = bytes_of(alloc, bits)?.and_then(|bits| bits.first().copied());
         return Ok(bits.map(|bits| Ask::Each(Trial::Turned(bits))));
     }
+    if let Some(words) = text.strip_prefix("each disk call ") {
+        return each_call(alloc, words);
+    }
     Ok(match text {
-        "each read fails" => Some(Ask::Each(Trial::ReadFails)),
-        "each write fails" => Some(Ask::Each(Trial::WriteFails)),
+        "each read fails" => Some(each_fails(alloc, End::Input)),
+        "each write fails" => Some(each_fails(alloc, End::Output)),
         "each note fails" => Some(Ask::Each(Trial::NoteFails)),
         "each cut" => Some(Ask::Each(Trial::Cut)),
-        _ => one_of(text),
+        _ => match text.strip_prefix("at most ") {
+            Some(words) => at_most(words),
+            None => one_of(text),
+        },
     })
 }
 
-/// The same for one call, or for how many there may be.
-fn one_of(text: &str) -> Option<Ask> {
-    if let Some(rest) = text.strip_prefix("at most ") {
-        let (count, what) = rest.split_once(' ')?;
-        let count = count.parse::<u64>().ok()?;
-        return match what {
-            "calls" => Some(Ask::AtMostCalls(count)),
-            "reads" => Some(Ask::AtMostReads(count)),
-            _ => None,
-        };
+fn each_fails(alloc: Global, end: End) -> Ask {
+    Ask::Each(Trial::Fails {
+        end,
+        fills: Vec::new(alloc),
+    })
+}
+
+/// The same for each call of the disk.
+fn each_call(alloc: Global, words: &str) -> Result<Option<Ask>, AllocError> {
+    if words == "stops each way" {
+        return Ok(Some(Ask::Each(Trial::DiskStopsEachWay)));
     }
+    Ok(match words.split_once(' ') {
+        Some(("stops", fills)) => Some(Ask::Each(Trial::DiskStops(fills_of(alloc, fills)?))),
+        Some(("fails", fills)) => Some(Ask::Each(Trial::Fails {
+            end: End::Disk,
+            fills: fills_of(alloc, fills)?,
+        })),
+        _ => None,
+    })
+}
+
+/// The same for how many calls there may be.
+fn at_most(words: &str) -> Option<Ask> {
+    let (count, what) = words.split_once(' ')?;
+    let count = count.parse::<u64>().ok()?;
+    match what {
+        "calls" => Some(Ask::AtMostCalls(count)),
+        "reads" => Some(Ask::AtMostReads(count)),
+        _ => None,
+    }
+}
+
+/// The same for one call.
+fn one_of(text: &str) -> Option<Ask> {
     let (what, rest) = match text.strip_prefix("disk call ") {
         Some(rest) => ("disk", rest),
         None => text.split_once(' ')?,
     };
     let (number, does) = rest.split_once(' ')?;
     let number = number.parse::<u64>().ok()?;
-    match (what, does) {
-        ("disk", "fails") => Some(Ask::Fails(Failing::Disk(number))),
-        ("read", "fails") => Some(Ask::Fails(Failing::Read(number))),
-        ("write", "fails") => Some(Ask::Fails(Failing::Write(number))),
-        ("note", "fails") => Some(Ask::Fails(Failing::Note(number))),
-        ("disk", "stops 00") => Some(Ask::Stops { number, fill: 0 }),
-        ("disk", "stops ff") => Some(Ask::Stops { number, fill: 0xff }),
+    let end = match what {
+        "disk" => End::Disk,
+        "read" => End::Input,
+        "write" => End::Output,
+        "note" => End::Note,
+        _ => return None,
+    };
+    match does {
+        "fails" => Some(Ask::Fails(Failing { end, number })),
+        "stops 00" => Some(Ask::Stops { number, fill: 0 }),
+        "stops ff" => Some(Ask::Stops { number, fill: 0xff }),
         _ => None,
     }
 }
@@ -126,9 +150,12 @@ impl Trial {
     fn places(&self) -> &'static str {
         match self {
             Trial::DiskStops(_) | Trial::DiskStopsEachWay => "stops",
-            Trial::DiskFails(_) => "calls",
-            Trial::ReadFails => "reads",
-            Trial::WriteFails | Trial::NoteFails => "writes",
+            Trial::Fails { end, .. } => match end {
+                End::Disk => "calls",
+                End::Input => "reads",
+                End::Output | End::Note => "writes",
+            },
+            Trial::NoteFails => "writes",
             Trial::Cut => "cuts",
             Trial::Turned(_) | Trial::ImageTurned { .. } => "bytes",
         }
@@ -170,27 +197,10 @@ fn one_try(
 ) -> Result<Option<String>, AllocError> {
     match trial {
         Trial::DiskStops(fills) => stopped(alloc, whole, ends, number, fills),
-        Trial::DiskFails(fills) => {
-            failed(
-                alloc,
-                line,
-                whole,
-                ends,
-                Failing::Disk(number),
-                number,
-                fills,
-            )
+        Trial::Fails { end, fills } => {
+            let failing = Failing { end: *end, number };
+            failed(alloc, line, whole, ends, failing, fills)
         }
-        Trial::ReadFails => failed(alloc, line, whole, ends, Failing::Read(number), number, &[]),
-        Trial::WriteFails => failed(
-            alloc,
-            line,
-            whole,
-            ends,
-            Failing::Write(number),
-            number,
-            &[],
-        ),
         Trial::NoteFails => noted(alloc, line, whole, ends, number),
         Trial::DiskStopsEachWay => Ok(None),
         Trial::ImageTurned { bits, from, to } => {
@@ -240,14 +250,13 @@ fn failed(
     whole: &Answer,
     ends: &Option<Ends>,
     failing: Failing,
-    number: u64,
     fills: &[u8],
 ) -> Result<Option<String>, AllocError> {
-    let mut found = done(alloc, line, failing)?;
+    let mut found = done(alloc, line, Some(failing))?;
     if found.faults == 0 {
         return Ok(None);
     }
-    let mut label = label_of(alloc, whole, &found, number, line)?;
+    let mut label = label_of(alloc, whole, &found, failing.number, line)?;
     let mut standing = standing_of(alloc, &found, ends, found.calls, fills)?;
     if let Some(ends) = ends {
         let image = found.image(alloc)?;
@@ -265,7 +274,8 @@ fn noted(
     ends: &Option<Ends>,
     number: u64,
 ) -> Result<Option<String>, AllocError> {
-    let mut found = done(alloc, line, Failing::Note(number))?;
+    let end = End::Note;
+    let mut found = done(alloc, line, Some(Failing { end, number }))?;
     if found.faults == 0 {
         return Ok(None);
     }
@@ -275,14 +285,12 @@ fn noted(
         .get(..written)
         .is_some_and(|front| front == found.note.as_slice());
     let is_same = found.status == whole.status && found.out == whole.out;
-    let mut label = String::from_str(
-        alloc,
-        if is_front && is_same {
-            "the note as far as it went"
-        } else {
-            "another answer"
-        },
-    )?;
+    let told = if is_front && is_same {
+        "the note as far as it went"
+    } else {
+        "another answer"
+    };
+    let mut label = String::from_str(alloc, told)?;
     if let Some(ends) = ends {
         let image = found.image(alloc)?;
         ends.standing(alloc, &image)?.add_to(&mut label)?;
@@ -314,7 +322,7 @@ fn given(
         }
     }
     let line = line.with_input(alloc, input)?;
-    let mut found = done(alloc, &line, Failing::None)?;
+    let mut found = done(alloc, &line, None)?;
     let mut label = label_of(alloc, whole, &found, number, &line)?;
     if let Some(ends) = ends {
         let image = found.image(alloc)?;
@@ -347,7 +355,7 @@ fn on_turned_image(
         None => return Ok(None),
     }
     let line = line.with_image(alloc, turned)?;
-    let found = done(alloc, &line, Failing::None)?;
+    let found = done(alloc, &line, None)?;
     let turned = match &line.image {
         Some(turned) => turned.as_slice(),
         None => &[],
