@@ -182,6 +182,31 @@ impl Session {
         }
     }
 
+    /// A line, and the name of its image. None where that isn't there.
+    fn line_of(
+        &mut self,
+        alloc: Global,
+        words: Vec<String>,
+        input: Vec<u8>,
+        pieces: (usize, usize),
+    ) -> Result<Option<(Line, Option<String>)>, AllocError> {
+        let (image, name) = match self.image_of(alloc, &words)? {
+            Image::Unnamed => (None, None),
+            Image::Named(name) => {
+                let bytes = bytes_in(&self.files, name.as_str()).to_vec(alloc)?;
+                (Some(bytes), Some(name))
+            }
+            Image::Absent => return Ok(None),
+        };
+        let line = Line {
+            words,
+            image,
+            input,
+            pieces,
+        };
+        Ok(Some((line, name)))
+    }
+
     /// Does a line of `zst`.
     fn zst(
         &mut self,
@@ -191,47 +216,23 @@ impl Session {
         pieces: (usize, usize),
         ask: &Option<Ask>,
     ) -> Result<Handed, AllocError> {
-        let Handed {
-            bytes: input,
-            mut notes,
-        } = handed;
-        let name = match self.image_of(alloc, &words)? {
-            Image::Unnamed => None,
-            Image::Named(name) => Some(name),
-            Image::Absent => {
-                notes.push_str(CANNOT_OPEN)?;
-                let bytes = Vec::new(alloc);
-                return Ok(Handed { bytes, notes });
-            }
-        };
-        let image = match &name {
-            Some(name) => Some(bytes_in(&self.files, name.as_str()).to_vec(alloc)?),
-            None => None,
-        };
-        let line = Line {
-            words,
-            image,
-            input,
-            pieces,
+        let Handed { bytes, mut notes } = handed;
+        let Some((line, name)) = self.line_of(alloc, words, bytes, pieces)? else {
+            notes.push_str(CANNOT_OPEN)?;
+            let bytes = Vec::new(alloc);
+            return Ok(Handed { bytes, notes });
         };
         let mut answer = done(alloc, &line, failing_of(ask))?;
         let left = left_of(alloc, &mut answer, ask)?;
+        let is_written = line.image.as_ref() != Some(&left);
         add_note(alloc, &mut notes, &mut answer, ask)?;
-        add_status(
-            alloc,
-            &mut notes,
-            &answer,
-            &name,
-            line.image.as_ref() != Some(&left),
-        )?;
+        add_status(alloc, &mut notes, &answer, &name, is_written)?;
         add_asked(alloc, &mut notes, &line, ask, &mut answer)?;
         if let Some(name) = name {
             self.files.insert(name, left)?;
         }
-        Ok(Handed {
-            bytes: answer.out,
-            notes,
-        })
+        let bytes = answer.out;
+        Ok(Handed { bytes, notes })
     }
 }
 
