@@ -1,8 +1,8 @@
 #!/usr/bin/env python3
-"""Prints the length of each stream that the tests of zst_send await, and what its END states.
+"""Prints the length of each stream that the examples of zst_send await, and what its END states.
 
 For each stream: its name, its count of bytes, the sums that END states of all before it, and the sums in
-its last 32 bytes. It shares nothing with the crates: the tests take their constants from here.
+its last 32 bytes. It shares nothing with the crates: the transcript of the examples has these numbers.
 use: expected_streams.py [FOLDER]     (with a folder, each stream is written there too)
 """
 import os

@@ -75,7 +75,6 @@ fn read_str<'a>(cursor: &mut Cursor<'a>) -> Option<&'a str>
 }
 
 /// The name of a dataset.
-#[tactic(auto, using(crate::proofs::Texts::plain_dataset))]
 pub(crate) fn read_dataset_name(cursor: &mut Cursor<'_>) -> Option<DatasetName>
     ensures name { IfSome result IsDataset }
     ensures exact { ReadsBack text_bytes IsDataset cursor.old cursor.new result }
@@ -84,7 +83,6 @@ pub(crate) fn read_dataset_name(cursor: &mut Cursor<'_>) -> Option<DatasetName>
 }
 
 /// The name of a bookmark.
-#[tactic(auto, using(crate::proofs::Texts::plain_bookmark))]
 pub(crate) fn read_book_name(cursor: &mut Cursor<'_>) -> Option<BookName>
     ensures name { IfSome result IsBookmark }
     ensures exact { ReadsBack text_bytes IsBookmark cursor.old cursor.new result }
@@ -93,7 +91,6 @@ pub(crate) fn read_book_name(cursor: &mut Cursor<'_>) -> Option<BookName>
 }
 
 /// The name of a snapshot, or an empty text where there is none.
-#[tactic(auto, using(crate::proofs::Texts::plain_snapshot))]
 pub(crate) fn read_snap_name(cursor: &mut Cursor<'_>) -> Option<Option<SnapName>>
     ensures name { IfSome result (λ name. IfSome name IsSnapshot) }
     ensures exact { ReadsBack name_bytes (λ name. IfSome name IsSnapshot) cursor.old cursor.new result }
@@ -106,7 +103,6 @@ pub(crate) fn read_snap_name(cursor: &mut Cursor<'_>) -> Option<Option<SnapName>
 }
 
 /// The name of a snapshot of this dataset, of which only the component stands there.
-#[tactic(auto, using(crate::proofs::Texts::plain_component, crate::proofs::Texts::snapshot_of_parts))]
 pub(crate) fn read_component(cursor: &mut Cursor<'_>, dataset: &DatasetName) -> Option<SnapName>
     ensures name { IfSome result IsSnapshot }
     ensures dataset { IfSome result (λ name. dataset_of 64 name ≡ dataset.now) }

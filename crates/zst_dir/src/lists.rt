@@ -36,7 +36,6 @@ pub(crate) fn read_snapshots(
 
 // Reads a dataset and behind it its snapshots, and puts them behind the others. Tells whether they
 // stand there.
-#[tactic(auto, using(crate::proofs::NestedSnapshots::are_snapshots_of, crate::proofs::RowParts::dataset_parts))]
 fn read_one(
     cursor: &mut Cursor<'_>,
     datasets: &mut Vec<Dataset>,

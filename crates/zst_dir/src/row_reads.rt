@@ -20,7 +20,6 @@ use zst_names::DatasetName;
 use zst_tree::{read_ptr, read_set};
 
 /// The next dataset, up to its snapshots.
-#[tactic(auto, using(crate::proofs::RowParts::front_parts))]
 pub(crate) fn read_dataset(cursor: &mut Cursor<'_>) -> Option<Dataset>
     ensures row { IfSome result IsDatasetRow }
     ensures exact { ReadsBack dataset_front IsDatasetRow cursor.old cursor.new result }
@@ -40,7 +39,6 @@ pub(crate) fn read_dataset(cursor: &mut Cursor<'_>) -> Option<Dataset>
 }
 
 /// The next snapshot of this dataset.
-#[tactic(auto, using(crate::proofs::RowParts::snapshot_parts))]
 pub(crate) fn read_snapshot(cursor: &mut Cursor<'_>, dataset: &DatasetName) -> Option<Snapshot>
     ensures row { IfSome result (IsSnapshotOf dataset.now) }
     ensures exact { ReadsBack snapshot_bytes (IsSnapshotOf dataset.now) cursor.old cursor.new result }
@@ -62,7 +60,6 @@ pub(crate) fn read_snapshot(cursor: &mut Cursor<'_>, dataset: &DatasetName) -> O
 }
 
 /// The next bookmark.
-#[tactic(auto, using(crate::proofs::RowParts::bookmark_parts))]
 pub(crate) fn read_bookmark(cursor: &mut Cursor<'_>) -> Option<Bookmark>
     ensures row { IfSome result IsBookmarkRow }
     ensures exact { ReadsBack bookmark_bytes IsBookmarkRow cursor.old cursor.new result }
@@ -103,7 +100,6 @@ fn go_together(features: u32, from: u64, redact: &GuidSet, from_redact: &GuidSet
 }
 
 /// A header that a stream can state, without a resume point.
-#[tactic(auto, using(crate::proofs::RowParts::header_parts))]
 fn read_header(cursor: &mut Cursor<'_>) -> Option<Header>
     ensures stated { IfSome result IsStated }
     ensures exact { ReadsBack header_bytes IsStated cursor.old cursor.new result }
@@ -135,7 +131,6 @@ fn read_header(cursor: &mut Cursor<'_>) -> Option<Header>
 }
 
 /// The next partial state.
-#[tactic(auto, using(crate::proofs::RowParts::partial_parts))]
 pub(crate) fn read_partial(cursor: &mut Cursor<'_>) -> Option<Partial>
     ensures row { IfSome result IsPartialRow }
     ensures exact { ReadsBack partial_bytes IsPartialRow cursor.old cursor.new result }

@@ -2,7 +2,7 @@ use std::alloc::AllocError;
 use zst_model::Refusal;
 
 /// Why a directory isn't committed.
-#[derive(Clone, Debug, Drop, PartialEq, Eq)]
+#[derive(Debug, Drop)]
 pub enum CommitFault {
     /// E24: no free extent has `need` sectors: the longest one has `largest`.
     Full { need: u64, largest: u64 },

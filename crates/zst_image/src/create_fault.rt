@@ -1,7 +1,7 @@
 use zst_model::{PlanFault, PresentSubject, Quantity, Refusal};
 
 /// Why no pool is made in an image.
-#[derive(Clone, Debug, Drop, PartialEq, Eq)]
+#[derive(Debug, Drop, PartialEq, Eq)]
 pub enum CreateFault {
     /// E4: a slot has an open gate and a body.
     Exists,

@@ -4,7 +4,7 @@ use zst_model::Refusal;
 use zst_uber::UberFault;
 
 /// Why the pool of an image isn't opened.
-#[derive(Clone, Debug, Drop, PartialEq, Eq)]
+#[derive(Debug, Drop)]
 pub enum OpenFault {
     /// E25: the block from this sector on has other sums than are stated, or, with both alike, isn't
     /// of its layout.

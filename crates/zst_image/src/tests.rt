@@ -13,15 +13,15 @@ fn zeros_have_no_pool_and_a_pool_is_made_once(rt: HostRuntime) -> Result<(), Ope
     let alloc = rt.alloc();
     let mut disk = zeros(alloc)?;
     let opened = PoolState::open(alloc, &mut disk);
-    assert!(rt; opened.err() == Some(OpenFault::NoPool));
+    assert!(rt; matches!(opened, Err(OpenFault::NoPool)));
 
     let made = PoolState::create(alloc, &mut disk, 257, 1);
-    assert!(rt; made.err() == Some(CreateFault::TooSmall { sectors: 257 }));
+    assert!(rt; matches!(made, Err(CreateFault::TooSmall { sectors: 257 })));
 
     let made = PoolState::create(alloc, &mut disk, 256, 1);
     assert!(rt; made.is_ok());
     let again = PoolState::create(alloc, &mut disk, 256, 2);
-    assert!(rt; again.err() == Some(CreateFault::Exists));
+    assert!(rt; matches!(again, Err(CreateFault::Exists)));
     let kept = PoolState::open(alloc, &mut disk)?;
     assert_eq!(rt; (kept.body.id, kept.body.number), (1, 1));
     Ok(())

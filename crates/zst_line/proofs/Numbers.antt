@@ -44,6 +44,13 @@ fit_at (slot ∷ slots) [] i fits h = absurd fits
 fit_at (slot ∷ slots) (word ∷ words) zero fits h = fits.0
 fit_at (slot ∷ slots) (word ∷ words) (suc i) fits h = fit_at slots words i fits.1 (omega arith)
 
+-- there are as many words as places
+pub as_many : (slots : List Slot) (words : List (String Global)) → AllZip Takes slots (map string_bytes words) → length words ≡ length slots
+as_many slots words fits =
+    let long = AllZip-long Takes slots (map string_bytes words) fits in
+    let count = length-map words string_bytes in
+    omega arith
+
 -- a word is what its place takes
 pub takes_at : (slots : List Slot) (words : List (String Global)) (i : ℕ) (word : String Global) (text : List ℕ) → AllZip Takes slots (map string_bytes words) → i < length slots → word ≡ get_or words i word
     → text ≡ string_bytes word → Takes (get_or slots i Image) text
@@ -61,3 +68,12 @@ pub number_at : (slots : List Slot) (words : List (String Global)) (i low high n
 number_at slots words i low high n word text fits h slot small is same spelled below =
     let takes = takes_at slots words i word text fits h is same in
     in_range text n low high (rw slot at takes).0 small below spelled
+
+-- a number at a place is one of 64 bits
+pub number_taken : (slots : List Slot) (words : List (String Global)) (i low high : ℕ) (word : String Global) (text : List ℕ) → AllZip Takes slots (map string_bytes words) → i < length slots
+    → get_or slots i Image ≡ Number low high → high < 2 ^ 64 → word ≡ get_or words i word → text ≡ string_bytes word → IsNumber 0 (2 ^ 64 - 1) text
+number_taken slots words i low high word text fits h slot small is same =
+    let takes = takes_at slots words i word text fits h is same in
+    let number = (rw slot at takes).0 in
+    let most = number.most in
+    record { number = number.number; spelled = number.spelled; least = omega arith; most = omega arith }

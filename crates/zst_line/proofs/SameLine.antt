@@ -1,7 +1,8 @@
 -- Words say one line.
-use Rattle.std.proofs.Common.{◌≡◌, ℕ, Bool, true, false, List, arith, ap, sym, refl, ◌∙◌}
+use Rattle.std.proofs.Common.{◌≡◌, ℕ, Bool, true, false, List, bytes_eq, arith, ap, sym, refl, ◌∙◌}
 use Rattle.std.proofs.lemmas.Bool.{false≢true}
 use Rattle.std.proofs.lemmas.Fmt.{decimal_injective}
+use Rattle.std.proofs.lemmas.Slice.Eq.{bytes_eq-Decides}
 use Rattle.zst_model.specs.declared.states.attr.ObjectHead.{ObjectHead}
 use Rattle.zst_model.specs.declared.pools.command.Command.{Command}
 use Rattle.zst_model.specs.declared.pools.command.Command.TheVariants as commands
@@ -10,11 +11,15 @@ use Rattle.zst_line.specs.declared.kind.Kind.{Kind}
 use Rattle.zst_line.specs.declared.kind.Kind.TheVariants as kinds
 use Rattle.zst_line.specs.declared.line.Line.{Line}
 use Rattle.zst_line.specs.declared.line.Line.TheVariants as lines
-use Rattle.zst_line.specs.Grammar.{word_at}
+use Rattle.zst_line.specs.Grammar.{word_at, word_of}
 use Rattle.zst_line.specs.Line.{Says, NumbersFit, LineIs}
 use Rattle.zst_line.proofs.FirstWords.{first_kind}
 use Rattle.zst_line.proofs.Halves.{same_end, same_spill}
 use Rattle.zst_line.proofs.Sizes.{block_size_below}
+
+-- kinds that the same words begin with have one first word
+named_alike : (a b : Kind) (words : List (List ℕ)) → first_kind words ≡ a → first_kind words ≡ b → bytes_eq (word_of a) (word_of b) ≡ true
+named_alike a b words p q = (bytes_eq-Decides (word_of a) (word_of b)).1 (ap word_of (sym p ∙ q))
 
 -- the kind of a command's line
 abbrev kind_of_command : Command → Kind
@@ -202,9 +207,7 @@ same_command commands.List commands.List image here words p q = let s = p.says i
 same_command commands.List (commands.ListObjects name) image here words p q = let s = p.says in let t = q.says.1.1 in absurd cc
 same_command (commands.ListObjects name) commands.List image here words p q = let s = p.says.1.1 in let t = q.says in absurd cc
 same_command one other image here words p q =
-    let a = said_kind one image words p.says in
-    let b = said_kind other here words q.says in
-    absurd cc
+    absurd (false≢true (named_alike (kind_of_command one) (kind_of_command other) words (said_kind one image words p.says) (said_kind other here words q.says)))
 
 -- the kind of a line
 abbrev kind_of_line : Line → Kind
@@ -299,4 +302,4 @@ same_line (lines.Reclaim image) (lines.Reclaim here) words p q = cc
 same_line (lines.Replay a b) (lines.Replay c d) words p q = cc
 same_line (lines.Step image command) other words p q = absurd (false≢true (sym (ap is_step (line_kind other words q)) ∙ said_step command image words p.0))
 same_line other (lines.Step image command) words p q = absurd (false≢true (sym (ap is_step (line_kind other words p)) ∙ said_step command image words q.0))
-same_line one other words p q = let a = line_kind one words p in let b = line_kind other words q in absurd cc
+same_line one other words p q = absurd (false≢true (named_alike (kind_of_line one) (kind_of_line other) words (line_kind one words p) (line_kind other words q)))

@@ -2,7 +2,7 @@ use std::alloc::AllocError;
 use zst_objset::ObjFault;
 
 /// Why the objects of a set aren't listed.
-#[derive(Clone, Debug, Drop, PartialEq, Eq)]
+#[derive(Debug, Drop)]
 pub enum ListFault {
     /// A block of the set isn't read, or isn't of the layout.
     Set(ObjFault),

@@ -22,7 +22,7 @@ use zst_outside::Disk;
 use zst_tree::ObjSet;
 
 /// What one look ahead in a set shows.
-#[derive(Clone, Copy, Debug)]
+#[derive(Clone, Copy)]
 pub(crate) enum SearchStep {
     /// The first object.
     Object { number: u64, dnode: Dnode },

@@ -10,7 +10,7 @@ use zst_block::Node;
 use zst_dnode::Slot;
 
 /// What the slots of a leaf tell together.
-#[derive(Clone, Copy, Debug, PartialEq, Eq)]
+#[derive(Clone, Copy)]
 pub(crate) struct Summary {
     /// The latest date.
     pub number: u64,

@@ -16,7 +16,7 @@ use zst_model::features::REDACTED;
 use zst_model::{GuidSet, Header, NameText};
 
 /// What a send is to give, by places in the directory.
-#[derive(Clone, Copy, Debug, PartialEq, Eq)]
+#[derive(Clone, Copy)]
 pub struct SendPlan {
     /// The place of the snapshot that is sent.
     pub snap: usize,

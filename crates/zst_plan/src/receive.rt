@@ -26,7 +26,7 @@ use zst_model::{Header, PlanFault};
 use zst_names::{DatasetName, SnapName};
 
 /// What a receive is asked for (zfs-receive(8)).
-#[derive(Clone, Debug, Drop, PartialEq, Eq)]
+#[derive(Drop)]
 pub struct RecvAsk {
     /// The dataset that the stream comes into.
     pub target: DatasetName,
@@ -41,7 +41,7 @@ pub struct RecvAsk {
 }
 
 /// What a receive begins with, by places in the directory.
-#[derive(Clone, Debug, Drop, PartialEq, Eq)]
+#[derive(Drop)]
 pub enum RecvPlan {
     /// It goes on with the partial state at this place.
     Resumes {

@@ -1,4 +1,4 @@
-//! Plans in directories that are spelled by hand.
+//! Plans of what no command makes, in directories that are spelled by hand.
 mod directories;
 mod headers;
 mod receive;

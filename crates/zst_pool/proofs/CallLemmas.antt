@@ -1,6 +1,7 @@
 -- What a call of a receive did, from what its commit did.
-use Rattle.std.specs.Prelude.{Result, Ok, Err, IfOk, OnOk, OnErr, false}
-use Rattle.std.proofs.Common.{◌≡◌, ◌⊎◌, inl, inr, ⊎_elim, ℕ, ◌+◌, ◌<◌, List, refl, sym, ap, subst, ◌∙◌, Bool}
+use Rattle.std.specs.Prelude.{Result, Ok, Err, IfErr, IfOk, OnOk, OnErr, true, false}
+use Rattle.std.proofs.Common.{◌≡◌, ◌⊎◌, inl, inr, ⊎_elim, ℕ, ◌+◌, ◌<◌, ◌≤◌, ◌||◌, List, refl, sym, ap, subst, ◌∙◌, Bool}
+use Rattle.zst_outside.specs.Causes.{Rose}
 use Rattle.zst_outside.specs.Images.{DiskState, Leaves, Leaves-weaker}
 use Rattle.zst_space.specs.FreeSectors.{FreeSectors}
 use Rattle.zst_block.specs.Blocks.{KeepsBlocks}
@@ -8,16 +9,16 @@ use Rattle.zst_model.specs.declared.refusals.refusal.Refusal.{Refusal}
 use Rattle.zst_model.specs.pools.KeptPool.{kept_of}
 use Rattle.zst_model.specs.pools.Pool.{Pool}
 use Rattle.zst_dir.specs.Rows.{Rows}
-use Rattle.zst_pool.specs.Calls.{CallDid, CallFault, IsAtRest, IsUnderWay, keeping}
-use Rattle.zst_pool.specs.Faults.{is_full, of_committed}
+use Rattle.zst_pool.specs.Calls.{CallDid, CallFault, CanCommit, IsAtRest, IsUnderWay, keeping}
+use Rattle.zst_pool.specs.Faults.{HasDiskCause, is_disk_fault, is_full, of_committed}
 use Rattle.zst_image.specs.declared.commit_fault.CommitFault.{CommitFault}
 use Rattle.zst_image.specs.declared.commit_fault.CommitFault.TheVariants as commits
 use Rattle.zst_image.specs.Reads.{Reads, free_by}
-use Rattle.zst_image.specs.Commits.{Commits}
+use Rattle.zst_image.specs.Commits.{Commits, Ready}
 use Rattle.zst_pool.specs.declared.fault.PoolFault.{PoolFault}
 use Rattle.zst_pool.specs.declared.fault.PoolFault.TheVariants.{Plan, CannotApply, Redacted, Full, Damaged, DiskFault, Failed, OutOfMemory}
 use Rattle.zst_image.specs.declared.pool_state.PoolState.{PoolState}
-use Rattle.zst_pool.proofs.PoolsAtRest.{rests_on, since}
+use Rattle.zst_pool.proofs.PoolsAtRest.{commit_next_of, rests_on, since}
 
 -- an image reads as what is kept of the pool before a call, or of the one that its definition makes
 abbrev EitherReads : (tight : Bool) → Pool → Result Pool Refusal → List ℕ → Type 0
@@ -82,3 +83,66 @@ blocks_last old mid new space less kept answer made is keeps free same =
     by_answer : (a : Result ℕ PoolFault) → IfOk (keeping kept a) (λ next. KeepsBlocks old space mid (free_by next.body)) → (is_full (keeping kept a) ≡ false → less ≡ free_by kept.body) → OnOk a (KeepsBlocks old space new less)
     by_answer (Ok number) h f = subst (λ (s : FreeSectors). KeepsBlocks old space new s) (sym (f refl)) (subst (λ (i : List ℕ). KeepsBlocks old space i (free_by kept.body)) (sym same) h)
     by_answer (Err fault) h f = tt
+
+neither : (a b : Bool) → (a || b) ≡ false → (a ≡ false) × (b ≡ false)
+neither true b h = absurd (cc)
+neither false b h = (refl, h)
+
+-- what a call answers, where a pool settled what its commit made
+module _ (kept : PoolState) (answer : Result ℕ PoolFault) (made : Result PoolState PoolFault) (is : keeping kept answer ≡ made) where
+  -- a fault of the call is the commit's
+  pub fault_made : (fault : PoolFault) → answer ≡ Err fault → made ≡ Err fault
+  fault_made fault fell = sym is ∙ ap (keeping kept) fell
+
+  pub fault_has : (P : PoolFault → Type 0) → IfErr made P → IfErr answer P
+  fault_has P holds = by_answer answer (subst (λ (r : Result PoolState PoolFault). IfErr r P) (sym is) holds)
+    where
+      by_answer : (a : Result ℕ PoolFault) → IfErr (keeping kept a) P → IfErr a P
+      by_answer (Ok number) h = tt
+      by_answer (Err fault) h = h
+
+  -- it tells a full disk, and a disk that failed, where the commit does
+  pub tells_full : is_full made ≡ is_full answer
+  tells_full = ap is_full (sym is) ∙ by_answer answer
+    where
+      by_answer : (a : Result ℕ PoolFault) → is_full (keeping kept a) ≡ is_full a
+      by_answer (Ok number) = refl
+      by_answer (Err fault) = refl
+
+  pub tells_disk : is_disk_fault made ≡ is_disk_fault answer
+  tells_disk = ap is_disk_fault (sym is) ∙ by_answer answer
+    where
+      by_answer : (a : Result ℕ PoolFault) → is_disk_fault (keeping kept a) ≡ is_disk_fault a
+      by_answer (Ok number) = refl
+      by_answer (Err (Plan fault)) = refl
+      by_answer (Err (CannotApply fault)) = refl
+      by_answer (Err (Redacted object block)) = refl
+      by_answer (Err (Full need largest)) = refl
+      by_answer (Err (Damaged sector stated found)) = refl
+      by_answer (Err DiskFault) = refl
+      by_answer (Err Failed) = refl
+      by_answer (Err OutOfMemory) = refl
+
+  pub cause_told : (before mid now : ℕ) → now ≡ mid → HasDiskCause before mid made → HasDiskCause before now answer
+  cause_told before mid now same cause = record {
+    later = subst (λ n. before ≤ n) (sym same) cause.later;
+    fault = λ fell. subst (Rose before) (sym same) (cause.fault (fault_made DiskFault fell));
+  }
+
+  -- the sectors are free again by the latest body, but where the disk is full
+  pub free_again : (failed : Bool) (space : FreeSectors) → (is_full made ≡ false → space ≡ free_by kept.body) → (failed || is_full answer) ≡ false → space ≡ free_by kept.body
+  free_again failed space free works = free (tells_full ∙ (neither failed (is_full answer) works).1)
+
+  -- the disk is ready for the commit that follows
+  pub ready_still : (old : PoolState) (disk new : DiskState) (fell after : Bool) → new ≡ disk → after ≡ fell → IfOk made (λ next. Ready disk next.body) → (fell ≡ false → OnErr made (Ready disk old.body))
+      → OnErr answer (kept ≡ old) → after ≡ false → Ready new kept.body
+  ready_still old disk new fell after same alike made_ready unmade stays works = subst (λ (d : DiskState). Ready d kept.body) (sym same)
+      (by_answer answer (subst (λ (r : Result PoolState PoolFault). IfOk r (λ next. Ready disk next.body)) (sym is) made_ready) (subst (λ (r : Result PoolState PoolFault). OnErr r (Ready disk old.body)) (sym is) (unmade (sym alike ∙ works))) stays)
+    where
+      by_answer : (a : Result ℕ PoolFault) → IfOk (keeping kept a) (λ next. Ready disk next.body) → OnErr (keeping kept a) (Ready disk old.body) → OnErr a (kept ≡ old) → Ready disk kept.body
+      by_answer (Ok number) after before same = after
+      by_answer (Err fault) after before same = subst (λ (k : PoolState). Ready disk k.body) (sym same) before
+
+  -- the next commit can be made where the disk works and isn't full
+  pub can_still : (disk : DiskState) (space : FreeSectors) (failed : Bool) → (is_full made ≡ false → space ≡ free_by kept.body) → (failed ≡ false → Ready disk kept.body) → (failed || is_full answer) ≡ false → CanCommit disk space kept.body
+  can_still disk space failed free ready works = commit_next_of disk space kept.body (free_again failed space free works) (ready (neither failed (is_full answer) works).0)

@@ -1,6 +1,6 @@
 -- What the rows of a directory say of the pool that they stand for.
-use Rattle.std.proofs.Common.{◌≡◌, ℕ, ◌+◌, ◌≤◌, ◌<◌, ◌^◌, ◌-◌, get_or, true, false, not, List, length, Option, Some, None, is_some, is_none, Result, Ok, Err, nat_lt, refl, sym, ap, ◌∙◌, arith}
-use Rattle.std.specs.Prelude.{IsErrAnd}
+use Rattle.std.proofs.Common.{◌≡◌, ℕ, ◌+◌, ◌≤◌, ◌<◌, ◌^◌, ◌-◌, get_or, true, false, not, List, length, Option, Some, None, is_some, is_none, Result, Ok, Err, nat_lt, refl, sym, ap, ◌∙◌, subst, arith}
+use Rattle.std.specs.Prelude.{IfErr, IsErrAnd}
 use Rattle.std.specs.List.{position, list_any, count_by}
 use Rattle.std.specs.Str.{bytes_eq}
 use Rattle.std.proofs.lemmas.Bool.Decides.{nat_tests}
@@ -24,6 +24,10 @@ use Rattle.zst_dir.proofs.Matches.{length-Match, is_some-position, list_any-Matc
 pub err_is : {T F : Type 0} (result : Result T F) (fault : F) → IsErrAnd result (λ e. e ≡ fault) → result ≡ Err fault
 err_is (Ok value) fault is = absurd is
 err_is (Err e) fault is = ap (λ f. Err f) is
+
+pub err_has : {T F : Type 0} (P : F → Type 0) (result : Result T F) (fault : F) → IsErrAnd result (λ e. e ≡ fault) → P fault → IfErr result P
+err_has P (Ok value) fault is holds = tt
+err_has P (Err e) fault is holds = subst P (sym is) holds
 
 -- a limit that is passed, and one that isn't
 pub over : {A : Type 0} (which : Quantity) (most quantity : ℕ) (rest : Result A Refusal) → most < quantity → limited which most quantity rest ≡ Err (refusals.Limit which most)

@@ -33,7 +33,7 @@ use Rattle.zst_pool.specs.Heads.{of_call, of_change}
 use Rattle.zst_pool.specs.Plans.{IsLast, IsLimitOf, IsPast, Plans, is_by_rows, is_counted}
 use Rattle.zst_image.specs.Reads.{IsNamedBy}
 use Rattle.zst_pool.specs.declared.fault.PoolFault.{PoolFault}
-use Rattle.zst_pool.specs.declared.fault.PoolFault.TheVariants.{Plan}
+use Rattle.zst_pool.specs.declared.fault.PoolFault.TheVariants.{OutOfMemory, Plan}
 use Rattle.zst_pool.specs.declared.head_fault.HeadFault.{HeadFault}
 use Rattle.zst_image.specs.declared.commit_fault.CommitFault.{CommitFault}
 use Rattle.zst_image.specs.declared.commit_fault.CommitFault.TheVariants as commits
@@ -126,6 +126,10 @@ module _ {T : Type 0} (definition : Pool → Result Stepped Refusal) (numbers in
     );
     limits = λ fault was. inr (limits fault was);
   }
+
+  -- one that falls for want of memory, where the directory doesn't refuse it
+  pub plans_starved : (result : Result T PoolFault) → result ≡ Err OutOfMemory → ((pool : Pool) → IsNamedBy kept.body kept.dir pool → gives_told (definition pool) ≡ false) → Plans definition numbers indices kept result
+  plans_starved result answered apart = plans_apart result apart (λ fault is. absurd (cc (answered, is)))
 
   -- the same answer of another call
   pub plans_err : {U : Type 0} (fault : PoolFault) {result : Result U PoolFault} → result ≡ Err fault → Plans {T = T} definition numbers indices kept (Err fault) → Plans {T = U} definition numbers indices kept result

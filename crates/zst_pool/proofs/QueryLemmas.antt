@@ -51,6 +51,15 @@ stop_set T U (set_faults.Block (blocks.Full need largest)) = refl
 stop_set T U (set_faults.Block (blocks.Damaged sector stated found)) = refl
 stop_set T U (set_faults.Block blocks.DiskFault) = refl
 
+-- no set answers E31
+pub set_open : (fault : ObjFault) → of_set fault ≡ faults.Failed → ⊥
+set_open (set_faults.CannotApply fault) is = absurd (cc)
+set_open (set_faults.Redacted object block) is = absurd (cc)
+set_open (set_faults.Limit which number) is = absurd (cc)
+set_open (set_faults.Block (blocks.Full need largest)) is = absurd (cc)
+set_open (set_faults.Block (blocks.Damaged sector stated found)) is = absurd (cc)
+set_open (set_faults.Block blocks.DiskFault) is = absurd (cc)
+
 -- what a set refuses of a block is refused as its definition
 pub block_refused : (pool : Pool) (definition : Result Block Refusal) (fault : ObjFault) → Refuses definition fault → StepFault (Unit {0}) (block_told pool definition) (of_set fault)
 block_refused pool definition (set_faults.CannotApply fault) is = (ap (block_told pool) is, tt)

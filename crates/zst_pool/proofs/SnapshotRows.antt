@@ -1,6 +1,6 @@
 -- What a look at the rows says of the snapshots and the bookmarks of the pool that they name.
 use Rattle.std.specs.Prelude.{Result, Err}
-use Rattle.std.proofs.Common.{◌≡◌, ℕ, ◌+◌, ◌≤◌, ◌<◌, true, false, List, length, get_or, Some, is_some, refl, sym, ap, ◌∙◌, arith}
+use Rattle.std.proofs.Common.{◌≡◌, ℕ, ◌+◌, ◌≤◌, ◌<◌, true, false, List, length, get_or, None, Some, is_some, refl, sym, ap, ◌∙◌, arith}
 use Rattle.std.specs.List.{All, position}
 use Rattle.std.specs.Str.{bytes_eq}
 use Rattle.zst_model.proofs.InsertedLaws.{All-from_contains}
@@ -64,3 +64,17 @@ clone_is_new origin name pool source snapshot found named there =
     (λ source. with_dataset (clone_of name source snapshot) pool))) found
     ∙ ap (λ o. or_else (no_such (names.Dataset (dataset_of_snapshot snapshot))) o (λ source. with_dataset (clone_of name source snapshot) pool))
     (ap (λ n. dataset_named (dataset_of 64 n) pool) named ∙ there)
+
+-- where either isn't found, there is none
+pub clone_of_none : (origin name : List ℕ) (pool : Pool) → snapshot_named origin pool ≡ None → with_clone origin name pool ≡ Err (no_such (names.Snapshot origin))
+clone_of_none origin name pool none =
+    ap (λ o. or_else (no_such (names.Snapshot origin)) o (λ snapshot. or_else (no_such (names.Dataset (dataset_of_snapshot snapshot))) (dataset_named (dataset_of_snapshot snapshot) pool)
+    (λ source. with_dataset (clone_of name source snapshot) pool))) none
+
+pub clone_without_source : (origin name : List ℕ) (pool : Pool) (snapshot : plain.Snapshot) → snapshot_named origin pool ≡ Some snapshot → snapshot.name ≡ origin
+    → dataset_named (dataset_of 64 origin) pool ≡ None → with_clone origin name pool ≡ Err (no_such (names.Dataset (dataset_of 64 origin)))
+clone_without_source origin name pool snapshot found named none =
+    ap (λ o. or_else (no_such (names.Snapshot origin)) o (λ snapshot. or_else (no_such (names.Dataset (dataset_of_snapshot snapshot))) (dataset_named (dataset_of_snapshot snapshot) pool)
+    (λ source. with_dataset (clone_of name source snapshot) pool))) found
+    ∙ ap (λ n. or_else (no_such (names.Dataset (dataset_of 64 n))) (dataset_named (dataset_of 64 n) pool) (λ source. with_dataset (clone_of name source snapshot) pool)) named
+    ∙ ap (λ o. or_else (no_such (names.Dataset (dataset_of 64 origin))) o (λ source. with_dataset (clone_of name source snapshot) pool)) none

@@ -11,7 +11,7 @@ use zst_model::{ApplyFault, PlanFault, Refusal};
 use zst_objset::ObjFault;
 
 /// Why a pool isn't stepped.
-#[derive(Clone, Debug, Drop, PartialEq, Eq)]
+#[derive(Debug, Drop)]
 pub enum PoolFault {
     /// What the command's own checks found (E2 to E15, E19, E23).
     Plan(PlanFault),

@@ -2,7 +2,7 @@ use std::alloc::AllocError;
 use zst_objset::ObjFault;
 
 /// Why the object set of a head isn't changed.
-#[derive(Clone, Debug, Drop, PartialEq, Eq)]
+#[derive(Drop)]
 pub enum HeadFault {
     /// The set refuses, or a block of it does.
     Set(ObjFault),

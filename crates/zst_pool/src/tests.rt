@@ -1,18 +1,8 @@
-//! Commands on the pool of a disk in memory: what they answer, what a stop or a turned byte leaves.
+//! What no line shows of a pool on a disk in memory: one that stays open, states that aren't kept, lists, and a crowd.
 mod answers;
 mod commands;
 mod crowds;
 mod errors;
-mod images;
-mod lineage;
 mod lists;
-mod partials;
-mod pool_contents;
 mod pools;
-mod reads;
-mod replies;
-mod rollbacks;
-mod runs;
 mod sessions;
-mod stops;
-mod turned_bytes;

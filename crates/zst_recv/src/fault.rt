@@ -6,7 +6,7 @@ use zst_objset::ObjFault;
 use zst_pool::PoolFault;
 
 /// Why a receive isn't fed.
-#[derive(Clone, Debug, Drop, PartialEq, Eq)]
+#[derive(Debug, Drop)]
 pub enum RecvFault {
     /// What the plan found (E2 to E15, E19, E23), or the pool (E24, E25, E28, E31, E32).
     Pool(PoolFault),

@@ -1,11 +1,5 @@
-//! Streams that are received into pools on disks in memory.
-mod cuts;
+//! What no line shows of a receive: pieces of any size, and what is told of one that runs and isn't kept.
 mod errors;
-mod images;
+mod pieces;
 mod pools;
 mod records;
-mod refusals;
-mod resumed_receives;
-mod stops;
-mod streams;
-mod tokens;

@@ -1,7 +1,17 @@
 -- What is given of a record and of what follows it, piece by piece.
-use Rattle.std.proofs.Common.{◌≡◌, ℕ, ◌+◌, ◌-◌, ◌≤◌, min, List, ◌++◌, length, take, drop, sym, ap, ◌∙◌, arith, length-append, length-drop}
-use Rattle.std.proofs.lemmas.List.{drop-append-le, take-append-le}
+use Rattle.std.proofs.Common.{◌≡◌, ℕ, ◌+◌, ◌-◌, ◌≤◌, min, List, [], ◌++◌, length, take, drop, refl, sym, ap, subst, ◌∙◌, arith, length-append, length-drop}
+use Rattle.std.proofs.lemmas.List.{append-nil, drop-append-le, take-append-le}
 use Rattle.std.proofs.Math.Seq.{drop-append-add}
+use Rattle.zst_model.specs.declared.states.item.Item.{Item}
+use Rattle.zst_stream.specs.Image.{piece_after}
+use Rattle.zst_stream.specs.Records.{piece_for}
+use Rattle.zst_tree.specs.Indices.{Blocks}
+use Rattle.zst_writer.specs.Writes.{HasWritten}
+use Rattle.zst_writer.specs.declared.writer.Writer.{Writer}
+use Rattle.zst_send.specs.Work.{IsPayload, IsPut}
+use Rattle.zst_send.specs.declared.work.Payload.{Payload}
+use Rattle.zst_send.specs.declared.work.Payload.TheVariants.{Nothing}
+use Rattle.zst_send.specs.declared.work.Work.{Work}
 
 -- bytes that are left behind some were copied from the text of which they are left
 pub record AreCopied (into left : List ℕ) (count : ℕ) : Type 0 where
@@ -30,3 +40,15 @@ payload_given head payload into left given from count room given_is left_is coun
     let long : length (drop from payload) ≡ length payload - from = length-drop from payload in
     let whole : length left ≡ length payload - from = ap length rest ∙ long in
     record { same = copied ∙ sym (ap (take count) rest); less = omega (arith, whole, count_is) }
+
+-- the record of an item that nothing follows
+pub lone_put : (has : Blocks) (to : ℕ) (text : List ℕ) (item found : Item) (writer : Writer) (work : Work) → item ≡ found
+    → HasWritten writer (text ++ piece_after text (piece_for to found)) × (work.head ≡ piece_after text (piece_for to found)) → work.payload ≡ Nothing → work.given ≡ 0 → IsPut has to text item writer work
+lone_put has to text item found writer work same put nothing given = subst (λ (i : Item). IsPut has to text i writer work) (sym same) (record {
+  written = put.0;
+  work_is = record {
+    payload = [];
+    payload_is = subst (λ (p : Payload). IsPayload has p []) (sym nothing) refl;
+    left_are = sym put.1 ∙ sym (append-nil work.head) ∙ ap (λ (n : ℕ). drop n (work.head ++ [])) (sym given);
+  };
+})

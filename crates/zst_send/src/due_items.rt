@@ -10,7 +10,7 @@ use zst_traverse::WalkEntry;
 
 /// What comes next in a stream, with the places of its bytes in the pool. Offsets and lengths are
 /// in bytes.
-#[derive(Clone, Copy, Debug, PartialEq, Eq)]
+#[derive(Clone, Copy)]
 pub(crate) enum DueItems {
     /// Numbers without objects.
     Absent {

@@ -30,7 +30,7 @@ use zst_traverse::{WalkEntry, next_cell};
 use zst_tree::{ObjSet, Steps};
 
 /// Where a walk stands.
-#[derive(Clone, Copy, Debug, PartialEq, Eq)]
+#[derive(Clone, Copy)]
 pub(crate) struct Place {
     pub point: Point,
     /// Whether the point's own number comes first.

@@ -35,7 +35,7 @@ use zst_tree::ObjSet;
 use zst_writer::Writer;
 
 /// What is sent: the snapshot's objects, the number of the source, and the guid of the snapshot.
-#[derive(Clone, Copy, Debug, PartialEq, Eq)]
+#[derive(Clone, Copy)]
 pub(crate) struct Subject {
     pub set: ObjSet,
     pub source: Option<u64>,

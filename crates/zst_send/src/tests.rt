@@ -1,15 +1,10 @@
-//! Sends of pools on disks in memory, beside streams that are built apart from the crates.
+//! What no line shows of a send: pieces of any size, which blocks are read, and a pool that is opened again.
 mod commands;
 mod counts;
-mod ends;
 mod errors;
-mod expected_streams;
 mod failures;
 mod faults;
-mod points;
+mod pieces;
 mod pools;
 mod reads;
-mod refusals;
-mod resumed_sends;
 mod sends;
-mod streams;

@@ -26,7 +26,7 @@ use zst_outside::Disk;
 use zst_tree::ObjSet;
 
 /// A walk over what a view shows: where it stands, and what it found and hasn't given.
-#[derive(Clone, Copy, Debug, PartialEq, Eq)]
+#[derive(Clone, Copy)]
 pub(crate) struct Walk {
     pub place: Place,
     pub held: Option<DueItems>,

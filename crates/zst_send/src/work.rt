@@ -32,7 +32,7 @@ use zst_stream::{ItemRef, head_of, pad_bonus};
 use zst_writer::Writer;
 
 /// What follows a record.
-#[derive(Clone, Copy, Debug)]
+#[derive(Clone, Copy)]
 pub(crate) enum Payload {
     Nothing,
     /// A bonus, zeros that pad it among its bytes, or the payload of BEGIN: so many bytes of a field.
@@ -42,7 +42,7 @@ pub(crate) enum Payload {
 }
 
 /// The record in work: its bytes, what follows it, and how many bytes of both were given.
-#[derive(Clone, Copy, Debug)]
+#[derive(Clone, Copy)]
 pub(crate) struct Work {
     pub head: [u8; RECORD_LEN],
     pub payload: Payload,

@@ -7,3 +7,4 @@ mod LateObjects
 mod Damage
 mod Indices
 mod NextCells
+mod StepLaws

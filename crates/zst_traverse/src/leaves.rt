@@ -29,7 +29,7 @@ use zst_outside::Disk;
 use zst_tree::{Steps, Tree, tick};
 
 /// A leaf of a set: its index, its pointer, and for how many indices from it on the pointer stands.
-#[derive(Clone, Copy, Debug)]
+#[derive(Clone, Copy)]
 pub(crate) struct Leaf {
     pub index: u64,
     pub ptr: Ptr,
@@ -37,7 +37,7 @@ pub(crate) struct Leaf {
 }
 
 /// What a look from a number on shows.
-#[derive(Clone, Copy, Debug)]
+#[derive(Clone, Copy)]
 pub(crate) enum WalkStep {
     /// The first included number.
     Next(WalkEntry),

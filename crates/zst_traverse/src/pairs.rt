@@ -26,7 +26,7 @@ use zst_outside::Disk;
 use zst_tree::Steps;
 
 /// So many indices that are alike.
-#[derive(Clone, Copy, Debug)]
+#[derive(Clone, Copy)]
 pub(crate) struct Run {
     pub first: u64,
     pub count: u64,

@@ -11,7 +11,7 @@ use zst_dnode::{Dnode, Slot};
 use zst_objset::date_in;
 
 /// What a glance at a leaf shows.
-#[derive(Clone, Copy, Debug)]
+#[derive(Clone, Copy)]
 pub(crate) enum Glance {
     /// So many absent numbers of late dates.
     Absent { first: u64, count: u64 },

@@ -15,7 +15,7 @@ pub(crate) fn stands_throughout(level: u8, ptr: &Ptr) -> bool
 }
 
 // A subtree beside the path, with something in it that is looked for.
-#[derive(Clone, Copy, Debug, PartialEq, Eq)]
+#[derive(Clone, Copy)]
 pub(crate) struct Branch {
     pub level: u8,
     pub ptr: Ptr,
@@ -23,7 +23,7 @@ pub(crate) struct Branch {
 }
 
 // What a path shows: nothing that is looked for, the index itself, or a subtree beside the path.
-#[derive(Clone, Copy, Debug, PartialEq, Eq)]
+#[derive(Clone, Copy)]
 pub(crate) enum PathAnswer {
     Nothing,
     Here(u64),

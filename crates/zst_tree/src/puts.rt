@@ -56,7 +56,7 @@ fn open<D: Disk>(io: &mut Io<'_, D>, level: u8, ptr: Ptr) -> Result<(), BlockFau
 }
 
 // What a pointer to a node says of it.
-#[derive(Clone, Copy, Debug, PartialEq, Eq)]
+#[derive(Clone, Copy)]
 pub(crate) struct Summary {
     pub kind: u8,
     pub number: u64,
@@ -128,7 +128,7 @@ fn mend_one<D: Disk>(
 }
 
 // The first and the last child that a range reaches, and what is put in their place.
-#[derive(Clone, Copy, Debug, PartialEq, Eq)]
+#[derive(Clone, Copy)]
 struct ChildPair {
     low: usize,
     new_low: Ptr,
@@ -184,7 +184,7 @@ fn is_whole(level: u8, first: u64, below: u64) -> bool
 }
 
 // Where a range begins and ends: the first child and the last, and offsets below them.
-#[derive(Clone, Copy, Debug, PartialEq, Eq)]
+#[derive(Clone, Copy)]
 struct Ends {
     low: usize,
     first: u64,

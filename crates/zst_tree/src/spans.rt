@@ -23,7 +23,7 @@ pub fn span_of(level: u8) -> u64
 }
 
 // Where an offset below a pointer stands: the child, and the offset below it.
-#[derive(Clone, Copy, Debug, PartialEq, Eq)]
+#[derive(Clone, Copy)]
 pub(crate) struct Place {
     pub child: usize,
     pub rest: u64,

@@ -1,7 +1,7 @@
 use zst_outside::Fault;
 
 /// Why a pool is not opened, or a body not committed.
-#[derive(Clone, Copy, Debug, PartialEq, Eq)]
+#[derive(Clone, Copy)]
 pub enum UberFault {
     /// The latest body, in this sector, has other sums than it states, or, with both alike, is
     /// not of its table on this disk.

@@ -13,7 +13,7 @@ use zst_outside::{Disk, Fault};
 pub const OPEN: u8 = 0xa5;
 
 /// A slot: a gate and a body.
-#[derive(Clone, Copy, Debug, PartialEq, Eq)]
+#[derive(Clone, Copy)]
 pub enum Slot {
     First,
     Second,

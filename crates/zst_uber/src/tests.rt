@@ -25,7 +25,7 @@ fn each_call_of_a_commit_may_fail(rt: HostRuntime) -> Result<(), AllocError> {
 #[test]
 fn zeros_have_no_pool(rt: HostRuntime) -> Result<(), AllocError> {
     let mut disk = zeros(rt.alloc(), None)?;
-    assert!(rt; latest(&mut disk) == Err(UberFault::NoPool));
+    assert!(rt; matches!(latest(&mut disk), Err(UberFault::NoPool)));
     Ok(())
 }
 

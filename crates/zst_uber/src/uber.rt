@@ -4,7 +4,7 @@ use zst_bytes::{le32, le64, put_bytes, put32, put64};
 use zst_fletcher::sum_of;
 
 /// The body of a pool: what a commit makes the latest.
-#[derive(Clone, Copy, Debug, PartialEq, Eq)]
+#[derive(Clone, Copy, PartialEq, Eq)]
 pub struct Uber {
     /// The version of the image.
     pub version: u32,

@@ -1,20 +1,20 @@
-// What is handed on, and when: a sink that keeps what it takes until it is flushed.
+// What is handed on, and when: an output that keeps what it takes until it is flushed.
 
-use super::outputs::{check_out, dump_ten, lines_before};
-use super::texts::{TEN, covered};
+use super::outputs::{check_out, covered, dump_items};
+use super::round_trip::TEXT;
 use std::test::Fail;
 
 /// The number of no call.
 const NONE: u64 = u64::MAX;
 
-/// The ten records take fourteen reads. A read that fails ends the dump at once, and so shows what was handed on before it.
+/// The items take 137 reads. A read that fails ends the dump at once, and so shows what was handed on before it.
 #[test]
 fn lines_are_handed_on_before_more_is_asked_for(rt: HostRuntime) -> Result<(), Fail> {
     let alloc = rt.alloc();
-    for read in 0..14u64 {
-        let (status, out) = dump_ten(&rt, alloc, read, NONE)?;
-        assert_eq!(rt; status, 5);
-        check_out(&rt, &out, covered(312 * read as usize), "");
+    for read in 0..137u64 {
+        let dumped = dump_items(alloc, read, NONE)?;
+        assert_eq!(rt; dumped.status, 5);
+        check_out(&rt, &dumped.out, covered(dumped.taken), "");
     }
     Ok(())
 }
@@ -23,18 +23,18 @@ fn lines_are_handed_on_before_more_is_asked_for(rt: HostRuntime) -> Result<(), F
 #[test]
 fn each_flush_that_fails_ends_the_dump(rt: HostRuntime) -> Result<(), Fail> {
     let alloc = rt.alloc();
-    for flush in 0..15u64 {
-        let (status, out) = dump_ten(&rt, alloc, NONE, flush)?;
-        assert_eq!(rt; status, 6);
-        assert_eq!(rt; out.faults, 1);
-        let handed_on = lines_before(flush.saturating_sub(1));
-        let lost = lines_before(flush)
-            .get(handed_on.len()..)
-            .ok_or("a longer text")?;
-        check_out(&rt, &out, handed_on, lost);
+    let mut handed_on = "";
+    for flush in 0..138u64 {
+        let dumped = dump_items(alloc, NONE, flush)?;
+        assert_eq!(rt; dumped.status, 6);
+        assert_eq!(rt; dumped.out.faults, 1);
+        let lines = covered(dumped.taken);
+        let lost = lines.get(handed_on.len()..).ok_or("a longer text")?;
+        check_out(&rt, &dumped.out, handed_on, lost);
+        handed_on = lines;
     }
-    let (status, out) = dump_ten(&rt, alloc, NONE, 15)?;
-    assert_eq!(rt; status, 0);
-    check_out(&rt, &out, TEN, "");
+    let dumped = dump_items(alloc, NONE, 138)?;
+    assert_eq!(rt; dumped.status, 0);
+    check_out(&rt, &dumped.out, TEXT, "");
     Ok(())
 }

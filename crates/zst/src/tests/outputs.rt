@@ -1,12 +1,11 @@
 // An output that keeps what it takes until it is flushed.
-use super::runs::sink;
-use super::streams::ten_records;
-use super::texts::{TEN, covered};
+use super::items::written;
+use super::round_trip::TEXT;
 use std::alloc::Global;
 use std::process::Abort;
 use std::str;
 use std::test::Fail;
-use zst_outside::{Fault, MemSource, Sink, SureDisk};
+use zst_outside::{Fault, MemSink, MemSource, Sink, SureDisk};
 use zst_run::run;
 
 /// An output that keeps what it takes until it is flushed. Its flushes are numbered from 0, and one of them fails.
@@ -62,31 +61,30 @@ impl Sink for BufferedSink {
     }
 }
 
-/// Dumps the ten records, read in pieces of a record's size, where a read and a flush of these numbers fail.
-pub(super) fn dump_ten(
-    rt: &impl Abort,
-    alloc: Global,
-    read: u64,
-    flush: u64,
-) -> Result<(u8, BufferedSink), Fail> {
-    let mut words = Vec::new(alloc);
-    words.push(String::from_str(alloc, "dump")?)?;
+/// What came of a dump.
+#[derive(Drop)]
+pub(super) struct Dumped {
+    pub(super) status: u8,
+    /// How many bytes of the input were taken.
+    pub(super) taken: usize,
+    pub(super) out: BufferedSink,
+}
+
+/// Dumps the items that were written, read in pieces of 1,000 bytes, where a read and a flush of these numbers fail.
+pub(super) fn dump_items(alloc: Global, read: u64, flush: u64) -> Result<Dumped, Fail> {
+    let words = vec![in alloc; String::from_str(alloc, "dump")?]?;
+    let stream = written(alloc)?;
+    let whole = stream.len();
+    let mut input = MemSource::new(stream, vec![in alloc; read]?).in_pieces_of(1_000);
+    let mut out = BufferedSink::new(alloc, flush);
+    let mut note = MemSink::new(Vec::new(alloc));
     let mut here = SureDisk::new(Vec::new(alloc));
     let mut there = SureDisk::new(Vec::new(alloc));
-    let fail = vec![in alloc; read]?;
-    let mut input = MemSource::new(ten_records(rt, alloc)?, fail).in_pieces_of(312);
-    let mut out = BufferedSink::new(alloc, flush);
     let status = run(
-        alloc,
-        &words,
-        0,
-        &mut here,
-        &mut there,
-        &mut input,
-        &mut out,
-        &mut sink(alloc),
+        alloc, &words, 0, &mut here, &mut there, &mut input, &mut out, &mut note,
     );
-    Ok((status, out))
+    let taken = whole.saturating_sub(input.left().len());
+    Ok(Dumped { status, taken, out })
 }
 
 /// Compares what was handed on, and what waits.
@@ -98,10 +96,25 @@ pub(super) fn check_out(rt: &impl Abort, out: &BufferedSink, handed_on: &str, wa
     assert_eq!(rt; str::from_utf8(&out.waiting).unwrap_or("no text"), waiting);
 }
 
-/// The lines that are written before a flush.
-pub(super) fn lines_before(flush: u64) -> &'static str {
-    if flush < 14 {
-        return covered(312 * flush as usize);
+/// How many bytes of the items cover each line of their dump.
+const COVERED_AT: [usize; 14] = [
+    624, 936, 1_248, 1_560, 2_896, 3_208, 3_688, 4_000, 135_384, 135_696, 136_008, 136_008,
+    136_008, 136_008,
+];
+
+/// The lines that some bytes of the items cover.
+pub(super) fn covered(count: usize) -> &'static str {
+    let mut lines = 0usize;
+    for end in COVERED_AT {
+        if end <= count {
+            lines = lines.saturating_add(1);
+        }
     }
-    TEN
+    if lines == 0 {
+        return "";
+    }
+    match TEXT.match_indices("\n").nth(lines.saturating_sub(1)) {
+        Some((place, _)) => TEXT.get(..place.saturating_add(1)).unwrap_or(TEXT),
+        None => TEXT,
+    }
 }

@@ -4,7 +4,7 @@ use std::test::Fail;
 use zst_outside::{MemSink, MemSource, SureDisk};
 use zst_run::run;
 
-const TEXT: &str =
+pub(super) const TEXT: &str =
     "0 BEGIN features 4 kind 2 flags 12 time 1700000001 toguid 0000000200000007 fromguid 0000000000000000 payload 0 name tank/home@a\n\
 312 FREEOBJECTS first 0 count 1\n\
 624 OBJECT object 1 type 21 bonustype 0 size 1024 bonus 0\n\

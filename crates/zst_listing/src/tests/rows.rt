@@ -1,32 +1,61 @@
-//! The lines of a directory that has a row of each kind, beside lines written by hand.
-use super::texts::listed;
+// The bytes of a directory with redactions, row by row, and its list.
 use crate::list_rows;
+use std::alloc::{AllocError, Global};
 use std::test::Fail;
+use zst_block::Ptr;
+use zst_bytes::{push_text, push_word, push_words};
 use zst_dir::Dir;
+use zst_model::Reply;
+use zst_tree::{ObjSet, push_ptr, push_set};
 
-#[test]
-fn rows_are_listed_by_name(rt: HostRuntime) -> Result<(), Fail> {
-    let reply = listed(rt.alloc())?;
-    let want = [
-        "fs a origin none",
-        "snapshot a@s guid 000000000000001f time 1700000000 number 3 redacted 0",
-        "snapshot a@r guid ffffffffffffffff time 1700000005 number 9 redacted 2",
-        "bookmark a#m guid 000000000000001f number 3 redacted 3 runs 4",
-        "partial a guid 00000000000000ab point 5 4096",
-        "fs a/c origin a@s",
-        "partial a/n guid 000000000000cd00 point 0 0",
-        "volume a/v origin none",
-    ];
-    assert_eq!(rt; reply.lines().len(), 8);
-    for (line, text) in reply.lines().iter().zip(want) {
-        assert!(rt; line.as_slice() == text.as_bytes(), "{text}");
+// Spells a snapshot without objects: its guid, its time and its number, and its redaction guids.
+fn push_snapshot(
+    out: &mut Vec<u8>,
+    component: &str,
+    numbers: [u64; 3],
+    redact: &[u64],
+) -> Result<(), AllocError> {
+    push_text(out, component.as_bytes())?;
+    for number in numbers {
+        push_word(out, number)?;
     }
-    Ok(())
+    push_set(out, &ObjSet::empty())?;
+    push_words(out, redact)
 }
 
-#[test]
-fn an_empty_directory_has_no_lines(rt: HostRuntime) -> Result<(), Fail> {
-    let reply = list_rows(rt.alloc(), &Dir::new(rt.alloc()))?;
-    assert!(rt; reply.lines().is_empty());
-    Ok(())
+// Spells a bookmark of four runs, with three redaction guids.
+fn push_bookmark(out: &mut Vec<u8>, name: &str) -> Result<(), AllocError> {
+    push_text(out, name.as_bytes())?;
+    for number in [0x1f, 1_700_000_000, 3] {
+        push_word(out, number)?;
+    }
+    push_words(out, &[3, 4, 5])?;
+    push_word(out, 4)?;
+    push_word(out, 0)?;
+    push_ptr(out, &Ptr::hole(5))
+}
+
+// A file system with a redacted snapshot, and a redaction bookmark.
+fn sample(alloc: Global) -> Result<Vec<u8>, AllocError> {
+    let mut out = Vec::new(alloc);
+    push_word(&mut out, 1)?;
+    push_text(&mut out, b"a")?;
+    push_word(&mut out, 2)?;
+    push_text(&mut out, b"")?;
+    push_set(&mut out, &ObjSet::empty())?;
+    push_words(&mut out, &[])?;
+    push_word(&mut out, 1)?;
+    push_snapshot(&mut out, "r", [u64::MAX, 1_700_000_005, 9], &[7, 8])?;
+    push_word(&mut out, 1)?;
+    push_bookmark(&mut out, "a#m")?;
+    push_word(&mut out, 0)?;
+    Ok(out)
+}
+
+pub(super) fn listed(alloc: Global) -> Result<Reply, Fail> {
+    let bytes = sample(alloc)?;
+    match Dir::decode(alloc, bytes.as_slice())? {
+        Some(dir) => Ok(list_rows(alloc, &dir)?),
+        None => Err(Fail::new("the bytes are no directory")),
+    }
 }

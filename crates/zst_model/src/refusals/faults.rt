@@ -5,7 +5,7 @@ ghost use Rattle.zst_model.specs.refusals.Faults.{flaw_text, lack_text, quantity
 use crate::refusals::text::{Text, numbered, plain};
 
 /// What breaks the grammar of a stream (E17).
-#[derive(Clone, Copy, Debug, PartialEq, Eq)]
+#[derive(Clone, Copy, PartialEq, Eq)]
 pub enum Flaw {
     RecordType,
     Magic,
@@ -25,7 +25,7 @@ pub enum Flaw {
 }
 
 /// What a stream has, or a plan would need, and this project doesn't support (E19).
-#[derive(Clone, Copy, Debug, PartialEq, Eq)]
+#[derive(Clone, Copy, PartialEq, Eq)]
 pub enum Lack {
     BigEndian,
     Compound,

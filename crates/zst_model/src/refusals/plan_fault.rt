@@ -9,10 +9,11 @@ use crate::refusals::subjects::{AbsentSubject, Holder, Name, PresentSubject, Res
 use crate::refusals::text::{
     Text, explained, joined, limited, numbered, plain, push_guid, with_guid,
 };
+use std::fmt;
 use zst_names::{BookName, DatasetName, NameFault, SnapName};
 
 /// Why a pool's command, a send or a receive can't be done: what its plan found, before anything changed.
-#[derive(Clone, Debug, Drop, PartialEq, Eq)]
+#[derive(Drop, PartialEq, Eq)]
 pub enum PlanFault {
     /// E2: the byte at which a name stops being one.
     BadName {
@@ -144,6 +145,13 @@ impl PlanFault {
             PlanFault::Unsupported(lack) => joined("unsupported: ", lack.text().as_str()),
             PlanFault::Limit { which, number } => limited(which.word(), *number),
         }
+    }
+}
+
+/// Shown by its text.
+impl fmt::Debug for PlanFault {
+    fn fmt<W: fmt::Write>(&self, f: &mut fmt::Formatter<W>) -> fmt::Result {
+        f.pad(self.text().as_str())
     }
 }
 

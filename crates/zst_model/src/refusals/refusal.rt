@@ -9,7 +9,7 @@ use crate::refusals::text::{Text, limited, numbered, paired, plain, reasoned, su
 use std::fmt;
 
 /// Why something was refused. The refusals are numbered over the whole project.
-#[derive(Clone, Debug, Drop, PartialEq, Eq)]
+#[derive(Drop, PartialEq, Eq)]
 pub enum Refusal {
     /// E1: the words aren't in the grammar; the first that can't stand where it is, counted from 0.
     Usage {
@@ -129,6 +129,13 @@ impl Refusal {
 impl fmt::Display for Refusal {
     ghost output = { λ refusal. Some (text_of refusal) };
 
+    fn fmt<W: fmt::Write>(&self, f: &mut fmt::Formatter<W>) -> fmt::Result {
+        f.pad(self.text().as_str())
+    }
+}
+
+/// Shown by its text.
+impl fmt::Debug for Refusal {
     fn fmt<W: fmt::Write>(&self, f: &mut fmt::Formatter<W>) -> fmt::Result {
         f.pad(self.text().as_str())
     }

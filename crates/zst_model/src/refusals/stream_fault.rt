@@ -6,7 +6,7 @@ use crate::refusals::text::{Text, numbered, reasoned, summed};
 use std::fmt;
 
 /// Why a stream was refused, with the byte at which the reason stands.
-#[derive(Clone, Copy, Debug, PartialEq, Eq)]
+#[derive(Clone, Copy, PartialEq, Eq)]
 pub enum StreamFault {
     /// E17: it breaks the grammar there.
     Grammar {
@@ -64,6 +64,13 @@ impl StreamFault {
 impl fmt::Display for StreamFault {
     ghost output = { λ fault. Some (stream_text fault) };
 
+    fn fmt<W: fmt::Write>(&self, f: &mut fmt::Formatter<W>) -> fmt::Result {
+        f.pad(self.text().as_str())
+    }
+}
+
+/// Shown by its text.
+impl fmt::Debug for StreamFault {
     fn fmt<W: fmt::Write>(&self, f: &mut fmt::Formatter<W>) -> fmt::Result {
         f.pad(self.text().as_str())
     }

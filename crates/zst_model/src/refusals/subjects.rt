@@ -7,7 +7,7 @@ use crate::sends::header::Point;
 use zst_names::{BookName, DatasetName, SnapName};
 
 /// A name of any kind.
-#[derive(Clone, Debug, Drop, PartialEq, Eq)]
+#[derive(Drop, PartialEq, Eq)]
 pub enum Name {
     Dataset(DatasetName),
     Snapshot(SnapName),
@@ -15,7 +15,7 @@ pub enum Name {
 }
 
 /// What is absent (E3).
-#[derive(Clone, Debug, Drop, PartialEq, Eq)]
+#[derive(Drop, PartialEq, Eq)]
 pub enum AbsentSubject {
     Named(Name),
     /// What a token names by its guid.
@@ -25,14 +25,14 @@ pub enum AbsentSubject {
 }
 
 /// What is there already (E4).
-#[derive(Clone, Debug, Drop, PartialEq, Eq)]
+#[derive(Drop, PartialEq, Eq)]
 pub enum PresentSubject {
     Named(Name),
     Pool,
 }
 
 /// What holds the thing that was to change or to go (E5).
-#[derive(Clone, Debug, Drop, PartialEq, Eq)]
+#[derive(Drop, PartialEq, Eq)]
 pub enum Holder {
     /// A session, by its id.
     Session(u32),
@@ -45,7 +45,7 @@ pub enum Holder {
 }
 
 /// Where a receive that was cut goes on (E15).
-#[derive(Clone, Copy, Debug, PartialEq, Eq)]
+#[derive(Clone, Copy, PartialEq, Eq)]
 pub struct ResumePlace {
     /// The guid of the snapshot that is sent.
     pub guid: u64,

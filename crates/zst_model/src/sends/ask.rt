@@ -1,14 +1,14 @@
 use zst_names::{BookName, SnapName};
 
 /// What an increment is asked to be sent from (`-i` of zfs-send(8)).
-#[derive(Clone, Debug, Drop, PartialEq, Eq)]
+#[derive(Drop)]
 pub enum FromName {
     Snap(SnapName),
     Book(BookName),
 }
 
 /// What a send is asked for (zfs-send(8)).
-#[derive(Clone, Debug, Drop, PartialEq, Eq)]
+#[derive(Drop)]
 pub struct SendAsk {
     /// The snapshot that is sent.
     pub snap: SnapName,

@@ -1,7 +1,7 @@
 use crate::fields::bytes::Bytes;
 
 /// What an object is, apart from its bonus, its spill block and its blocks (`drr_object` of zfs_ioctl.h).
-#[derive(Clone, Copy, Debug, PartialEq, Eq)]
+#[derive(Clone, Copy)]
 pub struct ObjectHead {
     /// Its type (`dmu_object_type` of dmu.h): 19 for the contents of a file, 23 for those of a volume.
     pub type_: u32,

@@ -2,6 +2,7 @@ use crate::refusals::faults::{Flaw, Lack};
 use crate::refusals::subjects::{AbsentSubject, Holder, Name, PresentSubject, ResumePlace};
 use crate::sends::header::Point;
 use crate::{ApplyFault, PlanFault, Quantity, Refusal, StreamFault};
+use std::alloc::Global;
 use std::process::Abort;
 use std::test::Fail;
 use zst_names::{BookName, DatasetName, NameFault, SnapName};
@@ -10,76 +11,82 @@ const GUID: u64 = 0x0123_4567_89ab_cdef;
 
 const SMALL_GUID: u64 = 0xa;
 
-/// The longest component.
-const COMPONENT: &str = "xxxxxxxxxxxxxxxxxxxxxxxxxxxxxxxxxxxxxxxxxxxxxxxxxxxxxxxxxxxxxxxx";
+/// The longest name of a snapshot: 190 bytes of dataset, `@` and 64 bytes.
+const SNAPSHOT: &str = "\
+    xxxxxxxxxxxxxxxxxxxxxxxxxxxxxxxxxxxxxxxxxxxxxxxxxxxxxxxxxxxxxxxx/\
+    xxxxxxxxxxxxxxxxxxxxxxxxxxxxxxxxxxxxxxxxxxxxxxxxxxxxxxxxxxxxxxxx/\
+    xxxxxxxxxxxxxxxxxxxxxxxxxxxxxxxxxxxxxxxxxxxxxxxxxxxxxxxxxxxx@\
+    xxxxxxxxxxxxxxxxxxxxxxxxxxxxxxxxxxxxxxxxxxxxxxxxxxxxxxxxxxxxxxxx";
 
-fn check(rt: &impl Abort, refusal: Refusal, number: u8, text: &str) {
-    assert_eq!(rt; refusal.number(), number, "the number of {text}");
-    assert_eq!(rt; refusal.text().as_str(), text);
+/// The longest name of a bookmark: 190 bytes of dataset, `#` and 64 bytes.
+const BOOKMARK: &str = "\
+    xxxxxxxxxxxxxxxxxxxxxxxxxxxxxxxxxxxxxxxxxxxxxxxxxxxxxxxxxxxxxxxx/\
+    xxxxxxxxxxxxxxxxxxxxxxxxxxxxxxxxxxxxxxxxxxxxxxxxxxxxxxxxxxxxxxxx/\
+    xxxxxxxxxxxxxxxxxxxxxxxxxxxxxxxxxxxxxxxxxxxxxxxxxxxxxxxxxxxx#\
+    xxxxxxxxxxxxxxxxxxxxxxxxxxxxxxxxxxxxxxxxxxxxxxxxxxxxxxxxxxxxxxxx";
+
+fn dataset(rt: &impl Abort, text: &str) -> DatasetName {
+    DatasetName::parse(text).expect(rt, text)
+}
+
+fn snapshot(rt: &impl Abort, text: &str) -> SnapName {
+    SnapName::parse(text).expect(rt, text)
+}
+
+fn bookmark(rt: &impl Abort, text: &str) -> BookName {
+    BookName::parse(text).expect(rt, text)
+}
+
+/// A number and a text are those that are wanted.
+fn check_both(rt: &impl Abort, found: u8, found_text: &str, number: u8, text: &str) {
+    assert_eq!(rt; found, number, "the number of {text}");
+    assert_eq!(rt; found_text, text);
+}
+
+fn check(rt: &impl Abort, refusal: &Refusal, number: u8, text: &str) {
+    check_both(rt, refusal.number(), refusal.text().as_str(), number, text);
 }
 
 /// A fault of a plan has its number and text as a refusal too.
 fn check_plan(rt: &impl Abort, fault: PlanFault, number: u8, text: &str) {
-    assert_eq!(rt; fault.number(), number, "the number of {text}");
-    assert_eq!(rt; fault.text().as_str(), text);
-    check(rt, Refusal::from(fault), number, text);
+    check_both(rt, fault.number(), fault.text().as_str(), number, text);
+    check(rt, &Refusal::from(fault), number, text);
 }
 
 /// A fault of a stream has its number and text as a refusal too.
 fn check_stream(rt: &impl Abort, fault: StreamFault, number: u8, text: &str) {
-    assert_eq!(rt; fault.number(), number, "the number of {text}");
-    assert_eq!(rt; fault.text().as_str(), text);
-    check(rt, Refusal::from(fault), number, text);
+    check_both(rt, fault.number(), fault.text().as_str(), number, text);
+    check(rt, &Refusal::from(fault), number, text);
 }
 
 fn check_word(rt: &impl Abort, refusal: &Refusal, front: &str, word: &str) {
     let text = refusal.text();
-    assert!(rt;
-        text.as_str()
-            .strip_prefix(front)
-            .is_some_and(|rest| rest == word),
-        "{word}"
-    );
+    assert!(rt; text.as_str().strip_prefix(front) == Some(word), "{word}");
 }
 
 #[test]
-fn words_and_names_that_cannot_be_read(rt: HostRuntime) {
-    check(&rt, Refusal::Usage { place: 3 }, 1, "usage: 3");
-    check_plan(
-        &rt,
-        PlanFault::from(NameFault { place: 190 }),
-        2,
-        "bad name at 190",
-    );
-    check(&rt, Refusal::BadToken { place: 5 }, 16, "bad token at 5");
+fn what_is_absent(rt: HostRuntime) {
+    let dataset = Name::Dataset(dataset(&rt, "tank/a"));
+    let snapshot = Name::Snapshot(snapshot(&rt, "tank/a@s"));
+    let bookmark = Name::Bookmark(bookmark(&rt, "tank/a#b"));
+    let table = [
+        (AbsentSubject::Named(dataset), "no such tank/a"),
+        (AbsentSubject::Named(snapshot), "no such tank/a@s"),
+        (AbsentSubject::Named(bookmark), "no such tank/a#b"),
+        (AbsentSubject::Guid(GUID), "no such guid 0123456789abcdef"),
+        (
+            AbsentSubject::Session(u32::MAX),
+            "no such session 4294967295",
+        ),
+    ];
+    for (subject, text) in table {
+        check_plan(&rt, PlanFault::NoSuch(subject), 3, text);
+    }
 }
 
 #[test]
-fn what_is_absent(rt: HostRuntime) -> Result<(), NameFault> {
-    let dataset = AbsentSubject::Named(Name::Dataset(DatasetName::parse("tank/a")?));
-    let snapshot = AbsentSubject::Named(Name::Snapshot(SnapName::parse("tank/a@s")?));
-    let bookmark = AbsentSubject::Named(Name::Bookmark(BookName::parse("tank/a#b")?));
-    check_plan(&rt, PlanFault::NoSuch(dataset), 3, "no such tank/a");
-    check_plan(&rt, PlanFault::NoSuch(snapshot), 3, "no such tank/a@s");
-    check_plan(&rt, PlanFault::NoSuch(bookmark), 3, "no such tank/a#b");
-    check_plan(
-        &rt,
-        PlanFault::NoSuch(AbsentSubject::Guid(GUID)),
-        3,
-        "no such guid 0123456789abcdef",
-    );
-    check_plan(
-        &rt,
-        PlanFault::NoSuch(AbsentSubject::Session(u32::MAX)),
-        3,
-        "no such session 4294967295",
-    );
-    Ok(())
-}
-
-#[test]
-fn what_is_there_or_in_use(rt: HostRuntime) -> Result<(), NameFault> {
-    let snapshot = PresentSubject::Named(Name::Snapshot(SnapName::parse("tank@s")?));
+fn what_is_there(rt: HostRuntime) {
+    let snapshot = PresentSubject::Named(Name::Snapshot(snapshot(&rt, "tank@s")));
     check_plan(&rt, PlanFault::Exists(snapshot), 4, "exists: tank@s");
     check_plan(
         &rt,
@@ -87,88 +94,98 @@ fn what_is_there_or_in_use(rt: HostRuntime) -> Result<(), NameFault> {
         4,
         "exists: pool",
     );
-
-    let partial = Holder::Partial(DatasetName::parse("tank")?);
-    let clone = Holder::Clone(DatasetName::parse("tank/c")?);
-    let bookmark = Holder::Bookmark(BookName::parse("tank#b")?);
-    let snapshot = Holder::Snapshot(SnapName::parse("tank@s")?);
-    check_plan(
-        &rt,
-        PlanFault::Busy(Holder::Session(7)),
-        5,
-        "busy: session 7",
-    );
-    check_plan(&rt, PlanFault::Busy(partial), 5, "busy: partial tank");
-    check_plan(&rt, PlanFault::Busy(clone), 5, "busy: clone tank/c");
-    check_plan(&rt, PlanFault::Busy(bookmark), 5, "busy: bookmark tank#b");
-    check_plan(&rt, PlanFault::Busy(snapshot), 5, "busy: snapshot tank@s");
-    Ok(())
 }
 
 #[test]
-fn what_does_not_belong_together(rt: HostRuntime) -> Result<(), NameFault> {
-    let to = Name::Snapshot(SnapName::parse("tank@late")?);
-    let from = Name::Bookmark(BookName::parse("tank#early")?);
-    check_plan(
-        &rt,
-        PlanFault::NotAncestor { to, from },
-        6,
-        "not an ancestor of tank@late: tank#early",
-    );
-    let bookmark = BookName::parse("tank#b")?;
-    let snapshot = SnapName::parse("tank@s")?;
-    check_plan(
-        &rt,
-        PlanFault::NotRedactionOf { bookmark, snapshot },
-        7,
-        "not a redaction of tank@s: tank#b",
-    );
-    let snapshot = SnapName::parse("tank@s")?;
-    check_plan(
-        &rt,
-        PlanFault::NotDescendant(snapshot),
-        8,
-        "not a descendant: tank@s",
-    );
-    let dataset = DatasetName::parse("tank")?;
-    check_plan(&rt, PlanFault::Modified(dataset), 9, "modified: tank");
-    Ok(())
+fn what_is_in_use(rt: HostRuntime) {
+    let partial = Holder::Partial(dataset(&rt, "tank"));
+    let clone = Holder::Clone(dataset(&rt, "tank/c"));
+    let bookmark = Holder::Bookmark(bookmark(&rt, "tank#b"));
+    let snapshot = Holder::Snapshot(snapshot(&rt, "tank@s"));
+    let table = [
+        (Holder::Session(7), "busy: session 7"),
+        (partial, "busy: partial tank"),
+        (clone, "busy: clone tank/c"),
+        (bookmark, "busy: bookmark tank#b"),
+        (snapshot, "busy: snapshot tank@s"),
+    ];
+    for (holder, text) in table {
+        check_plan(&rt, PlanFault::Busy(holder), 5, text);
+    }
 }
 
 #[test]
-fn guids_that_do_not_fit(rt: HostRuntime) {
-    let (have, want) = (SMALL_GUID, GUID);
-    check_plan(
-        &rt,
-        PlanFault::NotLatest { have, want },
-        10,
-        "not latest: have 000000000000000a, want 0123456789abcdef",
-    );
-    check_plan(
-        &rt,
-        PlanFault::NoOrigin { guid: SMALL_GUID },
-        11,
-        "no origin with guid 000000000000000a",
-    );
-    check_plan(
-        &rt,
-        PlanFault::NotContained { guid: u64::MAX },
-        12,
-        "not contained: guid ffffffffffffffff",
-    );
+fn what_does_not_belong_together(rt: HostRuntime) {
+    let to = Name::Snapshot(snapshot(&rt, "tank@late"));
+    let from = Name::Bookmark(bookmark(&rt, "tank#early"));
+    let ancestor = PlanFault::NotAncestor { to, from };
+    check_plan(&rt, ancestor, 6, "not an ancestor of tank@late: tank#early");
+    let redaction = PlanFault::NotRedactionOf {
+        bookmark: bookmark(&rt, "tank#b"),
+        snapshot: snapshot(&rt, "tank@s"),
+    };
+    check_plan(&rt, redaction, 7, "not a redaction of tank@s: tank#b");
+    let descendant = PlanFault::NotDescendant(snapshot(&rt, "tank@s"));
+    check_plan(&rt, descendant, 8, "not a descendant: tank@s");
 }
 
 #[test]
-fn partial_states(rt: HostRuntime) -> Result<(), NameFault> {
-    let dataset = DatasetName::parse("tank")?;
-    let other = DatasetName::parse("tank/a")?;
-    check_plan(
-        &rt,
-        PlanFault::PartialExists(dataset),
-        13,
-        "partial exists: tank",
-    );
-    check_plan(&rt, PlanFault::NoPartial(other), 14, "no partial: tank/a");
+fn states_of_a_dataset(rt: HostRuntime) {
+    let modified = PlanFault::Modified(dataset(&rt, "tank"));
+    check_plan(&rt, modified, 9, "modified: tank");
+    let exists = PlanFault::PartialExists(dataset(&rt, "tank"));
+    check_plan(&rt, exists, 13, "partial exists: tank");
+    let absent = PlanFault::NoPartial(dataset(&rt, "tank/a"));
+    check_plan(&rt, absent, 14, "no partial: tank/a");
+}
+
+#[test]
+fn faults_of_a_plan_without_names(rt: HostRuntime) {
+    let table = [
+        (
+            PlanFault::from(NameFault { place: 190 }),
+            2,
+            "bad name at 190",
+        ),
+        (
+            PlanFault::NotLatest {
+                have: SMALL_GUID,
+                want: GUID,
+            },
+            10,
+            "not latest: have 000000000000000a, want 0123456789abcdef",
+        ),
+        (
+            PlanFault::NoOrigin { guid: SMALL_GUID },
+            11,
+            "no origin with guid 000000000000000a",
+        ),
+        (
+            PlanFault::NotContained { guid: u64::MAX },
+            12,
+            "not contained: guid ffffffffffffffff",
+        ),
+        (
+            PlanFault::Unsupported(Lack::Relay),
+            19,
+            "unsupported: relay",
+        ),
+        (
+            PlanFault::Limit {
+                which: Quantity::Datasets,
+                number: 256,
+            },
+            23,
+            "limit: datasets 256",
+        ),
+    ];
+    for (fault, number, text) in table {
+        check_plan(&rt, fault, number, text);
+    }
+}
+
+#[test]
+fn another_place_to_resume(rt: HostRuntime) {
     let have = ResumePlace {
         guid: SMALL_GUID,
         point: Point {
@@ -189,120 +206,133 @@ fn partial_states(rt: HostRuntime) -> Result<(), NameFault> {
         15,
         "wrong resume: have 000000000000000a 3 4096, want 0123456789abcdef 2 0",
     );
-    Ok(())
 }
 
 #[test]
 fn faults_of_a_stream(rt: HostRuntime) {
-    let flaw = Flaw::BlockSize;
-    check_stream(
-        &rt,
-        StreamFault::Grammar { at: 336, flaw },
-        17,
-        "grammar at 336: block size",
-    );
-    let (stated, found) = ([1, 2, 3, 4], [5, 6, 7, 8]);
-    let wrong_sum = StreamFault::Checksum {
-        at: 592,
-        stated,
-        found,
-    };
-    check_stream(
-        &rt,
-        wrong_sum,
-        18,
-        "checksum at 592: stated 1 2 3 4, found 5 6 7 8",
-    );
-    let lack = Lack::Feature { bit: 29 };
-    check_stream(
-        &rt,
-        StreamFault::Unsupported { at: 16, lack },
-        19,
-        "unsupported at 16: feature 29",
-    );
-    check_stream(
-        &rt,
-        StreamFault::Truncated { at: u64::MAX },
-        20,
-        "truncated at 18446744073709551615",
-    );
-    let fault = ApplyFault::NoObject;
-    check(
-        &rt,
-        Refusal::CannotApply { record: 2, fault },
-        21,
-        "cannot apply record 2: no object",
-    );
+    let table = [
+        (
+            StreamFault::Grammar {
+                at: 336,
+                flaw: Flaw::BlockSize,
+            },
+            17,
+            "grammar at 336: block size",
+        ),
+        (
+            StreamFault::Checksum {
+                at: 592,
+                stated: [1, 2, 3, 4],
+                found: [5, 6, 7, 8],
+            },
+            18,
+            "checksum at 592: stated 1 2 3 4, found 5 6 7 8",
+        ),
+        (
+            StreamFault::Unsupported {
+                at: 16,
+                lack: Lack::Feature { bit: 29 },
+            },
+            19,
+            "unsupported at 16: feature 29",
+        ),
+        (
+            StreamFault::Truncated { at: u64::MAX },
+            20,
+            "truncated at 18446744073709551615",
+        ),
+    ];
+    for (fault, number, text) in table {
+        check_stream(&rt, fault, number, text);
+    }
 }
 
 #[test]
-fn limits_and_room(rt: HostRuntime) {
-    check_plan(
-        &rt,
-        PlanFault::Unsupported(Lack::Relay),
-        19,
-        "unsupported: relay",
-    );
-    let which = Quantity::Datasets;
-    check_plan(
-        &rt,
-        PlanFault::Limit { which, number: 256 },
-        23,
-        "limit: datasets 256",
-    );
-    let which = Quantity::Stream;
-    let limit = Refusal::Limit {
-        which,
-        number: 1 << 62,
-    };
-    check(&rt, limit, 23, "limit: stream 4611686018427387904");
-    let full = Refusal::Full {
-        need: 256,
-        largest: 16,
-    };
-    check(&rt, full, 24, "full: need 256, largest 16");
-}
-
-#[test]
-fn faults_of_a_pool(rt: HostRuntime) {
-    let redacted = Refusal::Redacted {
-        object: 8,
-        block: 254,
-    };
-    check(&rt, redacted, 22, "redacted: object 8 block 254");
-    let (stated, found) = ([1, 2, 3, 4], [5, 6, 7, 8]);
-    let damaged = Refusal::Damaged {
-        sector: 24,
-        stated,
-        found,
-    };
-    check(
-        &rt,
-        damaged,
-        25,
-        "damaged at sector 24: stated 1 2 3 4, found 5 6 7 8",
-    );
-    check(&rt, Refusal::NoPool, 26, "no pool");
-    check(&rt, Refusal::BadVersion { number: 0 }, 27, "bad version 0");
-    check(&rt, Refusal::Failed, 31, "failed: reopen the pool");
+fn faults_with_places(rt: HostRuntime) {
+    let table = [
+        (Refusal::Usage { place: 3 }, 1, "usage: 3"),
+        (Refusal::BadToken { place: 5 }, 16, "bad token at 5"),
+        (
+            Refusal::CannotApply {
+                record: 2,
+                fault: ApplyFault::NoObject,
+            },
+            21,
+            "cannot apply record 2: no object",
+        ),
+        (
+            Refusal::Redacted {
+                object: 8,
+                block: 254,
+            },
+            22,
+            "redacted: object 8 block 254",
+        ),
+        (
+            Refusal::Limit {
+                which: Quantity::Stream,
+                number: 1 << 62,
+            },
+            23,
+            "limit: stream 4611686018427387904",
+        ),
+        (
+            Refusal::Full {
+                need: 256,
+                largest: 16,
+            },
+            24,
+            "full: need 256, largest 16",
+        ),
+        (
+            Refusal::Damaged {
+                sector: 24,
+                stated: [1, 2, 3, 4],
+                found: [5, 6, 7, 8],
+            },
+            25,
+            "damaged at sector 24: stated 1 2 3 4, found 5 6 7 8",
+        ),
+        (Refusal::BadVersion { number: 0 }, 27, "bad version 0"),
+    ];
+    for (refusal, number, text) in table {
+        check(&rt, &refusal, number, text);
+    }
 }
 
 #[test]
 fn faults_of_the_outside(rt: HostRuntime) {
-    check(&rt, Refusal::DiskFault, 28, "disk fault");
-    check(&rt, Refusal::SourceFault, 29, "source fault");
-    check(&rt, Refusal::SinkFault, 30, "sink fault");
-    check(&rt, Refusal::OutOfMemory, 32, "no memory");
+    let table = [
+        (Refusal::NoPool, 26, "no pool"),
+        (Refusal::DiskFault, 28, "disk fault"),
+        (Refusal::SourceFault, 29, "source fault"),
+        (Refusal::SinkFault, 30, "sink fault"),
+        (Refusal::Failed, 31, "failed: reopen the pool"),
+        (Refusal::OutOfMemory, 32, "no memory"),
+    ];
+    for (refusal, number, text) in table {
+        check(&rt, &refusal, number, text);
+    }
 }
 
 #[test]
 fn a_limit_of_a_plan_is_a_limit(rt: HostRuntime) {
     let which = Quantity::Runs;
-    let number = 65_536;
-    let refusal = Refusal::from(PlanFault::Limit { which, number });
-    assert!(rt; refusal == Refusal::Limit { which, number });
-    let refusal = Refusal::from(PlanFault::NoOrigin { guid: GUID });
-    assert!(rt; refusal == Refusal::Plan(PlanFault::NoOrigin { guid: GUID }));
+    let refusal = Refusal::from(PlanFault::Limit {
+        which,
+        number: 65_536,
+    });
+    assert!(rt;
+        matches!(
+            refusal,
+            Refusal::Limit {
+                which: Quantity::Runs,
+                number: 65_536
+            }
+        )
+    );
+    let refusal = Refusal::from(PlanFault::NoOrigin { guid: 7 });
+    assert!(rt; matches!(refusal, Refusal::Plan(PlanFault::NoOrigin { guid: 7 })));
 }
 
 #[test]
@@ -416,34 +446,38 @@ fn each_quantity_has_its_word(rt: HostRuntime) {
     }
 }
 
-#[test]
-fn prints_as_its_text(rt: HostRuntime) -> Result<(), Fail> {
-    let fault = StreamFault::Truncated { at: 7 };
-    let printed = format!(in rt.alloc(); "[{fault}]")?;
-    assert_eq!(rt; printed.as_str(), "[truncated at 7]");
-    let refusal = Refusal::from(fault);
-    let printed = format!(in rt.alloc(); "[{refusal}]")?;
-    assert_eq!(rt; printed.as_str(), "[truncated at 7]");
-    let refusal = Refusal::Plan(PlanFault::NotDescendant(SnapName::parse("tank@s")?));
-    let printed = format!(in rt.alloc(); "[{refusal}]")?;
-    assert_eq!(rt; printed.as_str(), "[not a descendant: tank@s]");
+fn check_printed(
+    rt: &impl Abort,
+    alloc: Global,
+    refusal: &Refusal,
+    text: &str,
+) -> Result<(), Fail> {
+    let printed = format!(in alloc; "[{refusal}]")?;
+    assert_eq!(rt; printed.as_str(), text);
     Ok(())
 }
 
 #[test]
-fn the_longest_texts_fit(rt: HostRuntime) -> Result<(), Fail> {
-    // 190 bytes of dataset, `@` or `#`, and 64 bytes
+fn prints_as_its_text(rt: HostRuntime) -> Result<(), Fail> {
     let alloc = rt.alloc();
-    let last = COMPONENT.get(4..).unwrap_or("");
-    let dataset = format!(in alloc; "{COMPONENT}/{COMPONENT}/{last}")?;
-    let snapshot = SnapName::parse(format!(in alloc; "{dataset}@{COMPONENT}")?.as_str())?;
-    let bookmark = BookName::parse(format!(in alloc; "{dataset}#{COMPONENT}")?.as_str())?;
-    let fault = PlanFault::NotAncestor {
-        to: Name::Snapshot(snapshot.duplicate()),
-        from: Name::Bookmark(bookmark.duplicate()),
-    };
+    let fault = StreamFault::Truncated { at: 7 };
+    let printed = format!(in alloc; "[{fault}]")?;
+    assert_eq!(rt; printed.as_str(), "[truncated at 7]");
+    check_printed(&rt, alloc, &Refusal::from(fault), "[truncated at 7]")?;
+    let refusal = Refusal::Plan(PlanFault::NotDescendant(snapshot(&rt, "tank@s")));
+    check_printed(&rt, alloc, &refusal, "[not a descendant: tank@s]")
+}
+
+#[test]
+fn the_longest_texts_fit(rt: HostRuntime) {
+    let to = Name::Snapshot(snapshot(&rt, SNAPSHOT));
+    let from = Name::Bookmark(bookmark(&rt, BOOKMARK));
+    let fault = PlanFault::NotAncestor { to, from };
     assert_eq!(rt; fault.text().len(), 19 + 255 + 2 + 255);
-    let fault = PlanFault::NotRedactionOf { bookmark, snapshot };
+    let fault = PlanFault::NotRedactionOf {
+        bookmark: bookmark(&rt, BOOKMARK),
+        snapshot: snapshot(&rt, SNAPSHOT),
+    };
     assert_eq!(rt; fault.text().len(), 19 + 255 + 2 + 255);
     let (stated, found) = ([u64::MAX; 4], [u64::MAX; 4]);
     let refusal = Refusal::Damaged {
@@ -452,5 +486,4 @@ fn the_longest_texts_fit(rt: HostRuntime) -> Result<(), Fail> {
         found,
     };
     assert_eq!(rt; refusal.text().len(), 18 + 20 + 9 + 83 + 8 + 83);
-    Ok(())
 }

@@ -17,7 +17,7 @@ use zst_names::{BookName, DatasetName};
 use zst_tree::ObjSet;
 
 /// What a fresh receive takes.
-#[derive(Clone, Copy, PartialEq, Eq)]
+#[derive(Clone, Copy)]
 pub struct Base {
     /// The place of the snapshot that it starts from.
     pub snapshot: Option<usize>,

@@ -12,25 +12,14 @@ pub(super) type SnapshotFields = (&'static str, u64, u64);
 // Spells a file system without objects, and behind it its snapshots, which have these redaction guids.
 pub(super) fn push_dataset(
     out: &mut Vec<u8>,
-    names: (&str, &str),
-    snapshots: &[SnapshotFields],
-    redact: &[u64],
-) -> Result<(), AllocError> {
-    push_with_head(out, names, (2, &ObjSet::empty()), snapshots, redact)
-}
-
-// So a dataset of this kind with this head.
-pub(super) fn push_with_head(
-    out: &mut Vec<u8>,
     (name, origin): (&str, &str),
-    (kind, head): (u64, &ObjSet),
     snapshots: &[SnapshotFields],
     redact: &[u64],
 ) -> Result<(), AllocError> {
     push_text(out, name.as_bytes())?;
-    push_word(out, kind)?;
+    push_word(out, 2)?;
     push_text(out, origin.as_bytes())?;
-    push_set(out, head)?;
+    push_set(out, &ObjSet::empty())?;
     push_words(out, &[])?;
     push_word(out, snapshots.len() as u64)?;
     for (component, guid, number) in snapshots {

@@ -24,12 +24,6 @@ pub(super) fn ask(target: &str, snap: &str, origin: &str) -> Result<RecvAsk, Fai
     })
 }
 
-pub(super) fn forced(target: &str) -> Result<RecvAsk, Fail> {
-    let mut ask = ask(target, "", "")?;
-    ask.force = true;
-    Ok(ask)
-}
-
 // These guids, which rise.
 pub(super) fn guids(numbers: &[u64]) -> GuidSet {
     let mut set = GuidSet::empty();
@@ -53,14 +47,6 @@ pub(super) fn from(from: u64) -> Header {
         redact: GuidSet::empty(),
         from_redact: GuidSet::empty(),
     }
-}
-
-// A name as a stream states it.
-pub(super) fn stated(name: &str) -> Result<NameText, Fail> {
-    if name.len() > 255 {
-        return Err(Fail::new("the name is too long"));
-    }
-    Ok(NameText::new(name.as_bytes()))
 }
 
 // The same with redaction guids of its own.

@@ -1,22 +1,10 @@
 // Directories that streams are received into.
-use crate::tests::directories::{push_bookmark, push_dataset, push_with_head, push_words_of, read};
+use crate::tests::directories::{push_dataset, push_words_of, read};
 use std::alloc::{AllocError, Global};
 use std::test::Fail;
-use zst_block::Ptr;
 use zst_bytes::{push_text, push_word, push_words};
 use zst_dir::Dir;
-use zst_tree::{ObjSet, Tree, push_set};
-
-// A head without objects, dated past its span, and one dated at its root.
-fn dated(past: u64, root: u64) -> ObjSet {
-    ObjSet {
-        tree: Tree {
-            levels: 0,
-            past,
-            root: Ptr::hole(root),
-        },
-    }
-}
+use zst_tree::{ObjSet, push_set};
 
 // Spells a kept partial state of this target: of the guid 99 from 16, at object 5 and offset 1024,
 // with redaction guids of both kinds.
@@ -33,24 +21,13 @@ fn push_partial(out: &mut Vec<u8>, target: &str, base: &str) -> Result<(), Alloc
     push_words_of(out, &[5, 1024])
 }
 
-// The head of `b` and that of `c` are later than their snapshots, and so is a bookmark of `c`; the
-// snapshot of `d` is redacted, `e` has none, `v` is a volume, and `p` is a partial state alone.
+// The snapshot of `d` is redacted, and `p` is a partial state alone, over the snapshot of `a`.
 pub(super) fn receivers(alloc: Global) -> Result<Dir, Fail> {
     let mut out = Vec::new(alloc);
-    push_word(&mut out, 6)?;
-    let made = [("q", 16, 2), ("s", 17, 3), ("t", 18, 5)];
-    push_with_head(&mut out, ("a", ""), (2, &dated(5, 5)), &made, &[])?;
-    let made = [("u", 33, 8)];
-    push_with_head(&mut out, ("b", ""), (2, &dated(9, 0)), &made, &[])?;
-    let made = [("v", 34, 8)];
-    push_with_head(&mut out, ("c", ""), (2, &dated(0, 9)), &made, &[])?;
-    push_dataset(&mut out, ("d", ""), &[("x", 65, 6)], &[7, 9])?;
-    push_dataset(&mut out, ("e", ""), &[], &[])?;
-    let made = [("z", 81, 4)];
-    push_with_head(&mut out, ("v", ""), (3, &dated(5, 0)), &made, &[])?;
     push_word(&mut out, 2)?;
-    push_bookmark(&mut out, "b#w", 33, 8, &[])?;
-    push_bookmark(&mut out, "c#w", 35, 12, &[])?;
+    push_dataset(&mut out, ("a", ""), &[("q", 16, 2)], &[])?;
+    push_dataset(&mut out, ("d", ""), &[("x", 65, 6)], &[7, 9])?;
+    push_word(&mut out, 0)?;
     push_word(&mut out, 1)?;
     push_partial(&mut out, "p", "a@q")?;
     read(alloc, out.as_slice())

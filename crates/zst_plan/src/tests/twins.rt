@@ -1,4 +1,4 @@
-// A directory with guids that stand twice, and tokens.
+// A directory with guids that stand twice and with redaction bookmarks, and tokens.
 use crate::tests::directories::{push_bookmark, push_dataset, read};
 use crate::{SendPlan, resume_plan};
 use std::alloc::Global;
@@ -8,11 +8,10 @@ use zst_dir::Dir;
 use zst_model::{GuidSet, Point};
 use zst_token::Token;
 
-// `a@s` and `b@s` have one guid, and so have `a@q` and `b@q`; `c` is a clone of `b@s`. Of `a@s` there
-// are a plain bookmark and a redaction bookmark, and `a#p` has a guid that no snapshot has.
+// `a@s` and `b@s` have one guid, and so have `a@q` and `b@q`. Of `a@s` and of `b@q` there are redaction bookmarks.
 pub(super) fn twins(alloc: Global) -> Result<Dir, Fail> {
     let mut out = Vec::new(alloc);
-    push_word(&mut out, 3)?;
+    push_word(&mut out, 2)?;
     push_dataset(&mut out, ("a", ""), &[("q", 16, 2), ("s", 17, 3)], &[])?;
     push_dataset(
         &mut out,
@@ -20,9 +19,7 @@ pub(super) fn twins(alloc: Global) -> Result<Dir, Fail> {
         &[("q", 16, 4), ("s", 17, 5), ("t", 18, 7)],
         &[],
     )?;
-    push_dataset(&mut out, ("c", "b@s"), &[("u", 33, 8)], &[])?;
-    push_word(&mut out, 3)?;
-    push_bookmark(&mut out, "a#p", 15, 1, &[])?;
+    push_word(&mut out, 2)?;
     push_bookmark(&mut out, "a#r", 17, 3, &[7, 9])?;
     push_bookmark(&mut out, "b#r", 16, 4, &[7])?;
     push_word(&mut out, 0)?;

@@ -1,16 +1,10 @@
-// What commands answer.
-ghost use Rattle.zst_model.specs.states.State.{is_block_size};
-ghost use Rattle.zst_model.specs.pools.Step.{IsCommand};
-
-use super::commands::{file_system, object, small, snapshot, write};
+// What commands answer, also one behind the other on a pool that stays open.
+use super::commands::{small, write};
 use super::errors::TestRefusal;
-use super::pools::{NOW, number_of, step_on, with_small};
-use super::replies::{check_line, check_refused};
+use super::pools::{NOW, check_line, number_of, step_on, with_small};
 use crate::{Pool, PoolFault};
-use std::alloc::Global;
 use zst_image::PoolState;
-use zst_model::{Command, Reply};
-use zst_outside::{Disk, MemDisk};
+use zst_model::Reply;
 
 #[test]
 fn small_has_the_numbers_1_to_5(rt: HostRuntime) -> Result<(), TestRefusal> {
@@ -31,44 +25,6 @@ fn small_has_the_numbers_1_to_5(rt: HostRuntime) -> Result<(), TestRefusal> {
             (0x1_0000_0001, 5, 1_700_000_000)
         );
     }
-    Ok(())
-}
-
-#[test]
-#[tactic(auto, unfolding(zst_model::specs::states::State::is_block_size, zst_model::specs::states::State::largest_block))]
-fn refusals_leave_the_pool(rt: HostRuntime) -> Result<(), TestRefusal> {
-    let alloc = rt.alloc();
-    let mut disk = with_small(alloc, 4)?;
-    step_on(alloc, &mut disk, object(alloc, "tank/a", 2, 1536)?)?;
-
-    let again = file_system("tank/a")?;
-    check_refused(&rt, alloc, &mut disk, again, "exists: tank/a")?;
-    let again = snapshot("tank/a@s")?;
-    check_refused(&rt, alloc, &mut disk, again, "exists: tank/a@s")?;
-    let nowhere = snapshot("tank/z@s")?;
-    check_refused(&rt, alloc, &mut disk, nowhere, "no such tank/z")?;
-
-    let absent = write(alloc, 3, 0, 1)?;
-    check_refused(
-        &rt,
-        alloc,
-        &mut disk,
-        absent,
-        "cannot apply record 0: no object",
-    )?;
-    let odd = write(alloc, 2, 1, 1)?;
-    check_refused(
-        &rt,
-        alloc,
-        &mut disk,
-        odd,
-        "cannot apply record 0: odd block",
-    )?;
-
-    let past = write(alloc, 1, 1 << 43, 1)?;
-    check_refused(&rt, alloc, &mut disk, past, "limit: block 8796093022208")?;
-    let past = object(alloc, "tank/a", 1 << 48, 512)?;
-    check_refused(&rt, alloc, &mut disk, past, "limit: object 281474976710656")?;
     Ok(())
 }
 
@@ -100,48 +56,5 @@ fn what_a_refused_write_took_is_free_again(rt: HostRuntime) -> Result<(), TestRe
     assert!(rt; is_full(&first));
     let second = pool.step(alloc, NOW, write(alloc, 1, 2, 1)?);
     assert!(rt; is_full(&second));
-    Ok(())
-}
-
-#[test]
-fn a_directory_of_two_leaves_is_opened_again(rt: HostRuntime) -> Result<(), TestRefusal> {
-    let alloc = rt.alloc();
-    let bytes = vec![in alloc; 0; 4_194_304]?;
-    let mut disk = MemDisk::new(bytes, Vec::new(alloc), None);
-    PoolState::create(alloc, &mut disk, 8_192, 1)?;
-    for number in 0..40 {
-        let name = format!(in alloc; "tank/d{number}")?;
-        step_on(alloc, &mut disk, file_system(name.as_str())?)?;
-        let name = format!(in alloc; "tank/d{number}@s")?;
-        step_on(alloc, &mut disk, snapshot(name.as_str())?)?;
-    }
-    let kept = PoolState::open(alloc, &mut disk)?;
-    assert_eq!(rt; (kept.body.number, kept.body.dir_levels), (81, 1));
-    assert!(rt; kept.body.dir_bytes > 8192);
-    assert_eq!(rt; kept.dir.datasets().len(), 40);
-    assert_eq!(rt; kept.dir.snapshots().len(), 40);
-    Ok(())
-}
-
-// How many calls of the disk an opening makes, and then a command.
-fn calls_of(alloc: Global, disk: &mut MemDisk, command: Command) -> Result<(u64, u64), TestRefusal>
-    requires { IsCommand command }
-{
-    let start = disk.calls();
-    let kept = PoolState::open(alloc, disk)?;
-    let opened = disk.calls();
-    let mut pool = Pool::new(alloc, disk, kept);
-    pool.step(alloc, NOW, command)?;
-    let end = pool.into_disk().calls();
-    Ok((opened.saturating_sub(start), end.saturating_sub(opened)))
-}
-
-#[test]
-fn a_small_write_makes_few_calls(rt: HostRuntime) -> Result<(), TestRefusal> {
-    let alloc = rt.alloc();
-    let mut disk = with_small(alloc, 2)?;
-    let first = calls_of(alloc, &mut disk, small(alloc, 2)?)?;
-    let again = calls_of(alloc, &mut disk, small(alloc, 2)?)?;
-    assert_eq!(rt; (first, again), ((3, 13), (3, 13)));
     Ok(())
 }

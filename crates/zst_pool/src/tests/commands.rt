@@ -1,7 +1,7 @@
 // Commands.
 ghost use Rattle.std.specs.Prelude.{◌≡◌, ◌<◌, true, length, IfOk};
 ghost use Rattle.zst_model.specs.states.State.{is_block_size};
-ghost use Rattle.zst_model.specs.pools.Step.{IsCommand, HasObjects};
+ghost use Rattle.zst_model.specs.pools.Step.{IsCommand};
 
 use super::errors::TestRefusal;
 use std::alloc::{AllocError, Global};
@@ -96,16 +96,6 @@ pub(super) fn small(alloc: Global, place: u64) -> Result<Command, TestRefusal>
     }
 }
 
-pub(super) fn clone_of(origin: &str, name: &str) -> Result<Command, TestRefusal>
-    ensures { IfOk result IsCommand }
-{
-    let origin = SnapName::parse(origin).map_err(PlanFault::from)?;
-    let _ = origin.text();
-    let dataset = dataset(name)?;
-    let _ = dataset.text();
-    Ok(Command::Clone { origin, dataset })
-}
-
 pub(super) fn bookmark_of(snapshot: &str, name: &str) -> Result<Command, TestRefusal>
     ensures { IfOk result IsCommand }
 {
@@ -124,60 +114,4 @@ pub(super) fn destroy_dataset(text: &str) -> Result<Command, TestRefusal>
     Ok(Command::Destroy {
         name: Name::Dataset(name),
     })
-}
-
-pub(super) fn destroy_snapshot(text: &str) -> Result<Command, TestRefusal>
-    ensures { IfOk result IsCommand }
-{
-    let name = SnapName::parse(text).map_err(PlanFault::from)?;
-    let _ = name.text();
-    Ok(Command::Destroy {
-        name: Name::Snapshot(name),
-    })
-}
-
-pub(super) fn destroy_bookmark(text: &str) -> Result<Command, TestRefusal>
-    ensures { IfOk result IsCommand }
-{
-    let name = BookName::parse(text).map_err(PlanFault::from)?;
-    let _ = name.text();
-    Ok(Command::Destroy {
-        name: Name::Bookmark(name),
-    })
-}
-
-pub(super) fn head(text: &str) -> Result<Name, TestRefusal>
-    ensures { IfOk result HasObjects }
-{
-    let name = dataset(text)?;
-    let _ = name.text();
-    Ok(Name::Dataset(name))
-}
-
-pub(super) fn taken(text: &str) -> Result<Name, TestRefusal>
-    ensures { IfOk result HasObjects }
-{
-    let name = SnapName::parse(text).map_err(PlanFault::from)?;
-    let _ = name.text();
-    Ok(Name::Snapshot(name))
-}
-
-pub(super) fn read(name: Name, object: u64, index: u64) -> Command
-    requires name { HasObjects name }
-    requires object { 0 < object }
-    ensures { IsCommand result }
-{
-    Command::Read {
-        name,
-        object,
-        index,
-    }
-}
-
-pub(super) fn rollback(text: &str, destroys: bool) -> Result<Command, TestRefusal>
-    ensures { IfOk result IsCommand }
-{
-    let snapshot = SnapName::parse(text).map_err(PlanFault::from)?;
-    let _ = snapshot.text();
-    Ok(Command::Rollback { destroys, snapshot })
 }

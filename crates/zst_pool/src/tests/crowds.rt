@@ -1,10 +1,9 @@
-// Pools of many snapshots.
+// A pool of many snapshots.
 ghost use Rattle.std.specs.Prelude.{◌≡◌, ◌<◌};
 ghost use Rattle.zst_dir.specs.Rows.{IsSnapshotRow};
 
 use super::commands::{destroy_dataset, file_system};
 use super::errors::TestRefusal;
-use super::pool_contents::{bytes_of, disk_of};
 use super::pools::{NOW, rows_of, step_on};
 use crate::Pool;
 use crate::checks::{check_new_snapshot, open_dataset};
@@ -16,8 +15,22 @@ use zst_image::{PoolState, commit_dir};
 use zst_model::limits::LAST_NUMBER;
 use zst_model::{GuidSet, PlanFault, Refusal};
 use zst_names::SnapName;
-use zst_outside::MemDisk;
+use zst_outside::{Disk, MemDisk};
 use zst_tree::ObjSet;
+
+// A disk of these bytes, of which no call fails.
+fn disk_of(alloc: Global, bytes: Vec<u8>) -> MemDisk {
+    MemDisk::new(bytes, Vec::new(alloc), None)
+}
+
+// What a disk reads.
+fn bytes_of(alloc: Global, disk: &mut MemDisk) -> Result<Vec<u8>, TestRefusal> {
+    let mut bytes = vec![in alloc; 0; disk.bytes() as usize]?;
+    match disk.read(0, &mut bytes) {
+        Ok(()) => Ok(bytes),
+        Err(_) => Err(TestRefusal(Refusal::DiskFault)),
+    }
+}
 
 // A snapshot that has nothing.
 fn row(name: SnapName, guid: u64) -> Snapshot
@@ -68,7 +81,7 @@ fn commit_snapshots(alloc: Global, disk: &mut MemDisk, count: u64) -> Result<(),
 }
 
 // The bytes of a disk whose one dataset has a thousand snapshots.
-pub(super) fn with_thousand(alloc: Global) -> Result<Vec<u8>, TestRefusal> {
+fn with_thousand(alloc: Global) -> Result<Vec<u8>, TestRefusal> {
     let mut disk = disk_of(alloc, vec![in alloc; 0; 524_288]?);
     PoolState::create(alloc, &mut disk, 1024, 1)?;
     step_on(alloc, &mut disk, file_system("tank/a")?)?;
@@ -77,7 +90,7 @@ pub(super) fn with_thousand(alloc: Global) -> Result<Vec<u8>, TestRefusal> {
 }
 
 // Checks that a disk has all of the thousand snapshots, or nothing.
-pub(super) fn check_whole(
+fn check_whole(
     rt: &impl Abort,
     alloc: Global,
     disk: &mut MemDisk,
@@ -89,7 +102,7 @@ pub(super) fn check_whole(
 }
 
 // Checks so where the call of this number fails as the dataset is destroyed.
-pub(super) fn check_fault(
+fn check_fault(
     rt: &impl Abort,
     alloc: Global,
     bytes: Vec<u8>,
@@ -101,4 +114,20 @@ pub(super) fn check_fault(
     let is_fault = matches!(answer, Err(TestRefusal(Refusal::DiskFault)));
     assert!(rt; is_fault, "at {call}");
     check_whole(rt, alloc, &mut disk, call)
+}
+
+#[test]
+fn a_thousand_snapshots_go_at_once(rt: HostRuntime) -> Result<(), TestRefusal> {
+    let alloc = rt.alloc();
+    let bytes = with_thousand(alloc)?;
+    let mut disk = disk_of(alloc, bytes.clone()?);
+    step_on(alloc, &mut disk, destroy_dataset("tank/a")?)?;
+    let calls = disk.calls();
+    for call in 0..calls {
+        let mut image = disk.image(alloc, call, 0xa5)?;
+        check_whole(&rt, alloc, &mut image, call)?;
+        check_fault(&rt, alloc, bytes.clone()?, call)?;
+    }
+    assert_eq!(rt; rows_of(alloc, &mut disk)?, (0, 0, 0));
+    Ok(())
 }

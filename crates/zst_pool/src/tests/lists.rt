@@ -1,4 +1,4 @@
-// What is told of the lists of bookmarks.
+// What is told of the lists of bookmarks, which no command writes yet and the program asks for nowhere.
 ghost use Rattle.std.specs.Prelude.{◌≤◌};
 ghost use Rattle.zst_dir.specs.Rows.{IsBookmarkRow};
 
@@ -26,24 +26,6 @@ fn bookmark(text: &str) -> Result<BookName, TestRefusal> {
     Ok(BookName::parse(text).map_err(PlanFault::from)?)
 }
 
-#[test]
-fn a_bookmark_that_nothing_redacted_has_no_list(rt: HostRuntime) -> Result<(), TestRefusal> {
-    let alloc = rt.alloc();
-    let mut disk = with_small(alloc, 4)?;
-    step_on(alloc, &mut disk, bookmark_of("tank/a@s", "tank/a#k")?)?;
-    let kept = PoolState::open(alloc, &mut disk)?;
-    let mut pool = Pool::new(alloc, &mut disk, kept);
-    assert!(rt; pool.list_of(alloc, &bookmark("tank/a#k")?)?.is_none());
-    match pool.list_of(alloc, &bookmark("tank/a#z")?) {
-        Ok(_) => panic!(rt; "there is no such bookmark"),
-        Err(fault) => assert_eq!(rt;
-            TestRefusal::from(fault).0.text().as_str(),
-            "no such tank/a#z"
-        ),
-    }
-    Ok(())
-}
-
 // A redaction bookmark whose list of one run stands below this root.
 fn with_list(name: BookName, tree: &Tree) -> Bookmark
     requires levels { tree.now.levels ≤ 7 }
@@ -67,8 +49,24 @@ fn with_list(name: BookName, tree: &Tree) -> Bookmark
 }
 
 #[test]
-fn a_list_that_was_written_is_told(rt: HostRuntime) -> Result<(), TestRefusal> {
+fn lists_are_told_where_something_is_redacted(rt: HostRuntime) -> Result<(), TestRefusal> {
     let alloc = rt.alloc();
+    let mut disk = with_small(alloc, 4)?;
+    step_on(alloc, &mut disk, bookmark_of("tank/a@s", "tank/a#k")?)?;
+    let kept = PoolState::open(alloc, &mut disk)?;
+    for row in kept.dir.bookmarks() {
+        assert_eq!(rt; (row.guid, row.number, row.time), (0x1_0000_0001, 5, NOW));
+    }
+    let mut pool = Pool::new(alloc, &mut disk, kept);
+    assert!(rt; pool.list_of(alloc, &bookmark("tank/a#k")?)?.is_none());
+    match pool.list_of(alloc, &bookmark("tank/a#z")?) {
+        Ok(_) => panic!(rt; "there is no such bookmark"),
+        Err(fault) => assert_eq!(rt;
+            TestRefusal::from(fault).0.text().as_str(),
+            "no such tank/a#z"
+        ),
+    }
+
     let mut disk = with_small(alloc, 4)?;
     let kept = PoolState::open(alloc, &mut disk)?;
     let mut pool = Pool::new(alloc, &mut disk, kept);

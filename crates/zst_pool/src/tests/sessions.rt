@@ -1,16 +1,66 @@
-// Partial states of receives beside commands.
+// A receive that isn't kept, beside commands on the pool that stays open.
+ghost use Rattle.std.specs.Prelude.{◌≡◌, IfOk, None};
+ghost use Rattle.zst_dir.specs.Rows.{IsPartialRow};
+ghost use Rattle.zst_model.specs.pools.Pool.{IsStated};
+
 use super::commands::file_system;
 use super::errors::TestRefusal;
-use super::partials::{abort_of, begun, check_counts, lines_of, with_two};
-use super::pool_contents::{bytes_of, disk_of};
-use super::pools::{NOW, rows_of, step_on, with_small};
-use super::replies::{check_line, check_refused};
-use super::runs::check_command;
+use super::pools::{NOW, check_line, rows_of, with_small};
 use crate::Pool;
 use crate::checks::check_new_snapshot;
+use std::process::Abort;
+use zst_dir::{Dir, Partial};
 use zst_image::PoolState;
-use zst_model::PlanFault;
-use zst_names::DatasetName;
+use zst_model::{GuidSet, Header, NameText, PlanFault, Point};
+use zst_names::{DatasetName, SnapName};
+use zst_tree::ObjSet;
+
+// The header of a full stream of a file system, without a name.
+#[tactic(auto, unfolding(zst_model::specs::sends::Features::redacts, zst_model::specs::sends::Features::resuming))]
+fn full_header() -> Header
+    ensures { IsStated result }
+{
+    Header {
+        kind: 2,
+        flags: 0,
+        features: 0,
+        time: NOW,
+        to: 7,
+        from: 0,
+        name: NameText::new(&[]),
+        resume: None,
+        redact: GuidSet::empty(),
+        from_redact: GuidSet::empty(),
+    }
+}
+
+// What a receive of this snapshot has when it begins.
+fn begun(text: &str) -> Result<Partial, TestRefusal>
+    ensures row { IfOk result IsPartialRow }
+    ensures base { IfOk result (λ partial. partial.base ≡ None) }
+{
+    let name = SnapName::parse(text).map_err(PlanFault::from)?;
+    let target = name.dataset();
+    let _ = target.text();
+    Ok(Partial {
+        target,
+        snapshot: NameText::new(name.component().as_bytes()),
+        keep: false,
+        header: full_header(),
+        base: None,
+        objects: ObjSet::empty(),
+        point: Point {
+            object: 0,
+            offset: 0,
+        },
+    })
+}
+
+// Checks how many datasets and partial states a directory has.
+fn check_counts(rt: &impl Abort, dir: &Dir, datasets: usize, partials: usize) {
+    assert_eq!(rt; dir.datasets().len(), datasets);
+    assert_eq!(rt; dir.partials().len(), partials);
+}
 
 #[test]
 fn a_session_that_is_not_kept_runs_beside_commands(rt: HostRuntime) -> Result<(), TestRefusal> {
@@ -18,7 +68,7 @@ fn a_session_that_is_not_kept_runs_beside_commands(rt: HostRuntime) -> Result<()
     let mut disk = with_small(alloc, 1)?;
     let kept = PoolState::open(alloc, &mut disk)?;
     let mut pool = Pool::new(alloc, &mut disk, kept);
-    let partial = begun("tank/b@t", false)?;
+    let partial = begun("tank/b@t")?;
     check_new_snapshot(&pool.kept.dir, &partial.snapshot_name())?;
     assert_eq!(rt; pool.put_partial(alloc, partial, false)?, 3);
     check_counts(&rt, &pool.kept.dir, 1, 1);
@@ -39,37 +89,5 @@ fn a_session_that_is_not_kept_runs_beside_commands(rt: HostRuntime) -> Result<()
     let reply = pool.step(alloc, NOW, file_system("tank/b")?)?;
     check_line(&rt, &reply, "ok 5");
     assert_eq!(rt; rows_of(alloc, pool.into_disk())?, (3, 0, 0));
-    Ok(())
-}
-
-#[test]
-fn an_abort_leaves_all_else(rt: HostRuntime) -> Result<(), TestRefusal> {
-    let alloc = rt.alloc();
-    let mut disk = with_two(alloc)?;
-    let disk = &mut disk;
-    assert_eq!(rt; lines_of(alloc, disk)?, 4);
-
-    let reply = step_on(alloc, disk, abort_of("tank/a")?)?;
-    check_line(&rt, &reply, "ok 8");
-    assert_eq!(rt; lines_of(alloc, disk)?, 3);
-    assert_eq!(rt; rows_of(alloc, disk)?, (1, 1, 0));
-    for partial in PoolState::open(alloc, disk)?.dir.partials() {
-        assert_eq!(rt; partial.target.text(), "tank/b");
-    }
-
-    let again = abort_of("tank/a")?;
-    check_refused(&rt, alloc, disk, again, "no partial: tank/a")?;
-    step_on(alloc, disk, abort_of("tank/b")?)?;
-    assert_eq!(rt; lines_of(alloc, disk)?, 2);
-    Ok(())
-}
-
-#[test]
-fn a_stop_of_an_abort_leaves_the_pool_before_or_after(rt: HostRuntime) -> Result<(), TestRefusal> {
-    let alloc = rt.alloc();
-    let bytes = bytes_of(alloc, &mut with_two(alloc)?)?;
-    let bytes = check_command(&rt, alloc, bytes, abort_of("tank/a")?, 0)?;
-    let mut disk = disk_of(alloc, bytes);
-    assert_eq!(rt; PoolState::open(alloc, &mut disk)?.dir.partials().len(), 1);
     Ok(())
 }

@@ -1,11 +1,11 @@
 // Pools on disks in memory, and what is received into them.
-ghost use Rattle.std.specs.Prelude.{◌≡◌, ◌≤◌, true, false, length, IfOk};
+ghost use Rattle.std.specs.Prelude.{◌≡◌, true, false, IfOk};
 ghost use Rattle.zst_image.specs.Commits.{Ready};
 ghost use Rattle.zst_model.specs.pools.Step.{IsCommand};
 ghost use Rattle.zst_recv.specs.Stages.{RecvFits, is_live};
 
 use super::errors::TestRefusal;
-use super::records::NOW;
+use super::records::{FIRST, NOW};
 use crate::{Recv, RecvAsk, RecvFault};
 use std::alloc::Global;
 use std::process::Abort;
@@ -19,14 +19,14 @@ pub(super) fn dataset(text: &str) -> Result<DatasetName, TestRefusal> {
     Ok(DatasetName::parse(text).map_err(PlanFault::from)?)
 }
 
-pub(super) fn snapshot(text: &str) -> Result<SnapName, TestRefusal> {
+fn snapshot(text: &str) -> Result<SnapName, TestRefusal> {
     Ok(SnapName::parse(text).map_err(PlanFault::from)?)
 }
 
-// A receive into a dataset, without anything else that may be asked.
-pub(super) fn into(target: &str) -> Result<RecvAsk, TestRefusal> {
+// A receive into tank/b, without anything else that may be asked.
+pub(super) fn into_b() -> Result<RecvAsk, TestRefusal> {
     Ok(RecvAsk {
-        target: dataset(target)?,
+        target: dataset("tank/b")?,
         snap: None,
         keep: false,
         force: false,
@@ -43,7 +43,7 @@ pub(super) fn new_disk(alloc: Global) -> Result<MemDisk, TestRefusal> {
 }
 
 // Feeds a stream in pieces of this size, and counts the items that were applied: E20 where END doesn't come.
-pub(super) fn feed_all<D: Disk>(
+fn feed_all<D: Disk>(
     alloc: Global,
     recv: &mut Recv,
     pool: &mut Pool<'_, D>,
@@ -67,17 +67,16 @@ pub(super) fn feed_all<D: Disk>(
     Ok(None)
 }
 
-// Receives a stream into the pool of a disk in pieces of this size, and counts the items: E20 where it is cut.
+// Receives a stream into tank/b in pieces of this size, and counts the items: E20 where it is cut.
 pub(super) fn receive(
     alloc: Global,
     disk: &mut MemDisk,
-    ask: RecvAsk,
     stream: &[u8],
     size: usize,
 ) -> Result<u64, TestRefusal> {
     let kept = PoolState::open(alloc, disk)?;
     let mut pool = Pool::new(alloc, disk, kept);
-    let mut recv = Recv::open(&mut pool, alloc, ask)?;
+    let mut recv = Recv::open(&mut pool, alloc, into_b()?)?;
     match feed_all(alloc, &mut recv, &mut pool, stream, size)? {
         Some(items) => Ok(items),
         None => match recv.cut(&mut pool) {
@@ -87,69 +86,59 @@ pub(super) fn receive(
     }
 }
 
-// Runs a command on the pool of a disk, and checks its lines.
-pub(super) fn check_lines(
-    rt: &impl Abort,
-    alloc: Global,
-    disk: &mut MemDisk,
-    command: Command,
-    wanted: &[&str],
-) -> Result<(), TestRefusal>
-    requires { IsCommand command }
-{
-    let kept = PoolState::open(alloc, disk)?;
-    let mut pool = Pool::new(alloc, disk, kept);
-    let reply = pool.step(alloc, NOW, command)?;
-    let lines = reply.lines();
-    assert_eq!(rt; lines.len(), wanted.len());
-    for (line, text) in lines.iter().zip(wanted) {
-        assert!(rt; line.as_slice() == text.as_bytes(), "{text}");
-    }
-    Ok(())
-}
-
-// Reads one index of a file of a snapshot.
-pub(super) fn read(text: &str, object: u64, index: u64) -> Result<Command, TestRefusal>
+// Reads an index of object 1 of tank/b@s.
+fn read(index: u64) -> Result<Command, TestRefusal>
     ensures { IfOk result IsCommand }
 {
-    let name = snapshot(text)?;
+    let name = snapshot("tank/b@s")?;
     let _ = name.text();
     Ok(Command::Read {
         name: Name::Snapshot(name),
-        object: object.max(1),
+        object: 1,
         index,
     })
 }
 
-/// The sizes of the pieces in which a stream is fed.
-pub(super) const SIZES: [usize; 6] = [1, 7, 311, 312, 4_096, 1_048_576];
+// Checks the line that tells this index of the pool of a disk.
+pub(super) fn check_read(
+    rt: &impl Abort,
+    alloc: Global,
+    disk: &mut MemDisk,
+    index: u64,
+    wanted: &str,
+) -> Result<(), TestRefusal> {
+    let kept = PoolState::open(alloc, disk)?;
+    let mut pool = Pool::new(alloc, disk, kept);
+    let reply = pool.step(alloc, NOW, read(index)?)?;
+    let lines = reply.lines();
+    assert_eq!(rt; lines.len(), 1);
+    assert!(rt; lines[0].as_slice() == wanted.as_bytes(), "{index}");
+    Ok(())
+}
 
-// A block that begins with this byte, as `read` tells it.
-pub(super) fn block_line(alloc: Global, first: &str) -> Result<String, TestRefusal> {
+// The block of the small stream, as `read` tells it.
+pub(super) fn block_line(alloc: Global) -> Result<String, TestRefusal> {
     let mut line = String::new(alloc);
-    line.push_str("data ")?;
-    line.push_str(first)?;
+    line.push_str("data aa")?;
     for _ in 1..512 {
         line.push_str("00")?;
     }
     Ok(line)
 }
 
-// Checks the guid, the time and the number of a snapshot of the pool.
+// Checks the guid, the time and the number of tank/b@s.
 pub(super) fn check_snapshot(
     rt: &impl Abort,
     alloc: Global,
     disk: &mut MemDisk,
-    name: &str,
-    guid: u64,
 ) -> Result<(), TestRefusal> {
     let kept = PoolState::open(alloc, disk)?;
-    let Some(place) = kept.dir.snapshot(&snapshot(name)?) else {
-        assert!(rt; false, "{name} is missing");
+    let Some(place) = kept.dir.snapshot(&snapshot("tank/b@s")?) else {
+        assert!(rt; false, "the snapshot is missing");
         return Ok(());
     };
     let row = &kept.dir.snapshots()[place];
-    assert_eq!(rt; row.guid, guid);
+    assert_eq!(rt; row.guid, FIRST);
     assert_eq!(rt; row.time, NOW);
     assert_eq!(rt; row.number, kept.body.number);
     assert_eq!(rt; kept.dir.partials().len(), 0);

@@ -5,8 +5,8 @@ ghost use Rattle.zst_model.specs.states.State.{is_block_size};
 
 use super::errors::TestRefusal;
 use std::alloc::Global;
-use zst_model::{Bytes, Command, Name, ObjectHead, PlanFault};
-use zst_names::{BookName, DatasetName, SnapName};
+use zst_model::{Bytes, Command, ObjectHead, PlanFault};
+use zst_names::{DatasetName, SnapName};
 
 /// A command on a pool. Each block that it writes has the byte that is given, and zeros behind it.
 #[derive(Clone, Copy, Debug)]
@@ -20,14 +20,7 @@ pub(super) enum Change {
     Large(u64),
     /// A block of a dataset's object at an index.
     Write(&'static str, u64, u64, u8),
-    /// A first number of tank/a and a count.
-    Free(u64, u64),
     Snapshot(&'static str),
-    Clone(&'static str, &'static str),
-    Bookmark(&'static str, &'static str),
-    Destroy(&'static str),
-    /// With `-r`.
-    Rollback(&'static str),
 }
 
 /// A file system with a file of one block, and its snapshot.
@@ -44,10 +37,6 @@ fn dataset(text: &str) -> Result<DatasetName, TestRefusal> {
 
 pub(super) fn snapshot(text: &str) -> Result<SnapName, TestRefusal> {
     Ok(SnapName::parse(text).map_err(PlanFault::from)?)
-}
-
-pub(super) fn bookmark(text: &str) -> Result<BookName, TestRefusal> {
-    Ok(BookName::parse(text).map_err(PlanFault::from)?)
 }
 
 fn file_system(text: &str) -> Result<Command, TestRefusal>
@@ -132,62 +121,12 @@ fn write(
     })
 }
 
-fn free(first: u64, count: u64) -> Result<Command, TestRefusal>
-    ensures { IfOk result IsCommand }
-{
-    let dataset = dataset("tank/a")?;
-    let _ = dataset.text();
-    Ok(Command::Free {
-        dataset,
-        first: first.max(1),
-        count: count.max(1),
-    })
-}
-
 fn take_snapshot(text: &str) -> Result<Command, TestRefusal>
     ensures { IfOk result IsCommand }
 {
     let name = snapshot(text)?;
     let _ = name.text();
     Ok(Command::Snapshot { name })
-}
-
-fn make_clone(origin: &str, text: &str) -> Result<Command, TestRefusal>
-    ensures { IfOk result IsCommand }
-{
-    let origin = snapshot(origin)?;
-    let _ = origin.text();
-    let dataset = dataset(text)?;
-    let _ = dataset.text();
-    Ok(Command::Clone { origin, dataset })
-}
-
-fn make_bookmark(of: &str, text: &str) -> Result<Command, TestRefusal>
-    ensures { IfOk result IsCommand }
-{
-    let snapshot = snapshot(of)?;
-    let _ = snapshot.text();
-    let bookmark = bookmark(text)?;
-    let _ = bookmark.text();
-    Ok(Command::Bookmark { snapshot, bookmark })
-}
-
-fn destroy(text: &str) -> Result<Command, TestRefusal>
-    ensures { IfOk result IsCommand }
-{
-    let name = snapshot(text)?;
-    let _ = name.text();
-    Ok(Command::Destroy {
-        name: Name::Snapshot(name),
-    })
-}
-
-pub(super) fn roll_back(text: &str, destroys: bool) -> Result<Command, TestRefusal>
-    ensures { IfOk result IsCommand }
-{
-    let snapshot = snapshot(text)?;
-    let _ = snapshot.text();
-    Ok(Command::Rollback { destroys, snapshot })
 }
 
 pub(super) fn command_of(alloc: Global, change: Change) -> Result<Command, TestRefusal>
@@ -199,11 +138,6 @@ pub(super) fn command_of(alloc: Global, change: Change) -> Result<Command, TestR
         Change::Spilled(number, first) => file(alloc, number, Some(first)),
         Change::Large(number) => large_file(alloc, number),
         Change::Write(text, number, index, first) => write(alloc, text, number, index, first),
-        Change::Free(first, count) => free(first, count),
         Change::Snapshot(text) => take_snapshot(text),
-        Change::Clone(origin, text) => make_clone(origin, text),
-        Change::Bookmark(of, text) => make_bookmark(of, text),
-        Change::Destroy(text) => destroy(text),
-        Change::Rollback(text) => roll_back(text, true),
     }
 }

@@ -3,7 +3,7 @@ ghost use Rattle.std.specs.Prelude.{◌≡◌};
 ghost use Rattle.zst_block.specs.Blocks.{FitsDisk};
 ghost use Rattle.zst_send.specs.Sends.{SendFits};
 
-use super::commands::{bookmark, snapshot};
+use super::commands::snapshot;
 use super::errors::TestRefusal;
 use crate::{FromName, Send, SendAsk};
 use std::alloc::Global;
@@ -15,8 +15,6 @@ use zst_pool::Pool;
 pub(super) fn ask(snap: &str, from: &str) -> Result<SendAsk, TestRefusal> {
     let from = if from.is_empty() {
         None
-    } else if from.contains("#") {
-        Some(FromName::Book(bookmark(from)?))
     } else {
         Some(FromName::Snap(snapshot(from)?))
     };

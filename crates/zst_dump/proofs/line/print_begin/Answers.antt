@@ -2,6 +2,10 @@ use Rattle.zst_outside.specs.Printing.{Prints-then, Prints-longer}
 use Rattle.zst_dump.specs.RecordLines.{begin_text}
 use Rattle.zst_dump.proofs.line.print_begin.Goals as goal
 
+pub returns-in_err-print_fields : goal.returns-in_err-print_fields
+unfolding begin_text
+returns-in_err-print_fields g c = Prints-longer _ _ _ _ _ _ c.from_residual.ensures.0 c.in_err-print_fields.ensures
+
 pub returns-in_err-print_resume : goal.returns-in_err-print_resume
 unfolding begin_text
 returns-in_err-print_resume g c =

@@ -49,3 +49,27 @@ returns-in-Err-clause-damaged g c = λ told.
     let disk = g.D.Disk.state c.args.disk.now in
     tells_leaves (Vec ℕ Global) disk body c.in-Err.fault c.of_leaves.result c.of_leaves.ensures
     (subst (λ (s : FreeSectors). TellsText {T = Vec ℕ Global} s.end disk.seen disk.size body.dir_levels body.dir_root body.dir_bytes (Err c.in-Err.fault)) space (c.in-Err.ensures.damaged here))
+
+pub returns-in-Ok-clause-length : goal.returns-in-Ok-clause-length
+returns-in-Ok-clause-length g c = search rules
+
+pub returns-in-Ok-clause-damaged : goal.returns-in-Ok-clause-damaged
+returns-in-Ok-clause-damaged g c = search rules
+
+pub returns-in-Ok-clause-fault : goal.returns-in-Ok-clause-fault
+returns-in-Ok-clause-fault g c = search rules
+
+pub returns-in-Ok-clause-reads : goal.returns-in-Ok-clause-reads
+returns-in-Ok-clause-reads g c = search rules
+
+pub returns-in-Ok-clause-cause : goal.returns-in-Ok-clause-cause
+returns-in-Ok-clause-cause g c = search rules
+
+pub returns-in-Err-clause-only : goal.returns-in-Err-clause-only
+returns-in-Err-clause-only g c = search rules
+
+pub returns-in-Err-clause-length : goal.returns-in-Err-clause-length
+returns-in-Err-clause-length g c = search rules
+
+pub returns-in-Err-clause-reads : goal.returns-in-Err-clause-reads
+returns-in-Err-clause-reads g c = search rules

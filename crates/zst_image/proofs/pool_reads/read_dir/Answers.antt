@@ -1,5 +1,5 @@
 use Rattle.std.specs.Prelude.{Some}
-use Rattle.std.proofs.Common.{◌≡◌, sym, ◌∙◌, subst, arith}
+use Rattle.std.proofs.Common.{◌≡◌, sym, ◌∙◌, subst, arith, rules}
 use Rattle.std.proofs.lemmas.Option.{MatchOption-at_some}
 use Rattle.zst_dir.specs.Rows.{Rows}
 use Rattle.zst_dir.specs.Spelling.{IsDir}
@@ -30,3 +30,42 @@ returns-then-body-ne0-clause-damaged g c = λ told. tells_root (g.D.Disk.state c
 
 pub returns-clause-damaged : goal.returns-clause-damaged
 returns-clause-damaged g c = λ told. tells_root (g.D.Disk.state c.args.disk.now) c.args.body.now c.of_layout-in-None.result c.of_layout-in-None.ensures
+
+pub returns-then-body-ne0-clause-there : goal.returns-then-body-ne0-clause-there
+returns-then-body-ne0-clause-there g c = search rules
+
+pub returns-then-body-ne0-clause-only : goal.returns-then-body-ne0-clause-only
+returns-then-body-ne0-clause-only g c = search rules
+
+pub returns-then-body-ne0-clause-fault : goal.returns-then-body-ne0-clause-fault
+returns-then-body-ne0-clause-fault g c = search rules
+
+pub returns-then-body-ne0-clause-reads : goal.returns-then-body-ne0-clause-reads
+returns-then-body-ne0-clause-reads g c = search rules
+
+pub returns-then-body-ne0-clause-cause : goal.returns-then-body-ne0-clause-cause
+returns-then-body-ne0-clause-cause g c = search rules
+
+pub returns-in-Some-clause-damaged : goal.returns-in-Some-clause-damaged
+returns-in-Some-clause-damaged g c = search rules
+
+pub returns-in-Some-clause-fault : goal.returns-in-Some-clause-fault
+returns-in-Some-clause-fault g c = search rules
+
+pub returns-in-Some-clause-reads : goal.returns-in-Some-clause-reads
+returns-in-Some-clause-reads g c = search rules
+
+pub returns-in-Some-clause-cause : goal.returns-in-Some-clause-cause
+returns-in-Some-clause-cause g c = search rules
+
+pub returns-clause-only : goal.returns-clause-only
+returns-clause-only g c = search rules
+
+pub returns-clause-fault : goal.returns-clause-fault
+returns-clause-fault g c = search rules
+
+pub returns-clause-reads : goal.returns-clause-reads
+returns-clause-reads g c = search rules
+
+pub returns-clause-cause : goal.returns-clause-cause
+returns-clause-cause g c = search rules

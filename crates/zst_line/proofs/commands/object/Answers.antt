@@ -2,8 +2,32 @@ use Rattle.std.proofs.Common.{◌^◌, ◌-◌, arith, lit<, refl}
 use Rattle.std.proofs.lemmas.Grind.{common_steps}
 use Rattle.zst_line.specs.declared.kind.Kind.TheVariants as kinds
 use Rattle.zst_line.specs.Grammar.{front}
-use Rattle.zst_line.proofs.Numbers.{number_at, takes_at, size_in_range, size_below, size_is_block}
+use Rattle.zst_line.proofs.Numbers.{number_at, takes_at, size_in_range, size_below, size_is_block, number_taken}
 use Rattle.zst_line.proofs.commands.object.Goals as goal
+
+pub dataset-requires : goal.dataset-requires
+dataset-requires c =
+    takes_at (front kinds.Object 0) c.args.words.now 1 c.name-item.result c.as_str-2.result.now c.requires (lit< tt) c.name-item.is c.as_str-2.ensures.value
+
+pub number-requires : goal.number-requires
+number-requires c =
+    number_taken (front kinds.Object 0) c.args.words.now 2 1 (2 ^ 64 - 1) c.object-item.result c.as_str-3.result.now c.requires (lit< tt) refl (lit< tt) c.object-item.is c.as_str-3.ensures.value
+
+pub number-requires-2 : goal.number-requires-2
+number-requires-2 c =
+    number_taken (front kinds.Object 0) c.args.words.now 3 1 (2 ^ 32 - 1) c.type_-item.result c.as_str-4.result.now c.requires (lit< tt) refl (lit< tt) c.type_-item.is c.as_str-4.ensures.value
+
+pub number-requires-3 : goal.number-requires-3
+number-requires-3 c =
+    number_taken (front kinds.Object 0) c.args.words.now 5 0 (2 ^ 32 - 1) c.bonus_type-item.result c.as_str-5.result.now c.requires (lit< tt) refl (lit< tt) c.bonus_type-item.is c.as_str-5.ensures.value
+
+pub bonus-requires : goal.bonus-requires
+bonus-requires c =
+    (takes_at (front kinds.Object 0) c.args.words.now 6 c.bonus_word-item.result c.as_str-7.result.now c.requires (lit< tt) c.bonus_word-item.is c.as_str-7.ensures.value).0
+
+pub spill-requires : goal.spill-requires
+spill-requires c =
+    (takes_at (front kinds.Object 0) c.args.words.now 7 c.spill_word-item.result c.as_str-8.result.now c.requires (lit< tt) c.spill_word-item.is c.as_str-8.ensures.value).0
 
 pub overflow_cast-result : goal.overflow_cast-result
 overflow_cast-result c =

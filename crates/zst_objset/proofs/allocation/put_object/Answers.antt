@@ -1,7 +1,7 @@
-use Rattle.std.proofs.Common.{arith, ℕ, ◌+◌, List}
+use Rattle.std.proofs.Common.{◌∙◌, arith, ℕ, ◌+◌, List}
 use Rattle.zst_space.specs.FreeSectors.{FreeSectors}
 use Rattle.zst_block.specs.Blocks.{Has}
-use Rattle.zst_block.proofs.IoCallLemmas.{Works-after, Works-more}
+use Rattle.zst_block.proofs.IoCallLemmas.{Works-looks, Works-after, Works-more}
 use Rattle.zst_model.specs.declared.states.item.Change.TheVariants.{Put}
 use Rattle.zst_model.specs.declared.states.item.Item.TheVariants.{At}
 use Rattle.zst_objset.specs.Changes.{changed, object_put}
@@ -74,3 +74,72 @@ returns-clause-tight g c = λ state honest tight dated.
     let change = Put c.args.head c.args.bonus.now c.args.keep_spill 0 in
     let early = c.made_dnode.ensures.dated (found_dated c.args.number state c.args.object _ dated (c.in-Ok.ensures.tight state was_honest tight)) in
     rw (in_numbers-within (c.args.object + 1) (changed c.args.number (At c.args.object change) state) (omega arith)) (c.put_dnode.ensures.tight c.args.number change state honest grown makes (inl early))
+
+pub returns-then-object-ge-NUMBER_BOUND-clause-unredacted : goal.returns-then-object-ge-NUMBER_BOUND-clause-unredacted
+returns-then-object-ge-NUMBER_BOUND-clause-unredacted g c = tt
+
+pub returns-then-object-ge-NUMBER_BOUND-clause-damaged : goal.returns-then-object-ge-NUMBER_BOUND-clause-damaged
+returns-then-object-ge-NUMBER_BOUND-clause-damaged g c = λ honest. tt
+
+pub returns-then-object-ge-NUMBER_BOUND-clause-within : goal.returns-then-object-ge-NUMBER_BOUND-clause-within
+returns-then-object-ge-NUMBER_BOUND-clause-within g c = λ honest. tt
+
+pub returns-then-object-ge-NUMBER_BOUND-clause-kept : goal.returns-then-object-ge-NUMBER_BOUND-clause-kept
+returns-then-object-ge-NUMBER_BOUND-clause-kept g c = refl
+
+pub returns-then-object-ge-NUMBER_BOUND-clause-levels : goal.returns-then-object-ge-NUMBER_BOUND-clause-levels
+returns-then-object-ge-NUMBER_BOUND-clause-levels g c = tt
+
+pub returns-then-object-ge-NUMBER_BOUND-clause-same : goal.returns-then-object-ge-NUMBER_BOUND-clause-same
+returns-then-object-ge-NUMBER_BOUND-clause-same g c = refl
+
+pub dnode_at-requires-clause-object : goal.dnode_at-requires-clause-object
+dnode_at-requires-clause-object g c = c.requires.object
+
+pub dnode_at-requires-clause-fits : goal.dnode_at-requires-clause-fits
+dnode_at-requires-clause-fits g c = c.requires.fits
+
+pub returns-in-Err-clause-limits : goal.returns-in-Err-clause-limits
+returns-in-Err-clause-limits g c = tt
+
+pub returns-in-Err-clause-unredacted : goal.returns-in-Err-clause-unredacted
+returns-in-Err-clause-unredacted g c = tt
+
+pub returns-in-Err-clause-within : goal.returns-in-Err-clause-within
+returns-in-Err-clause-within g c = λ honest. tt
+
+pub returns-in-Err-clause-kept : goal.returns-in-Err-clause-kept
+returns-in-Err-clause-kept g c = refl
+
+pub returns-in-Err-clause-levels : goal.returns-in-Err-clause-levels
+returns-in-Err-clause-levels g c = tt
+
+pub returns-in-Err-clause-works : goal.returns-in-Err-clause-works
+returns-in-Err-clause-works g c = Works-looks c.requires.fits c.in-Err.ensures.looks
+
+pub returns-in-Err-clause-same : goal.returns-in-Err-clause-same
+returns-in-Err-clause-same g c = c.in-Err.ensures.same
+
+pub made_dnode-requires-clause-head : goal.made_dnode-requires-clause-head
+made_dnode-requires-clause-head g c = c.requires.head
+
+pub made_dnode-requires-clause-bonus : goal.made_dnode-requires-clause-bonus
+made_dnode-requires-clause-bonus g c = c.requires.bonus
+
+pub made_dnode-requires-clause-ranges : goal.made_dnode-requires-clause-ranges
+made_dnode-requires-clause-ranges g c = c.in-Ok.ensures.ranges
+
+pub put_dnode-requires-clause-fits : goal.put_dnode-requires-clause-fits
+put_dnode-requires-clause-fits g c = c.in-Ok.ensures.kept_fit
+
+pub returns-clause-unredacted : goal.returns-clause-unredacted
+returns-clause-unredacted g c = c.put_dnode.ensures.unredacted
+
+pub returns-clause-kept : goal.returns-clause-kept
+returns-clause-kept g c = c.put_dnode.ensures.kept
+
+pub returns-clause-levels : goal.returns-clause-levels
+returns-clause-levels g c = c.put_dnode.ensures.levels
+
+pub returns-clause-same : goal.returns-clause-same
+returns-clause-same g c = c.put_dnode.ensures.same ∙ c.in-Ok.ensures.same

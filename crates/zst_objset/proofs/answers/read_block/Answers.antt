@@ -1,4 +1,4 @@
-use Rattle.std.proofs.Common.{ℕ, List, [], length, arith, subst, sym}
+use Rattle.std.proofs.Common.{◌∙◌, ℕ, List, [], inl, length, arith, subst, sym}
 use Rattle.zst_space.specs.FreeSectors.{FreeSectors}
 use Rattle.zst_block.specs.Blocks.{Has}
 use Rattle.zst_block.specs.declared.ptr.Ptr.{Ptr}
@@ -10,7 +10,11 @@ use Rattle.zst_objset.specs.Changes.{found_at}
 use Rattle.zst_objset.specs.Dnodes.{BlockIs}
 use Rattle.zst_objset.specs.declared.fault.ObjFault.TheVariants as faults
 use Rattle.zst_objset.proofs.AnswerLaws.{disk_fault, found_far, found_there, not_there, object_of, Refuses-disk}
-use Rattle.zst_objset.proofs.LeafLaws.{look_on}
+use Rattle.zst_objset.proofs.LeafLaws.{calls_to_leaf, calls_through, calls_more, look_on}
+use Rattle.std.proofs.Common.{◌+◌}
+use Rattle.zst_model.specs.declared.refusals.faults.Quantity.TheVariants as quantities
+use Rattle.zst_objset.proofs.DamageLaws.{IfSetDamaged-fault}
+use Rattle.zst_objset.proofs.LimitLaws.{if_no_limit, no_limit}
 use Rattle.zst_objset.proofs.answers.read_block.Goals as goal
 
 pub returns-in-Err-clause-read : goal.returns-in-Err-clause-read
@@ -46,3 +50,57 @@ returns-in-Ok-leaf_at-clause-read g c = λ snap honest holds long.
     let on = look_on (λ (seen : List ℕ) (space : FreeSectors). BlockIs (Has seen space) c.in-Ok-leaf_at.ptr block) _ _ _ _ _ _ _ c.in-Ok-leaf_at.ensures.looks at in
     let fits : BlockFits (length c.args.into.now) block = subst (λ (n : ℕ). BlockFits n block) (sym (long there.object there.there)) ((object_of (snap.state c.args.object) there.object there.there (holds.lawful.objects c.args.object)).fits c.args.index) in
     rw (found_there snap c.args.object c.args.index there.object there.there) (c.read_leaf.ensures.read block honest on fits)
+
+pub object_there-requires-clause-object : goal.object_there-requires-clause-object
+object_there-requires-clause-object g c = c.requires.object
+
+pub object_there-requires-clause-fits : goal.object_there-requires-clause-fits
+object_there-requires-clause-fits g c = c.requires.fits
+
+pub returns-in-Err-clause-looks : goal.returns-in-Err-clause-looks
+returns-in-Err-clause-looks g c = c.in-Err.ensures.looks
+
+pub returns-in-Err-clause-same : goal.returns-in-Err-clause-same
+returns-in-Err-clause-same g c = c.in-Err.ensures.same
+
+pub returns-in-Err-clause-calls : goal.returns-in-Err-clause-calls
+returns-in-Err-clause-calls g c = calls_more _ _ c.in-Err.ensures.calls
+
+pub returns-then-index-ge-INDEX_BOUND-clause-damaged : goal.returns-then-index-ge-INDEX_BOUND-clause-damaged
+returns-then-index-ge-INDEX_BOUND-clause-damaged g c = λ honest. tt
+
+pub returns-then-index-ge-INDEX_BOUND-clause-looks : goal.returns-then-index-ge-INDEX_BOUND-clause-looks
+returns-then-index-ge-INDEX_BOUND-clause-looks g c = c.in-Ok.ensures.looks
+
+pub returns-then-index-ge-INDEX_BOUND-clause-same : goal.returns-then-index-ge-INDEX_BOUND-clause-same
+returns-then-index-ge-INDEX_BOUND-clause-same g c = c.in-Ok.ensures.same
+
+pub returns-then-index-ge-INDEX_BOUND-clause-calls : goal.returns-then-index-ge-INDEX_BOUND-clause-calls
+returns-then-index-ge-INDEX_BOUND-clause-calls g c = calls_more _ _ c.in-Ok.ensures.calls
+
+pub leaf_at-requires-clause-fits : goal.leaf_at-requires-clause-fits
+leaf_at-requires-clause-fits g c = c.in-Ok.ensures.kept_fit
+
+pub read_leaf-requires-clause-fits : goal.read_leaf-requires-clause-fits
+read_leaf-requires-clause-fits g c = c.in-Ok-leaf_at.ensures.kept_fit
+
+pub returns-in-Ok-leaf_at-clause-calls : goal.returns-in-Ok-leaf_at-clause-calls
+returns-in-Ok-leaf_at-clause-calls g c = calls_through _ _ _ _ c.in-Ok.ensures.calls c.in-Ok-leaf_at.ensures.calls c.read_leaf.ensures.calls
+
+pub returns-in-Ok-leaf_at-clause-same : goal.returns-in-Ok-leaf_at-clause-same
+returns-in-Ok-leaf_at-clause-same g c = c.read_leaf.ensures.same ∙ (c.in-Ok-leaf_at.ensures.same ∙ c.in-Ok.ensures.same)
+
+pub returns-in-Err-leaf_at-clause-limits : goal.returns-in-Err-leaf_at-clause-limits
+returns-in-Err-leaf_at-clause-limits g c = tt
+
+pub returns-in-Err-leaf_at-clause-calls : goal.returns-in-Err-leaf_at-clause-calls
+returns-in-Err-leaf_at-clause-calls g c = calls_to_leaf _ _ _ c.in-Ok.ensures.calls c.in-Err-leaf_at.ensures.calls
+
+pub returns-in-Err-leaf_at-clause-same : goal.returns-in-Err-leaf_at-clause-same
+returns-in-Err-leaf_at-clause-same g c = c.in-Err-leaf_at.ensures.same ∙ c.in-Ok.ensures.same
+
+pub returns-in-Err-clause-limits : goal.returns-in-Err-clause-limits
+returns-in-Err-clause-limits g c = no_limit quantities.Block index_bound (c.args.index + 1) c.in-Err.fault c.in-Err.ensures.limits
+
+pub returns-in-Ok-leaf_at-clause-limits : goal.returns-in-Ok-leaf_at-clause-limits
+returns-in-Ok-leaf_at-clause-limits g c = if_no_limit quantities.Block index_bound (c.args.index + 1) c.read_leaf.result c.read_leaf.ensures.limits

@@ -1,7 +1,7 @@
 use Rattle.std.proofs.Common.{◌∙◌, ◌+◌, Err, arith, ap, subst, sym, Result}
 use Rattle.zst_block.specs.Blocks.{Has, KeepsBlocks}
 use Rattle.zst_block.proofs.BlocksLaws.{FillsFree-then, KeepsBlocks-fills}
-use Rattle.zst_block.proofs.IoCallLemmas.{Works-after, Works-block, Works-more, Works-then}
+use Rattle.zst_block.proofs.IoCallLemmas.{Works-after, Works-block, Works-looks, Works-more, Works-then}
 use Rattle.zst_model.specs.declared.refusals.refusal.Refusal.{Refusal}
 use Rattle.zst_model.specs.states.DatedState.{DatedState}
 use Rattle.zst_model.specs.states.State.{index_bound}
@@ -141,3 +141,69 @@ returns-clause-tight g c = λ state honest tight dated.
     subst (λ (definition : Result DatedState Refusal). Changes (SetIsTight (Has last.seen c.put_dnode.new.io.space) c.put_dnode.new.set) definition c.put_dnode.result)
     (sym (is_change (Has mid.seen c.object_there.new.io.space) c.args.number c.args.object c.args.index c.args.bytes.now state c.in-Ok.dnode there tight.holds.lawful may))
     (c.put_dnode.ensures.tight c.args.number change state honest grown makes dnode_tight)
+
+pub object_there-requires-clause-object : goal.object_there-requires-clause-object
+object_there-requires-clause-object g c = c.requires.object
+
+pub object_there-requires-clause-fits : goal.object_there-requires-clause-fits
+object_there-requires-clause-fits g c = c.requires.fits
+
+pub returns-in-Err-clause-kept : goal.returns-in-Err-clause-kept
+returns-in-Err-clause-kept g c = refl
+
+pub returns-in-Err-clause-levels : goal.returns-in-Err-clause-levels
+returns-in-Err-clause-levels g c = tt
+
+pub returns-in-Err-judge_write-clause-kept : goal.returns-in-Err-judge_write-clause-kept
+returns-in-Err-judge_write-clause-kept g c = refl
+
+pub returns-in-Err-judge_write-clause-levels : goal.returns-in-Err-judge_write-clause-levels
+returns-in-Err-judge_write-clause-levels g c = tt
+
+pub returns-in-Err-put_data-clause-kept : goal.returns-in-Err-put_data-clause-kept
+returns-in-Err-put_data-clause-kept g c = refl
+
+pub returns-in-Err-put_data-clause-levels : goal.returns-in-Err-put_data-clause-levels
+returns-in-Err-put_data-clause-levels g c = tt
+
+pub returns-in-Err-clause-unredacted : goal.returns-in-Err-clause-unredacted
+returns-in-Err-clause-unredacted g c = c.in-Err.ensures.unredacted
+
+pub returns-in-Err-clause-works : goal.returns-in-Err-clause-works
+returns-in-Err-clause-works g c = Works-looks c.requires.fits c.in-Err.ensures.looks
+
+pub returns-in-Err-clause-same : goal.returns-in-Err-clause-same
+returns-in-Err-clause-same g c = c.in-Err.ensures.same
+
+pub returns-in-Err-judge_write-clause-same : goal.returns-in-Err-judge_write-clause-same
+returns-in-Err-judge_write-clause-same g c = c.in-Ok.ensures.same
+
+pub returns-in-Err-put_data-clause-same : goal.returns-in-Err-put_data-clause-same
+returns-in-Err-put_data-clause-same g c = c.in-Err-put_data.ensures.same ∙ c.in-Ok.ensures.same
+
+pub returns-in-Err-put_data-clause-limits : goal.returns-in-Err-put_data-clause-limits
+returns-in-Err-put_data-clause-limits g c = tt
+
+pub returns-in-Err-put_data-clause-unredacted : goal.returns-in-Err-put_data-clause-unredacted
+returns-in-Err-put_data-clause-unredacted g c = tt
+
+pub put_data-requires-clause-fits : goal.put_data-requires-clause-fits
+put_data-requires-clause-fits g c = c.in-Ok.ensures.kept_fit
+
+pub put_dnode-requires-clause-object : goal.put_dnode-requires-clause-object
+put_dnode-requires-clause-object g c = (c.requires.object, c.in-Ok.ensures.bound)
+
+pub put_dnode-requires-clause-fits : goal.put_dnode-requires-clause-fits
+put_dnode-requires-clause-fits g c = c.in-Ok-put_data.ensures.works.fits
+
+pub returns-clause-unredacted : goal.returns-clause-unredacted
+returns-clause-unredacted g c = c.put_dnode.ensures.unredacted
+
+pub returns-clause-kept : goal.returns-clause-kept
+returns-clause-kept g c = c.put_dnode.ensures.kept
+
+pub returns-clause-levels : goal.returns-clause-levels
+returns-clause-levels g c = c.put_dnode.ensures.levels
+
+pub returns-clause-same : goal.returns-clause-same
+returns-clause-same g c = c.put_dnode.ensures.same ∙ (c.in-Ok-put_data.ensures.same ∙ c.in-Ok.ensures.same)

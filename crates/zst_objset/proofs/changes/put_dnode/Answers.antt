@@ -1,3 +1,4 @@
+use Rattle.std.proofs.Common.{refl}
 use Rattle.zst_block.specs.Blocks.{Has}
 use Rattle.zst_objset.proofs.ChangePuts.{makes_dnode}
 use Rattle.zst_objset.proofs.SpillLaws.{stops}
@@ -21,3 +22,60 @@ returns-in-Ok-clause-tight g c = λ number change state honest tight makes dnode
 
 pub returns-in-Err-clause-tight : goal.returns-in-Err-clause-tight
 returns-in-Err-clause-tight g c = λ number change state honest tight makes dnode_tight. returns-in-Err-clause-changed g c number change state honest tight.holds makes
+
+pub put_in_leaf-requires-clause-first : goal.put_in_leaf-requires-clause-first
+put_in_leaf-requires-clause-first g c = c.requires.object.0
+
+pub put_in_leaf-requires-clause-slot : goal.put_in_leaf-requires-clause-slot
+put_in_leaf-requires-clause-slot g c = c.requires.dnode
+
+pub put_in_leaf-requires-clause-fits : goal.put_in_leaf-requires-clause-fits
+put_in_leaf-requires-clause-fits g c = c.requires.fits
+
+pub returns-in-Ok-clause-limits : goal.returns-in-Ok-clause-limits
+returns-in-Ok-clause-limits g c = tt
+
+pub returns-in-Ok-clause-unredacted : goal.returns-in-Ok-clause-unredacted
+returns-in-Ok-clause-unredacted g c = tt
+
+pub returns-in-Ok-clause-damaged : goal.returns-in-Ok-clause-damaged
+returns-in-Ok-clause-damaged g c = λ honest. tt
+
+pub returns-in-Ok-clause-within : goal.returns-in-Ok-clause-within
+returns-in-Ok-clause-within g c = c.in-Ok.ensures.within
+
+pub returns-in-Ok-clause-kept : goal.returns-in-Ok-clause-kept
+returns-in-Ok-clause-kept g c = tt
+
+pub returns-in-Ok-clause-levels : goal.returns-in-Ok-clause-levels
+returns-in-Ok-clause-levels g c = c.in-Ok.ensures.levels
+
+pub returns-in-Ok-clause-works : goal.returns-in-Ok-clause-works
+returns-in-Ok-clause-works g c = c.in-Ok.ensures.works
+
+pub returns-in-Ok-clause-same : goal.returns-in-Ok-clause-same
+returns-in-Ok-clause-same g c = c.in-Ok.ensures.same
+
+pub returns-in-Err-clause-limits : goal.returns-in-Err-clause-limits
+returns-in-Err-clause-limits g c = tt
+
+pub returns-in-Err-clause-unredacted : goal.returns-in-Err-clause-unredacted
+returns-in-Err-clause-unredacted g c = tt
+
+pub returns-in-Err-clause-damaged : goal.returns-in-Err-clause-damaged
+returns-in-Err-clause-damaged g c = c.in-Err.ensures.damaged
+
+pub returns-in-Err-clause-within : goal.returns-in-Err-clause-within
+returns-in-Err-clause-within g c = λ honest. tt
+
+pub returns-in-Err-clause-kept : goal.returns-in-Err-clause-kept
+returns-in-Err-clause-kept g c = refl
+
+pub returns-in-Err-clause-levels : goal.returns-in-Err-clause-levels
+returns-in-Err-clause-levels g c = tt
+
+pub returns-in-Err-clause-works : goal.returns-in-Err-clause-works
+returns-in-Err-clause-works g c = c.in-Err.ensures.works
+
+pub returns-in-Err-clause-same : goal.returns-in-Err-clause-same
+returns-in-Err-clause-same g c = c.in-Err.ensures.same

@@ -1,8 +1,8 @@
-use Rattle.std.proofs.Common.{◌≡◌, arith, ap, subst, sym, ◌∙◌, true}
+use Rattle.std.proofs.Common.{refl, ◌≡◌, arith, ap, subst, sym, ◌∙◌, true}
 use Rattle.zst_block.specs.Blocks.{Has, KeepsBlocks}
 use Rattle.zst_block.specs.declared.ptr.Ptr.{Ptr}
 use Rattle.zst_block.proofs.BlocksLaws.{FillsFree-then, KeepsBlocks-fills}
-use Rattle.zst_block.proofs.IoCallLemmas.{Works-after, Works-block, Works-more, Works-then}
+use Rattle.zst_block.proofs.IoCallLemmas.{Works-looks, Works-after, Works-block, Works-more, Works-then}
 use Rattle.zst_model.specs.declared.states.item.Change.TheVariants.{Spill}
 use Rattle.zst_model.specs.states.State.{is_spill_size}
 use Rattle.zst_objset.proofs.SpillLaws.{change_not_there, no_spill, spill_fits, spill_is, spill_makes_dnode, spill_some, spill_whole, spill_small, stops, undamaged_write}
@@ -104,3 +104,66 @@ returns-clause-tight g c = λ state honest tight dated.
     let was = tight_dated c.args.number state c.args.object (There c.in-Ok.dnode) dated (c.in-Ok.ensures.tight state (wrote.works.fills.honest was_written) tight) in
     let early = subst (λ (dnode : Dnode). date_in (There dnode) ≤ c.args.number) (sym made.made) (omega (arith, was)) in
     c.put_dnode.ensures.tight c.args.number (Spill c.args.bytes.now) state honest grown makes (inl early)
+
+pub object_there-requires-clause-object : goal.object_there-requires-clause-object
+object_there-requires-clause-object g c = c.requires.object
+
+pub object_there-requires-clause-fits : goal.object_there-requires-clause-fits
+object_there-requires-clause-fits g c = c.requires.fits
+
+pub returns-in-Err-clause-limits : goal.returns-in-Err-clause-limits
+returns-in-Err-clause-limits g c = c.in-Err.ensures.limits
+
+pub returns-in-Err-clause-unredacted : goal.returns-in-Err-clause-unredacted
+returns-in-Err-clause-unredacted g c = c.in-Err.ensures.unredacted
+
+pub returns-in-Err-clause-kept : goal.returns-in-Err-clause-kept
+returns-in-Err-clause-kept g c = refl
+
+pub returns-in-Err-clause-levels : goal.returns-in-Err-clause-levels
+returns-in-Err-clause-levels g c = tt
+
+pub returns-in-Err-clause-works : goal.returns-in-Err-clause-works
+returns-in-Err-clause-works g c = Works-looks c.requires.fits c.in-Err.ensures.looks
+
+pub returns-in-Err-clause-same : goal.returns-in-Err-clause-same
+returns-in-Err-clause-same g c = c.in-Err.ensures.same
+
+pub write-requires-clause-fits : goal.write-requires-clause-fits
+write-requires-clause-fits g c = c.in-Ok.ensures.kept_fit
+
+pub returns-in-Err-write-clause-limits : goal.returns-in-Err-write-clause-limits
+returns-in-Err-write-clause-limits g c = tt
+
+pub returns-in-Err-write-clause-unredacted : goal.returns-in-Err-write-clause-unredacted
+returns-in-Err-write-clause-unredacted g c = tt
+
+pub returns-in-Err-write-clause-kept : goal.returns-in-Err-write-clause-kept
+returns-in-Err-write-clause-kept g c = refl
+
+pub returns-in-Err-write-clause-levels : goal.returns-in-Err-write-clause-levels
+returns-in-Err-write-clause-levels g c = tt
+
+pub returns-in-Err-write-clause-same : goal.returns-in-Err-write-clause-same
+returns-in-Err-write-clause-same g c = c.in-Err-write.ensures.same ∙ c.in-Ok.ensures.same
+
+pub put_dnode-requires-clause-object : goal.put_dnode-requires-clause-object
+put_dnode-requires-clause-object g c = (c.requires.object, c.in-Ok.ensures.bound)
+
+pub put_dnode-requires-clause-fits : goal.put_dnode-requires-clause-fits
+put_dnode-requires-clause-fits g c = c.in-Ok-write.ensures.works.fits
+
+pub returns-clause-limits : goal.returns-clause-limits
+returns-clause-limits g c = c.put_dnode.ensures.limits
+
+pub returns-clause-unredacted : goal.returns-clause-unredacted
+returns-clause-unredacted g c = c.put_dnode.ensures.unredacted
+
+pub returns-clause-kept : goal.returns-clause-kept
+returns-clause-kept g c = c.put_dnode.ensures.kept
+
+pub returns-clause-levels : goal.returns-clause-levels
+returns-clause-levels g c = c.put_dnode.ensures.levels
+
+pub returns-clause-same : goal.returns-clause-same
+returns-clause-same g c = c.put_dnode.ensures.same ∙ (c.in-Ok-write.ensures.same ∙ c.in-Ok.ensures.same)

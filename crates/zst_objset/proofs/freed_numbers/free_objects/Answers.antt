@@ -1,4 +1,5 @@
-use Rattle.std.proofs.Common.{arith}
+use Rattle.zst_block.proofs.IoCallLemmas.{Works-more}
+use Rattle.std.proofs.Common.{refl, arith}
 use Rattle.zst_objset.proofs.FreeLaws.{objects_freed_far, objects_freed_is}
 use Rattle.zst_objset.proofs.SpillLaws.{stops}
 use Rattle.zst_objset.proofs.freed_numbers.free_objects.Goals as goal
@@ -23,3 +24,66 @@ returns-in-Ok-clause-tight g c = λ state honest tight.
 
 pub returns-in-Err-clause-tight : goal.returns-in-Err-clause-tight
 returns-in-Err-clause-tight g c = λ state honest tight. returns-in-Err-clause-changed g c state honest tight.holds
+
+pub returns-then-saturating_add-gt-NUMBER_BOUND-clause-unredacted : goal.returns-then-saturating_add-gt-NUMBER_BOUND-clause-unredacted
+returns-then-saturating_add-gt-NUMBER_BOUND-clause-unredacted g c = tt
+
+pub returns-then-saturating_add-gt-NUMBER_BOUND-clause-damaged : goal.returns-then-saturating_add-gt-NUMBER_BOUND-clause-damaged
+returns-then-saturating_add-gt-NUMBER_BOUND-clause-damaged g c = λ honest. tt
+
+pub returns-then-saturating_add-gt-NUMBER_BOUND-clause-kept : goal.returns-then-saturating_add-gt-NUMBER_BOUND-clause-kept
+returns-then-saturating_add-gt-NUMBER_BOUND-clause-kept g c = refl
+
+pub returns-then-saturating_add-gt-NUMBER_BOUND-clause-levels : goal.returns-then-saturating_add-gt-NUMBER_BOUND-clause-levels
+returns-then-saturating_add-gt-NUMBER_BOUND-clause-levels g c = λ fits. fits
+
+pub returns-then-saturating_add-gt-NUMBER_BOUND-clause-same : goal.returns-then-saturating_add-gt-NUMBER_BOUND-clause-same
+returns-then-saturating_add-gt-NUMBER_BOUND-clause-same g c = refl
+
+pub free_range-requires-clause-first : goal.free_range-requires-clause-first
+free_range-requires-clause-first g c = c.requires.first
+
+pub free_range-requires-clause-fits : goal.free_range-requires-clause-fits
+free_range-requires-clause-fits g c = c.requires.fits
+
+pub returns-in-Ok-clause-limits : goal.returns-in-Ok-clause-limits
+returns-in-Ok-clause-limits g c = tt
+
+pub returns-in-Ok-clause-unredacted : goal.returns-in-Ok-clause-unredacted
+returns-in-Ok-clause-unredacted g c = tt
+
+pub returns-in-Ok-clause-damaged : goal.returns-in-Ok-clause-damaged
+returns-in-Ok-clause-damaged g c = λ honest. tt
+
+pub returns-in-Ok-clause-kept : goal.returns-in-Ok-clause-kept
+returns-in-Ok-clause-kept g c = tt
+
+pub returns-in-Ok-clause-levels : goal.returns-in-Ok-clause-levels
+returns-in-Ok-clause-levels g c = c.in-Ok.ensures.levels
+
+pub returns-in-Ok-clause-works : goal.returns-in-Ok-clause-works
+returns-in-Ok-clause-works g c = Works-more (omega arith) c.in-Ok.ensures.works
+
+pub returns-in-Ok-clause-same : goal.returns-in-Ok-clause-same
+returns-in-Ok-clause-same g c = c.in-Ok.ensures.same
+
+pub returns-in-Err-clause-limits : goal.returns-in-Err-clause-limits
+returns-in-Err-clause-limits g c = tt
+
+pub returns-in-Err-clause-unredacted : goal.returns-in-Err-clause-unredacted
+returns-in-Err-clause-unredacted g c = tt
+
+pub returns-in-Err-clause-damaged : goal.returns-in-Err-clause-damaged
+returns-in-Err-clause-damaged g c = c.in-Err.ensures.damaged
+
+pub returns-in-Err-clause-kept : goal.returns-in-Err-clause-kept
+returns-in-Err-clause-kept g c = refl
+
+pub returns-in-Err-clause-levels : goal.returns-in-Err-clause-levels
+returns-in-Err-clause-levels g c = λ fits. fits
+
+pub returns-in-Err-clause-works : goal.returns-in-Err-clause-works
+returns-in-Err-clause-works g c = Works-more (omega arith) c.in-Err.ensures.works
+
+pub returns-in-Err-clause-same : goal.returns-in-Err-clause-same
+returns-in-Err-clause-same g c = c.in-Err.ensures.same

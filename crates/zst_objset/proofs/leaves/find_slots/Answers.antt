@@ -1,12 +1,13 @@
-use Rattle.std.proofs.Common.{subst, sym, ℕ, List}
+use Rattle.std.proofs.Common.{◌∙◌, refl, subst, sym, ℕ, List}
 use Rattle.std.proofs.lemmas.Result.{err_from_is_err_and}
 use Rattle.zst_space.specs.FreeSectors.{FreeSectors}
 use Rattle.zst_block.specs.Blocks.{Has}
 use Rattle.zst_block.specs.declared.ptr.Ptr.{Ptr}
 use Rattle.zst_objset.specs.Sets.{HasSlots, LeafIs}
-use Rattle.zst_objset.proofs.LeafLaws.{look_on, look_back}
+use Rattle.zst_objset.proofs.LeafLaws.{calls_then, look_on, look_back, within_one_more}
 use Rattle.zst_objset.specs.TightSets.{IsTightLeaf}
 use Rattle.zst_objset.proofs.TightLaws.{loaded_tight}
+use Rattle.zst_block.proofs.IoCallLemmas.{Looks-then}
 use Rattle.zst_objset.proofs.leaves.find_slots.Goals as goal
 
 pub returns-in_err-was-clause-slots : goal.returns-in_err-was-clause-slots
@@ -42,3 +43,119 @@ returns-clause-tight g c = λ snap honest tight.
     let leaf_tight = look_on (λ (seen : List ℕ) (space : FreeSectors). IsTightLeaf (Has seen space) snap c.args.leaf c.in_ok-was.was') _ _ _ _ _ _ _ found.looks
     (subst (λ (ptr : Ptr). IsTightLeaf has snap c.args.leaf ptr) (sym same) (tight.tight c.args.leaf c.requires.leaf)) in
     loaded_tight _ _ snap c.args.leaf c.in_ok-was.was' _ leaf leaf_tight (c.in_ok-load_slots.ensures.slots snap honest leaf) (c.in_ok-load_slots.ensures.loaded honest)
+
+pub returns-then-set-gt7-clause-levels : goal.returns-then-set-gt7-clause-levels
+returns-then-set-gt7-clause-levels g c = tt
+
+pub returns-then-set-gt7-clause-hangs : goal.returns-then-set-gt7-clause-hangs
+returns-then-set-gt7-clause-hangs g c = λ honest. tt
+
+pub returns-then-set-gt7-clause-loaded : goal.returns-then-set-gt7-clause-loaded
+returns-then-set-gt7-clause-loaded g c = λ honest. tt
+
+pub returns-then-set-gt7-clause-tight : goal.returns-then-set-gt7-clause-tight
+returns-then-set-gt7-clause-tight g c = λ snap honest tight. tt
+
+pub returns-then-set-gt7-clause-kept_fit : goal.returns-then-set-gt7-clause-kept_fit
+returns-then-set-gt7-clause-kept_fit g c = c.requires.fits
+
+pub returns-then-set-gt7-clause-same : goal.returns-then-set-gt7-clause-same
+returns-then-set-gt7-clause-same g c = refl
+
+pub leaf_at-requires-clause-index : goal.leaf_at-requires-clause-index
+leaf_at-requires-clause-index g c = c.requires.leaf
+
+pub leaf_at-requires-clause-fits : goal.leaf_at-requires-clause-fits
+leaf_at-requires-clause-fits g c = c.requires.fits
+
+pub load_slots-requires-clause-leaf : goal.load_slots-requires-clause-leaf
+load_slots-requires-clause-leaf g c = c.requires.leaf
+
+pub load_slots-requires-clause-fits : goal.load_slots-requires-clause-fits
+load_slots-requires-clause-fits g c = c.in_ok-was.ensures.kept_fit
+
+pub returns-in_err-was-clause-levels : goal.returns-in_err-was-clause-levels
+returns-in_err-was-clause-levels g c =
+    let p = err_from_is_err_and c.from_residual.result c.from_residual.ensures.1 in
+    rw p.1 tt
+
+pub returns-in_err-was-clause-hangs : goal.returns-in_err-was-clause-hangs
+returns-in_err-was-clause-hangs g c = λ honest.
+    let p = err_from_is_err_and c.from_residual.result c.from_residual.ensures.1 in
+    rw p.1 tt
+
+pub returns-in_err-was-clause-loaded : goal.returns-in_err-was-clause-loaded
+returns-in_err-was-clause-loaded g c = λ honest.
+    let p = err_from_is_err_and c.from_residual.result c.from_residual.ensures.1 in
+    rw p.1 tt
+
+pub returns-in_err-was-clause-tight : goal.returns-in_err-was-clause-tight
+returns-in_err-was-clause-tight g c = λ snap honest tight.
+    let p = err_from_is_err_and c.from_residual.result c.from_residual.ensures.1 in
+    rw p.1 tt
+
+pub returns-in_err-load_slots-clause-levels : goal.returns-in_err-load_slots-clause-levels
+returns-in_err-load_slots-clause-levels g c =
+    let p = err_from_is_err_and c.from_residual-in_err-load_slots.result c.from_residual-in_err-load_slots.ensures.1 in
+    rw p.1 tt
+
+pub returns-in_err-load_slots-clause-hangs : goal.returns-in_err-load_slots-clause-hangs
+returns-in_err-load_slots-clause-hangs g c = λ honest.
+    let p = err_from_is_err_and c.from_residual-in_err-load_slots.result c.from_residual-in_err-load_slots.ensures.1 in
+    rw p.1 tt
+
+pub returns-in_err-load_slots-clause-loaded : goal.returns-in_err-load_slots-clause-loaded
+returns-in_err-load_slots-clause-loaded g c = λ honest.
+    let p = err_from_is_err_and c.from_residual-in_err-load_slots.result c.from_residual-in_err-load_slots.ensures.1 in
+    rw p.1 tt
+
+pub returns-in_err-load_slots-clause-tight : goal.returns-in_err-load_slots-clause-tight
+returns-in_err-load_slots-clause-tight g c = λ snap honest tight.
+    let p = err_from_is_err_and c.from_residual-in_err-load_slots.result c.from_residual-in_err-load_slots.ensures.1 in
+    rw p.1 tt
+
+pub returns-in_err-was-clause-looks : goal.returns-in_err-was-clause-looks
+returns-in_err-was-clause-looks g c =
+    let p = err_from_is_err_and c.from_residual.result c.from_residual.ensures.1 in
+    rw (p.1, p.2) c.in_err-was.ensures.looks
+
+pub returns-in_err-was-clause-kept_fit : goal.returns-in_err-was-clause-kept_fit
+returns-in_err-was-clause-kept_fit g c = c.in_err-was.ensures.kept_fit
+
+pub returns-in_err-was-clause-same : goal.returns-in_err-was-clause-same
+returns-in_err-was-clause-same g c = c.in_err-was.ensures.same
+
+pub returns-in_err-was-clause-calls : goal.returns-in_err-was-clause-calls
+returns-in_err-was-clause-calls g c = within_one_more _ _ c.in_err-was.ensures.calls
+
+pub returns-in_err-load_slots-clause-looks : goal.returns-in_err-load_slots-clause-looks
+returns-in_err-load_slots-clause-looks g c =
+    let p = err_from_is_err_and c.from_residual-in_err-load_slots.result c.from_residual-in_err-load_slots.ensures.1 in
+    rw (p.1, p.2) (Looks-then c.in_ok-was.ensures.looks c.in_err-load_slots.ensures.looks)
+
+pub returns-in_err-load_slots-clause-calls : goal.returns-in_err-load_slots-clause-calls
+returns-in_err-load_slots-clause-calls g c = calls_then _ _ _ c.in_ok-was.ensures.calls c.in_err-load_slots.ensures.calls
+
+pub returns-in_err-load_slots-clause-kept_fit : goal.returns-in_err-load_slots-clause-kept_fit
+returns-in_err-load_slots-clause-kept_fit g c = c.in_err-load_slots.ensures.kept_fit
+
+pub returns-in_err-load_slots-clause-same : goal.returns-in_err-load_slots-clause-same
+returns-in_err-load_slots-clause-same g c = c.in_err-load_slots.ensures.same ∙ c.in_ok-was.ensures.same
+
+pub returns-clause-damaged : goal.returns-clause-damaged
+returns-clause-damaged g c = λ honest. tt
+
+pub returns-clause-looks : goal.returns-clause-looks
+returns-clause-looks g c = Looks-then c.in_ok-was.ensures.looks c.in_ok-load_slots.ensures.looks
+
+pub returns-clause-calls : goal.returns-clause-calls
+returns-clause-calls g c = calls_then _ _ _ c.in_ok-was.ensures.calls c.in_ok-load_slots.ensures.calls
+
+pub returns-clause-kept_fit : goal.returns-clause-kept_fit
+returns-clause-kept_fit g c = c.in_ok-load_slots.ensures.kept_fit
+
+pub returns-clause-same : goal.returns-clause-same
+returns-clause-same g c = c.in_ok-load_slots.ensures.same ∙ c.in_ok-was.ensures.same
+
+pub returns-clause-hangs : goal.returns-clause-hangs
+returns-clause-hangs g c = λ honest. c.in_ok-was.ensures.hangs (c.in_ok-load_slots.ensures.looks.reads.honest honest)

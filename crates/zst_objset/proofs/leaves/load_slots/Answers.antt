@@ -1,8 +1,10 @@
-use Rattle.std.proofs.Common.{◌≡◌, inl, arith, subst, sym, ℕ}
+use Rattle.zst_block.proofs.IoCallLemmas.{Looks-none}
+use Rattle.std.proofs.Common.{refl, ◌≡◌, inl, arith, subst, sym, ℕ}
 use Rattle.zst_block.specs.Blocks.{Has}
 use Rattle.zst_objset.specs.Sets.{HasSlots, LeafIs}
 use Rattle.zst_objset.proofs.DamageLaws.{AreAbsent-all, AreAbsent-first}
 use Rattle.zst_objset.proofs.LeafLaws.{HasSlots-absent, HasSlots-first}
+use Rattle.zst_objset.proofs.LeafLaws.{same_calls}
 use Rattle.zst_objset.proofs.leaves.load_slots.Goals as goal
 
 pub returns-then-leaf-eq0-clause-slots : goal.returns-then-leaf-eq0-clause-slots
@@ -28,3 +30,48 @@ returns-then-leaf-eq0-clause-loaded g c = λ honest.
 pub returns-else-leaf-eq0-clause-loaded : goal.returns-else-leaf-eq0-clause-loaded
 returns-else-leaf-eq0-clause-loaded g c = λ honest.
     inl (omega arith, AreAbsent-all c.put_slots.new.node c.put_slots.new.node c.args.ptr.number c.put_slots.ensures.fits c.put_slots.ensures.put)
+
+pub returns-then-ptr-ne0-clause-looks : goal.returns-then-ptr-ne0-clause-looks
+returns-then-ptr-ne0-clause-looks g c = c.load.ensures.looks
+
+pub returns-then-ptr-ne0-clause-calls : goal.returns-then-ptr-ne0-clause-calls
+returns-then-ptr-ne0-clause-calls g c = c.load.ensures.calls
+
+pub returns-then-ptr-ne0-clause-kept_fit : goal.returns-then-ptr-ne0-clause-kept_fit
+returns-then-ptr-ne0-clause-kept_fit g c = c.load.ensures.kept_fit
+
+pub returns-then-ptr-ne0-clause-same : goal.returns-then-ptr-ne0-clause-same
+returns-then-ptr-ne0-clause-same g c = c.load.ensures.same
+
+pub returns-then-leaf-eq0-clause-damaged : goal.returns-then-leaf-eq0-clause-damaged
+returns-then-leaf-eq0-clause-damaged g c = λ honest. tt
+
+pub returns-then-leaf-eq0-clause-looks : goal.returns-then-leaf-eq0-clause-looks
+returns-then-leaf-eq0-clause-looks g c = Looks-none _ _ _
+
+pub returns-then-leaf-eq0-clause-kept_fit : goal.returns-then-leaf-eq0-clause-kept_fit
+returns-then-leaf-eq0-clause-kept_fit g c = c.requires.fits
+
+pub returns-then-leaf-eq0-clause-same : goal.returns-then-leaf-eq0-clause-same
+returns-then-leaf-eq0-clause-same g c = refl
+
+pub returns-else-leaf-eq0-clause-damaged : goal.returns-else-leaf-eq0-clause-damaged
+returns-else-leaf-eq0-clause-damaged g c = λ honest. tt
+
+pub returns-else-leaf-eq0-clause-looks : goal.returns-else-leaf-eq0-clause-looks
+returns-else-leaf-eq0-clause-looks g c = Looks-none _ _ _
+
+pub returns-else-leaf-eq0-clause-kept_fit : goal.returns-else-leaf-eq0-clause-kept_fit
+returns-else-leaf-eq0-clause-kept_fit g c = c.requires.fits
+
+pub returns-else-leaf-eq0-clause-same : goal.returns-else-leaf-eq0-clause-same
+returns-else-leaf-eq0-clause-same g c = refl
+
+pub returns-then-leaf-eq0-clause-calls : goal.returns-then-leaf-eq0-clause-calls
+returns-then-leaf-eq0-clause-calls g c = same_calls _
+
+pub returns-else-leaf-eq0-clause-calls : goal.returns-else-leaf-eq0-clause-calls
+returns-else-leaf-eq0-clause-calls g c = same_calls _
+
+pub load-requires : goal.load-requires
+load-requires g c = record { fits = c.requires.fits }

@@ -1,8 +1,9 @@
-use Rattle.std.proofs.Common.{◌+◌, arith, sym}
+use Rattle.std.proofs.Common.{rules}
+use Rattle.std.proofs.Common.{◌+◌, ◌∙◌, arith, sym}
 use Rattle.std.proofs.lemmas.Result.{err_from_is_err_and}
 use Rattle.zst_block.specs.Blocks.{Has}
 use Rattle.zst_block.proofs.BlocksLaws.{FillsFree-then}
-use Rattle.zst_block.proofs.IoCallLemmas.{Works-after, Works-more, Works-then}
+use Rattle.zst_block.proofs.IoCallLemmas.{Works-after, Works-looks, Works-more, Works-then}
 use Rattle.zst_objset.specs.Ranges.{IsRightNode, change_of}
 use Rattle.zst_objset.proofs.IndicesChanged.{Changes-indices, change_refused, in_range, indices_not_there, past_indices}
 use Rattle.zst_objset.proofs.LeafLaws.{is_number_at, keeps_on}
@@ -148,3 +149,134 @@ pub returns-in_err-check_range-clause-unredacted : goal.returns-in_err-check_ran
 returns-in_err-check_range-clause-unredacted g c =
     let p = err_from_is_err_and c.from_residual-in_err-check_range.result c.from_residual-in_err-check_range.ensures.1 in
     rw (p.1, p.2) c.in_err-check_range.ensures.unredacted
+
+pub object_there-requires-clause-object : goal.object_there-requires-clause-object
+object_there-requires-clause-object g c = c.requires.object
+
+pub object_there-requires-clause-fits : goal.object_there-requires-clause-fits
+object_there-requires-clause-fits g c = c.requires.fits
+
+pub returns-in_err-dnode-clause-kept : goal.returns-in_err-dnode-clause-kept
+returns-in_err-dnode-clause-kept g c =
+    let p = err_from_is_err_and c.from_residual.result c.from_residual.ensures.1 in
+    rw p.1 refl
+
+pub returns-in_err-dnode-clause-levels : goal.returns-in_err-dnode-clause-levels
+returns-in_err-dnode-clause-levels g c =
+    let p = err_from_is_err_and c.from_residual.result c.from_residual.ensures.1 in
+    rw p.1 tt
+
+pub returns-in_err-check_change-clause-kept : goal.returns-in_err-check_change-clause-kept
+returns-in_err-check_change-clause-kept g c =
+    let p = err_from_is_err_and c.from_residual-in_err-check_change.result c.from_residual-in_err-check_change.ensures.1 in
+    rw p.1 refl
+
+pub returns-in_err-check_change-clause-levels : goal.returns-in_err-check_change-clause-levels
+returns-in_err-check_change-clause-levels g c =
+    let p = err_from_is_err_and c.from_residual-in_err-check_change.result c.from_residual-in_err-check_change.ensures.1 in
+    rw p.1 tt
+
+pub returns-in_err-check_range-clause-kept : goal.returns-in_err-check_range-clause-kept
+returns-in_err-check_range-clause-kept g c =
+    let p = err_from_is_err_and c.from_residual-in_err-check_range.result c.from_residual-in_err-check_range.ensures.1 in
+    rw p.1 refl
+
+pub returns-in_err-check_range-clause-levels : goal.returns-in_err-check_range-clause-levels
+returns-in_err-check_range-clause-levels g c =
+    let p = err_from_is_err_and c.from_residual-in_err-check_range.result c.from_residual-in_err-check_range.ensures.1 in
+    rw p.1 tt
+
+pub returns-in_err-made-clause-kept : goal.returns-in_err-made-clause-kept
+returns-in_err-made-clause-kept g c =
+    let p = err_from_is_err_and c.from_residual-in_err-made.result c.from_residual-in_err-made.ensures.1 in
+    rw p.1 refl
+
+pub returns-in_err-made-clause-levels : goal.returns-in_err-made-clause-levels
+returns-in_err-made-clause-levels g c =
+    let p = err_from_is_err_and c.from_residual-in_err-made.result c.from_residual-in_err-made.ensures.1 in
+    rw p.1 tt
+
+pub returns-in_err-check_change-clause-same : goal.returns-in_err-check_change-clause-same
+returns-in_err-check_change-clause-same g c = c.in_ok-dnode.ensures.same
+
+pub returns-in_err-check_change-clause-works : goal.returns-in_err-check_change-clause-works
+returns-in_err-check_change-clause-works g c =
+    let p = err_from_is_err_and c.from_residual-in_err-check_change.result c.from_residual-in_err-check_change.ensures.1 in
+    rw (p.1, p.2) (Works-looks c.requires.fits c.in_ok-dnode.ensures.looks)
+
+pub returns-in_err-check_change-clause-damaged : goal.returns-in_err-check_change-clause-damaged
+returns-in_err-check_change-clause-damaged g c = λ honest.
+    let p = err_from_is_err_and c.from_residual-in_err-check_change.result c.from_residual-in_err-check_change.ensures.1 in
+    rw (p.1, p.2) tt
+
+pub returns-in_err-check_range-clause-same : goal.returns-in_err-check_range-clause-same
+returns-in_err-check_range-clause-same g c = c.in_ok-dnode.ensures.same
+
+pub returns-in_err-check_range-clause-works : goal.returns-in_err-check_range-clause-works
+returns-in_err-check_range-clause-works g c =
+    let p = err_from_is_err_and c.from_residual-in_err-check_range.result c.from_residual-in_err-check_range.ensures.1 in
+    rw (p.1, p.2, c.in_err-check_range.ensures.past.0) (Works-looks c.requires.fits c.in_ok-dnode.ensures.looks)
+
+pub returns-in_err-check_range-clause-damaged : goal.returns-in_err-check_range-clause-damaged
+returns-in_err-check_range-clause-damaged g c = λ honest.
+    let p = err_from_is_err_and c.from_residual-in_err-check_range.result c.from_residual-in_err-check_range.ensures.1 in
+    rw (p.1, p.2, c.in_err-check_range.ensures.past.0) tt
+
+pub returns-in_err-check_change-clause-limits : goal.returns-in_err-check_change-clause-limits
+returns-in_err-check_change-clause-limits g c =
+    let p = err_from_is_err_and c.from_residual-in_err-check_change.result c.from_residual-in_err-check_change.ensures.1 in
+    rw (p.1, p.2) tt
+
+pub returns-in_err-dnode-clause-works : goal.returns-in_err-dnode-clause-works
+returns-in_err-dnode-clause-works g c =
+    let p = err_from_is_err_and c.from_residual.result c.from_residual.ensures.1 in
+    rw (p.1, p.2) (Works-looks c.requires.fits c.in_err-dnode.ensures.looks)
+
+pub returns-in_err-dnode-clause-same : goal.returns-in_err-dnode-clause-same
+returns-in_err-dnode-clause-same g c = c.in_err-dnode.ensures.same
+
+pub returns-in_err-made-clause-same : goal.returns-in_err-made-clause-same
+returns-in_err-made-clause-same g c = c.in_err-made.ensures.same ∙ c.in_ok-dnode.ensures.same
+
+pub returns-in_err-made-clause-limits : goal.returns-in_err-made-clause-limits
+returns-in_err-made-clause-limits g c =
+    let p = err_from_is_err_and c.from_residual-in_err-made.result c.from_residual-in_err-made.ensures.1 in
+    rw (p.1, p.2) tt
+
+pub returns-in_err-made-clause-unredacted : goal.returns-in_err-made-clause-unredacted
+returns-in_err-made-clause-unredacted g c =
+    let p = err_from_is_err_and c.from_residual-in_err-made.result c.from_residual-in_err-made.ensures.1 in
+    rw (p.1, p.2) tt
+
+pub range_changed-requires-clause-dnode : goal.range_changed-requires-clause-dnode
+range_changed-requires-clause-dnode g c = c.in_ok-dnode.ensures.ranges
+
+pub range_changed-requires-clause-checked : goal.range_changed-requires-clause-checked
+range_changed-requires-clause-checked g c = sym c.in_ok-check_change.ensures
+
+pub range_changed-requires-clause-range : goal.range_changed-requires-clause-range
+range_changed-requires-clause-range g c = c.in_ok-check_range.ensures.inside
+
+pub range_changed-requires-clause-fits : goal.range_changed-requires-clause-fits
+range_changed-requires-clause-fits g c = c.in_ok-dnode.ensures.kept_fit
+
+pub put_dnode-requires-clause-object : goal.put_dnode-requires-clause-object
+put_dnode-requires-clause-object g c = (c.requires.object, c.in_ok-dnode.ensures.bound)
+
+pub put_dnode-requires-clause-dnode : goal.put_dnode-requires-clause-dnode
+put_dnode-requires-clause-dnode g c = c.in_ok-made.ensures.fits
+
+pub put_dnode-requires-clause-fits : goal.put_dnode-requires-clause-fits
+put_dnode-requires-clause-fits g c = c.in_ok-made.ensures.works.fits
+
+pub returns-clause-unredacted : goal.returns-clause-unredacted
+returns-clause-unredacted g c = c.put_dnode.ensures.unredacted
+
+pub returns-clause-kept : goal.returns-clause-kept
+returns-clause-kept g c = c.put_dnode.ensures.kept
+
+pub returns-clause-levels : goal.returns-clause-levels
+returns-clause-levels g c = c.put_dnode.ensures.levels
+
+pub returns-clause-same : goal.returns-clause-same
+returns-clause-same g c = c.put_dnode.ensures.same ∙ (c.in_ok-made.ensures.same ∙ c.in_ok-dnode.ensures.same)

@@ -1,8 +1,8 @@
-use Rattle.std.proofs.Common.{ℕ, List, ap, sym, subst, if◌then◌else◌, Bool}
+use Rattle.std.proofs.Common.{◌∙◌, ℕ, List, ap, sym, subst, if◌then◌else◌, Bool}
 use Rattle.std.proofs.lemmas.Result.{err_from_is_err_and}
 use Rattle.zst_block.specs.Blocks.{Has}
 use Rattle.zst_block.specs.Ptr.{hole_of}
-use Rattle.zst_block.proofs.IoCallLemmas.{Works-after}
+use Rattle.zst_block.proofs.IoCallLemmas.{Works-looks, Works-after}
 use Rattle.zst_dnode.specs.declared.dnode.Dnode.{Dnode}
 use Rattle.zst_model.specs.states.State.{Hole}
 use Rattle.zst_space.specs.FreeSectors.{FreeSectors}
@@ -102,3 +102,52 @@ returns-clause-tight g c = λ k state honest number lawful there dated tight.
 
 pub returns-clause-works : goal.returns-clause-works
 returns-clause-works g c = Works-after c.in_ok-end.ensures.looks c.in_ok-punch.ensures.works
+
+pub end_punched-requires-clause-levels : goal.end_punched-requires-clause-levels
+end_punched-requires-clause-levels g c = c.requires.dnode.levels
+
+pub end_punched-requires-clause-range : goal.end_punched-requires-clause-range
+end_punched-requires-clause-range g c = c.requires.range
+
+pub end_punched-requires-clause-fits : goal.end_punched-requires-clause-fits
+end_punched-requires-clause-fits g c = c.requires.fits
+
+pub returns-in_err-end-clause-tight : goal.returns-in_err-end-clause-tight
+returns-in_err-end-clause-tight g c = λ k state honest number lawful there dated tight.
+    let p = err_from_is_err_and c.from_residual.result c.from_residual.ensures.1 in
+    rw p.1 tt
+
+pub returns-in_err-end-clause-fits : goal.returns-in_err-end-clause-fits
+returns-in_err-end-clause-fits g c =
+    let p = err_from_is_err_and c.from_residual.result c.from_residual.ensures.1 in
+    rw p.1 tt
+
+pub returns-in_err-end-clause-works : goal.returns-in_err-end-clause-works
+returns-in_err-end-clause-works g c =
+    let p = err_from_is_err_and c.from_residual.result c.from_residual.ensures.1 in
+    rw (p.1, p.2) (Works-looks c.requires.fits c.in_err-end.ensures.looks)
+
+pub returns-in_err-end-clause-same : goal.returns-in_err-end-clause-same
+returns-in_err-end-clause-same g c = c.in_err-end.ensures.same
+
+pub punch-requires-clause-fits : goal.punch-requires-clause-fits
+punch-requires-clause-fits g c = c.in_ok-end.ensures.kept_fit
+
+pub returns-in_err-punch-clause-tight : goal.returns-in_err-punch-clause-tight
+returns-in_err-punch-clause-tight g c = λ k state honest number lawful there dated tight.
+    let p = err_from_is_err_and c.from_residual-in_err-punch.result c.from_residual-in_err-punch.ensures.1 in
+    rw p.1 tt
+
+pub returns-in_err-punch-clause-fits : goal.returns-in_err-punch-clause-fits
+returns-in_err-punch-clause-fits g c =
+    let p = err_from_is_err_and c.from_residual-in_err-punch.result c.from_residual-in_err-punch.ensures.1 in
+    rw p.1 tt
+
+pub returns-in_err-punch-clause-same : goal.returns-in_err-punch-clause-same
+returns-in_err-punch-clause-same g c = c.in_err-punch.ensures.same ∙ c.in_ok-end.ensures.same
+
+pub returns-clause-damaged : goal.returns-clause-damaged
+returns-clause-damaged g c = λ honest. tt
+
+pub returns-clause-same : goal.returns-clause-same
+returns-clause-same g c = c.in_ok-punch.ensures.same ∙ c.in_ok-end.ensures.same

@@ -1,10 +1,12 @@
-use Rattle.std.proofs.Common.{rules, ℕ, ◌/◌, List, arith}
+use Rattle.std.proofs.Common.{rules, ◌∙◌, ℕ, ◌/◌, List, arith, refl}
 use Rattle.std.proofs.lemmas.Result.{err_from_is_err_and}
 use Rattle.zst_space.specs.FreeSectors.{FreeSectors}
 use Rattle.zst_block.specs.Blocks.{Has}
 use Rattle.zst_objset.specs.Sets.{HasSlots, LeafIs}
 use Rattle.zst_objset.proofs.LeafLaws.{look_on}
 use Rattle.zst_objset.proofs.SearchLaws.{from_shown, hole_shown, lacks_none, leaf_shown}
+use Rattle.zst_objset.proofs.LeafLaws.{calls_then, within_one_more}
+use Rattle.zst_block.proofs.IoCallLemmas.{Looks-then}
 use Rattle.zst_objset.proofs.searches.look_ahead.Goals as goal
 
 pub returns-in_err-was-clause-shows : goal.returns-in_err-was-clause-shows
@@ -40,3 +42,98 @@ returns-in-Some-clause-shows g c = λ state honest holds.
     (leaf_shown _ c.args.set.now state holds (c.args.from / 16) c.in_ok-was.count c.in_ok-was.was' (omega (arith, c.requires.from.1)) (found.shows holds.map (c.in_ok-load_slots.ensures.looks.reads.honest honest) holds.tree))) in
     let now = look_on (λ (seen : List ℕ) (space : FreeSectors). HasSlots (Has seen space) state (c.args.from / 16) c.load_slots.new.io.node) _ _ _ _ _ _ _ c.in_ok-load_slots.ensures.looks loaded in
     from_shown _ state c.args.from c.load_slots.new.io.node now c.in-Some.ahead c.requires.from.0 c.requires.from.1 (c.in-Some.ensures.shows now.slots now.spells)
+
+pub returns-then-set-gt7-clause-ranges : goal.returns-then-set-gt7-clause-ranges
+returns-then-set-gt7-clause-ranges g c = tt
+
+pub returns-then-set-gt7-clause-kept_fit : goal.returns-then-set-gt7-clause-kept_fit
+returns-then-set-gt7-clause-kept_fit g c = c.requires.fits
+
+pub returns-then-set-gt7-clause-same : goal.returns-then-set-gt7-clause-same
+returns-then-set-gt7-clause-same g c = refl
+
+pub run_at-requires-clause-fits : goal.run_at-requires-clause-fits
+run_at-requires-clause-fits g c = c.requires.fits
+
+pub returns-in_err-was-clause-ranges : goal.returns-in_err-was-clause-ranges
+returns-in_err-was-clause-ranges g c =
+    let p = err_from_is_err_and c.from_residual.result c.from_residual.ensures.1 in
+    rw p.1 tt
+
+pub returns-in_err-was-clause-looks : goal.returns-in_err-was-clause-looks
+returns-in_err-was-clause-looks g c =
+    let p = err_from_is_err_and c.from_residual.result c.from_residual.ensures.1 in
+    rw (p.1, p.2) c.in_err-was.ensures.looks
+
+pub returns-in_err-was-clause-kept_fit : goal.returns-in_err-was-clause-kept_fit
+returns-in_err-was-clause-kept_fit g c = c.in_err-was.ensures.kept_fit
+
+pub returns-in_err-was-clause-same : goal.returns-in_err-was-clause-same
+returns-in_err-was-clause-same g c = c.in_err-was.ensures.same
+
+pub returns-in_err-was-clause-calls : goal.returns-in_err-was-clause-calls
+returns-in_err-was-clause-calls g c = within_one_more _ _ c.in_err-was.ensures.calls
+
+pub returns-then-was-eq0-clause-damaged : goal.returns-then-was-eq0-clause-damaged
+returns-then-was-eq0-clause-damaged g c = λ honest. tt
+
+pub returns-then-was-eq0-clause-looks : goal.returns-then-was-eq0-clause-looks
+returns-then-was-eq0-clause-looks g c = c.in_ok-was.ensures.looks
+
+pub returns-then-was-eq0-clause-calls : goal.returns-then-was-eq0-clause-calls
+returns-then-was-eq0-clause-calls g c = within_one_more _ _ c.in_ok-was.ensures.calls
+
+pub returns-then-was-eq0-clause-kept_fit : goal.returns-then-was-eq0-clause-kept_fit
+returns-then-was-eq0-clause-kept_fit g c = c.in_ok-was.ensures.kept_fit
+
+pub returns-then-was-eq0-clause-same : goal.returns-then-was-eq0-clause-same
+returns-then-was-eq0-clause-same g c = c.in_ok-was.ensures.same
+
+pub load_slots-requires-clause-fits : goal.load_slots-requires-clause-fits
+load_slots-requires-clause-fits g c = c.in_ok-was.ensures.kept_fit
+
+pub returns-in_err-load_slots-clause-ranges : goal.returns-in_err-load_slots-clause-ranges
+returns-in_err-load_slots-clause-ranges g c =
+    let p = err_from_is_err_and c.from_residual-in_err-load_slots.result c.from_residual-in_err-load_slots.ensures.1 in
+    rw p.1 tt
+
+pub returns-in_err-load_slots-clause-looks : goal.returns-in_err-load_slots-clause-looks
+returns-in_err-load_slots-clause-looks g c =
+    let p = err_from_is_err_and c.from_residual-in_err-load_slots.result c.from_residual-in_err-load_slots.ensures.1 in
+    rw (p.1, p.2) (Looks-then c.in_ok-was.ensures.looks c.in_err-load_slots.ensures.looks)
+
+pub returns-in_err-load_slots-clause-calls : goal.returns-in_err-load_slots-clause-calls
+returns-in_err-load_slots-clause-calls g c = calls_then _ _ _ c.in_ok-was.ensures.calls c.in_err-load_slots.ensures.calls
+
+pub returns-in_err-load_slots-clause-kept_fit : goal.returns-in_err-load_slots-clause-kept_fit
+returns-in_err-load_slots-clause-kept_fit g c = c.in_err-load_slots.ensures.kept_fit
+
+pub returns-in_err-load_slots-clause-same : goal.returns-in_err-load_slots-clause-same
+returns-in_err-load_slots-clause-same g c = c.in_err-load_slots.ensures.same ∙ c.in_ok-was.ensures.same
+
+pub returns-in-Some-clause-looks : goal.returns-in-Some-clause-looks
+returns-in-Some-clause-looks g c = Looks-then c.in_ok-was.ensures.looks c.in_ok-load_slots.ensures.looks
+
+pub returns-in-Some-clause-calls : goal.returns-in-Some-clause-calls
+returns-in-Some-clause-calls g c = calls_then _ _ _ c.in_ok-was.ensures.calls c.in_ok-load_slots.ensures.calls
+
+pub returns-in-Some-clause-kept_fit : goal.returns-in-Some-clause-kept_fit
+returns-in-Some-clause-kept_fit g c = c.in_ok-load_slots.ensures.kept_fit
+
+pub returns-in-Some-clause-same : goal.returns-in-Some-clause-same
+returns-in-Some-clause-same g c = c.in_ok-load_slots.ensures.same ∙ c.in_ok-was.ensures.same
+
+pub returns-in-None-clause-calls : goal.returns-in-None-clause-calls
+returns-in-None-clause-calls g c = calls_then _ _ _ c.in_ok-was.ensures.calls c.in_ok-load_slots.ensures.calls
+
+pub returns-in-None-clause-kept_fit : goal.returns-in-None-clause-kept_fit
+returns-in-None-clause-kept_fit g c = c.in_ok-load_slots.ensures.kept_fit
+
+pub returns-in-None-clause-same : goal.returns-in-None-clause-same
+returns-in-None-clause-same g c = c.in_ok-load_slots.ensures.same ∙ c.in_ok-was.ensures.same
+
+pub returns-in-Some-clause-damaged : goal.returns-in-Some-clause-damaged
+returns-in-Some-clause-damaged g c = λ honest. tt
+
+pub returns-in-None-clause-ranges : goal.returns-in-None-clause-ranges
+returns-in-None-clause-ranges g c = tt

@@ -1,7 +1,7 @@
-use Rattle.std.proofs.Common.{◌-◌, ◌*◌, ◌/◌, arith}
+use Rattle.std.proofs.Common.{◌+◌, ◌-◌, ◌*◌, ◌/◌, ◌^◌, ◌<◌, ◌≤◌, ℕ, arith}
 use Rattle.std.proofs.lemmas.Result.{err_from_is_err_and}
 use Rattle.zst_block.proofs.BlocksLaws.{FillsFree-then, KeepsBlocks-fills}
-use Rattle.zst_block.proofs.IoCallLemmas.{Works-after, Works-then}
+use Rattle.zst_block.proofs.IoCallLemmas.{Works-after, Works-looks, Works-more, Works-then}
 use Rattle.zst_tree.proofs.IndicesLaws.{TreeIs-grows}
 use Rattle.zst_objset.proofs.LeafLaws.{keeps_on}
 use Rattle.zst_objset.proofs.SetPuts.{InLeaf, IsPut, mended, put_leaf, Puts-one, with_one}
@@ -11,6 +11,10 @@ use Rattle.std.proofs.Common.{◌∙◌}
 use Rattle.zst_objset.proofs.DamageLaws.{changed_within, leaf_whole, set_now, set_within}
 use Rattle.zst_objset.proofs.TightLaws.{put_leaf_tight}
 use Rattle.zst_objset.proofs.slot_puts.put_in_leaf.Goals as goal
+
+-- the numbers' places in their leaf
+within_leaf : (first below : ℕ) → 0 < first → first < below → below ≤ 2 ^ 48 → below ≤ 16 * (first / 16) + 16 → InLeaf first below (first / 16) (first - 16 * (first / 16)) (below - 16 * (first / 16))
+within_leaf first below above some bound leaf = record { first_is = omega arith; below_is = omega arith; some = omega arith; inside = omega arith; small = omega arith; above = above }
 
 pub returns-in_err-was-clause-put : goal.returns-in_err-was-clause-put
 returns-in_err-was-clause-put g c = λ snap after honest holds puts.
@@ -22,7 +26,7 @@ returns-in_err-ptr-clause-put g c = λ snap after honest holds puts.
     let p = err_from_is_err_and c.from_residual-in_err-ptr.result c.from_residual-in_err-ptr.ensures.1 in
     let was_honest = c.in_err-ptr.ensures.works.fills.honest honest in
     let all = c.put_slots.ensures in
-    let at : InLeaf c.args.first c.args.below (c.args.first / 16) (c.args.first - 16 * (c.args.first / 16)) (c.args.below - 16 * (c.args.first / 16)) = record { first_is = omega arith; below_is = omega arith; some = omega arith; inside = omega arith; small = omega arith; above = omega arith } in
+    let at = within_leaf c.args.first c.args.below c.requires.first c.requires.some c.requires.bound c.requires.leaf in
     let is : IsPut c.args.slot.now (c.args.first - 16 * (c.args.first / 16)) (c.args.below - 16 * (c.args.first / 16)) c.find_slots.new.io.node c.put_slots.new.node = record { fits = c.requires.slot; long = all.long at.some; put = all.put; kept = all.kept } in
     let there = mended _ snap after c.args.first c.args.below (c.args.first / 16) _ _ c.args.slot.now _ _ at is puts (c.in_ok-was.ensures.slots snap was_honest holds) in
     rw (p.1, p.2) (c.in_err-ptr.ensures.names there.slots there.spells)
@@ -32,7 +36,7 @@ returns-in_err-set-clause-put g c = λ snap after honest holds puts.
     let was_saved = c.in_err-set.ensures.works.fills.honest honest in
     let was_found = c.in_ok-ptr.ensures.works.fills.honest was_saved in
     let all = c.put_slots.ensures in
-    let at : InLeaf c.args.first c.args.below (c.args.first / 16) (c.args.first - 16 * (c.args.first / 16)) (c.args.below - 16 * (c.args.first / 16)) = record { first_is = omega arith; below_is = omega arith; some = omega arith; inside = omega arith; small = omega arith; above = omega arith } in
+    let at = within_leaf c.args.first c.args.below c.requires.first c.requires.some c.requires.bound c.requires.leaf in
     let is : IsPut c.args.slot.now (c.args.first - 16 * (c.args.first / 16)) (c.args.below - 16 * (c.args.first / 16)) c.find_slots.new.io.node c.put_slots.new.node = record { fits = c.requires.slot; long = all.long at.some; put = all.put; kept = all.kept } in
     let saving = keeps_on _ _ _ _ _ _ _ _ _ c.in_ok-was.ensures.looks c.in_ok-ptr.ensures.works.fills in
     let p = err_from_is_err_and c.from_residual-in_err-set.result c.from_residual-in_err-set.ensures.1 in
@@ -52,7 +56,7 @@ returns-clause-put g c = λ snap after honest holds puts.
     let was_saved = c.in_ok-set.ensures.works.fills.honest honest in
     let was_found = c.in_ok-ptr.ensures.works.fills.honest was_saved in
     let all = c.put_slots.ensures in
-    let at : InLeaf c.args.first c.args.below (c.args.first / 16) (c.args.first - 16 * (c.args.first / 16)) (c.args.below - 16 * (c.args.first / 16)) = record { first_is = omega arith; below_is = omega arith; some = omega arith; inside = omega arith; small = omega arith; above = omega arith } in
+    let at = within_leaf c.args.first c.args.below c.requires.first c.requires.some c.requires.bound c.requires.leaf in
     let is : IsPut c.args.slot.now (c.args.first - 16 * (c.args.first / 16)) (c.args.below - 16 * (c.args.first / 16)) c.find_slots.new.io.node c.put_slots.new.node = record { fits = c.requires.slot; long = all.long at.some; put = all.put; kept = all.kept } in
     let saving = keeps_on _ _ _ _ _ _ _ _ _ c.in_ok-was.ensures.looks c.in_ok-ptr.ensures.works.fills in
     rw c.set_over.ensures.made (put_leaf _ _ _ _ _ _ saving (KeepsBlocks-fills _ _ _ _ c.in_ok-set.ensures.works.fills) c.args.set c.set.new.self snap after c.args.first c.args.below (c.args.first / 16) _ _ c.args.slot.now c.in_ok-ptr.ptr _ _
@@ -95,8 +99,102 @@ returns-clause-tight g c = λ snap after honest tight puts each.
     let was_found = c.in_ok-ptr.ensures.works.fills.honest was_saved in
     let found = c.in_ok-was.ensures in
     let all = c.put_slots.ensures in
-    let at : InLeaf c.args.first c.args.below (c.args.first / 16) (c.args.first - 16 * (c.args.first / 16)) (c.args.below - 16 * (c.args.first / 16)) = record { first_is = omega arith; below_is = omega arith; some = omega arith; inside = omega arith; small = omega arith; above = omega arith } in
+    let at = within_leaf c.args.first c.args.below c.requires.first c.requires.some c.requires.bound c.requires.leaf in
     let is : IsPut c.args.slot.now (c.args.first - 16 * (c.args.first / 16)) (c.args.below - 16 * (c.args.first / 16)) c.find_slots.new.io.node c.put_slots.new.node = record { fits = c.requires.slot; long = all.long at.some; put = all.put; kept = all.kept } in
     let saving = keeps_on _ _ _ _ _ _ _ _ _ found.looks c.in_ok-ptr.ensures.works.fills in
     rw c.set_over.ensures.made (put_leaf_tight _ _ _ _ _ _ saving (KeepsBlocks-fills _ _ _ _ c.in_ok-set.ensures.works.fills) c.args.set c.set.new.self snap after c.args.first c.args.below (c.args.first / 16) _ _ c.args.slot.now c.in_ok-ptr.ptr _ _
     at is puts tight (found.slots snap was_found tight.holds) (found.tight snap was_found tight) each c.in_ok-ptr.ensures.names (λ map other tree put. c.in_ok-set.ensures.puts map other honest tree put) c.in_ok-set.ensures.levels)
+
+pub find_slots-requires-clause-fits : goal.find_slots-requires-clause-fits
+find_slots-requires-clause-fits g c = c.requires.fits
+
+pub returns-in_err-was-clause-tight : goal.returns-in_err-was-clause-tight
+returns-in_err-was-clause-tight g c = λ snap after honest tight puts each.
+    let p = err_from_is_err_and c.from_residual.result c.from_residual.ensures.1 in
+    rw p.1 tt
+
+pub returns-in_err-was-clause-within : goal.returns-in_err-was-clause-within
+returns-in_err-was-clause-within g c = λ honest.
+    let p = err_from_is_err_and c.from_residual.result c.from_residual.ensures.1 in
+    rw p.1 tt
+
+pub returns-in_err-was-clause-works : goal.returns-in_err-was-clause-works
+returns-in_err-was-clause-works g c =
+    let p = err_from_is_err_and c.from_residual.result c.from_residual.ensures.1 in
+    rw (p.1, p.2) (Works-looks c.requires.fits c.in_err-was.ensures.looks)
+
+pub returns-in_err-was-clause-levels : goal.returns-in_err-was-clause-levels
+returns-in_err-was-clause-levels g c =
+    let p = err_from_is_err_and c.from_residual.result c.from_residual.ensures.1 in
+    rw p.1 tt
+
+pub returns-in_err-was-clause-same : goal.returns-in_err-was-clause-same
+returns-in_err-was-clause-same g c = c.in_err-was.ensures.same
+
+pub put_slots-requires-clause-fits : goal.put_slots-requires-clause-fits
+put_slots-requires-clause-fits g c = c.requires.slot
+
+pub save_slots-requires : goal.save_slots-requires
+save_slots-requires g c = record { fits = c.in_ok-was.ensures.kept_fit }
+
+pub returns-in_err-ptr-clause-tight : goal.returns-in_err-ptr-clause-tight
+returns-in_err-ptr-clause-tight g c = λ snap after honest tight puts each.
+    let p = err_from_is_err_and c.from_residual-in_err-ptr.result c.from_residual-in_err-ptr.ensures.1 in
+    rw p.1 tt
+
+pub returns-in_err-ptr-clause-within : goal.returns-in_err-ptr-clause-within
+returns-in_err-ptr-clause-within g c = λ honest.
+    let p = err_from_is_err_and c.from_residual-in_err-ptr.result c.from_residual-in_err-ptr.ensures.1 in
+    rw p.1 tt
+
+pub returns-in_err-ptr-clause-works : goal.returns-in_err-ptr-clause-works
+returns-in_err-ptr-clause-works g c =
+    let p = err_from_is_err_and c.from_residual-in_err-ptr.result c.from_residual-in_err-ptr.ensures.1 in
+    rw (p.1, p.2) (Works-after c.in_ok-was.ensures.looks (Works-more (omega arith) c.in_err-ptr.ensures.works))
+
+pub returns-in_err-ptr-clause-levels : goal.returns-in_err-ptr-clause-levels
+returns-in_err-ptr-clause-levels g c =
+    let p = err_from_is_err_and c.from_residual-in_err-ptr.result c.from_residual-in_err-ptr.ensures.1 in
+    rw p.1 tt
+
+pub returns-in_err-ptr-clause-same : goal.returns-in_err-ptr-clause-same
+returns-in_err-ptr-clause-same g c = c.in_err-ptr.ensures.same ∙ c.in_ok-was.ensures.same
+
+pub set-requires-clause-levels : goal.set-requires-clause-levels
+set-requires-clause-levels g c = c.in_ok-was.ensures.levels
+
+pub set-requires-clause-lawful : goal.set-requires-clause-lawful
+set-requires-clause-lawful g c = c.in_ok-ptr.ensures.lawful
+
+pub set-requires-clause-fits : goal.set-requires-clause-fits
+set-requires-clause-fits g c = c.in_ok-ptr.ensures.works.fits
+
+pub returns-in_err-set-clause-tight : goal.returns-in_err-set-clause-tight
+returns-in_err-set-clause-tight g c = λ snap after honest tight puts each.
+    let p = err_from_is_err_and c.from_residual-in_err-set.result c.from_residual-in_err-set.ensures.1 in
+    rw p.1 tt
+
+pub returns-in_err-set-clause-within : goal.returns-in_err-set-clause-within
+returns-in_err-set-clause-within g c = λ honest.
+    let p = err_from_is_err_and c.from_residual-in_err-set.result c.from_residual-in_err-set.ensures.1 in
+    rw p.1 tt
+
+pub returns-in_err-set-clause-levels : goal.returns-in_err-set-clause-levels
+returns-in_err-set-clause-levels g c =
+    let p = err_from_is_err_and c.from_residual-in_err-set.result c.from_residual-in_err-set.ensures.1 in
+    rw p.1 tt
+
+pub returns-in_err-set-clause-same : goal.returns-in_err-set-clause-same
+returns-in_err-set-clause-same g c = c.in_err-set.ensures.same ∙ (c.in_ok-ptr.ensures.same ∙ c.in_ok-was.ensures.same)
+
+pub set_over-requires : goal.set_over-requires
+set_over-requires g c = c.in_ok-set.ensures.levels
+
+pub returns-clause-damaged : goal.returns-clause-damaged
+returns-clause-damaged g c = λ honest. tt
+
+pub returns-clause-levels : goal.returns-clause-levels
+returns-clause-levels g c = c.set_over.ensures.fits
+
+pub returns-clause-same : goal.returns-clause-same
+returns-clause-same g c = c.in_ok-set.ensures.same ∙ (c.in_ok-ptr.ensures.same ∙ c.in_ok-was.ensures.same)

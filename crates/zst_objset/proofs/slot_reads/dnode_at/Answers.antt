@@ -1,4 +1,5 @@
-use Rattle.std.proofs.Common.{arith}
+use Rattle.zst_block.proofs.IoCallLemmas.{Looks-none}
+use Rattle.std.proofs.Common.{refl, arith}
 use Rattle.std.proofs.lemmas.Result.{err_from_is_err_and}
 use Rattle.zst_model.specs.states.State.{number_bound}
 use Rattle.zst_objset.proofs.LeafLaws.{absent_found, none_found, there_found}
@@ -23,3 +24,111 @@ returns-in-There-clause-found g c = λ snap honest holds. there_found _ snap c.a
 
 pub returns-in-There-clause-tight : goal.returns-in-There-clause-tight
 returns-in-There-clause-tight g c = λ snap honest tight. subst (IsTightSlot snap c.args.object) c.in-There.is (c.in_ok-slot_at.ensures.tight snap honest tight)
+
+pub returns-then-object-ge-NUMBER_BOUND-clause-tight : goal.returns-then-object-ge-NUMBER_BOUND-clause-tight
+returns-then-object-ge-NUMBER_BOUND-clause-tight g c = λ state honest tight. tt
+
+pub returns-then-object-ge-NUMBER_BOUND-clause-ranges : goal.returns-then-object-ge-NUMBER_BOUND-clause-ranges
+returns-then-object-ge-NUMBER_BOUND-clause-ranges g c = tt
+
+pub returns-then-object-ge-NUMBER_BOUND-clause-bound : goal.returns-then-object-ge-NUMBER_BOUND-clause-bound
+returns-then-object-ge-NUMBER_BOUND-clause-bound g c = tt
+
+pub returns-then-object-ge-NUMBER_BOUND-clause-stands : goal.returns-then-object-ge-NUMBER_BOUND-clause-stands
+returns-then-object-ge-NUMBER_BOUND-clause-stands g c = λ honest. tt
+
+pub returns-then-object-ge-NUMBER_BOUND-clause-damaged : goal.returns-then-object-ge-NUMBER_BOUND-clause-damaged
+returns-then-object-ge-NUMBER_BOUND-clause-damaged g c = λ honest. tt
+
+pub returns-then-object-ge-NUMBER_BOUND-clause-looks : goal.returns-then-object-ge-NUMBER_BOUND-clause-looks
+returns-then-object-ge-NUMBER_BOUND-clause-looks g c = Looks-none _ _ _
+
+pub returns-then-object-ge-NUMBER_BOUND-clause-kept_fit : goal.returns-then-object-ge-NUMBER_BOUND-clause-kept_fit
+returns-then-object-ge-NUMBER_BOUND-clause-kept_fit g c = c.requires.fits
+
+pub returns-then-object-ge-NUMBER_BOUND-clause-same : goal.returns-then-object-ge-NUMBER_BOUND-clause-same
+returns-then-object-ge-NUMBER_BOUND-clause-same g c = refl
+
+pub slot_at-requires-clause-fits : goal.slot_at-requires-clause-fits
+slot_at-requires-clause-fits g c = c.requires.fits
+
+pub returns-in_err-slot_at-clause-tight : goal.returns-in_err-slot_at-clause-tight
+returns-in_err-slot_at-clause-tight g c = λ snap honest tight.
+    let p = err_from_is_err_and c.from_residual.result c.from_residual.ensures.1 in
+    rw p.1 tt
+
+pub returns-in_err-slot_at-clause-ranges : goal.returns-in_err-slot_at-clause-ranges
+returns-in_err-slot_at-clause-ranges g c =
+    let p = err_from_is_err_and c.from_residual.result c.from_residual.ensures.1 in
+    rw p.1 tt
+
+pub returns-in_err-slot_at-clause-bound : goal.returns-in_err-slot_at-clause-bound
+returns-in_err-slot_at-clause-bound g c =
+    let p = err_from_is_err_and c.from_residual.result c.from_residual.ensures.1 in
+    rw p.1 tt
+
+pub returns-in_err-slot_at-clause-stands : goal.returns-in_err-slot_at-clause-stands
+returns-in_err-slot_at-clause-stands g c = λ honest.
+    let p = err_from_is_err_and c.from_residual.result c.from_residual.ensures.1 in
+    rw p.1 tt
+
+pub returns-in_err-slot_at-clause-damaged : goal.returns-in_err-slot_at-clause-damaged
+returns-in_err-slot_at-clause-damaged g c = λ honest.
+    let p = err_from_is_err_and c.from_residual.result c.from_residual.ensures.1 in
+    rw (p.1, p.2) (c.in_err-slot_at.ensures.damaged honest)
+
+pub returns-in_err-slot_at-clause-looks : goal.returns-in_err-slot_at-clause-looks
+returns-in_err-slot_at-clause-looks g c =
+    let p = err_from_is_err_and c.from_residual.result c.from_residual.ensures.1 in
+    rw (p.1, p.2) c.in_err-slot_at.ensures.looks
+
+pub returns-in_err-slot_at-clause-calls : goal.returns-in_err-slot_at-clause-calls
+returns-in_err-slot_at-clause-calls g c = c.in_err-slot_at.ensures.calls
+
+pub returns-in_err-slot_at-clause-kept_fit : goal.returns-in_err-slot_at-clause-kept_fit
+returns-in_err-slot_at-clause-kept_fit g c = c.in_err-slot_at.ensures.kept_fit
+
+pub returns-in_err-slot_at-clause-same : goal.returns-in_err-slot_at-clause-same
+returns-in_err-slot_at-clause-same g c = c.in_err-slot_at.ensures.same
+
+pub returns-in-Absent-clause-damaged : goal.returns-in-Absent-clause-damaged
+returns-in-Absent-clause-damaged g c = λ honest. tt
+
+pub returns-in-Absent-clause-looks : goal.returns-in-Absent-clause-looks
+returns-in-Absent-clause-looks g c = c.in_ok-slot_at.ensures.looks
+
+pub returns-in-Absent-clause-calls : goal.returns-in-Absent-clause-calls
+returns-in-Absent-clause-calls g c = c.in_ok-slot_at.ensures.calls
+
+pub returns-in-Absent-clause-kept_fit : goal.returns-in-Absent-clause-kept_fit
+returns-in-Absent-clause-kept_fit g c = c.in_ok-slot_at.ensures.kept_fit
+
+pub returns-in-Absent-clause-same : goal.returns-in-Absent-clause-same
+returns-in-Absent-clause-same g c = c.in_ok-slot_at.ensures.same
+
+pub returns-in-There-clause-damaged : goal.returns-in-There-clause-damaged
+returns-in-There-clause-damaged g c = λ honest. tt
+
+pub returns-in-There-clause-looks : goal.returns-in-There-clause-looks
+returns-in-There-clause-looks g c = c.in_ok-slot_at.ensures.looks
+
+pub returns-in-There-clause-calls : goal.returns-in-There-clause-calls
+returns-in-There-clause-calls g c = c.in_ok-slot_at.ensures.calls
+
+pub returns-in-There-clause-kept_fit : goal.returns-in-There-clause-kept_fit
+returns-in-There-clause-kept_fit g c = c.in_ok-slot_at.ensures.kept_fit
+
+pub returns-in-There-clause-same : goal.returns-in-There-clause-same
+returns-in-There-clause-same g c = c.in_ok-slot_at.ensures.same
+
+pub returns-in-Absent-clause-tight : goal.returns-in-Absent-clause-tight
+returns-in-Absent-clause-tight g c = λ state honest tight. tt
+
+pub returns-in-Absent-clause-ranges : goal.returns-in-Absent-clause-ranges
+returns-in-Absent-clause-ranges g c = tt
+
+pub returns-in-Absent-clause-bound : goal.returns-in-Absent-clause-bound
+returns-in-Absent-clause-bound g c = tt
+
+pub returns-in-Absent-clause-stands : goal.returns-in-Absent-clause-stands
+returns-in-Absent-clause-stands g c = λ honest. tt

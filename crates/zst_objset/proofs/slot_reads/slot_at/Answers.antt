@@ -40,3 +40,73 @@ pub returns-in-Some-clause-tight : goal.returns-in-Some-clause-tight
 returns-in-Some-clause-tight g c = λ snap honest tight.
     let found = c.in_ok-was.ensures in
     slot_tight _ snap c.args.object _ _ c.in-Some.slot (found.slots snap honest tight.holds) (found.tight snap honest tight) c.as_slice.ensures.bytes c.in-Some.ensures.back
+
+pub find_slots-requires-clause-fits : goal.find_slots-requires-clause-fits
+find_slots-requires-clause-fits g c = c.requires.fits
+
+pub returns-in_err-was-clause-tight : goal.returns-in_err-was-clause-tight
+returns-in_err-was-clause-tight g c = λ snap honest tight.
+    let p = err_from_is_err_and c.from_residual.result c.from_residual.ensures.1 in
+    rw p.1 tt
+
+pub returns-in_err-was-clause-ranges : goal.returns-in_err-was-clause-ranges
+returns-in_err-was-clause-ranges g c =
+    let p = err_from_is_err_and c.from_residual.result c.from_residual.ensures.1 in
+    rw p.1 tt
+
+pub returns-in_err-was-clause-stands : goal.returns-in_err-was-clause-stands
+returns-in_err-was-clause-stands g c = λ honest.
+    let p = err_from_is_err_and c.from_residual.result c.from_residual.ensures.1 in
+    rw p.1 tt
+
+pub returns-in_err-was-clause-damaged : goal.returns-in_err-was-clause-damaged
+returns-in_err-was-clause-damaged g c = λ honest.
+    let p = err_from_is_err_and c.from_residual.result c.from_residual.ensures.1 in
+    rw (p.1, p.2) (c.in_err-was.ensures.damaged honest)
+
+pub returns-in_err-was-clause-looks : goal.returns-in_err-was-clause-looks
+returns-in_err-was-clause-looks g c =
+    let p = err_from_is_err_and c.from_residual.result c.from_residual.ensures.1 in
+    rw (p.1, p.2) c.in_err-was.ensures.looks
+
+pub returns-in_err-was-clause-calls : goal.returns-in_err-was-clause-calls
+returns-in_err-was-clause-calls g c = c.in_err-was.ensures.calls
+
+pub returns-in_err-was-clause-kept_fit : goal.returns-in_err-was-clause-kept_fit
+returns-in_err-was-clause-kept_fit g c = c.in_err-was.ensures.kept_fit
+
+pub returns-in_err-was-clause-same : goal.returns-in_err-was-clause-same
+returns-in_err-was-clause-same g c = c.in_err-was.ensures.same
+
+pub returns-in-Some-clause-damaged : goal.returns-in-Some-clause-damaged
+returns-in-Some-clause-damaged g c = λ honest. tt
+
+pub returns-in-Some-clause-calls : goal.returns-in-Some-clause-calls
+returns-in-Some-clause-calls g c = c.in_ok-was.ensures.calls
+
+pub returns-in-Some-clause-kept_fit : goal.returns-in-Some-clause-kept_fit
+returns-in-Some-clause-kept_fit g c = c.in_ok-was.ensures.kept_fit
+
+pub returns-in-Some-clause-same : goal.returns-in-Some-clause-same
+returns-in-Some-clause-same g c = c.in_ok-was.ensures.same
+
+pub returns-in-None-clause-calls : goal.returns-in-None-clause-calls
+returns-in-None-clause-calls g c = c.in_ok-was.ensures.calls
+
+pub returns-in-None-clause-kept_fit : goal.returns-in-None-clause-kept_fit
+returns-in-None-clause-kept_fit g c = c.in_ok-was.ensures.kept_fit
+
+pub returns-in-None-clause-same : goal.returns-in-None-clause-same
+returns-in-None-clause-same g c = c.in_ok-was.ensures.same
+
+pub returns-in-Some-clause-looks : goal.returns-in-Some-clause-looks
+returns-in-Some-clause-looks g c = c.in_ok-was.ensures.looks
+
+pub returns-in-None-clause-tight : goal.returns-in-None-clause-tight
+returns-in-None-clause-tight g c = λ state honest tight. tt
+
+pub returns-in-None-clause-ranges : goal.returns-in-None-clause-ranges
+returns-in-None-clause-ranges g c = tt
+
+pub returns-in-None-clause-stands : goal.returns-in-None-clause-stands
+returns-in-None-clause-stands g c = λ honest. tt

@@ -1,8 +1,14 @@
-use Rattle.std.proofs.Common.{[], ◌∙◌, sym, subst, Ok}
+use Rattle.std.proofs.Common.{◌≡◌, ◌⊎◌, ℕ, true, [], inl, inr, ◌∙◌, sym, subst, Ok}
 use Rattle.zst_model.specs.pools.Step.{committed, with_aborted, without_partial}
+use Rattle.zst_model.specs.declared.refusals.plan_fault.PlanFault.{PlanFault}
+use Rattle.zst_pool.specs.Plans.{IsLast, is_by_rows}
 use Rattle.zst_pool.specs.Checks.{Judges, next_of}
-use Rattle.zst_pool.proofs.CheckLemmas.{err_is}
+use Rattle.zst_pool.proofs.CheckLemmas.{err_has, err_is}
 use Rattle.zst_pool.proofs.aborts.plan_abort.Goals as goal
+
+-- what the rows or the last number refuse
+abbrev Refused : ℕ → PlanFault → Type 0
+Refused number fault = (is_by_rows fault ≡ true) ⊎ IsLast number fault
 
 pub returns-in_err-check_partial-clause-judged : goal.returns-in_err-check_partial-clause-judged
 returns-in_err-check_partial-clause-judged c = λ pool are number.
@@ -22,3 +28,9 @@ pub returns-clause-judged : goal.returns-clause-judged
 returns-clause-judged c = λ pool are number.
     let target = c.args.target.now in
     c.in_ok-check_partial.ensures.judged pool (committed (without_partial target pool)) are ∙ c.in_ok-check_number.ensures.judged (without_partial target pool) number
+
+pub returns-in_err-check_partial-clause-refused : goal.returns-in_err-check_partial-clause-refused
+returns-in_err-check_partial-clause-refused c = err_has (Refused c.args.kept.now.body.number) c.from_residual.result c.in_err-check_partial.field-0.0 c.from_residual.ensures.1 (inl c.in_err-check_partial.ensures.rows)
+
+pub returns-in_err-check_number-clause-refused : goal.returns-in_err-check_number-clause-refused
+returns-in_err-check_number-clause-refused c = err_has (Refused c.args.kept.now.body.number) c.from_residual-in_err-check_number.result c.in_err-check_number.field-0.0 c.from_residual-in_err-check_number.ensures.1 (inr c.in_err-check_number.ensures.last)

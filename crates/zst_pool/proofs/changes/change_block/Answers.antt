@@ -15,7 +15,7 @@ use Rattle.zst_image.proofs.Growth.{SetIs-grows}
 use Rattle.zst_image.proofs.OnePool.{SetIs-holds}
 use Rattle.zst_pool.proofs.ChangeDates.{changes_known, written_dated}
 use Rattle.zst_pool.specs.Heads.{ChangesHead, Works, of_change, of_head, stop_of}
-use Rattle.zst_pool.specs.Damage.{block_damage}
+use Rattle.zst_pool.specs.Damage.{IfHeadDamaged, block_damage}
 use Rattle.zst_image.specs.Reads.{SetIs, bound_of, new_pool}
 use Rattle.zst_space.specs.FreeSectors.{FreeSectors}
 use Rattle.zst_tree.specs.Damage.{IsSeen, NamesNode}
@@ -133,3 +133,31 @@ returns-in_err-block-clause-limits g c = λ fault is.
 
 pub returns-clause-limits : goal.returns-clause-limits
 returns-clause-limits g c = past_indices (c.args.index + 1) c.write_block.result c.answer.ensures c.write_block.ensures.limits
+
+pub returns-in_err-size-clause-exact : goal.returns-in_err-size-clause-exact
+returns-in_err-size-clause-exact g c = λ head told holds.
+    let fault = c.in_err-size.field-0.0 in
+    let block = size_at (head.state c.args.object) / 512 in
+    let works = λ (stop : Option BlockFault). Works 1 block (g.D.Disk.state c.args.io.now.disk.now) c.args.io.now.space c.args.io.now.failed (g.D.Disk.state c.find_size.new.io.disk.now) c.find_size.new.io.space c.find_size.new.io.failed stop in
+    let stop = stop_same ℕ (Unit {0}) fault ∙ ap (λ (r : Result (Unit {0}) HeadFault). stop_of r) (sym (err_is c.from_residual.result fault c.from_residual.ensures.1)) in
+    subst works stop (works_looks (block + 640 * 1) block c.requires.fits c.in_err-size.ensures.looks)
+
+pub returns-in_err-block-clause-exact : goal.returns-in_err-block-clause-exact
+returns-in_err-block-clause-exact g c = λ head told holds.
+    let fell = c.from_residual-in_err-block in
+    let block = size_at (head.state c.args.object) / 512 in
+    let works = λ (stop : Option BlockFault). Works 1 block (g.D.Disk.state c.args.io.now.disk.now) c.args.io.now.space c.args.io.now.failed (g.D.Disk.state c.find_size.new.io.disk.now) c.find_size.new.io.space c.find_size.new.io.failed stop in
+    let stop = ap (λ (r : Result (Unit {0}) HeadFault). stop_of r) (sym (err_is fell.result Memory fell.ensures.1)) in
+    subst works stop (works_looks (block + 640 * 1) block c.requires.fits c.in_ok-size.ensures.looks)
+
+pub returns-in_err-block-clause-changed : goal.returns-in_err-block-clause-changed
+returns-in_err-block-clause-changed g c = λ tight pool head told number holds.
+    let fell = c.from_residual-in_err-block in
+    let has = Has (g.D.Disk.state c.find_size.new.io.disk.now).seen c.find_size.new.io.space in
+    subst (ChangesHead (bound_of tight c.args.number) has c.args.set.now (written pool c.args.object c.args.index c.args.bytes.now head)) (sym (err_is fell.result Memory fell.ensures.1)) tt
+
+pub returns-in_err-block-clause-damaged : goal.returns-in_err-block-clause-damaged
+returns-in_err-block-clause-damaged g c = λ told.
+    let fell = c.from_residual-in_err-block in
+    let old = g.D.Disk.state c.args.io.now.disk.now in
+    subst (λ (r : Result (Unit {0}) HeadFault). IfHeadDamaged r (block_damage old c.args.io.now.space c.args.set.now)) (sym (err_is fell.result Memory fell.ensures.1)) tt

@@ -10,7 +10,9 @@ use Rattle.zst_dir.specs.RowNames.{AreNamed}
 use Rattle.zst_dir.specs.Rows.{Rows}
 use Rattle.zst_dir.specs.declared.rows.Dataset.{Dataset as Row}
 use Rattle.zst_pool.proofs.CheckLemmas.{err_is}
-use Rattle.std.proofs.Common.{inl, inr}
+use Rattle.std.specs.List.{list_any}
+use Rattle.std.specs.Str.{bytes_eq}
+use Rattle.std.proofs.Common.{false, inl, inr}
 use Rattle.std.proofs.lemmas.Result.{err_from_is_err_and}
 use Rattle.zst_pool.proofs.checks.plan_snapshot.Goals as goal
 use Rattle.zst_pool.proofs.checks.plan_snapshot.Goals.{In_ok-check_guids}
@@ -106,3 +108,9 @@ pub returns-in_err-check_number-clause-refused : goal.returns-in_err-check_numbe
 returns-in_err-check_number-clause-refused c =
     let p = err_from_is_err_and c.from_residual-in_err-check_number.result c.from_residual-in_err-check_number.ensures.1 in
     rw (p.1, p.2) (inr c.in_err-check_number.ensures.last)
+
+pub returns-clause-there : goal.returns-clause-there
+returns-clause-there c = let there = c.in_ok-dataset.ensures.there in (there.0, there.1 ∙ c.dataset.ensures)
+
+pub returns-clause-free : goal.returns-clause-free
+returns-clause-free c = subst (λ (n : List ℕ). list_any (λ partial. bytes_eq partial.target n) c.args.kept.now.dir.partials ≡ false) c.dataset.ensures c.in_ok-dataset.ensures.free

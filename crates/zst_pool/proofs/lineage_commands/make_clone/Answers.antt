@@ -13,6 +13,7 @@ use Rattle.zst_pool.proofs.Bounds.{RunsBy-later}
 use Rattle.zst_pool.proofs.CheckLemmas.{err_is}
 use Rattle.zst_pool.proofs.LineageRows.{clone_row_is}
 use Rattle.zst_pool.proofs.NextPools.{dataset_runs}
+use Rattle.zst_pool.proofs.PlanLemmas.{made_apart, plans_apart, plans_refused, plans_starved, told_or_last}
 use Rattle.zst_pool.proofs.PoolsAtRest.{few_guids, rest_named, runs_named}
 use Rattle.zst_pool.proofs.CommandRuns.{runs_planned, runs_starved}
 use Rattle.zst_pool.proofs.lineage_commands.make_clone.Goals as goal
@@ -57,3 +58,28 @@ returns-clause-runs g c =
           (subst (λ (r : Rows). RunsBy (bound_of tight running.number) has r (with_new clone running)) (sym dir)
           (dataset_runs has kept.dir running row clone runs.runs_by (subst (λ (r : Dataset). DatasetIs (bound_of tight running.number) has r clone) (sym judged.6) is)));
     })
+
+pub returns-in_err-row-clause-plans : goal.returns-in_err-row-clause-plans
+returns-in_err-row-clause-plans g c =
+    let kept = c.args.kept.now in
+    let fault = c.in_err-row.field-0.0 in
+    plans_refused (with_clone c.args.origin.now c.args.name.now) 0 0 kept fault (err_is c.from_residual.result (Plan fault) c.from_residual.ensures.1) (told_or_last 0 0 kept.body fault c.in_err-row.ensures.refused)
+    (λ pool named. c.in_err-row.ensures.judged pool named.are_named named.number)
+
+pub returns-in_err-dir-clause-plans : goal.returns-in_err-dir-clause-plans
+returns-in_err-dir-clause-plans g c =
+    let fell = c.from_residual-in_err-dir in
+    plans_starved (with_clone c.args.origin.now c.args.name.now) 0 0 c.args.kept.now fell.result (err_is fell.result OutOfMemory fell.ensures.1)
+    (λ pool named. made_apart (with_clone c.args.origin.now c.args.name.now pool) _ (c.in_ok-row.ensures.judged pool named.are_named named.number).7)
+
+pub returns-in_err-add_dataset-clause-plans : goal.returns-in_err-add_dataset-clause-plans
+returns-in_err-add_dataset-clause-plans g c =
+    let fell = c.from_residual-in_err-add_dataset in
+    plans_starved (with_clone c.args.origin.now c.args.name.now) 0 0 c.args.kept.now fell.result (err_is fell.result OutOfMemory fell.ensures.1)
+    (λ pool named. made_apart (with_clone c.args.origin.now c.args.name.now pool) _ (c.in_ok-row.ensures.judged pool named.are_named named.number).7)
+
+pub returns-clause-plans : goal.returns-clause-plans
+returns-clause-plans g c =
+    plans_apart (with_clone c.args.origin.now c.args.name.now) 0 0 c.args.kept.now c.commit_rows.result
+    (λ pool named. made_apart (with_clone c.args.origin.now c.args.name.now pool) _ (c.in_ok-row.ensures.judged pool named.are_named named.number).7)
+    (λ fault is. absurd (c.commit_rows.ensures.unplanned fault is))

@@ -5,12 +5,13 @@ use Rattle.zst_dir.specs.Rows.{Rows}
 use Rattle.zst_image.specs.Reads.{RunsBy, bound_of}
 use Rattle.zst_pool.specs.Cost.{cells_only}
 use Rattle.zst_pool.specs.Damage.{NoDamage}
-use Rattle.zst_pool.specs.declared.fault.PoolFault.TheVariants.{Plan}
+use Rattle.zst_pool.specs.declared.fault.PoolFault.TheVariants.{OutOfMemory, Plan}
 use Rattle.zst_pool.proofs.Bounds.{RunsBy-later}
 use Rattle.zst_pool.proofs.CheckLemmas.{err_is}
+use Rattle.zst_pool.proofs.PlanLemmas.{made_apart, plans_apart, plans_refused, plans_starved, told_or_last}
 use Rattle.zst_pool.proofs.PoolsAtRest.{few_guids, rest_named, runs_named}
 use Rattle.zst_pool.proofs.RollbackRows.{rolled_runs}
-use Rattle.zst_pool.proofs.CommandRuns.{runs_planned}
+use Rattle.zst_pool.proofs.CommandRuns.{runs_planned, runs_starved}
 use Rattle.zst_pool.proofs.lineage_commands.roll_back.Goals as goal
 
 pub returns-in_err-snapshot-clause-runs : goal.returns-in_err-snapshot-clause-runs
@@ -39,3 +40,27 @@ returns-clause-runs g c =
       runs_by = RunsBy-later tight running.number (running.number + 1) (omega arith) has _ next
           (subst (λ (r : Rows). RunsBy (bound_of tight running.number) has r next) (sym c.in_ok-dir.ensures.rolled) (rolled_runs has kept.dir running runs.runs_by row judged.0 judged.1));
     })
+
+pub returns-in_err-snapshot-clause-plans : goal.returns-in_err-snapshot-clause-plans
+returns-in_err-snapshot-clause-plans g c =
+    let kept = c.args.kept.now in
+    let fault = c.in_err-snapshot.field-0.0 in
+    plans_refused (with_rollback [] c.args.destroys c.args.name.now) 0 0 kept fault (err_is c.from_residual.result (Plan fault) c.from_residual.ensures.1) (told_or_last 0 0 kept.body fault c.in_err-snapshot.ensures.refused)
+    (λ pool named. c.in_err-snapshot.ensures.judged pool named.are_named named.number)
+
+pub returns-in_err-dir-clause-runs : goal.returns-in_err-dir-clause-runs
+returns-in_err-dir-clause-runs g c =
+    let fell = c.from_residual-in_err-dir in
+    runs_starved (with_rollback [] c.args.destroys c.args.name.now) (cells_only 0) NoDamage c.args.kept.now (err_is fell.result OutOfMemory fell.ensures.1) c.requires.space c.requires.ready
+
+pub returns-in_err-dir-clause-plans : goal.returns-in_err-dir-clause-plans
+returns-in_err-dir-clause-plans g c =
+    let fell = c.from_residual-in_err-dir in
+    plans_starved (with_rollback [] c.args.destroys c.args.name.now) 0 0 c.args.kept.now fell.result (err_is fell.result OutOfMemory fell.ensures.1)
+    (λ pool named. made_apart (with_rollback [] c.args.destroys c.args.name.now pool) _ (c.in_ok-snapshot.ensures.judged pool named.are_named named.number).2)
+
+pub returns-clause-plans : goal.returns-clause-plans
+returns-clause-plans g c =
+    plans_apart (with_rollback [] c.args.destroys c.args.name.now) 0 0 c.args.kept.now c.commit_rows.result
+    (λ pool named. made_apart (with_rollback [] c.args.destroys c.args.name.now pool) _ (c.in_ok-snapshot.ensures.judged pool named.are_named named.number).2)
+    (λ fault is. absurd (c.commit_rows.ensures.unplanned fault is))

@@ -13,6 +13,7 @@ use Rattle.zst_pool.proofs.CallLemmas.{call_fell}
 use Rattle.zst_pool.proofs.CheckLemmas.{err_is}
 use Rattle.zst_pool.proofs.PartialRows.{partial_is_put}
 use Rattle.zst_pool.proofs.PoolsAtRest.{way_runs}
+use Rattle.zst_pool.proofs.Room.{call_full}
 use Rattle.zst_pool.proofs.partial_commits.commit_partial.Goals as goal
 
 pub returns-in_err-dir-clause-did : goal.returns-in_err-dir-clause-did
@@ -35,3 +36,7 @@ returns-clause-did g c = λ tight start running plain told way is.
 
 pub returns-clause-rows : goal.returns-clause-rows
 returns-clause-rows g c = subst (λ (r : Rows). IfOk c.commit_next.result (λ next. next.dir ≡ r)) c.in_ok-dir.ensures.put c.commit_next.ensures.rows
+
+pub returns-clause-full : goal.returns-clause-full
+returns-clause-full g c = λ need largest is.
+    call_full c.args.io.now.space c.commit_next.new.io.space _ c.args.kept.now.dir need largest (omega (arith, c.in_ok-dir.ensures.grows)) c.commit_next.ensures.takes (c.commit_next.ensures.full need largest is)

@@ -1,7 +1,7 @@
-use Rattle.std.proofs.Common.{[], sym, subst, ◌≡◌, ℕ, List}
+use Rattle.std.proofs.Common.{[], sym, subst, ◌≡◌, ◌<◌, ℕ, List, length}
 use Rattle.zst_model.specs.declared.pools.command.Command.{Command}
 use Rattle.zst_model.specs.declared.pools.command.Command.TheVariants.{Write}
-use Rattle.zst_model.specs.pools.Step.{stepped}
+use Rattle.zst_model.specs.pools.Step.{IsCommand, stepped}
 use Rattle.zst_image.specs.Reads.{free_by}
 use Rattle.zst_pool.specs.Cost.{cost_of}
 use Rattle.zst_pool.specs.Damage.{TellsDamage}
@@ -139,3 +139,38 @@ pub returns-in-Abort-clause-plans : goal.returns-in-Abort-clause-plans
 unfolding stepped
 returns-in-Abort-clause-plans g c =
     subst (λ (command : Command). Plans (λ pool. stepped [] c.args.now command pool) (numbers_end command) (indices_end command) c.args.kept.now c.abort.result) (sym c.in-Abort.is) c.abort.ensures.plans
+
+pub put_object-requires-clause-object : goal.put_object-requires-clause-object
+put_object-requires-clause-object g c = (subst IsCommand c.in-Object.is c.requires.command).1
+
+pub put_object-requires-clause-head : goal.put_object-requires-clause-head
+put_object-requires-clause-head g c = (subst IsCommand c.in-Object.is c.requires.command).2
+
+pub put_object-requires-clause-bonus : goal.put_object-requires-clause-bonus
+put_object-requires-clause-bonus g c = (subst IsCommand c.in-Object.is c.requires.command).3
+
+pub put_object-requires-clause-spill : goal.put_object-requires-clause-spill
+put_object-requires-clause-spill g c = (subst IsCommand c.in-Object.is c.requires.command).4
+
+pub punch-requires-clause-object : goal.punch-requires-clause-object
+punch-requires-clause-object g c = (subst IsCommand c.in-Punch.is c.requires.command).1
+
+pub punch-requires-clause-some : goal.punch-requires-clause-some
+punch-requires-clause-some g c = (subst IsCommand c.in-Punch.is c.requires.command).2
+
+pub free_objects-requires-clause-first : goal.free_objects-requires-clause-first
+free_objects-requires-clause-first g c = (subst IsCommand c.in-Free.is c.requires.command).1
+
+pub free_objects-requires-clause-some : goal.free_objects-requires-clause-some
+free_objects-requires-clause-some g c = (subst IsCommand c.in-Free.is c.requires.command).2
+
+pub write_block-requires-clause-object : goal.write_block-requires-clause-object
+write_block-requires-clause-object g c = (subst IsCommand c.in-Write.is c.requires.command).1
+
+pub write_block-requires-clause-some : goal.write_block-requires-clause-some
+write_block-requires-clause-some g c = subst (λ (bytes : List ℕ). 0 < length bytes) (sym c.as_slice.ensures) (subst IsCommand c.in-Write.is c.requires.command).2
+
+pub returns-in-Snapshot-clause-plans : goal.returns-in-Snapshot-clause-plans
+unfolding stepped
+returns-in-Snapshot-clause-plans g c =
+    subst (λ (command : Command). Plans (λ pool. stepped [] c.args.now command pool) (numbers_end command) (indices_end command) c.args.kept.now c.take_snapshot.result) (sym c.in-Snapshot.is) c.take_snapshot.ensures.plans

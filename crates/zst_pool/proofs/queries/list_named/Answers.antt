@@ -1,13 +1,19 @@
 use Rattle.std.specs.Prelude.{Err}
-use Rattle.std.proofs.Common.{[], sym, ap, ◌∙◌, subst}
+use Rattle.std.proofs.Common.{◌≡◌, [], inl, sym, ap, ◌∙◌, subst}
 use Rattle.std.proofs.lemmas.Result.{err_from_is_err_and}
 use Rattle.zst_block.specs.IoCalls.{Looks}
 use Rattle.zst_model.specs.declared.pools.command.Command.TheVariants as commands
 use Rattle.zst_model.specs.declared.pools.reply.Reply.{Reply}
 use Rattle.zst_model.specs.pools.Step.{answered, stepped}
+use Rattle.zst_model.specs.declared.refusals.plan_fault.PlanFault.{PlanFault}
+use Rattle.zst_model.specs.refusals.Refusal.{refusal_of}
+use Rattle.zst_pool.specs.Plans.{is_by_rows}
+use Rattle.zst_pool.specs.declared.fault.PoolFault.TheVariants.{Plan}
 use Rattle.zst_pool.specs.Damage.{look_damage}
 use Rattle.zst_pool.specs.Faults.{of_list}
-use Rattle.zst_pool.proofs.ListQueries.{list_missing, list_open, list_refused, list_there, list_told, stop_list}
+use Rattle.zst_pool.proofs.ListQueries.{list_apart, list_missing, list_open, list_refused, list_there, list_told, no_plan-list, stop_list}
+use Rattle.zst_pool.proofs.CheckLemmas.{err_is}
+use Rattle.zst_pool.proofs.PlanLemmas.{plans_apart, plans_refused}
 use Rattle.zst_pool.proofs.QueryLemmas.{of_named, tells_missing}
 use Rattle.zst_pool.proofs.queries.list_named.Goals as goal
 
@@ -41,3 +47,25 @@ returns-clause-tells g c = λ now. record {
   open_still = λ same. absurd (cc);
   damaged = λ honest. tt;
 }
+
+pub returns-in_err-set-clause-plans : goal.returns-in_err-set-clause-plans
+unfolding stepped
+returns-in_err-set-clause-plans g c = λ now.
+    let name = c.args.name in
+    let fault = c.in_err-set.field-0.0 in
+    plans_refused (λ pool. stepped [] now (commands.ListObjects name) pool) 0 0 c.args.kept.now fault (err_is c.from_residual.result (Plan fault) c.from_residual.ensures.1) (inl (ap is_by_rows c.in_err-set.ensures.missing))
+    (λ pool named. list_missing now name pool (c.in_err-set.ensures.absent pool named.are_named) ∙ ap (λ (f : PlanFault). Err (refusal_of f)) (sym c.in_err-set.ensures.missing))
+
+pub returns-in_err-list_objects-clause-plans : goal.returns-in_err-list_objects-clause-plans
+returns-in_err-list_objects-clause-plans g c = λ now.
+    let name = c.args.name in
+    let fell = c.from_residual-in_err-list_objects in
+    let called = c.in_err-list_objects.field-0.0 in
+    let answered = err_is fell.result (of_list called) fell.ensures.1 in
+    plans_apart (λ pool. stepped [] now (commands.ListObjects name) pool) 0 0 c.args.kept.now fell.result (λ pool named. list_apart now name pool (c.in_ok-set.ensures.there pool named.are_named))
+    (λ fault is. let same : of_list called ≡ Plan fault = cc (answered, is) in absurd (no_plan-list called fault c.in_err-list_objects.ensures.known same))
+
+pub returns-clause-plans : goal.returns-clause-plans
+returns-clause-plans g c = λ now.
+    let name = c.args.name in
+    plans_apart (λ pool. stepped [] now (commands.ListObjects name) pool) 0 0 c.args.kept.now _ (λ pool named. list_apart now name pool (c.in_ok-set.ensures.there pool named.are_named)) (λ fault is. absurd (cc (is)))

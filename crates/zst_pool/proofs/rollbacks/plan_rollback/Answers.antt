@@ -1,11 +1,17 @@
-use Rattle.std.proofs.Common.{◌∙◌, sym, subst}
+use Rattle.std.proofs.Common.{◌≡◌, ◌⊎◌, ℕ, true, inl, inr, ◌∙◌, sym, subst}
 use Rattle.zst_model.specs.pools.Step.{committed, rolled_back}
 use Rattle.zst_dir.specs.RowNames.{NamesSnapshot}
+use Rattle.zst_model.specs.declared.refusals.plan_fault.PlanFault.{PlanFault}
+use Rattle.zst_pool.specs.Plans.{IsLast, is_by_rows}
 use Rattle.zst_pool.specs.Lineage.{JudgesRollback}
-use Rattle.zst_pool.proofs.CheckLemmas.{err_is}
+use Rattle.zst_pool.proofs.CheckLemmas.{err_has, err_is}
 use Rattle.zst_dir.proofs.Matches.{Match-alike}
 use Rattle.zst_pool.proofs.RollbackRows.{newer_is, rolls_to}
 use Rattle.zst_pool.proofs.rollbacks.plan_rollback.Goals as goal
+
+-- what the rows or the last number refuse
+abbrev Refused : ℕ → PlanFault → Type 0
+Refused number fault = (is_by_rows fault ≡ true) ⊎ IsLast number fault
 
 pub returns-in_err-check_rollback-clause-judged : goal.returns-in_err-check_rollback-clause-judged
 returns-in_err-check_rollback-clause-judged c = λ pool are number.
@@ -44,3 +50,12 @@ returns-clause-judged c = λ pool are number.
           ∙ c.in_ok-check_rollback.ensures.judged pool found.0 (committed (rolled_back found.0 pool)) are (newer_is row found.0 named)
           ∙ c.in_ok-check_number.ensures.judged (rolled_back found.0 pool) number,
     )
+
+pub returns-in_err-snapshot-clause-refused : goal.returns-in_err-snapshot-clause-refused
+returns-in_err-snapshot-clause-refused c = err_has (Refused c.args.kept.now.body.number) c.from_residual.result c.in_err-snapshot.field-0.0 c.from_residual.ensures.1 (inl c.in_err-snapshot.ensures.rows)
+
+pub returns-in_err-check_rollback-clause-refused : goal.returns-in_err-check_rollback-clause-refused
+returns-in_err-check_rollback-clause-refused c = err_has (Refused c.args.kept.now.body.number) c.from_residual-in_err-check_rollback.result c.in_err-check_rollback.field-0.0 c.from_residual-in_err-check_rollback.ensures.1 (inl c.in_err-check_rollback.ensures.rows)
+
+pub returns-in_err-check_number-clause-refused : goal.returns-in_err-check_number-clause-refused
+returns-in_err-check_number-clause-refused c = err_has (Refused c.args.kept.now.body.number) c.from_residual-in_err-check_number.result c.in_err-check_number.field-0.0 c.from_residual-in_err-check_number.ensures.1 (inr c.in_err-check_number.ensures.last)

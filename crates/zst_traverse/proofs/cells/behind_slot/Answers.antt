@@ -1,4 +1,6 @@
-use Rattle.std.proofs.Common.{ℕ, ◌+◌, ◌<◌, ◌≤◌, false, List, refl, subst, arith}
+use Rattle.std.proofs.lemmas.Result.{err_from_is_err_and}
+use Rattle.zst_block.proofs.IoCallLemmas.{Looks-then}
+use Rattle.std.proofs.Common.{◌∙◌, ℕ, ◌+◌, ◌<◌, ◌≤◌, false, List, refl, subst, arith}
 use Rattle.std.specs.Prelude.{Option, IfNone, IfSome}
 use Rattle.zst_space.specs.FreeSectors.{FreeSectors}
 use Rattle.zst_block.specs.Blocks.{Has}
@@ -14,6 +16,7 @@ use Rattle.zst_traverse.specs.StandingEntries.{RunStands}
 use Rattle.zst_objset.specs.TightSets.{IsTightLeaf, SetIsTight}
 use Rattle.zst_traverse.specs.declared.pairs.Run.{Run}
 use Rattle.zst_traverse.proofs.NextCells.{numbers_next}
+use Rattle.zst_traverse.proofs.StepLaws.{calls_then}
 use Rattle.zst_traverse.proofs.cells.behind_slot.Goals as goal
 
 pub returns-in-Some-clause-found : goal.returns-in-Some-clause-found
@@ -48,3 +51,80 @@ returns-in-None-clause-few g c = λ snap honest tight stands leaf.
     let own : c.own_pairs.new.steps ≤ c.args.steps.now + 14 = subst (λ (found : Option Run). IfNone found (c.own_pairs.new.steps ≤ c.args.steps.now + 14)) c.in-None.is c.in_ok-run.ensures.none in
     let more = c.next_number.ensures.few snap honest tight_on stands_on leaf_on in
     omega (arith, own, more)
+
+pub returns-in_err-run-clause-ranges : goal.returns-in_err-run-clause-ranges
+returns-in_err-run-clause-ranges g c =
+    let p = err_from_is_err_and c.from_residual.result c.from_residual.ensures.1 in
+    rw p.1 tt
+
+pub returns-in_err-run-clause-stands : goal.returns-in_err-run-clause-stands
+returns-in_err-run-clause-stands g c = λ honest hangs.
+    let p = err_from_is_err_and c.from_residual.result c.from_residual.ensures.1 in
+    rw p.1 tt
+
+pub returns-in_err-run-clause-damaged : goal.returns-in_err-run-clause-damaged
+returns-in_err-run-clause-damaged g c = λ honest hangs.
+    let p = err_from_is_err_and c.from_residual.result c.from_residual.ensures.1 in
+    rw (p.1, p.2) (c.in_err-run.ensures.damaged c.args.set.now honest hangs)
+
+pub returns-in_err-run-clause-looks : goal.returns-in_err-run-clause-looks
+returns-in_err-run-clause-looks g c =
+    let p = err_from_is_err_and c.from_residual.result c.from_residual.ensures.1 in
+    rw (p.1, p.2) c.in_err-run.ensures.looks
+
+pub returns-in_err-run-clause-calls : goal.returns-in_err-run-clause-calls
+returns-in_err-run-clause-calls g c = c.in_err-run.ensures.calls
+
+pub returns-in_err-run-clause-kept_fit : goal.returns-in_err-run-clause-kept_fit
+returns-in_err-run-clause-kept_fit g c = c.in_err-run.ensures.kept_fit
+
+pub returns-in_err-run-clause-same : goal.returns-in_err-run-clause-same
+returns-in_err-run-clause-same g c = c.in_err-run.ensures.same
+
+pub returns-in_err-run-clause-steps : goal.returns-in_err-run-clause-steps
+returns-in_err-run-clause-steps g c = c.in_err-run.ensures.steps.0
+
+pub returns-in-Some-clause-damaged : goal.returns-in-Some-clause-damaged
+returns-in-Some-clause-damaged g c = λ honest hangs. tt
+
+pub returns-in-Some-clause-looks : goal.returns-in-Some-clause-looks
+returns-in-Some-clause-looks g c = c.in_ok-run.ensures.looks
+
+pub returns-in-Some-clause-calls : goal.returns-in-Some-clause-calls
+returns-in-Some-clause-calls g c = c.in_ok-run.ensures.calls
+
+pub returns-in-Some-clause-kept_fit : goal.returns-in-Some-clause-kept_fit
+returns-in-Some-clause-kept_fit g c = c.in_ok-run.ensures.kept_fit
+
+pub returns-in-Some-clause-same : goal.returns-in-Some-clause-same
+returns-in-Some-clause-same g c = c.in_ok-run.ensures.same
+
+pub returns-in-Some-clause-steps : goal.returns-in-Some-clause-steps
+returns-in-Some-clause-steps g c = c.in_ok-run.ensures.steps.0
+
+pub returns-in-None-clause-looks : goal.returns-in-None-clause-looks
+returns-in-None-clause-looks g c = Looks-then c.in_ok-run.ensures.looks c.next_number.ensures.looks
+
+pub returns-in-None-clause-kept_fit : goal.returns-in-None-clause-kept_fit
+returns-in-None-clause-kept_fit g c = c.next_number.ensures.kept_fit
+
+pub returns-in-None-clause-same : goal.returns-in-None-clause-same
+returns-in-None-clause-same g c = c.next_number.ensures.same ∙ c.in_ok-run.ensures.same
+
+pub own_pairs-requires-clause-object : goal.own_pairs-requires-clause-object
+own_pairs-requires-clause-object g c = c.requires.object
+
+pub own_pairs-requires-clause-fits : goal.own_pairs-requires-clause-fits
+own_pairs-requires-clause-fits g c = c.requires.fits
+
+pub next_number-requires-clause-levels : goal.next_number-requires-clause-levels
+next_number-requires-clause-levels g c = c.requires.levels
+
+pub next_number-requires-clause-count : goal.next_number-requires-clause-count
+next_number-requires-clause-count g c = c.requires.count
+
+pub next_number-requires-clause-fits : goal.next_number-requires-clause-fits
+next_number-requires-clause-fits g c = c.in_ok-run.ensures.kept_fit
+
+pub returns-in-None-clause-calls : goal.returns-in-None-clause-calls
+returns-in-None-clause-calls g c = calls_then _ _ _ _ _ _ c.in_ok-run.ensures.calls c.next_number.ensures.calls

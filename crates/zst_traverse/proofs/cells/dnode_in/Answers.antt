@@ -1,3 +1,4 @@
+use Rattle.zst_block.proofs.IoCallLemmas.{Looks-none}
 use Rattle.std.proofs.Common.{ℕ, ◌%◌, refl, subst, arith}
 use Rattle.std.proofs.lemmas.Result.{err_from_is_err_and}
 use Rattle.zst_block.specs.Blocks.{Has}
@@ -31,3 +32,99 @@ pub returns-in-None-clause-damaged : goal.returns-in-None-clause-damaged
 returns-in-None-clause-damaged g c = λ set honest hangs.
     rw c.of_layout.ensures (lacking_cell _ _ set c.args.leaf.now.ptr c.load_leaf.new.io.node hangs (c.in_ok-load_leaf.ensures.loaded honest)
     (record { place = c.args.number % 16; under = omega arith; none = λ slot has. c.in-None.ensures.none refl slot has.fits (rw c.as_slice.ensures.bytes has.spelled) }))
+
+pub returns-then-leaf-eq0-clause-ranges : goal.returns-then-leaf-eq0-clause-ranges
+returns-then-leaf-eq0-clause-ranges g c = tt
+
+pub returns-then-leaf-eq0-clause-stands : goal.returns-then-leaf-eq0-clause-stands
+returns-then-leaf-eq0-clause-stands g c = λ set honest hangs. tt
+
+pub returns-then-leaf-eq0-clause-damaged : goal.returns-then-leaf-eq0-clause-damaged
+returns-then-leaf-eq0-clause-damaged g c = λ set honest hangs. tt
+
+pub returns-then-leaf-eq0-clause-looks : goal.returns-then-leaf-eq0-clause-looks
+returns-then-leaf-eq0-clause-looks g c = Looks-none _ _ _
+
+pub returns-then-leaf-eq0-clause-kept_fit : goal.returns-then-leaf-eq0-clause-kept_fit
+returns-then-leaf-eq0-clause-kept_fit g c = c.requires.fits
+
+pub returns-then-leaf-eq0-clause-same : goal.returns-then-leaf-eq0-clause-same
+returns-then-leaf-eq0-clause-same g c = refl
+
+pub returns-in_err-load_leaf-clause-ranges : goal.returns-in_err-load_leaf-clause-ranges
+returns-in_err-load_leaf-clause-ranges g c =
+    let p = err_from_is_err_and c.from_residual.result c.from_residual.ensures.1 in
+    rw p.1 tt
+
+pub returns-in_err-load_leaf-clause-stands : goal.returns-in_err-load_leaf-clause-stands
+returns-in_err-load_leaf-clause-stands g c = λ set honest hangs.
+    let p = err_from_is_err_and c.from_residual.result c.from_residual.ensures.1 in
+    rw p.1 tt
+
+pub returns-in_err-load_leaf-clause-looks : goal.returns-in_err-load_leaf-clause-looks
+returns-in_err-load_leaf-clause-looks g c =
+    let p = err_from_is_err_and c.from_residual.result c.from_residual.ensures.1 in
+    rw (p.1, p.2) c.in_err-load_leaf.ensures.looks
+
+pub returns-in_err-load_leaf-clause-calls : goal.returns-in_err-load_leaf-clause-calls
+returns-in_err-load_leaf-clause-calls g c = c.in_err-load_leaf.ensures.calls
+
+pub returns-in_err-load_leaf-clause-kept_fit : goal.returns-in_err-load_leaf-clause-kept_fit
+returns-in_err-load_leaf-clause-kept_fit g c = c.in_err-load_leaf.ensures.kept_fit
+
+pub returns-in_err-load_leaf-clause-same : goal.returns-in_err-load_leaf-clause-same
+returns-in_err-load_leaf-clause-same g c = c.in_err-load_leaf.ensures.same
+
+pub returns-in-Some-There-clause-damaged : goal.returns-in-Some-There-clause-damaged
+returns-in-Some-There-clause-damaged g c = λ set honest hangs. tt
+
+pub returns-in-Some-There-clause-looks : goal.returns-in-Some-There-clause-looks
+returns-in-Some-There-clause-looks g c = c.in_ok-load_leaf.ensures.looks
+
+pub returns-in-Some-There-clause-calls : goal.returns-in-Some-There-clause-calls
+returns-in-Some-There-clause-calls g c = c.in_ok-load_leaf.ensures.calls
+
+pub returns-in-Some-There-clause-kept_fit : goal.returns-in-Some-There-clause-kept_fit
+returns-in-Some-There-clause-kept_fit g c = c.in_ok-load_leaf.ensures.kept_fit
+
+pub returns-in-Some-There-clause-same : goal.returns-in-Some-There-clause-same
+returns-in-Some-There-clause-same g c = c.in_ok-load_leaf.ensures.same
+
+pub returns-in-Some-Absent-clause-damaged : goal.returns-in-Some-Absent-clause-damaged
+returns-in-Some-Absent-clause-damaged g c = λ set honest hangs. tt
+
+pub returns-in-Some-Absent-clause-looks : goal.returns-in-Some-Absent-clause-looks
+returns-in-Some-Absent-clause-looks g c = c.in_ok-load_leaf.ensures.looks
+
+pub returns-in-Some-Absent-clause-calls : goal.returns-in-Some-Absent-clause-calls
+returns-in-Some-Absent-clause-calls g c = c.in_ok-load_leaf.ensures.calls
+
+pub returns-in-Some-Absent-clause-kept_fit : goal.returns-in-Some-Absent-clause-kept_fit
+returns-in-Some-Absent-clause-kept_fit g c = c.in_ok-load_leaf.ensures.kept_fit
+
+pub returns-in-Some-Absent-clause-same : goal.returns-in-Some-Absent-clause-same
+returns-in-Some-Absent-clause-same g c = c.in_ok-load_leaf.ensures.same
+
+pub returns-in-Some-Absent-clause-ranges : goal.returns-in-Some-Absent-clause-ranges
+returns-in-Some-Absent-clause-ranges g c = tt
+
+pub returns-in-Some-Absent-clause-stands : goal.returns-in-Some-Absent-clause-stands
+returns-in-Some-Absent-clause-stands g c = λ set honest hangs. tt
+
+pub returns-in-None-clause-ranges : goal.returns-in-None-clause-ranges
+returns-in-None-clause-ranges g c = tt
+
+pub returns-in-None-clause-stands : goal.returns-in-None-clause-stands
+returns-in-None-clause-stands g c = λ set honest hangs. tt
+
+pub returns-in-None-clause-calls : goal.returns-in-None-clause-calls
+returns-in-None-clause-calls g c = c.in_ok-load_leaf.ensures.calls
+
+pub returns-in-None-clause-kept_fit : goal.returns-in-None-clause-kept_fit
+returns-in-None-clause-kept_fit g c = c.in_ok-load_leaf.ensures.kept_fit
+
+pub returns-in-None-clause-same : goal.returns-in-None-clause-same
+returns-in-None-clause-same g c = c.in_ok-load_leaf.ensures.same
+
+pub load_leaf-requires-clause-fits : goal.load_leaf-requires-clause-fits
+load_leaf-requires-clause-fits g c = c.requires.fits

@@ -1,4 +1,5 @@
-use Rattle.std.proofs.Common.{◌≡◌, ℕ, ◌/◌, ◌^◌, ◌<◌, false, Bool, List, sym, subst, arith}
+use Rattle.zst_block.proofs.IoCallLemmas.{Looks-then, Looks-none}
+use Rattle.std.proofs.Common.{◌∙◌, refl, ◌≡◌, ℕ, ◌/◌, ◌^◌, ◌<◌, false, Bool, List, sym, subst, arith}
 use Rattle.std.proofs.lemmas.Result.{err_from_is_err_and}
 use Rattle.zst_space.specs.FreeSectors.{FreeSectors}
 use Rattle.zst_block.specs.Blocks.{Has}
@@ -13,6 +14,7 @@ use Rattle.zst_traverse.specs.Leaves.{FindsNumber, StandsFor}
 use Rattle.zst_objset.specs.TightSets.{IsTightLeaf, SetIsTight}
 use Rattle.zst_traverse.proofs.NextCells.{past_next, slot_next}
 use Rattle.zst_traverse.proofs.Numbers.{stands_for}
+use Rattle.zst_traverse.proofs.StepLaws.{calls_then}
 use Rattle.zst_traverse.proofs.cells.next_cell.Goals as goal
 
 pub returns-then-point-ge-NUMBER_BOUND-clause-found : goal.returns-then-point-ge-NUMBER_BOUND-clause-found
@@ -87,3 +89,96 @@ returns-else-is_passed-clause-few g c = λ snap honest tight.
     let first = c.in_ok-leaf.ensures.steps.1 in
     let more = c.next_number.ensures.few snap honest tight_on stands_on leaf_on in
     omega (arith, first, more)
+
+pub returns-then-set-gt7-clause-ranges : goal.returns-then-set-gt7-clause-ranges
+returns-then-set-gt7-clause-ranges g c = tt
+
+pub returns-then-set-gt7-clause-stands : goal.returns-then-set-gt7-clause-stands
+returns-then-set-gt7-clause-stands g c = λ honest. tt
+
+pub returns-then-set-gt7-clause-kept_fit : goal.returns-then-set-gt7-clause-kept_fit
+returns-then-set-gt7-clause-kept_fit g c = c.requires.fits
+
+pub returns-then-set-gt7-clause-same : goal.returns-then-set-gt7-clause-same
+returns-then-set-gt7-clause-same g c = refl
+
+pub returns-then-point-ge-NUMBER_BOUND-clause-ranges : goal.returns-then-point-ge-NUMBER_BOUND-clause-ranges
+returns-then-point-ge-NUMBER_BOUND-clause-ranges g c = tt
+
+pub returns-then-point-ge-NUMBER_BOUND-clause-stands : goal.returns-then-point-ge-NUMBER_BOUND-clause-stands
+returns-then-point-ge-NUMBER_BOUND-clause-stands g c = λ honest. tt
+
+pub returns-then-point-ge-NUMBER_BOUND-clause-looks : goal.returns-then-point-ge-NUMBER_BOUND-clause-looks
+returns-then-point-ge-NUMBER_BOUND-clause-looks g c = Looks-none _ _ _
+
+pub returns-then-point-ge-NUMBER_BOUND-clause-kept_fit : goal.returns-then-point-ge-NUMBER_BOUND-clause-kept_fit
+returns-then-point-ge-NUMBER_BOUND-clause-kept_fit g c = c.requires.fits
+
+pub returns-then-point-ge-NUMBER_BOUND-clause-same : goal.returns-then-point-ge-NUMBER_BOUND-clause-same
+returns-then-point-ge-NUMBER_BOUND-clause-same g c = refl
+
+pub returns-then-point-ge-NUMBER_BOUND-clause-damaged : goal.returns-then-point-ge-NUMBER_BOUND-clause-damaged
+returns-then-point-ge-NUMBER_BOUND-clause-damaged g c = λ honest. tt
+
+pub returns-in_err-leaf-clause-ranges : goal.returns-in_err-leaf-clause-ranges
+returns-in_err-leaf-clause-ranges g c =
+    let p = err_from_is_err_and c.from_residual.result c.from_residual.ensures.1 in
+    rw p.1 tt
+
+pub returns-in_err-leaf-clause-stands : goal.returns-in_err-leaf-clause-stands
+returns-in_err-leaf-clause-stands g c = λ honest.
+    let p = err_from_is_err_and c.from_residual.result c.from_residual.ensures.1 in
+    rw p.1 tt
+
+pub returns-in_err-leaf-clause-looks : goal.returns-in_err-leaf-clause-looks
+returns-in_err-leaf-clause-looks g c =
+    let p = err_from_is_err_and c.from_residual.result c.from_residual.ensures.1 in
+    rw (p.1, p.2) c.in_err-leaf.ensures.looks
+
+pub returns-in_err-leaf-clause-steps : goal.returns-in_err-leaf-clause-steps
+returns-in_err-leaf-clause-steps g c = c.in_err-leaf.ensures.steps.0
+
+pub returns-in_err-leaf-clause-calls : goal.returns-in_err-leaf-clause-calls
+returns-in_err-leaf-clause-calls g c = c.in_err-leaf.ensures.calls
+
+pub returns-in_err-leaf-clause-kept_fit : goal.returns-in_err-leaf-clause-kept_fit
+returns-in_err-leaf-clause-kept_fit g c = c.in_err-leaf.ensures.kept_fit
+
+pub returns-in_err-leaf-clause-same : goal.returns-in_err-leaf-clause-same
+returns-in_err-leaf-clause-same g c = c.in_err-leaf.ensures.same
+
+pub returns-then-is_passed-clause-looks : goal.returns-then-is_passed-clause-looks
+returns-then-is_passed-clause-looks g c = Looks-then c.in_ok-leaf.ensures.looks c.behind_slot.ensures.looks
+
+pub returns-then-is_passed-clause-kept_fit : goal.returns-then-is_passed-clause-kept_fit
+returns-then-is_passed-clause-kept_fit g c = c.behind_slot.ensures.kept_fit
+
+pub returns-then-is_passed-clause-same : goal.returns-then-is_passed-clause-same
+returns-then-is_passed-clause-same g c = c.behind_slot.ensures.same ∙ c.in_ok-leaf.ensures.same
+
+pub returns-then-is_passed-clause-ranges : goal.returns-then-is_passed-clause-ranges
+returns-then-is_passed-clause-ranges g c = c.behind_slot.ensures.ranges
+
+pub returns-else-is_passed-clause-looks : goal.returns-else-is_passed-clause-looks
+returns-else-is_passed-clause-looks g c = Looks-then c.in_ok-leaf.ensures.looks c.next_number.ensures.looks
+
+pub returns-else-is_passed-clause-kept_fit : goal.returns-else-is_passed-clause-kept_fit
+returns-else-is_passed-clause-kept_fit g c = c.next_number.ensures.kept_fit
+
+pub returns-else-is_passed-clause-same : goal.returns-else-is_passed-clause-same
+returns-else-is_passed-clause-same g c = c.next_number.ensures.same ∙ c.in_ok-leaf.ensures.same
+
+pub leaf_at-requires-clause-fits : goal.leaf_at-requires-clause-fits
+leaf_at-requires-clause-fits g c = c.requires.fits
+
+pub behind_slot-requires-clause-fits : goal.behind_slot-requires-clause-fits
+behind_slot-requires-clause-fits g c = c.in_ok-leaf.ensures.kept_fit
+
+pub next_number-requires-clause-fits : goal.next_number-requires-clause-fits
+next_number-requires-clause-fits g c = c.in_ok-leaf.ensures.kept_fit
+
+pub returns-then-is_passed-clause-calls : goal.returns-then-is_passed-clause-calls
+returns-then-is_passed-clause-calls g c = calls_then _ _ _ _ _ _ c.in_ok-leaf.ensures.calls c.behind_slot.ensures.calls
+
+pub returns-else-is_passed-clause-calls : goal.returns-else-is_passed-clause-calls
+returns-else-is_passed-clause-calls g c = calls_then _ _ _ _ _ _ c.in_ok-leaf.ensures.calls c.next_number.ensures.calls

@@ -1,4 +1,5 @@
-use Rattle.std.proofs.Common.{ℕ, ◌^◌, List, subst}
+use Rattle.zst_block.proofs.IoCallLemmas.{Looks-then}
+use Rattle.std.proofs.Common.{◌∙◌, ℕ, ◌^◌, List, subst}
 use Rattle.std.specs.Prelude.{Option, IfOk, IfSome}
 use Rattle.std.proofs.lemmas.Result.{err_from_is_err_and}
 use Rattle.zst_space.specs.FreeSectors.{FreeSectors}
@@ -17,6 +18,7 @@ use Rattle.zst_traverse.specs.Runs.{FindsPairs}
 use Rattle.zst_traverse.specs.StandingEntries.{RunStands}
 use Rattle.zst_traverse.specs.Damage.{IsDamagedCell}
 use Rattle.zst_traverse.proofs.NextCells.{runs_fit, there_of}
+use Rattle.zst_traverse.proofs.StepLaws.{calls_then}
 use Rattle.zst_traverse.proofs.cells.own_pairs.Goals as goal
 
 pub returns-in_err-dnode_in-clause-found : goal.returns-in_err-dnode_in-clause-found
@@ -53,3 +55,79 @@ returns-in-Some-clause-damaged g c = λ set honest hangs.
     let stands = subst (λ (found : Option Dnode). IfSome found (StandsIn (IsSeen (g.D.Disk.state c.args.io.now.disk.now).seen) set)) c.in-Some.is (c.in_ok-dnode_in.ensures.stands set was hangs) in
     let on = look_on (λ (seen : List ℕ) (space : FreeSectors). StandsIn (IsSeen seen) set c.in-Some.dnode) _ _ _ _ _ _ _ looks stands in
     seen_before _ _ _ _ _ _ _ looks (λ (seen : List ℕ) (size : ℕ). IfDamaged c.next_pairs.result (IsDamagedCell (IsSeen seen) size set)) (c.next_pairs.ensures.damaged set honest on)
+
+pub returns-in_err-dnode_in-clause-ranges : goal.returns-in_err-dnode_in-clause-ranges
+returns-in_err-dnode_in-clause-ranges g c =
+    let p = err_from_is_err_and c.from_residual.result c.from_residual.ensures.1 in
+    rw p.1 tt
+
+pub returns-in_err-dnode_in-clause-stands : goal.returns-in_err-dnode_in-clause-stands
+returns-in_err-dnode_in-clause-stands g c = λ set honest hangs.
+    let p = err_from_is_err_and c.from_residual.result c.from_residual.ensures.1 in
+    rw p.1 tt
+
+pub returns-in_err-dnode_in-clause-damaged : goal.returns-in_err-dnode_in-clause-damaged
+returns-in_err-dnode_in-clause-damaged g c = λ set honest hangs.
+    let p = err_from_is_err_and c.from_residual.result c.from_residual.ensures.1 in
+    rw (p.1, p.2) (c.in_err-dnode_in.ensures.damaged set honest hangs)
+
+pub returns-in_err-dnode_in-clause-looks : goal.returns-in_err-dnode_in-clause-looks
+returns-in_err-dnode_in-clause-looks g c =
+    let p = err_from_is_err_and c.from_residual.result c.from_residual.ensures.1 in
+    rw (p.1, p.2) c.in_err-dnode_in.ensures.looks
+
+pub returns-in_err-dnode_in-clause-none : goal.returns-in_err-dnode_in-clause-none
+returns-in_err-dnode_in-clause-none g c =
+    let p = err_from_is_err_and c.from_residual.result c.from_residual.ensures.1 in
+    rw p.1 tt
+
+pub returns-in_err-dnode_in-clause-calls : goal.returns-in_err-dnode_in-clause-calls
+returns-in_err-dnode_in-clause-calls g c = c.in_err-dnode_in.ensures.calls
+
+pub returns-in_err-dnode_in-clause-kept_fit : goal.returns-in_err-dnode_in-clause-kept_fit
+returns-in_err-dnode_in-clause-kept_fit g c = c.in_err-dnode_in.ensures.kept_fit
+
+pub returns-in_err-dnode_in-clause-same : goal.returns-in_err-dnode_in-clause-same
+returns-in_err-dnode_in-clause-same g c = c.in_err-dnode_in.ensures.same
+
+pub returns-in-None-clause-ranges : goal.returns-in-None-clause-ranges
+returns-in-None-clause-ranges g c = tt
+
+pub returns-in-None-clause-stands : goal.returns-in-None-clause-stands
+returns-in-None-clause-stands g c = λ set honest hangs. tt
+
+pub returns-in-None-clause-damaged : goal.returns-in-None-clause-damaged
+returns-in-None-clause-damaged g c = λ set honest hangs. tt
+
+pub returns-in-None-clause-looks : goal.returns-in-None-clause-looks
+returns-in-None-clause-looks g c = c.in_ok-dnode_in.ensures.looks
+
+pub returns-in-None-clause-calls : goal.returns-in-None-clause-calls
+returns-in-None-clause-calls g c = c.in_ok-dnode_in.ensures.calls
+
+pub returns-in-None-clause-kept_fit : goal.returns-in-None-clause-kept_fit
+returns-in-None-clause-kept_fit g c = c.in_ok-dnode_in.ensures.kept_fit
+
+pub returns-in-None-clause-same : goal.returns-in-None-clause-same
+returns-in-None-clause-same g c = c.in_ok-dnode_in.ensures.same
+
+pub returns-in-Some-clause-looks : goal.returns-in-Some-clause-looks
+returns-in-Some-clause-looks g c = Looks-then c.in_ok-dnode_in.ensures.looks c.next_pairs.ensures.looks
+
+pub returns-in-Some-clause-kept_fit : goal.returns-in-Some-clause-kept_fit
+returns-in-Some-clause-kept_fit g c = c.next_pairs.ensures.kept_fit
+
+pub returns-in-Some-clause-same : goal.returns-in-Some-clause-same
+returns-in-Some-clause-same g c = c.next_pairs.ensures.same ∙ c.in_ok-dnode_in.ensures.same
+
+pub dnode_in-requires-clause-number : goal.dnode_in-requires-clause-number
+dnode_in-requires-clause-number g c = c.requires.object
+
+pub dnode_in-requires-clause-fits : goal.dnode_in-requires-clause-fits
+dnode_in-requires-clause-fits g c = c.requires.fits
+
+pub next_pairs-requires-clause-fits : goal.next_pairs-requires-clause-fits
+next_pairs-requires-clause-fits g c = c.in_ok-dnode_in.ensures.kept_fit
+
+pub returns-in-Some-clause-calls : goal.returns-in-Some-clause-calls
+returns-in-Some-clause-calls g c = calls_then _ _ _ _ _ _ c.in_ok-dnode_in.ensures.calls c.next_pairs.ensures.calls

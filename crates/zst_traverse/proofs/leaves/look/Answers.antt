@@ -1,7 +1,8 @@
-use Rattle.std.proofs.Common.{ℕ, ◌+◌, ◌-◌, ◌*◌, ◌<◌, List, subst, arith}
+use Rattle.std.proofs.lemmas.Result.{err_from_is_err_and}
+use Rattle.std.proofs.Common.{◌∙◌, refl, ℕ, ◌+◌, ◌-◌, ◌*◌, ◌<◌, List, subst, arith}
 use Rattle.zst_space.specs.FreeSectors.{FreeSectors}
 use Rattle.zst_block.specs.Blocks.{Has}
-use Rattle.zst_block.proofs.IoCallLemmas.{Looks-then}
+use Rattle.zst_block.proofs.IoCallLemmas.{Looks-none, Looks-then}
 use Rattle.zst_dnode.specs.declared.slot.Slot.TheVariants as slots
 use Rattle.zst_tree.proofs.Damage.{seen_before}
 use Rattle.zst_tree.proofs.Results.{delivers_if}
@@ -24,6 +25,7 @@ use Rattle.zst_objset.specs.TightSets.{IsTightLeaf}
 use Rattle.zst_model.specs.states.DatedState.{DatedState}
 use Rattle.std.specs.Prelude.{IfOk}
 use Rattle.zst_traverse.proofs.leaves.look.Given as given
+use Rattle.zst_traverse.proofs.StepLaws.{calls_then}
 use Rattle.zst_traverse.proofs.leaves.look.Goals as goal
 
 pub returns-in-None-clause-shows : goal.returns-in-None-clause-shows
@@ -127,3 +129,149 @@ returns-in-Some-There-clause-late g c = λ snap honest stands tight late start. 
 
 pub returns-in-Some-There-clause-looks : goal.returns-in-Some-There-clause-looks
 returns-in-Some-There-clause-looks g c = Looks-then c.in_ok-load_leaf.ensures.looks c.judged.ensures.looks
+
+pub returns-then-leaf-eq0-clause-damaged : goal.returns-then-leaf-eq0-clause-damaged
+returns-then-leaf-eq0-clause-damaged g c = λ set honest hangs. tt
+
+pub returns-then-leaf-eq0-clause-looks : goal.returns-then-leaf-eq0-clause-looks
+returns-then-leaf-eq0-clause-looks g c = Looks-none _ _ _
+
+pub returns-then-leaf-eq0-clause-kept_fit : goal.returns-then-leaf-eq0-clause-kept_fit
+returns-then-leaf-eq0-clause-kept_fit g c = c.requires.fits
+
+pub returns-then-leaf-eq0-clause-same : goal.returns-then-leaf-eq0-clause-same
+returns-then-leaf-eq0-clause-same g c = refl
+
+pub returns-then-leaf-eq0-clause-ranges : goal.returns-then-leaf-eq0-clause-ranges
+returns-then-leaf-eq0-clause-ranges g c = c.in_hole.ensures.ranges
+
+pub returns-then-leaf-eq0-clause-ends : goal.returns-then-leaf-eq0-clause-ends
+returns-then-leaf-eq0-clause-ends g c = λ snap honest stands tight. c.in_hole.ensures.ends
+
+pub returns-in_err-load_leaf-clause-ranges : goal.returns-in_err-load_leaf-clause-ranges
+returns-in_err-load_leaf-clause-ranges g c =
+    let p = err_from_is_err_and c.from_residual.result c.from_residual.ensures.1 in
+    rw p.1 tt
+
+pub returns-in_err-load_leaf-clause-goes_on : goal.returns-in_err-load_leaf-clause-goes_on
+returns-in_err-load_leaf-clause-goes_on g c = λ before.
+    let p = err_from_is_err_and c.from_residual.result c.from_residual.ensures.1 in
+    rw p.1 tt
+
+pub returns-in_err-load_leaf-clause-stands : goal.returns-in_err-load_leaf-clause-stands
+returns-in_err-load_leaf-clause-stands g c = λ set honest hangs.
+    let p = err_from_is_err_and c.from_residual.result c.from_residual.ensures.1 in
+    rw p.1 tt
+
+pub returns-in_err-load_leaf-clause-ends : goal.returns-in_err-load_leaf-clause-ends
+returns-in_err-load_leaf-clause-ends g c = λ snap honest stands tight.
+    let p = err_from_is_err_and c.from_residual.result c.from_residual.ensures.1 in
+    rw p.1 tt
+
+pub returns-in_err-load_leaf-clause-few : goal.returns-in_err-load_leaf-clause-few
+returns-in_err-load_leaf-clause-few g c = λ snap honest stands tight.
+    let p = err_from_is_err_and c.from_residual.result c.from_residual.ensures.1 in
+    rw p.1 tt
+
+pub returns-in_err-load_leaf-clause-late : goal.returns-in_err-load_leaf-clause-late
+returns-in_err-load_leaf-clause-late g c = λ snap honest stands tight after at.
+    let p = err_from_is_err_and c.from_residual.result c.from_residual.ensures.1 in
+    rw p.1 tt
+
+pub returns-in_err-load_leaf-clause-looks : goal.returns-in_err-load_leaf-clause-looks
+returns-in_err-load_leaf-clause-looks g c =
+    let p = err_from_is_err_and c.from_residual.result c.from_residual.ensures.1 in
+    rw (p.1, p.2) c.in_err-load_leaf.ensures.looks
+
+pub returns-in_err-load_leaf-clause-calls : goal.returns-in_err-load_leaf-clause-calls
+returns-in_err-load_leaf-clause-calls g c = c.in_err-load_leaf.ensures.calls
+
+pub returns-in_err-load_leaf-clause-kept_fit : goal.returns-in_err-load_leaf-clause-kept_fit
+returns-in_err-load_leaf-clause-kept_fit g c = c.in_err-load_leaf.ensures.kept_fit
+
+pub returns-in_err-load_leaf-clause-same : goal.returns-in_err-load_leaf-clause-same
+returns-in_err-load_leaf-clause-same g c = c.in_err-load_leaf.ensures.same
+
+pub returns-in-None-clause-ranges : goal.returns-in-None-clause-ranges
+returns-in-None-clause-ranges g c = tt
+
+pub returns-in-None-clause-goes_on : goal.returns-in-None-clause-goes_on
+returns-in-None-clause-goes_on g c = λ before. tt
+
+pub returns-in-None-clause-stands : goal.returns-in-None-clause-stands
+returns-in-None-clause-stands g c = λ set honest hangs. tt
+
+pub returns-in-None-clause-ends : goal.returns-in-None-clause-ends
+returns-in-None-clause-ends g c = λ snap honest stands tight. tt
+
+pub returns-in-None-clause-few : goal.returns-in-None-clause-few
+returns-in-None-clause-few g c = λ snap honest stands tight. tt
+
+pub returns-in-None-clause-late : goal.returns-in-None-clause-late
+returns-in-None-clause-late g c = λ snap honest stands tight after at. tt
+
+pub returns-in-None-clause-calls : goal.returns-in-None-clause-calls
+returns-in-None-clause-calls g c = c.in_ok-load_leaf.ensures.calls
+
+pub returns-in-None-clause-kept_fit : goal.returns-in-None-clause-kept_fit
+returns-in-None-clause-kept_fit g c = c.in_ok-load_leaf.ensures.kept_fit
+
+pub returns-in-None-clause-same : goal.returns-in-None-clause-same
+returns-in-None-clause-same g c = c.in_ok-load_leaf.ensures.same
+
+pub returns-in-Some-Nothing-clause-damaged : goal.returns-in-Some-Nothing-clause-damaged
+returns-in-Some-Nothing-clause-damaged g c = λ set honest hangs. tt
+
+pub returns-in-Some-Nothing-clause-stands : goal.returns-in-Some-Nothing-clause-stands
+returns-in-Some-Nothing-clause-stands g c = λ set honest hangs. tt
+
+pub returns-in-Some-Nothing-clause-looks : goal.returns-in-Some-Nothing-clause-looks
+returns-in-Some-Nothing-clause-looks g c = c.in_ok-load_leaf.ensures.looks
+
+pub returns-in-Some-Nothing-clause-calls : goal.returns-in-Some-Nothing-clause-calls
+returns-in-Some-Nothing-clause-calls g c = c.in_ok-load_leaf.ensures.calls
+
+pub returns-in-Some-Nothing-clause-kept_fit : goal.returns-in-Some-Nothing-clause-kept_fit
+returns-in-Some-Nothing-clause-kept_fit g c = c.in_ok-load_leaf.ensures.kept_fit
+
+pub returns-in-Some-Nothing-clause-same : goal.returns-in-Some-Nothing-clause-same
+returns-in-Some-Nothing-clause-same g c = c.in_ok-load_leaf.ensures.same
+
+pub returns-in-Some-Absent-clause-damaged : goal.returns-in-Some-Absent-clause-damaged
+returns-in-Some-Absent-clause-damaged g c = λ set honest hangs. tt
+
+pub returns-in-Some-Absent-clause-stands : goal.returns-in-Some-Absent-clause-stands
+returns-in-Some-Absent-clause-stands g c = λ set honest hangs. tt
+
+pub returns-in-Some-Absent-clause-looks : goal.returns-in-Some-Absent-clause-looks
+returns-in-Some-Absent-clause-looks g c = c.in_ok-load_leaf.ensures.looks
+
+pub returns-in-Some-Absent-clause-calls : goal.returns-in-Some-Absent-clause-calls
+returns-in-Some-Absent-clause-calls g c = c.in_ok-load_leaf.ensures.calls
+
+pub returns-in-Some-Absent-clause-kept_fit : goal.returns-in-Some-Absent-clause-kept_fit
+returns-in-Some-Absent-clause-kept_fit g c = c.in_ok-load_leaf.ensures.kept_fit
+
+pub returns-in-Some-Absent-clause-same : goal.returns-in-Some-Absent-clause-same
+returns-in-Some-Absent-clause-same g c = c.in_ok-load_leaf.ensures.same
+
+pub returns-in-Some-Absent-clause-ends : goal.returns-in-Some-Absent-clause-ends
+returns-in-Some-Absent-clause-ends g c = λ snap honest stands tight. tt
+
+pub returns-in-Some-There-clause-kept_fit : goal.returns-in-Some-There-clause-kept_fit
+returns-in-Some-There-clause-kept_fit g c = c.judged.ensures.kept_fit
+
+pub returns-in-Some-There-clause-same : goal.returns-in-Some-There-clause-same
+returns-in-Some-There-clause-same g c = c.judged.ensures.same ∙ c.in_ok-load_leaf.ensures.same
+
+pub load_leaf-requires-clause-index : goal.load_leaf-requires-clause-index
+load_leaf-requires-clause-index g c = c.requires.index
+
+pub load_leaf-requires-clause-fits : goal.load_leaf-requires-clause-fits
+load_leaf-requires-clause-fits g c = c.requires.fits
+
+pub judged-requires-clause-fits : goal.judged-requires-clause-fits
+judged-requires-clause-fits g c = c.in_ok-load_leaf.ensures.kept_fit
+
+pub returns-in-Some-There-clause-calls : goal.returns-in-Some-There-clause-calls
+returns-in-Some-There-clause-calls g c = calls_then _ _ _ _ _ _ c.in_ok-load_leaf.ensures.calls c.judged.ensures.calls

@@ -1,4 +1,4 @@
-use Rattle.std.proofs.Common.{◌≡◌, ℕ, ◌/◌, ◌^◌, ◌<◌, ◌≤◌, true, List, sym, subst, arith}
+use Rattle.std.proofs.Common.{◌∙◌, ◌≡◌, ℕ, ◌/◌, ◌^◌, ◌<◌, ◌≤◌, true, List, sym, subst, arith}
 use Rattle.std.specs.Prelude.{Option}
 use Rattle.std.proofs.lemmas.Result.{err_from_is_err_and}
 use Rattle.zst_space.specs.FreeSectors.{FreeSectors}
@@ -16,6 +16,7 @@ use Rattle.zst_traverse.specs.Leaves.{EndsAll, IsNext, ShowsAhead, StandsFor}
 use Rattle.zst_objset.specs.TightSets.{IsTightLeaf}
 use Rattle.zst_traverse.proofs.LeafLooks.{if_ok, next_all}
 use Rattle.zst_traverse.proofs.Numbers.{ahead_behind, leaves_early, stands_for}
+use Rattle.zst_traverse.proofs.StepLaws.{calls_then}
 use Rattle.zst_traverse.proofs.number_search.look_on.Goals as goal
 
 pub returns-in_err-next_late-clause-shows : goal.returns-in_err-next_late-clause-shows
@@ -78,3 +79,113 @@ returns-in_ok-leaf-in-Some-clause-ends g c = λ snap honest tight start.
 
 pub returns-in_ok-leaf-in-Some-clause-looks : goal.returns-in_ok-leaf-in-Some-clause-looks
 returns-in_ok-leaf-in-Some-clause-looks g c = Looks-then c.in_ok-next_late.ensures.looks (Looks-then c.in_ok-leaf-in-Some.ensures.looks c.look.ensures.looks)
+
+pub returns-in_err-next_late-clause-ranges : goal.returns-in_err-next_late-clause-ranges
+returns-in_err-next_late-clause-ranges g c =
+    let p = err_from_is_err_and c.from_residual.result c.from_residual.ensures.1 in
+    rw p.1 tt
+
+pub returns-in_err-next_late-clause-goes_on : goal.returns-in_err-next_late-clause-goes_on
+returns-in_err-next_late-clause-goes_on g c =
+    let p = err_from_is_err_and c.from_residual.result c.from_residual.ensures.1 in
+    rw p.1 tt
+
+pub returns-in_err-next_late-clause-stands : goal.returns-in_err-next_late-clause-stands
+returns-in_err-next_late-clause-stands g c = λ honest.
+    let p = err_from_is_err_and c.from_residual.result c.from_residual.ensures.1 in
+    rw p.1 tt
+
+pub returns-in_err-next_late-clause-ends : goal.returns-in_err-next_late-clause-ends
+returns-in_err-next_late-clause-ends g c = λ snap honest tight whole.
+    let p = err_from_is_err_and c.from_residual.result c.from_residual.ensures.1 in
+    rw p.1 tt
+
+pub returns-in_err-next_late-clause-looks : goal.returns-in_err-next_late-clause-looks
+returns-in_err-next_late-clause-looks g c =
+    let p = err_from_is_err_and c.from_residual.result c.from_residual.ensures.1 in
+    rw (p.1, p.2) c.in_err-next_late.ensures.looks
+
+pub returns-in_err-next_late-clause-calls : goal.returns-in_err-next_late-clause-calls
+returns-in_err-next_late-clause-calls g c = c.in_err-next_late.ensures.calls
+
+pub returns-in_err-next_late-clause-kept_fit : goal.returns-in_err-next_late-clause-kept_fit
+returns-in_err-next_late-clause-kept_fit g c = c.in_err-next_late.ensures.kept_fit
+
+pub returns-in_err-next_late-clause-same : goal.returns-in_err-next_late-clause-same
+returns-in_err-next_late-clause-same g c = c.in_err-next_late.ensures.same
+
+pub returns-in-None-clause-stands : goal.returns-in-None-clause-stands
+returns-in-None-clause-stands g c = λ honest. tt
+
+pub returns-in-None-clause-damaged : goal.returns-in-None-clause-damaged
+returns-in-None-clause-damaged g c = λ honest. tt
+
+pub returns-in-None-clause-looks : goal.returns-in-None-clause-looks
+returns-in-None-clause-looks g c = c.in_ok-next_late.ensures.looks
+
+pub returns-in-None-clause-calls : goal.returns-in-None-clause-calls
+returns-in-None-clause-calls g c = c.in_ok-next_late.ensures.calls
+
+pub returns-in-None-clause-kept_fit : goal.returns-in-None-clause-kept_fit
+returns-in-None-clause-kept_fit g c = c.in_ok-next_late.ensures.kept_fit
+
+pub returns-in-None-clause-same : goal.returns-in-None-clause-same
+returns-in-None-clause-same g c = c.in_ok-next_late.ensures.same
+
+pub returns-in_err-leaf-in-Some-clause-ranges : goal.returns-in_err-leaf-in-Some-clause-ranges
+returns-in_err-leaf-in-Some-clause-ranges g c =
+    let p = err_from_is_err_and c.from_residual-in_err-leaf-in-Some.result c.from_residual-in_err-leaf-in-Some.ensures.1 in
+    rw p.1 tt
+
+pub returns-in_err-leaf-in-Some-clause-goes_on : goal.returns-in_err-leaf-in-Some-clause-goes_on
+returns-in_err-leaf-in-Some-clause-goes_on g c =
+    let p = err_from_is_err_and c.from_residual-in_err-leaf-in-Some.result c.from_residual-in_err-leaf-in-Some.ensures.1 in
+    rw p.1 tt
+
+pub returns-in_err-leaf-in-Some-clause-stands : goal.returns-in_err-leaf-in-Some-clause-stands
+returns-in_err-leaf-in-Some-clause-stands g c = λ honest.
+    let p = err_from_is_err_and c.from_residual-in_err-leaf-in-Some.result c.from_residual-in_err-leaf-in-Some.ensures.1 in
+    rw p.1 tt
+
+pub returns-in_err-leaf-in-Some-clause-ends : goal.returns-in_err-leaf-in-Some-clause-ends
+returns-in_err-leaf-in-Some-clause-ends g c = λ snap honest tight whole.
+    let p = err_from_is_err_and c.from_residual-in_err-leaf-in-Some.result c.from_residual-in_err-leaf-in-Some.ensures.1 in
+    rw p.1 tt
+
+pub returns-in_err-leaf-in-Some-clause-looks : goal.returns-in_err-leaf-in-Some-clause-looks
+returns-in_err-leaf-in-Some-clause-looks g c =
+    let p = err_from_is_err_and c.from_residual-in_err-leaf-in-Some.result c.from_residual-in_err-leaf-in-Some.ensures.1 in
+    rw (p.1, p.2) (Looks-then c.in_ok-next_late.ensures.looks c.in_err-leaf-in-Some.ensures.looks)
+
+pub returns-in_err-leaf-in-Some-clause-calls : goal.returns-in_err-leaf-in-Some-clause-calls
+returns-in_err-leaf-in-Some-clause-calls g c = calls_then _ _ _ _ _ _ c.in_ok-next_late.ensures.calls c.in_err-leaf-in-Some.ensures.calls
+
+pub returns-in_err-leaf-in-Some-clause-kept_fit : goal.returns-in_err-leaf-in-Some-clause-kept_fit
+returns-in_err-leaf-in-Some-clause-kept_fit g c = c.in_err-leaf-in-Some.ensures.kept_fit
+
+pub returns-in_err-leaf-in-Some-clause-same : goal.returns-in_err-leaf-in-Some-clause-same
+returns-in_err-leaf-in-Some-clause-same g c = c.in_err-leaf-in-Some.ensures.same ∙ c.in_ok-next_late.ensures.same
+
+pub returns-in_ok-leaf-in-Some-clause-calls : goal.returns-in_ok-leaf-in-Some-clause-calls
+returns-in_ok-leaf-in-Some-clause-calls g c = calls_then _ _ _ _ _ _ c.in_ok-next_late.ensures.calls (calls_then _ _ _ _ _ _ c.in_ok-leaf-in-Some.ensures.calls c.look.ensures.calls)
+
+pub returns-in_ok-leaf-in-Some-clause-kept_fit : goal.returns-in_ok-leaf-in-Some-clause-kept_fit
+returns-in_ok-leaf-in-Some-clause-kept_fit g c = c.look.ensures.kept_fit
+
+pub returns-in_ok-leaf-in-Some-clause-same : goal.returns-in_ok-leaf-in-Some-clause-same
+returns-in_ok-leaf-in-Some-clause-same g c = c.look.ensures.same ∙ (c.in_ok-leaf-in-Some.ensures.same ∙ c.in_ok-next_late.ensures.same)
+
+pub next_late-requires-clause-levels : goal.next_late-requires-clause-levels
+next_late-requires-clause-levels g c = c.requires.levels
+
+pub next_late-requires-clause-fits : goal.next_late-requires-clause-fits
+next_late-requires-clause-fits g c = c.requires.fits
+
+pub leaf_at-requires-clause-levels : goal.leaf_at-requires-clause-levels
+leaf_at-requires-clause-levels g c = c.requires.levels
+
+pub leaf_at-requires-clause-fits : goal.leaf_at-requires-clause-fits
+leaf_at-requires-clause-fits g c = c.in_ok-next_late.ensures.kept_fit
+
+pub look-requires-clause-fits : goal.look-requires-clause-fits
+look-requires-clause-fits g c = c.in_ok-leaf-in-Some.ensures.kept_fit

@@ -1,4 +1,5 @@
-use Rattle.std.proofs.Common.{ℕ, ◌^◌, sym, ◌∙◌, subst}
+use Rattle.zst_block.proofs.IoCallLemmas.{Looks-none}
+use Rattle.std.proofs.Common.{refl, ℕ, ◌^◌, sym, ◌∙◌, subst}
 use Rattle.std.specs.Prelude.{Option}
 use Rattle.std.proofs.lemmas.Result.{err_from_is_err_and}
 use Rattle.zst_block.specs.Blocks.{Has}
@@ -36,3 +37,100 @@ returns-in-None-clause-next g c = λ snap honest there tight late.
     let tree = subst (λ (t : Tree). TreeIs (Has (g.D.Disk.state c.args.io.now.disk.now).seen c.args.io.now.space) t there.map) (sym c.tree_of.ensures) there.is.tree in
     tight_touched _ snap c.args.source c.args.number c.args.dnode there tight late (sym c.is_after.ensures ∙ c.if-is_after.false)
     (subst (λ (found : Option ℕ). FindsLate there.map c.args.source 0 (2 ^ 43) found) c.in-None.is (c.in_ok-next_late.ensures.late there.map honest tree))
+
+pub returns-then-is_after-clause-damaged : goal.returns-then-is_after-clause-damaged
+returns-then-is_after-clause-damaged g c = λ set honest stands. tt
+
+pub returns-then-is_after-clause-looks : goal.returns-then-is_after-clause-looks
+returns-then-is_after-clause-looks g c = Looks-none _ _ _
+
+pub returns-then-is_after-clause-kept_fit : goal.returns-then-is_after-clause-kept_fit
+returns-then-is_after-clause-kept_fit g c = c.requires.fits
+
+pub returns-then-is_after-clause-same : goal.returns-then-is_after-clause-same
+returns-then-is_after-clause-same g c = refl
+
+pub returns-then-is_after-clause-next : goal.returns-then-is_after-clause-next
+returns-then-is_after-clause-next g c = λ snap honest there tight after. tt
+
+pub returns-in_err-next_late-clause-ranges : goal.returns-in_err-next_late-clause-ranges
+returns-in_err-next_late-clause-ranges g c =
+    let p = err_from_is_err_and c.from_residual.result c.from_residual.ensures.1 in
+    rw p.1 tt
+
+pub returns-in_err-next_late-clause-goes_on : goal.returns-in_err-next_late-clause-goes_on
+returns-in_err-next_late-clause-goes_on g c =
+    let p = err_from_is_err_and c.from_residual.result c.from_residual.ensures.1 in
+    rw p.1 tt
+
+pub returns-in_err-next_late-clause-stands : goal.returns-in_err-next_late-clause-stands
+returns-in_err-next_late-clause-stands g c = λ set honest stands.
+    let p = err_from_is_err_and c.from_residual.result c.from_residual.ensures.1 in
+    rw p.1 tt
+
+pub returns-in_err-next_late-clause-next : goal.returns-in_err-next_late-clause-next
+returns-in_err-next_late-clause-next g c = λ snap honest there tight after.
+    let p = err_from_is_err_and c.from_residual.result c.from_residual.ensures.1 in
+    rw p.1 tt
+
+pub returns-in_err-next_late-clause-looks : goal.returns-in_err-next_late-clause-looks
+returns-in_err-next_late-clause-looks g c =
+    let p = err_from_is_err_and c.from_residual.result c.from_residual.ensures.1 in
+    rw (p.1, p.2) c.in_err-next_late.ensures.looks
+
+pub returns-in_err-next_late-clause-steps : goal.returns-in_err-next_late-clause-steps
+returns-in_err-next_late-clause-steps g c = c.in_err-next_late.ensures.steps
+
+pub returns-in_err-next_late-clause-calls : goal.returns-in_err-next_late-clause-calls
+returns-in_err-next_late-clause-calls g c = c.in_err-next_late.ensures.calls
+
+pub returns-in_err-next_late-clause-kept_fit : goal.returns-in_err-next_late-clause-kept_fit
+returns-in_err-next_late-clause-kept_fit g c = c.in_err-next_late.ensures.kept_fit
+
+pub returns-in_err-next_late-clause-same : goal.returns-in_err-next_late-clause-same
+returns-in_err-next_late-clause-same g c = c.in_err-next_late.ensures.same
+
+pub returns-in-Some-clause-damaged : goal.returns-in-Some-clause-damaged
+returns-in-Some-clause-damaged g c = λ set honest stands. tt
+
+pub returns-in-Some-clause-looks : goal.returns-in-Some-clause-looks
+returns-in-Some-clause-looks g c = c.in_ok-next_late.ensures.looks
+
+pub returns-in-Some-clause-steps : goal.returns-in-Some-clause-steps
+returns-in-Some-clause-steps g c = c.in_ok-next_late.ensures.steps
+
+pub returns-in-Some-clause-calls : goal.returns-in-Some-clause-calls
+returns-in-Some-clause-calls g c = c.in_ok-next_late.ensures.calls
+
+pub returns-in-Some-clause-kept_fit : goal.returns-in-Some-clause-kept_fit
+returns-in-Some-clause-kept_fit g c = c.in_ok-next_late.ensures.kept_fit
+
+pub returns-in-Some-clause-same : goal.returns-in-Some-clause-same
+returns-in-Some-clause-same g c = c.in_ok-next_late.ensures.same
+
+pub returns-in-None-clause-damaged : goal.returns-in-None-clause-damaged
+returns-in-None-clause-damaged g c = λ set honest stands. tt
+
+pub returns-in-None-clause-looks : goal.returns-in-None-clause-looks
+returns-in-None-clause-looks g c = c.in_ok-next_late.ensures.looks
+
+pub returns-in-None-clause-steps : goal.returns-in-None-clause-steps
+returns-in-None-clause-steps g c = c.in_ok-next_late.ensures.steps
+
+pub returns-in-None-clause-calls : goal.returns-in-None-clause-calls
+returns-in-None-clause-calls g c = c.in_ok-next_late.ensures.calls
+
+pub returns-in-None-clause-kept_fit : goal.returns-in-None-clause-kept_fit
+returns-in-None-clause-kept_fit g c = c.in_ok-next_late.ensures.kept_fit
+
+pub returns-in-None-clause-same : goal.returns-in-None-clause-same
+returns-in-None-clause-same g c = c.in_ok-next_late.ensures.same
+
+pub returns-in-Some-clause-next : goal.returns-in-Some-clause-next
+returns-in-Some-clause-next g c = λ snap honest there tight after. tt
+
+pub returns-in-None-clause-stands : goal.returns-in-None-clause-stands
+returns-in-None-clause-stands g c = λ set honest stands. tt
+
+pub next_late-requires-clause-fits : goal.next_late-requires-clause-fits
+next_late-requires-clause-fits g c = c.requires.fits

@@ -47,3 +47,69 @@ returns-clause-run g c = λ object date dates map honest lawful is.
     let tree = subst (λ (t : Tree). TreeIs has t map) (sym c.tree_of.ensures) is.tree in
     let count = c.count_of-count.ensures in
     is_run has c.args.dnode.now object date dates map is c.args.index c.requires.index c.requires.dnode.end _ c.in_ok-ptr.alike (c.in_ok-ptr.ensures.shows map honest tree) refl count.some count.most.0 (omega (arith, count.most.1, c.requires.index)) (cc) count.one
+
+pub returns-in_err-ptr-clause-ranges : goal.returns-in_err-ptr-clause-ranges
+returns-in_err-ptr-clause-ranges g c =
+    let p = err_from_is_err_and c.from_residual.result c.from_residual.ensures.1 in
+    rw p.1 tt
+
+pub returns-in_err-ptr-clause-stands : goal.returns-in_err-ptr-clause-stands
+returns-in_err-ptr-clause-stands g c = λ set honest stands.
+    let p = err_from_is_err_and c.from_residual.result c.from_residual.ensures.1 in
+    rw p.1 tt
+
+pub returns-in_err-ptr-clause-looks : goal.returns-in_err-ptr-clause-looks
+returns-in_err-ptr-clause-looks g c =
+    let p = err_from_is_err_and c.from_residual.result c.from_residual.ensures.1 in
+    rw (p.1, p.2) c.in_err-ptr.ensures.looks
+
+pub returns-in_err-ptr-clause-steps : goal.returns-in_err-ptr-clause-steps
+returns-in_err-ptr-clause-steps g c = c.in_err-ptr.ensures.steps
+
+pub returns-in_err-ptr-clause-calls : goal.returns-in_err-ptr-clause-calls
+returns-in_err-ptr-clause-calls g c = c.in_err-ptr.ensures.calls
+
+pub returns-in_err-ptr-clause-kept_fit : goal.returns-in_err-ptr-clause-kept_fit
+returns-in_err-ptr-clause-kept_fit g c = c.in_err-ptr.ensures.kept_fit
+
+pub returns-in_err-ptr-clause-same : goal.returns-in_err-ptr-clause-same
+returns-in_err-ptr-clause-same g c = c.in_err-ptr.ensures.same
+
+pub returns-in_default-clause-ranges : goal.returns-in_default-clause-ranges
+returns-in_default-clause-ranges g c = tt
+
+pub returns-in_default-clause-stands : goal.returns-in_default-clause-stands
+returns-in_default-clause-stands g c = λ set honest stands. tt
+
+pub returns-in_default-clause-steps : goal.returns-in_default-clause-steps
+returns-in_default-clause-steps g c = c.in_ok-ptr.ensures.steps
+
+pub returns-in_default-clause-calls : goal.returns-in_default-clause-calls
+returns-in_default-clause-calls g c = c.in_ok-ptr.ensures.calls
+
+pub returns-in_default-clause-kept_fit : goal.returns-in_default-clause-kept_fit
+returns-in_default-clause-kept_fit g c = c.in_ok-ptr.ensures.kept_fit
+
+pub returns-in_default-clause-same : goal.returns-in_default-clause-same
+returns-in_default-clause-same g c = c.in_ok-ptr.ensures.same
+
+pub returns-clause-damaged : goal.returns-clause-damaged
+returns-clause-damaged g c = λ set honest stands. tt
+
+pub returns-clause-looks : goal.returns-clause-looks
+returns-clause-looks g c = c.in_ok-ptr.ensures.looks
+
+pub returns-clause-steps : goal.returns-clause-steps
+returns-clause-steps g c = c.in_ok-ptr.ensures.steps
+
+pub returns-clause-calls : goal.returns-clause-calls
+returns-clause-calls g c = c.in_ok-ptr.ensures.calls
+
+pub returns-clause-kept_fit : goal.returns-clause-kept_fit
+returns-clause-kept_fit g c = c.in_ok-ptr.ensures.kept_fit
+
+pub returns-clause-same : goal.returns-clause-same
+returns-clause-same g c = c.in_ok-ptr.ensures.same
+
+pub get-requires-clause-fits : goal.get-requires-clause-fits
+get-requires-clause-fits g c = c.requires.fits

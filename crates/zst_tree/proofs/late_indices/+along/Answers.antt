@@ -1,3 +1,4 @@
+use Rattle.zst_block.proofs.IoCallLemmas.{Looks-then, Looks-none}
 use Rattle.std.proofs.Common.{◌≡◌, List, ◌+◌, ◌-◌, ◌<◌, ℕ, true, refl, sym, ◌∙◌, arith}
 use Rattle.std.proofs.lemmas.Result.{err_from_is_err_and}
 use Rattle.zst_space.specs.FreeSectors.{FreeSectors}
@@ -70,3 +71,106 @@ returns-clause-below g t c = λ honest.
     rw c.nearer.ensures (beside_below _ _ _ _ _ _ _ c.in_ok-load_counted.ensures.looks (λ seen. SumsUp (IsSeen seen)) c.args.level c.args.ptr c.load_counted.new.io.node c.place_of-place.result.child inner.0 inner.1
     (c.in_ok-load_counted.ensures.block (c.in_ok-reach.ensures.looks.reads.honest honest)) c.place_of-place.ensures.child c.in_ok-reach.reach c.later_from-behind.result
     (rw c.child_at-child.ensures.child at (c.in_ok-reach.ensures.below honest)) c.later_from-behind.ensures.hangs)
+
+pub returns-then-ptr-number-clause-damaged : goal.returns-then-ptr-number-clause-damaged
+returns-then-ptr-number-clause-damaged g t c = λ honest. tt
+
+pub returns-then-ptr-number-clause-looks : goal.returns-then-ptr-number-clause-looks
+returns-then-ptr-number-clause-looks g t c = Looks-none _ _ _
+
+pub returns-then-ptr-number-clause-kept_fit : goal.returns-then-ptr-number-clause-kept_fit
+returns-then-ptr-number-clause-kept_fit g t c = c.requires.fits
+
+pub returns-then-ptr-number-clause-same : goal.returns-then-ptr-number-clause-same
+returns-then-ptr-number-clause-same g t c = refl
+
+pub returns-then-stands_throughout-clause-damaged : goal.returns-then-stands_throughout-clause-damaged
+returns-then-stands_throughout-clause-damaged g t c = λ honest. tt
+
+pub returns-then-stands_throughout-clause-looks : goal.returns-then-stands_throughout-clause-looks
+returns-then-stands_throughout-clause-looks g t c = Looks-none _ _ _
+
+pub returns-then-stands_throughout-clause-kept_fit : goal.returns-then-stands_throughout-clause-kept_fit
+returns-then-stands_throughout-clause-kept_fit g t c = c.requires.fits
+
+pub returns-then-stands_throughout-clause-same : goal.returns-then-stands_throughout-clause-same
+returns-then-stands_throughout-clause-same g t c = refl
+
+pub returns-then-ptr-number-clause-inside : goal.returns-then-ptr-number-clause-inside
+returns-then-ptr-number-clause-inside g t c = tt
+
+pub returns-then-ptr-number-clause-late : goal.returns-then-ptr-number-clause-late
+returns-then-ptr-number-clause-late g t c = tt
+
+pub returns-then-ptr-number-clause-below : goal.returns-then-ptr-number-clause-below
+returns-then-ptr-number-clause-below g t c = λ honest. tt
+
+pub returns-then-stands_throughout-clause-late : goal.returns-then-stands_throughout-clause-late
+returns-then-stands_throughout-clause-late g t c = tt
+
+pub returns-then-stands_throughout-clause-below : goal.returns-then-stands_throughout-clause-below
+returns-then-stands_throughout-clause-below g t c = λ honest. tt
+
+pub returns-in_err-load_counted-clause-inside : goal.returns-in_err-load_counted-clause-inside
+returns-in_err-load_counted-clause-inside g t c =
+    let p = err_from_is_err_and c.from_residual.result c.from_residual.ensures.1 in
+    rw p.1 tt
+
+pub returns-in_err-load_counted-clause-late : goal.returns-in_err-load_counted-clause-late
+returns-in_err-load_counted-clause-late g t c =
+    let p = err_from_is_err_and c.from_residual.result c.from_residual.ensures.1 in
+    rw p.1 tt
+
+pub returns-in_err-load_counted-clause-below : goal.returns-in_err-load_counted-clause-below
+returns-in_err-load_counted-clause-below g t c = λ honest.
+    let p = err_from_is_err_and c.from_residual.result c.from_residual.ensures.1 in
+    rw p.1 tt
+
+pub returns-in_err-load_counted-clause-looks : goal.returns-in_err-load_counted-clause-looks
+returns-in_err-load_counted-clause-looks g t c =
+    let p = err_from_is_err_and c.from_residual.result c.from_residual.ensures.1 in
+    rw (p.1, p.2) c.in_err-load_counted.ensures.looks
+
+pub returns-in_err-load_counted-clause-kept_fit : goal.returns-in_err-load_counted-clause-kept_fit
+returns-in_err-load_counted-clause-kept_fit g t c = c.in_err-load_counted.ensures.kept_fit
+
+pub returns-in_err-load_counted-clause-same : goal.returns-in_err-load_counted-clause-same
+returns-in_err-load_counted-clause-same g t c = c.in_err-load_counted.ensures.same
+
+pub returns-in_err-reach-clause-inside : goal.returns-in_err-reach-clause-inside
+returns-in_err-reach-clause-inside g t c =
+    let p = err_from_is_err_and c.from_residual-in_err-reach.result c.from_residual-in_err-reach.ensures.1 in
+    rw p.1 tt
+
+pub returns-in_err-reach-clause-late : goal.returns-in_err-reach-clause-late
+returns-in_err-reach-clause-late g t c =
+    let p = err_from_is_err_and c.from_residual-in_err-reach.result c.from_residual-in_err-reach.ensures.1 in
+    rw p.1 tt
+
+pub returns-in_err-reach-clause-below : goal.returns-in_err-reach-clause-below
+returns-in_err-reach-clause-below g t c = λ honest.
+    let p = err_from_is_err_and c.from_residual-in_err-reach.result c.from_residual-in_err-reach.ensures.1 in
+    rw p.1 tt
+
+pub returns-in_err-reach-clause-looks : goal.returns-in_err-reach-clause-looks
+returns-in_err-reach-clause-looks g t c =
+    let p = err_from_is_err_and c.from_residual-in_err-reach.result c.from_residual-in_err-reach.ensures.1 in
+    rw (p.1, p.2) (Looks-then c.in_ok-load_counted.ensures.looks c.in_err-reach.ensures.looks)
+
+pub returns-in_err-reach-clause-kept_fit : goal.returns-in_err-reach-clause-kept_fit
+returns-in_err-reach-clause-kept_fit g t c = c.in_err-reach.ensures.kept_fit
+
+pub returns-in_err-reach-clause-same : goal.returns-in_err-reach-clause-same
+returns-in_err-reach-clause-same g t c = c.in_err-reach.ensures.same ∙ c.in_ok-load_counted.ensures.same
+
+pub returns-clause-damaged : goal.returns-clause-damaged
+returns-clause-damaged g t c = λ honest. tt
+
+pub returns-clause-looks : goal.returns-clause-looks
+returns-clause-looks g t c = Looks-then c.in_ok-load_counted.ensures.looks c.in_ok-reach.ensures.looks
+
+pub returns-clause-kept_fit : goal.returns-clause-kept_fit
+returns-clause-kept_fit g t c = c.in_ok-reach.ensures.kept_fit
+
+pub returns-clause-same : goal.returns-clause-same
+returns-clause-same g t c = c.in_ok-reach.ensures.same ∙ c.in_ok-load_counted.ensures.same

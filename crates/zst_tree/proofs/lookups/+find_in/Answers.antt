@@ -1,4 +1,5 @@
-use Rattle.std.proofs.Common.{rules, ◌+◌, ◌-◌, ◌*◌, List, ℕ, arith}
+use Rattle.zst_block.proofs.IoCallLemmas.{Looks-then, Looks-none}
+use Rattle.std.proofs.Common.{◌∙◌, refl, rules, ◌+◌, ◌-◌, ◌*◌, List, ℕ, arith}
 use Rattle.std.proofs.lemmas.Result.{IfOk-weaker, err_from_is_err_and}
 use Rattle.zst_space.specs.FreeSectors.{FreeSectors}
 use Rattle.zst_block.specs.Blocks.{Has}
@@ -60,3 +61,57 @@ returns-clause-hangs g t c = λ honest. IfOk-weaker c.find_in.result _ _
     (λ found hangs. hangs_below _ _ _ _ _ _ _ c.in_ok-load_counted.ensures.looks (λ seen. NamesNode) c.args.level c.args.ptr c.load_counted.new.io.node c.place_of-place.result.child (omega arith) (search rules)
     (c.in_ok-load_counted.ensures.block (c.find_in.ensures.looks.reads.honest honest)) c.place_of-place.ensures.child found.0 hangs)
     (rw c.child_at-child.ensures.child at (c.find_in.ensures.hangs honest))
+
+pub returns-then-level-eq0-clause-damaged : goal.returns-then-level-eq0-clause-damaged
+returns-then-level-eq0-clause-damaged g t c = λ honest. tt
+
+pub returns-then-level-eq0-clause-looks : goal.returns-then-level-eq0-clause-looks
+returns-then-level-eq0-clause-looks g t c = Looks-none _ _ _
+
+pub returns-then-level-eq0-clause-kept_fit : goal.returns-then-level-eq0-clause-kept_fit
+returns-then-level-eq0-clause-kept_fit g t c = c.requires.fits
+
+pub returns-then-level-eq0-clause-same : goal.returns-then-level-eq0-clause-same
+returns-then-level-eq0-clause-same g t c = refl
+
+pub returns-then-is_flat-clause-damaged : goal.returns-then-is_flat-clause-damaged
+returns-then-is_flat-clause-damaged g t c = λ honest. tt
+
+pub returns-then-is_flat-clause-looks : goal.returns-then-is_flat-clause-looks
+returns-then-is_flat-clause-looks g t c = Looks-none _ _ _
+
+pub returns-then-is_flat-clause-kept_fit : goal.returns-then-is_flat-clause-kept_fit
+returns-then-is_flat-clause-kept_fit g t c = c.requires.fits
+
+pub returns-then-is_flat-clause-same : goal.returns-then-is_flat-clause-same
+returns-then-is_flat-clause-same g t c = refl
+
+pub returns-in_err-load_counted-clause-range : goal.returns-in_err-load_counted-clause-range
+returns-in_err-load_counted-clause-range g t c =
+    let p = err_from_is_err_and c.from_residual.result c.from_residual.ensures.1 in
+    rw p.1 tt
+
+pub returns-in_err-load_counted-clause-hangs : goal.returns-in_err-load_counted-clause-hangs
+returns-in_err-load_counted-clause-hangs g t c = λ honest.
+    let p = err_from_is_err_and c.from_residual.result c.from_residual.ensures.1 in
+    rw p.1 tt
+
+pub returns-in_err-load_counted-clause-looks : goal.returns-in_err-load_counted-clause-looks
+returns-in_err-load_counted-clause-looks g t c =
+    let p = err_from_is_err_and c.from_residual.result c.from_residual.ensures.1 in
+    rw (p.1, p.2) c.in_err-load_counted.ensures.looks
+
+pub returns-in_err-load_counted-clause-kept_fit : goal.returns-in_err-load_counted-clause-kept_fit
+returns-in_err-load_counted-clause-kept_fit g t c = c.in_err-load_counted.ensures.kept_fit
+
+pub returns-in_err-load_counted-clause-same : goal.returns-in_err-load_counted-clause-same
+returns-in_err-load_counted-clause-same g t c = c.in_err-load_counted.ensures.same
+
+pub returns-clause-looks : goal.returns-clause-looks
+returns-clause-looks g t c = Looks-then c.in_ok-load_counted.ensures.looks c.find_in.ensures.looks
+
+pub returns-clause-kept_fit : goal.returns-clause-kept_fit
+returns-clause-kept_fit g t c = c.find_in.ensures.kept_fit
+
+pub returns-clause-same : goal.returns-clause-same
+returns-clause-same g t c = c.find_in.ensures.same ∙ c.in_ok-load_counted.ensures.same

@@ -214,3 +214,84 @@ returns-clause-within g t c = λ honest.
     (c.mend_two.ensures.within _ _ honest (spares_before _ _ _ _ two)
     (IsWithin-size _ _ _ _ _ _ (sym two.size) _ _ _ (IsWithin-fewer _ _ _ _ _ _ _ (spares_before _ _ _ _ c.in_ok-new_high.ensures.works.fills) _ _ made_low))
     (IsWithin-size _ _ _ _ _ _ (sym two.size) _ _ _ made_high))
+
+pub returns-then-is_whole-clause-damaged : goal.returns-then-is_whole-clause-damaged
+returns-then-is_whole-clause-damaged g t c = λ honest. tt
+
+pub returns-then-is_whole-clause-same : goal.returns-then-is_whole-clause-same
+returns-then-is_whole-clause-same g t c = refl
+
+pub returns-in_err-open-clause-damaged : goal.returns-in_err-open-clause-damaged
+returns-in_err-open-clause-damaged g t c = λ honest.
+    let p = err_from_is_err_and c.from_residual.result c.from_residual.ensures.1 in
+    rw (p.1, p.2) (c.in_err-open.ensures.damaged honest)
+
+pub returns-in_err-open-clause-root : goal.returns-in_err-open-clause-root
+returns-in_err-open-clause-root g t c =
+    let p = err_from_is_err_and c.from_residual.result c.from_residual.ensures.1 in
+    rw p.1 tt
+
+pub returns-in_err-open-clause-within : goal.returns-in_err-open-clause-within
+returns-in_err-open-clause-within g t c = λ honest.
+    let p = err_from_is_err_and c.from_residual.result c.from_residual.ensures.1 in
+    rw p.1 tt
+
+pub returns-in_err-open-clause-same : goal.returns-in_err-open-clause-same
+returns-in_err-open-clause-same g t c = c.in_err-open.ensures.same
+
+pub returns-in_err-made-clause-root : goal.returns-in_err-made-clause-root
+returns-in_err-made-clause-root g t c =
+    let p = err_from_is_err_and c.from_residual-in_err-made.result c.from_residual-in_err-made.ensures.1 in
+    rw p.1 tt
+
+pub returns-in_err-made-clause-within : goal.returns-in_err-made-clause-within
+returns-in_err-made-clause-within g t c = λ honest.
+    let p = err_from_is_err_and c.from_residual-in_err-made.result c.from_residual-in_err-made.ensures.1 in
+    rw p.1 tt
+
+pub returns-in_err-made-clause-same : goal.returns-in_err-made-clause-same
+returns-in_err-made-clause-same g t c = c.in_err-made.ensures.same ∙ c.in_ok-open.ensures.same
+
+pub returns-then-ends-clause-same : goal.returns-then-ends-clause-same
+returns-then-ends-clause-same g t c = c.mend_one.ensures.same ∙ (c.in_ok-made.ensures.same ∙ c.in_ok-open.ensures.same)
+
+pub returns-in_err-new_low-clause-root : goal.returns-in_err-new_low-clause-root
+returns-in_err-new_low-clause-root g t c =
+    let p = err_from_is_err_and c.from_residual-in_err-new_low.result c.from_residual-in_err-new_low.ensures.1 in
+    rw p.1 tt
+
+pub returns-in_err-new_low-clause-within : goal.returns-in_err-new_low-clause-within
+returns-in_err-new_low-clause-within g t c = λ honest.
+    let p = err_from_is_err_and c.from_residual-in_err-new_low.result c.from_residual-in_err-new_low.ensures.1 in
+    rw p.1 tt
+
+pub returns-in_err-new_low-clause-same : goal.returns-in_err-new_low-clause-same
+returns-in_err-new_low-clause-same g t c = c.in_err-new_low.ensures.same ∙ c.in_ok-open.ensures.same
+
+pub returns-in_err-new_high-clause-root : goal.returns-in_err-new_high-clause-root
+returns-in_err-new_high-clause-root g t c =
+    let p = err_from_is_err_and c.from_residual-in_err-new_high.result c.from_residual-in_err-new_high.ensures.1 in
+    rw p.1 tt
+
+pub returns-in_err-new_high-clause-within : goal.returns-in_err-new_high-clause-within
+returns-in_err-new_high-clause-within g t c = λ honest.
+    let p = err_from_is_err_and c.from_residual-in_err-new_high.result c.from_residual-in_err-new_high.ensures.1 in
+    rw p.1 tt
+
+pub returns-in_err-new_high-clause-same : goal.returns-in_err-new_high-clause-same
+returns-in_err-new_high-clause-same g t c = c.in_err-new_high.ensures.same ∙ (c.in_ok-new_low.ensures.same ∙ c.in_ok-open.ensures.same)
+
+pub returns-clause-same : goal.returns-clause-same
+returns-clause-same g t c = c.mend_two.ensures.same ∙ (c.in_ok-new_high.ensures.same ∙ (c.in_ok-new_low.ensures.same ∙ c.in_ok-open.ensures.same))
+
+pub open-requires-clause-fits : goal.open-requires-clause-fits
+open-requires-clause-fits g t c = c.requires.fits
+
+pub mend_one-requires-clause-fits : goal.mend_one-requires-clause-fits
+mend_one-requires-clause-fits g t c = c.in_ok-made.ensures.works.fits
+
+pub mend_two-requires-clause-fits : goal.mend_two-requires-clause-fits
+mend_two-requires-clause-fits g t c = c.in_ok-new_high.ensures.works.fits
+
+pub mend_two-requires-clause-lawful : goal.mend_two-requires-clause-lawful
+mend_two-requires-clause-lawful g t c = c.requires.lawful

@@ -1,3 +1,4 @@
+use Rattle.std.proofs.lemmas.Result.{err_from_is_err_and}
 use Rattle.std.proofs.Common.{◌-◌, ap, ◌∙◌}
 use Rattle.zst_block.specs.declared.ptr.Ptr.{Ptr}
 use Rattle.zst_tree.proofs.BuiltSubtrees.{closes, has_kind, Parts-grows}
@@ -23,3 +24,27 @@ returns-clause-names g c =
       level_is = ap (λ (p : Ptr). p.level) saved;
       length_is = ap (λ (p : Ptr). p.length) saved;
     }
+
+pub returns-in_err-ptr-clause-wrote : goal.returns-in_err-ptr-clause-wrote
+returns-in_err-ptr-clause-wrote g c =
+    let p = err_from_is_err_and c.from_residual.result c.from_residual.ensures.1 in
+    rw p.1 tt
+
+pub returns-in_err-ptr-clause-names : goal.returns-in_err-ptr-clause-names
+returns-in_err-ptr-clause-names g c =
+    let p = err_from_is_err_and c.from_residual.result c.from_residual.ensures.1 in
+    rw p.1 tt
+
+pub returns-in_err-ptr-clause-works : goal.returns-in_err-ptr-clause-works
+returns-in_err-ptr-clause-works g c =
+    let p = err_from_is_err_and c.from_residual.result c.from_residual.ensures.1 in
+    rw (p.1, p.2) c.in_err-ptr.ensures.works
+
+pub returns-in_err-ptr-clause-same : goal.returns-in_err-ptr-clause-same
+returns-in_err-ptr-clause-same g c = c.in_err-ptr.ensures.same
+
+pub returns-clause-works : goal.returns-clause-works
+returns-clause-works g c = c.in_ok-ptr.ensures.works
+
+pub returns-clause-same : goal.returns-clause-same
+returns-clause-same g c = c.in_ok-ptr.ensures.same

@@ -1,5 +1,6 @@
+use Rattle.std.proofs.lemmas.Result.{err_from_is_err_and}
 use Rattle.std.proofs.Common.{◌+◌, ◌-◌, ◌∙◌, ap}
-use Rattle.zst_block.proofs.IoCallLemmas.{Works-after}
+use Rattle.zst_block.proofs.IoCallLemmas.{Works-looks, Works-after}
 use Rattle.zst_tree.proofs.IndicesLaws.{Subtree-grows}
 use Rattle.zst_tree.proofs.Span.{span-over}
 use Rattle.zst_tree.proofs.ChangedNodes.{one_parts}
@@ -41,3 +42,44 @@ returns-clause-within g c = λ leaf image space honest up within.
     (λ k under. opened_within (SparesTaken space image) _ _ up down _ c.args.level c.args.ptr leaf (c.args.level - 1) (child c.open.new.io.node k) (opened.below read k under) (opened.hangs read k under))
     (IsWithin-fewer _ _ _ _ _ _ _ down _ _ within)))
     c.close.ensures.wrote c.close.ensures.names
+
+pub returns-in_err-open-clause-damaged : goal.returns-in_err-open-clause-damaged
+returns-in_err-open-clause-damaged g c = λ honest.
+    let p = err_from_is_err_and c.from_residual.result c.from_residual.ensures.1 in
+    rw (p.1, p.2) (c.in_err-open.ensures.damaged honest)
+
+pub returns-in_err-open-clause-names : goal.returns-in_err-open-clause-names
+returns-in_err-open-clause-names g c =
+    let p = err_from_is_err_and c.from_residual.result c.from_residual.ensures.1 in
+    rw p.1 tt
+
+pub returns-in_err-open-clause-within : goal.returns-in_err-open-clause-within
+returns-in_err-open-clause-within g c = λ leaf image space honest spares within.
+    let p = err_from_is_err_and c.from_residual.result c.from_residual.ensures.1 in
+    rw p.1 tt
+
+pub returns-in_err-open-clause-works : goal.returns-in_err-open-clause-works
+returns-in_err-open-clause-works g c =
+    let p = err_from_is_err_and c.from_residual.result c.from_residual.ensures.1 in
+    rw (p.1, p.2) (Works-looks c.requires.fits c.in_err-open.ensures.looks)
+
+pub returns-in_err-open-clause-same : goal.returns-in_err-open-clause-same
+returns-in_err-open-clause-same g c = c.in_err-open.ensures.same
+
+pub returns-clause-names : goal.returns-clause-names
+returns-clause-names g c = c.close.ensures.names
+
+pub returns-clause-same : goal.returns-clause-same
+returns-clause-same g c = c.close.ensures.same ∙ c.in_ok-open.ensures.same
+
+pub open-requires-clause-inner : goal.open-requires-clause-inner
+open-requires-clause-inner g c = c.requires.inner
+
+pub open-requires-clause-fits : goal.open-requires-clause-fits
+open-requires-clause-fits g c = c.requires.fits
+
+pub close-requires-clause-inner : goal.close-requires-clause-inner
+close-requires-clause-inner g c = c.requires.inner
+
+pub close-requires-clause-fits : goal.close-requires-clause-fits
+close-requires-clause-fits g c = c.in_ok-open.ensures.kept_fit

@@ -1,4 +1,5 @@
-use Rattle.std.proofs.Common.{◌≡◌, ◌-◌, true, rules, sym, subst, arith}
+use Rattle.zst_block.proofs.IoCallLemmas.{Looks-none}
+use Rattle.std.proofs.Common.{refl, ◌≡◌, ◌-◌, true, rules, sym, subst, arith}
 use Rattle.zst_block.specs.Ptr.{is_flat}
 use Rattle.zst_block.specs.declared.ptr.Ptr.{Ptr}
 use Rattle.zst_tree.proofs.SubtreeCases.{node_below}
@@ -34,3 +35,24 @@ returns-then-is_flat-clause-hangs g c = λ honest k under found hangs.
 
 pub returns-clause-hangs : goal.returns-clause-hangs
 returns-clause-hangs g c = λ honest. opened_hangs _ _ c.args.level c.args.ptr _ c.requires.inner (search rules) _ (c.load_node.ensures.block honest)
+
+pub returns-then-is_flat-clause-damaged : goal.returns-then-is_flat-clause-damaged
+returns-then-is_flat-clause-damaged g c = λ honest. tt
+
+pub returns-then-is_flat-clause-looks : goal.returns-then-is_flat-clause-looks
+returns-then-is_flat-clause-looks g c = Looks-none _ _ _
+
+pub returns-then-is_flat-clause-kept_fit : goal.returns-then-is_flat-clause-kept_fit
+returns-then-is_flat-clause-kept_fit g c = c.requires.fits
+
+pub returns-then-is_flat-clause-same : goal.returns-then-is_flat-clause-same
+returns-then-is_flat-clause-same g c = refl
+
+pub returns-clause-looks : goal.returns-clause-looks
+returns-clause-looks g c = c.load_node.ensures.looks
+
+pub returns-clause-kept_fit : goal.returns-clause-kept_fit
+returns-clause-kept_fit g c = c.load_node.ensures.kept_fit
+
+pub returns-clause-same : goal.returns-clause-same
+returns-clause-same g c = c.load_node.ensures.same

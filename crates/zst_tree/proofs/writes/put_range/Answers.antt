@@ -1,4 +1,4 @@
-use Rattle.std.proofs.Common.{zero-add, arith}
+use Rattle.std.proofs.Common.{◌∙◌, refl, zero-add, arith}
 use Rattle.std.proofs.lemmas.Result.{err_from_is_err_and}
 use Rattle.zst_block.proofs.IoCallLemmas.{Works-then, Works-more}
 use Rattle.zst_tree.specs.Damage.{NamesNode}
@@ -68,3 +68,72 @@ returns-clause-dated g c = λ bound map honest holds dated early.
           (c.in_ok-root.ensures.put 0 holds.whole (over holds.whole c.args.first c.args.below c.args.leaf) honest stands.below
           (simp zero-add (over_changed holds.whole 0 c.args.first c.args.below (span c.in_ok-grown.grown.levels) c.args.leaf))),
     )
+
+pub returns-in_err-grown-clause-kept : goal.returns-in_err-grown-clause-kept
+returns-in_err-grown-clause-kept g c =
+    let p = err_from_is_err_and c.from_residual.result c.from_residual.ensures.1 in
+    rw p.1 refl
+
+pub returns-in_err-grown-clause-levels : goal.returns-in_err-grown-clause-levels
+returns-in_err-grown-clause-levels g c = c.requires.levels
+
+pub returns-in_err-grown-clause-same : goal.returns-in_err-grown-clause-same
+returns-in_err-grown-clause-same g c = c.in_err-grown.ensures.same
+
+pub returns-in_err-grown-clause-within : goal.returns-in_err-grown-clause-within
+returns-in_err-grown-clause-within g c = λ honest.
+    let p = err_from_is_err_and c.from_residual.result c.from_residual.ensures.1 in
+    rw p.1 tt
+
+pub returns-in_err-grown-clause-dated : goal.returns-in_err-grown-clause-dated
+returns-in_err-grown-clause-dated g c = λ bound map honest holds dated leaf.
+    let p = err_from_is_err_and c.from_residual.result c.from_residual.ensures.1 in
+    rw p.1 tt
+
+pub returns-in_err-root-clause-kept : goal.returns-in_err-root-clause-kept
+returns-in_err-root-clause-kept g c =
+    let p = err_from_is_err_and c.from_residual-in_err-root.result c.from_residual-in_err-root.ensures.1 in
+    rw p.1 refl
+
+pub returns-in_err-root-clause-levels : goal.returns-in_err-root-clause-levels
+returns-in_err-root-clause-levels g c = c.requires.levels
+
+pub returns-in_err-root-clause-same : goal.returns-in_err-root-clause-same
+returns-in_err-root-clause-same g c = c.in_err-root.ensures.same ∙ c.in_ok-grown.ensures.same
+
+pub returns-in_err-root-clause-within : goal.returns-in_err-root-clause-within
+returns-in_err-root-clause-within g c = λ honest.
+    let p = err_from_is_err_and c.from_residual-in_err-root.result c.from_residual-in_err-root.ensures.1 in
+    rw p.1 tt
+
+pub returns-in_err-root-clause-dated : goal.returns-in_err-root-clause-dated
+returns-in_err-root-clause-dated g c = λ bound map honest holds dated leaf.
+    let p = err_from_is_err_and c.from_residual-in_err-root.result c.from_residual-in_err-root.ensures.1 in
+    rw p.1 tt
+
+pub returns-clause-kept : goal.returns-clause-kept
+returns-clause-kept g c = tt
+
+pub returns-clause-damaged : goal.returns-clause-damaged
+returns-clause-damaged g c = λ honest. tt
+
+pub returns-clause-levels : goal.returns-clause-levels
+returns-clause-levels g c = c.in_ok-grown.ensures.size.1
+
+pub returns-clause-same : goal.returns-clause-same
+returns-clause-same g c = c.in_ok-root.ensures.same ∙ c.in_ok-grown.ensures.same
+
+pub grow_to-requires-clause-levels : goal.grow_to-requires-clause-levels
+grow_to-requires-clause-levels g c = c.requires.levels
+
+pub grow_to-requires-clause-fits : goal.grow_to-requires-clause-fits
+grow_to-requires-clause-fits g c = c.requires.fits
+
+pub grow_to-requires-clause-need : goal.grow_to-requires-clause-need
+grow_to-requires-clause-need g c = c.requires.below
+
+pub put_in-requires-clause-fits : goal.put_in-requires-clause-fits
+put_in-requires-clause-fits g c = c.in_ok-grown.ensures.works.fits
+
+pub put_in-requires-clause-level : goal.put_in-requires-clause-level
+put_in-requires-clause-level g c = c.in_ok-grown.ensures.size.1

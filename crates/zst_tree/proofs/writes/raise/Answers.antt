@@ -1,5 +1,5 @@
 use Rattle.std.proofs.lemmas.Result.{err_from_is_err_and}
-use Rattle.std.proofs.Common.{◌≡◌, ◌+◌, ◌-◌, ◌∙◌, arith}
+use Rattle.std.proofs.Common.{refl, ◌≡◌, ◌+◌, ◌-◌, ◌∙◌, arith}
 use Rattle.zst_tree.proofs.LaterDamage.{spares_before}
 use Rattle.zst_tree.proofs.TreeMaps.{grown_parts, taller_stands}
 use Rattle.zst_tree.proofs.ChangedTrees.{IsWithin-fewer, IsWithin-self, node_within, raised_within}
@@ -27,3 +27,36 @@ pub returns-in_err-root-clause-never_damaged : goal.returns-in_err-root-clause-n
 returns-in_err-root-clause-never_damaged g c = λ sector stated found is.
     let p = err_from_is_err_and c.from_residual.result c.from_residual.ensures.1 in
     c.in_err-root.ensures.never_damaged sector stated found (cc)
+
+pub returns-in_err-root-clause-taller : goal.returns-in_err-root-clause-taller
+returns-in_err-root-clause-taller g c =
+    let p = err_from_is_err_and c.from_residual.result c.from_residual.ensures.1 in
+    rw p.1 tt
+
+pub returns-in_err-root-clause-within : goal.returns-in_err-root-clause-within
+returns-in_err-root-clause-within g c = λ leaf.
+    let p = err_from_is_err_and c.from_residual.result c.from_residual.ensures.1 in
+    rw p.1 tt
+
+pub returns-in_err-root-clause-names : goal.returns-in_err-root-clause-names
+returns-in_err-root-clause-names g c =
+    let p = err_from_is_err_and c.from_residual.result c.from_residual.ensures.1 in
+    rw p.1 tt
+
+pub returns-in_err-root-clause-same : goal.returns-in_err-root-clause-same
+returns-in_err-root-clause-same g c = c.in_err-root.ensures.same
+
+pub returns-clause-taller : goal.returns-clause-taller
+returns-clause-taller g c = refl
+
+pub returns-clause-never_damaged : goal.returns-clause-never_damaged
+returns-clause-never_damaged g c = λ sector stated found is. absurd (cc)
+
+pub returns-clause-same : goal.returns-clause-same
+returns-clause-same g c = c.in_ok-root.ensures.same
+
+pub returns-clause-works : goal.returns-clause-works
+returns-clause-works g c = c.in_ok-root.ensures.works
+
+pub returns-clause-names : goal.returns-clause-names
+returns-clause-names g c = c.in_ok-root.ensures.names

@@ -1,4 +1,4 @@
-use Rattle.std.proofs.Common.{arith}
+use Rattle.std.proofs.Common.{arith, rules}
 use Rattle.zst_space.proofs.FreeSectorsLaws.{Rise-end}
 use Rattle.zst_uber.proofs.Stages.{keeps_blocks}
 use Rattle.zst_uber.proofs.commits.commit_event.Goals as goal
@@ -13,3 +13,87 @@ returns-then-is_err-clause-images g c = λ image told now. keeps_blocks c.args.u
 
 pub returns-else-is_err-clause-images : goal.returns-else-is_err-clause-images
 returns-else-is_err-clause-images g c = λ image told now. keeps_blocks c.args.uber.now (g.D.Disk.state c.args.io.now.disk.now) image (c.commit-outcome.ensures.images image told now)
+
+pub returns-then-is_err-clause-moments : goal.returns-then-is_err-clause-moments
+returns-then-is_err-clause-moments g c = search rules
+
+pub returns-then-is_err-clause-kept : goal.returns-then-is_err-clause-kept
+returns-then-is_err-clause-kept g c = search rules
+
+pub returns-then-is_err-clause-writes : goal.returns-then-is_err-clause-writes
+returns-then-is_err-clause-writes g c = search rules
+
+pub returns-then-is_err-clause-stands : goal.returns-then-is_err-clause-stands
+returns-then-is_err-clause-stands g c = search rules
+
+pub returns-then-is_err-clause-following : goal.returns-then-is_err-clause-following
+returns-then-is_err-clause-following g c = search rules
+
+pub returns-then-is_err-clause-durable : goal.returns-then-is_err-clause-durable
+returns-then-is_err-clause-durable g c = search rules
+
+pub returns-then-is_err-clause-label : goal.returns-then-is_err-clause-label
+returns-then-is_err-clause-label g c = search rules
+
+pub returns-then-is_err-clause-uber_fits : goal.returns-then-is_err-clause-uber_fits
+returns-then-is_err-clause-uber_fits g c = search rules
+
+pub returns-then-is_err-clause-cause : goal.returns-then-is_err-clause-cause
+returns-then-is_err-clause-cause g c = search rules
+
+pub returns-then-is_err-clause-only : goal.returns-then-is_err-clause-only
+returns-then-is_err-clause-only g c = search rules
+
+pub returns-then-is_err-clause-failed : goal.returns-then-is_err-clause-failed
+returns-then-is_err-clause-failed g c = search rules
+
+pub returns-then-is_err-clause-space : goal.returns-then-is_err-clause-space
+returns-then-is_err-clause-space g c = search rules
+
+pub returns-then-is_err-clause-kept_fit : goal.returns-then-is_err-clause-kept_fit
+returns-then-is_err-clause-kept_fit g c = search rules
+
+pub returns-then-is_err-clause-same : goal.returns-then-is_err-clause-same
+returns-then-is_err-clause-same g c = search rules
+
+pub returns-else-is_err-clause-moments : goal.returns-else-is_err-clause-moments
+returns-else-is_err-clause-moments g c = search rules
+
+pub returns-else-is_err-clause-kept : goal.returns-else-is_err-clause-kept
+returns-else-is_err-clause-kept g c = search rules
+
+pub returns-else-is_err-clause-writes : goal.returns-else-is_err-clause-writes
+returns-else-is_err-clause-writes g c = search rules
+
+pub returns-else-is_err-clause-stands : goal.returns-else-is_err-clause-stands
+returns-else-is_err-clause-stands g c = search rules
+
+pub returns-else-is_err-clause-following : goal.returns-else-is_err-clause-following
+returns-else-is_err-clause-following g c = search rules
+
+pub returns-else-is_err-clause-durable : goal.returns-else-is_err-clause-durable
+returns-else-is_err-clause-durable g c = search rules
+
+pub returns-else-is_err-clause-label : goal.returns-else-is_err-clause-label
+returns-else-is_err-clause-label g c = search rules
+
+pub returns-else-is_err-clause-uber_fits : goal.returns-else-is_err-clause-uber_fits
+returns-else-is_err-clause-uber_fits g c = search rules
+
+pub returns-else-is_err-clause-cause : goal.returns-else-is_err-clause-cause
+returns-else-is_err-clause-cause g c = search rules
+
+pub returns-else-is_err-clause-only : goal.returns-else-is_err-clause-only
+returns-else-is_err-clause-only g c = search rules
+
+pub returns-else-is_err-clause-failed : goal.returns-else-is_err-clause-failed
+returns-else-is_err-clause-failed g c = search rules
+
+pub returns-else-is_err-clause-space : goal.returns-else-is_err-clause-space
+returns-else-is_err-clause-space g c = search rules
+
+pub returns-else-is_err-clause-kept_fit : goal.returns-else-is_err-clause-kept_fit
+returns-else-is_err-clause-kept_fit g c = search rules
+
+pub returns-else-is_err-clause-same : goal.returns-else-is_err-clause-same
+returns-else-is_err-clause-same g c = search rules

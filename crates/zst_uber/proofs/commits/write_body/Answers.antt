@@ -1,4 +1,4 @@
-use Rattle.std.proofs.Common.{◌∙◌, ap}
+use Rattle.std.proofs.Common.{◌∙◌, ap, rules}
 use Rattle.zst_outside.specs.Images.{WritesIn-reads, WritesIn-then}
 use Rattle.zst_uber.specs.Slots.{slot_at}
 use Rattle.zst_uber.proofs.Stages.{after_close, after_fill, after_open, stands, on_ok, gate_writes, body_writes}
@@ -58,3 +58,42 @@ returns-clause-writes g c =
     let closed = WritesIn-then 0 4096 _ _ _ found (gate_writes c.in_ok-slot.slot _ _ c.close.ensures.writes) in
     let filled = WritesIn-then 0 4096 _ _ _ closed (body_writes c.in_ok-slot.slot _ _ c.fill.ensures.writes) in
     WritesIn-then 0 4096 _ _ _ filled (gate_writes c.in_ok-slot.slot _ _ c.open_gate.ensures.writes)
+
+pub returns-in_err-slot : goal.returns-in_err-slot
+returns-in_err-slot g c = search rules
+
+pub returns-in_err-close-clause-writes : goal.returns-in_err-close-clause-writes
+returns-in_err-close-clause-writes g c = search rules
+
+pub returns-in_err-close-clause-stands : goal.returns-in_err-close-clause-stands
+returns-in_err-close-clause-stands g c = search rules
+
+pub returns-in_err-close-clause-durable : goal.returns-in_err-close-clause-durable
+returns-in_err-close-clause-durable g c = search rules
+
+pub returns-in_err-close-clause-fits : goal.returns-in_err-close-clause-fits
+returns-in_err-close-clause-fits g c = search rules
+
+pub returns-in_err-close-clause-cause : goal.returns-in_err-close-clause-cause
+returns-in_err-close-clause-cause g c = search rules
+
+pub returns-in_err-fill-clause-stands : goal.returns-in_err-fill-clause-stands
+returns-in_err-fill-clause-stands g c = search rules
+
+pub returns-in_err-fill-clause-durable : goal.returns-in_err-fill-clause-durable
+returns-in_err-fill-clause-durable g c = search rules
+
+pub returns-in_err-fill-clause-fits : goal.returns-in_err-fill-clause-fits
+returns-in_err-fill-clause-fits g c = search rules
+
+pub returns-in_err-fill-clause-cause : goal.returns-in_err-fill-clause-cause
+returns-in_err-fill-clause-cause g c = search rules
+
+pub returns-clause-durable : goal.returns-clause-durable
+returns-clause-durable g c = search rules
+
+pub returns-clause-fits : goal.returns-clause-fits
+returns-clause-fits g c = search rules
+
+pub returns-clause-cause : goal.returns-clause-cause
+returns-clause-cause g c = search rules

@@ -19,3 +19,9 @@ returns-else-is_body c =
       c.parts-else-is_body.ensures ∙ ap parts_of c.sum_of.ensures,
       none_is c.args.size c.get-uber.result c.args.body.now c.get-uber.ensures.fields (λ both. let holds : c.is_body.result ≡ true = c.is_body.ensures.1 both in let fails : c.is_body.result ≡ false = c.if-is_body.false in cc),
     )
+
+pub returns-then-version-ne-VERSION : goal.returns-then-version-ne-VERSION
+returns-then-version-ne-VERSION c = search rules
+
+pub returns-then-is_body : goal.returns-then-is_body
+returns-then-is_body c = search rules

@@ -63,3 +63,27 @@ returns-clause-new g c =
     IfOk-made _ c.commit_dir-made.result c.answer.result c.answer.ensures
     (new-made (g.D.Disk.state c.commit_dir-made.new.io.disk.now) c.args.sectors c.new-space.result c.commit_dir-made.new.io.space c.unborn.result c.new-3.result c.commit_dir-made.result space c.new-3.ensures c.requires.sectors.0
     (ap (λ (u : Uber). u.sectors) c.unborn.ensures) commit.takes commit.one_leaf commit.ends commit.ready)
+
+pub returns-in_err-find_none-clause-answer : goal.returns-in_err-find_none-clause-answer
+returns-in_err-find_none-clause-answer g c = search rules
+
+pub returns-in_err-find_none-clause-made : goal.returns-in_err-find_none-clause-made
+returns-in_err-find_none-clause-made g c = search rules
+
+pub returns-in_err-find_none-clause-new : goal.returns-in_err-find_none-clause-new
+returns-in_err-find_none-clause-new g c = search rules
+
+pub returns-in_err-find_none-clause-ready : goal.returns-in_err-find_none-clause-ready
+returns-in_err-find_none-clause-ready g c = search rules
+
+pub returns-in_err-find_none-clause-moments : goal.returns-in_err-find_none-clause-moments
+returns-in_err-find_none-clause-moments g c = search rules
+
+pub returns-in_err-find_none-clause-cause : goal.returns-in_err-find_none-clause-cause
+returns-in_err-find_none-clause-cause g c = search rules
+
+pub returns-in_err-find_none-clause-honest : goal.returns-in_err-find_none-clause-honest
+returns-in_err-find_none-clause-honest g c = search rules
+
+pub returns-clause-honest : goal.returns-clause-honest
+returns-clause-honest g c = search rules

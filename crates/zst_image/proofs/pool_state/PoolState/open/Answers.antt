@@ -69,3 +69,39 @@ returns-clause-answer g c = λ told.
 pub returns-clause-rests : goal.returns-clause-rests
 returns-clause-rests g c = λ tight uber rows pool told reads.
     Rests-opened (g.D.Disk.state c.args.disk.now) _ uber c.in_ok-body.body rows pool reads (search rules) (search rules) ((returns-clause-there g c tight uber rows pool told reads).0)
+
+pub returns-in_err-body-clause-there : goal.returns-in_err-body-clause-there
+returns-in_err-body-clause-there g c = search rules
+
+pub returns-in_err-body-clause-rests : goal.returns-in_err-body-clause-rests
+returns-in_err-body-clause-rests g c = search rules
+
+pub returns-in_err-body-clause-ready : goal.returns-in_err-body-clause-ready
+returns-in_err-body-clause-ready g c = search rules
+
+pub returns-in_err-body-clause-reads : goal.returns-in_err-body-clause-reads
+returns-in_err-body-clause-reads g c = search rules
+
+pub returns-in_err-body-clause-cause : goal.returns-in_err-body-clause-cause
+returns-in_err-body-clause-cause g c = search rules
+
+pub returns-in_err-dir-clause-rests : goal.returns-in_err-dir-clause-rests
+returns-in_err-dir-clause-rests g c = search rules
+
+pub returns-in_err-dir-clause-ready : goal.returns-in_err-dir-clause-ready
+returns-in_err-dir-clause-ready g c = search rules
+
+pub returns-in_err-dir-clause-reads : goal.returns-in_err-dir-clause-reads
+returns-in_err-dir-clause-reads g c = search rules
+
+pub returns-in_err-dir-clause-cause : goal.returns-in_err-dir-clause-cause
+returns-in_err-dir-clause-cause g c = search rules
+
+pub returns-clause-ready : goal.returns-clause-ready
+returns-clause-ready g c = search rules
+
+pub returns-clause-reads : goal.returns-clause-reads
+returns-clause-reads g c = search rules
+
+pub returns-clause-cause : goal.returns-clause-cause
+returns-clause-cause g c = search rules

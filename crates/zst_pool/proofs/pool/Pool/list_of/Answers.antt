@@ -1,4 +1,4 @@
-use Rattle.std.specs.Prelude.{Err, IfErr, IfSome, Option}
+use Rattle.std.specs.Prelude.{Err, IfErr, IfOk, IfSome, Option}
 use Rattle.std.proofs.Common.{sym, ap, ◌∙◌, subst}
 use Rattle.zst_block.specs.Blocks.{Has}
 use Rattle.zst_model.specs.declared.refusals.plan_fault.PlanFault.{PlanFault}
@@ -6,7 +6,7 @@ use Rattle.zst_model.specs.pools.Pool.{bookmark_named}
 use Rattle.zst_dir.specs.declared.rows.Bookmark.{Bookmark}
 use Rattle.zst_image.specs.Reads.{BookmarkIs}
 use Rattle.zst_pool.specs.declared.fault.PoolFault.TheVariants.{Plan}
-use Rattle.zst_pool.specs.Lists.{TellsRow, row_named}
+use Rattle.zst_pool.specs.Lists.{AnswersNamed, StandsBelow, TellsRow, row_named}
 use Rattle.zst_pool.proofs.BookmarkLists.{bookmark_alike, option_map-same, given_none, given_some}
 use Rattle.zst_dir.proofs.Matches.{FoundAlike}
 use Rattle.zst_pool.proofs.pool.Pool.list_of.Goals as goal
@@ -35,3 +35,20 @@ returns-in-Some-clause-damaged g c = λ told.
     let disk = g.D.Disk.state io.disk.now in
     let is = sym (option_map-same (row_named c.args.book.now c.args.self.now.kept.dir)) ∙ sym c.row_of.ensures ∙ c.in-Some.is in
     subst (λ (o : Option Bookmark). IfErr c.read_row.result (λ fault. IfSome o (λ row. TellsRow io.space.end disk.seen disk.size row fault))) (sym is) (c.read_row.ensures.damaged told)
+
+pub returns-in-Some-clause-rows : goal.returns-in-Some-clause-rows
+returns-in-Some-clause-rows g c = λ works.
+    let is = sym (option_map-same (row_named c.args.book.now c.args.self.now.kept.dir)) ∙ sym c.row_of.ensures ∙ c.in-Some.is in
+    subst (λ (o : Option Bookmark). AnswersNamed c.args.book.now o c.read_row.result) (sym is) c.read_row.ensures.rows
+
+pub returns-in-None-clause-rows : goal.returns-in-None-clause-rows
+returns-in-None-clause-rows g c = λ works.
+    let is = sym (option_map-same (row_named c.args.book.now c.args.self.now.kept.dir)) ∙ sym c.row_of.ensures ∙ c.in-None.is in
+    subst (λ (o : Option Bookmark). AnswersNamed c.args.book.now o (Err (Plan c.no_such.result))) (sym is) (ap (λ (fault : PlanFault). Err (Plan fault)) c.no_such.ensures)
+
+pub returns-in-Some-clause-stands : goal.returns-in-Some-clause-stands
+returns-in-Some-clause-stands g c = λ told free.
+    let io = c.args.self.now.io in
+    let has = Has (g.D.Disk.state io.disk.now).seen io.space in
+    let is = sym (option_map-same (row_named c.args.book.now c.args.self.now.kept.dir)) ∙ sym c.row_of.ensures ∙ c.in-Some.is in
+    subst (λ (o : Option Bookmark). IfOk c.read_row.result (λ list. IfSome o (λ row. StandsBelow has row list))) (sym is) (c.read_row.ensures.stands told free)

@@ -3,6 +3,7 @@ use Rattle.std.specs.Prelude.{Option, Some, None, true}
 use Rattle.std.proofs.lemmas.Result.{err_from_is_err_and}
 use Rattle.zst_space.specs.FreeSectors.{FreeSectors}
 use Rattle.zst_block.specs.Blocks.{Has}
+use Rattle.zst_block.proofs.IoCallLemmas.{Looks-then}
 use Rattle.zst_model.specs.sends.View.{View, view_of}
 use Rattle.zst_objset.proofs.LeafLaws.{look_on}
 use Rattle.zst_traverse.specs.Cells.{choice_after}
@@ -160,3 +161,33 @@ returns-in-None-clause-puts g c = λ header snap point front put place honest ho
           let few = c.in_ok-due.ensures.few header snap on.0 honest tight on.1 in
           omega (arith, cells, few);
     }
+
+pub returns-in_err-due-clause-loaded : goal.returns-in_err-due-clause-loaded
+returns-in_err-due-clause-loaded g c = λ header snap left honest holds loaded at.
+    look_on (λ (seen : List ℕ) (space : FreeSectors). IsLoaded (Has seen space) c.args.room.now) _ _ _ _ _ _ _ c.in_err-due.ensures.looks loaded
+
+pub returns-in_err-due-clause-looks : goal.returns-in_err-due-clause-looks
+returns-in_err-due-clause-looks g c =
+    let p = err_from_is_err_and c.from_residual.result c.from_residual.ensures.1 in
+    rw (p.1, p.2) c.in_err-due.ensures.looks
+
+pub returns-in_err-self-in-Some-clause-looks : goal.returns-in_err-self-in-Some-clause-looks
+returns-in_err-self-in-Some-clause-looks g c =
+    let p = err_from_is_err_and c.from_residual-in_err-self-in-Some.result c.from_residual-in_err-self-in-Some.ensures.1 in
+    rw (p.1, p.2) (Looks-then c.in_ok-due.ensures.looks c.in_err-self-in-Some.ensures.looks)
+
+pub returns-in_ok-self-in-Some-clause-looks : goal.returns-in_ok-self-in-Some-clause-looks
+returns-in_ok-self-in-Some-clause-looks g c = Looks-then c.in_ok-due.ensures.looks c.in_ok-self-in-Some.ensures.looks
+
+pub returns-in_ok-self-in-Some-clause-kept : goal.returns-in_ok-self-in-Some-clause-kept
+returns-in_ok-self-in-Some-clause-kept g c = λ held. c.in_ok-self-in-Some.ensures.held
+
+pub returns-in-None-clause-loaded : goal.returns-in-None-clause-loaded
+returns-in-None-clause-loaded g c = λ header snap left honest holds loaded at.
+    look_on (λ (seen : List ℕ) (space : FreeSectors). IsLoaded (Has seen space) c.args.room.now) _ _ _ _ _ _ _ c.in_ok-due.ensures.looks loaded
+
+pub returns-in-None-clause-looks : goal.returns-in-None-clause-looks
+returns-in-None-clause-looks g c = c.in_ok-due.ensures.looks
+
+pub returns-in-None-clause-kept : goal.returns-in-None-clause-kept
+returns-in-None-clause-kept g c = λ held. subst (λ (p : Payload). IsHeld c.args.room.now.holds p) (sym c.alone-self.ensures.payload) tt

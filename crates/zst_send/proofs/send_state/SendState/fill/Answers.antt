@@ -199,3 +199,16 @@ returns-in_err-count-clause-puts g c = λ header snap point front put place hone
 
 pub returns-clause-puts : goal.returns-clause-puts
 returns-clause-puts g c = λ header snap point front put place honest holds had. (c.loop-count.invariant.paid header snap point front put place honest holds had).on
+
+pub returns-in_err-has_more-clause-looks : goal.returns-in_err-has_more-clause-looks
+returns-in_err-has_more-clause-looks g c =
+    let p = err_from_is_err_and c.from_residual.result c.from_residual.ensures.1 in
+    rw (p.1, p.2) (Looks-then c.loop-count.invariant.looks c.in_err-has_more.ensures.looks)
+
+pub returns-then-not-branch-clause-looks : goal.returns-then-not-branch-clause-looks
+returns-then-not-branch-clause-looks g c = Looks-then c.loop-count.invariant.looks c.in_ok-has_more.ensures.looks
+
+pub returns-in_err-count-clause-looks : goal.returns-in_err-count-clause-looks
+returns-in_err-count-clause-looks g c =
+    let p = err_from_is_err_and c.from_residual-in_err-count.result c.from_residual-in_err-count.ensures.1 in
+    rw (p.1, p.2) (Looks-then (Looks-then c.loop-count.invariant.looks c.in_ok-has_more.ensures.looks) c.in_err-count.ensures.looks)

@@ -1,4 +1,4 @@
-use Rattle.std.proofs.Common.{ℕ, List, ap, arith, sym, ◌∙◌}
+use Rattle.std.proofs.Common.{ℕ, List, ap, arith, subst, sym, ◌∙◌}
 use Rattle.std.specs.Prelude.{Ok, Some}
 use Rattle.std.proofs.lemmas.Result.{err_from_is_err_and}
 use Rattle.zst_space.specs.FreeSectors.{FreeSectors}
@@ -6,9 +6,12 @@ use Rattle.zst_block.specs.Blocks.{Has}
 use Rattle.zst_block.proofs.IoCallLemmas.{Looks-then}
 use Rattle.zst_model.specs.sends.View.{View, view_of}
 use Rattle.zst_objset.proofs.LeafLaws.{look_on}
+use Rattle.zst_objset.specs.Damage.{IfDamage}
 use Rattle.zst_objset.specs.Sets.{SetHolds}
 use Rattle.zst_objset.specs.TightSets.{SetIsTight}
 use Rattle.zst_traverse.specs.Cells.{choice_after}
+use Rattle.zst_traverse.specs.Damage.{IsDamagedCell}
+use Rattle.zst_tree.specs.Damage.{IsSeen}
 use Rattle.zst_send.specs.Places.{ComesFirst}
 use Rattle.zst_send.proofs.LookCosts.{joined_counts, look_ahead}
 use Rattle.zst_send.proofs.ItemRuns.{RunComes, run_begins, run_ends, run_goes_on}
@@ -110,3 +113,29 @@ returns-in_err-next-2-clause-few g c = λ header snap left honest tight first.
 
 pub returns-clause-few : goal.returns-clause-few
 returns-clause-few g c = λ header snap left honest tight first. c.loop-both.invariant.paid header snap left honest tight first
+
+pub returns-in_err-next-clause-damaged : goal.returns-in_err-next-clause-damaged
+returns-in_err-next-clause-damaged g c = λ honest.
+    let p = err_from_is_err_and c.from_residual.result c.from_residual.ensures.1 in
+    rw (p.1, p.2) (c.in_err-next.ensures.damaged honest)
+
+pub returns-in_err-next-clause-looks : goal.returns-in_err-next-clause-looks
+returns-in_err-next-clause-looks g c =
+    let p = err_from_is_err_and c.from_residual.result c.from_residual.ensures.1 in
+    rw (p.1, p.2) c.in_err-next.ensures.looks
+
+pub returns-in_err-next-2-clause-damaged : goal.returns-in_err-next-2-clause-damaged
+returns-in_err-next-2-clause-damaged g c = λ honest.
+    let old = g.D.Disk.state c.args.io.now.disk.now in
+    let mid = g.D.Disk.state c.loop-both.io.disk.now in
+    let set = c.args.set.now in
+    let fault = c.in_err-next-2.field-0.0 in
+    let p = err_from_is_err_and c.from_residual-in_err-next-2.result c.from_residual-in_err-next-2.ensures.1 in
+    let looks = c.loop-both.invariant.looks in
+    rw (p.1, p.2) (subst (λ (size : ℕ). IfDamage fault (IsDamagedCell (IsSeen old.seen) size set)) looks.reads.size
+    (subst (λ (seen : List ℕ). IfDamage fault (IsDamagedCell (IsSeen seen) mid.size set)) looks.reads.seen (c.in_err-next-2.ensures.damaged honest)))
+
+pub returns-in_err-next-2-clause-looks : goal.returns-in_err-next-2-clause-looks
+returns-in_err-next-2-clause-looks g c =
+    let p = err_from_is_err_and c.from_residual-in_err-next-2.result c.from_residual-in_err-next-2.ensures.1 in
+    rw (p.1, p.2) (Looks-then c.loop-both.invariant.looks c.in_err-next-2.ensures.looks)

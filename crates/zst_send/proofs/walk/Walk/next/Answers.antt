@@ -3,6 +3,8 @@ use Rattle.std.specs.Prelude.{Option, Some}
 use Rattle.std.proofs.lemmas.Result.{err_from_is_err_and}
 use Rattle.zst_space.specs.FreeSectors.{FreeSectors}
 use Rattle.zst_block.specs.Blocks.{Has}
+use Rattle.zst_block.proofs.IoCallLemmas.{Looks-then}
+use Rattle.zst_objset.specs.Damage.{IfDamage}
 use Rattle.zst_model.specs.declared.states.item.Item.{Item}
 use Rattle.zst_model.specs.sends.View.{View, view_of}
 use Rattle.zst_objset.proofs.LeafLaws.{look_on}
@@ -10,6 +12,8 @@ use Rattle.zst_objset.specs.Sets.{SetHolds}
 use Rattle.zst_objset.specs.TightSets.{SetIsTight}
 use Rattle.zst_send.specs.Costs.{cells_next}
 use Rattle.zst_traverse.specs.Cells.{choice_after}
+use Rattle.zst_traverse.specs.Damage.{IsDamagedCell}
+use Rattle.zst_tree.specs.Damage.{IsSeen}
 use Rattle.zst_send.specs.DueItems.{AreHeld}
 use Rattle.zst_send.specs.Places.{ComesFirst, Gives, items_left}
 use Rattle.zst_send.specs.declared.due_items.DueItems.{DueItems}
@@ -122,3 +126,38 @@ returns-clause-few g c = λ header snap held honest tight walk.
     let given = given_counts snap c.in-Some.due (sym c.is_run.ensures ∙ c.if-is_run.false) in
     let held : cells_next snap c.behind-self.result ≡ 0 = ap (cells_next snap) c.behind-self.ensures.behind ∙ given.1 in
     omega (arith, ahead, found, given.0, held)
+
+pub returns-in_err-due-clause-damaged : goal.returns-in_err-due-clause-damaged
+returns-in_err-due-clause-damaged g c = λ honest.
+    let p = err_from_is_err_and c.from_residual.result c.from_residual.ensures.1 in
+    rw (p.1, p.2) (c.in_err-due.ensures.damaged honest)
+
+pub returns-in_err-due-clause-looks : goal.returns-in_err-due-clause-looks
+returns-in_err-due-clause-looks g c =
+    let p = err_from_is_err_and c.from_residual.result c.from_residual.ensures.1 in
+    rw (p.1, p.2) c.in_err-due.ensures.looks
+
+pub returns-in_err-lengthened-clause-damaged : goal.returns-in_err-lengthened-clause-damaged
+returns-in_err-lengthened-clause-damaged g c = λ honest.
+    let old = g.D.Disk.state c.args.io.now.disk.now in
+    let mid = g.D.Disk.state c.first.new.io.disk.now in
+    let set = c.args.set.now in
+    let fault = c.in_err-lengthened.field-0.0 in
+    let p = err_from_is_err_and c.from_residual-in_err-lengthened.result c.from_residual-in_err-lengthened.ensures.1 in
+    let looks = c.in_ok-due.ensures.looks in
+    rw (p.1, p.2) (subst (λ (size : ℕ). IfDamage fault (IsDamagedCell (IsSeen old.seen) size set)) looks.reads.size
+    (subst (λ (seen : List ℕ). IfDamage fault (IsDamagedCell (IsSeen seen) mid.size set)) looks.reads.seen (c.in_err-lengthened.ensures.damaged honest)))
+
+pub returns-in_err-lengthened-clause-looks : goal.returns-in_err-lengthened-clause-looks
+returns-in_err-lengthened-clause-looks g c =
+    let p = err_from_is_err_and c.from_residual-in_err-lengthened.result c.from_residual-in_err-lengthened.ensures.1 in
+    rw (p.1, p.2) (Looks-then c.in_ok-due.ensures.looks c.in_err-lengthened.ensures.looks)
+
+pub returns-then-is_run-clause-looks : goal.returns-then-is_run-clause-looks
+returns-then-is_run-clause-looks g c = Looks-then c.in_ok-due.ensures.looks c.in_ok-lengthened.ensures.looks
+
+pub returns-clause-looks : goal.returns-clause-looks
+returns-clause-looks g c = c.in_ok-due.ensures.looks
+
+pub returns-in_default-clause-looks : goal.returns-in_default-clause-looks
+returns-in_default-clause-looks g c = c.in_ok-due.ensures.looks

@@ -12,6 +12,7 @@ use Rattle.zst_send.specs.declared.due_items.DueItems.{DueItems}
 use Rattle.zst_tree.specs.Damage.{IsSeen}
 use Rattle.zst_send.specs.DueItems.{DueFits}
 use Rattle.zst_send.proofs.BlockDamage.{short_told}
+use Rattle.zst_send.proofs.RecordPieces.{lone_put}
 use Rattle.zst_send.proofs.Sizes.{spill_size_most}
 use Rattle.zst_send.proofs.work.Work.put.Goals as goal
 
@@ -80,3 +81,89 @@ returns-in_ok-load-in-Block-clause-size g c = λ item first.
       size = ap payload_size c.of_block-in-Block.ensures.payload ∙ sym long ∙ sym (ap (λ (i : Item). length (item_payload i)) named.3);
       blocks = ap blocks_behind c.of_block-in-Block.ensures.payload ∙ sym (ap reads_of named.3);
     }
+
+pub returns-in-Absent-clause-put : goal.returns-in-Absent-clause-put
+returns-in-Absent-clause-put g c = λ text item honest loaded written first.
+    let has = Has (g.D.Disk.state c.args.io.now.disk.now).seen c.args.io.now.space in
+    let named = subst (λ (d : DueItems). IsFirst has d item) c.in-Absent.is first in
+    lone_put has c.args.to text item _ c.of.new.writer c.of.result named (c.of.ensures.put text written) c.of.ensures.payload c.of.ensures.given
+
+pub returns-in-Absent-clause-size : goal.returns-in-Absent-clause-size
+returns-in-Absent-clause-size g c = λ item first.
+    let named = subst (λ (d : DueItems). IsFirst (Has (g.D.Disk.state c.args.io.now.disk.now).seen c.args.io.now.space) d item) c.in-Absent.is first in
+    record {
+      size = ap payload_size c.of.ensures.payload ∙ sym (ap (λ (i : Item). length (item_payload i)) named);
+      blocks = ap blocks_behind c.of.ensures.payload ∙ sym (ap reads_of named);
+    }
+
+pub returns-in-Tail-clause-put : goal.returns-in-Tail-clause-put
+returns-in-Tail-clause-put g c = λ text item honest loaded written first.
+    let has = Has (g.D.Disk.state c.args.io.now.disk.now).seen c.args.io.now.space in
+    let named = subst (λ (d : DueItems). IsFirst has d item) c.in-Tail.is first in
+    lone_put has c.args.to text item _ c.of-in-Tail.new.writer c.of-in-Tail.result named (c.of-in-Tail.ensures.put text written) c.of-in-Tail.ensures.payload c.of-in-Tail.ensures.given
+
+pub returns-in-Tail-clause-size : goal.returns-in-Tail-clause-size
+returns-in-Tail-clause-size g c = λ item first.
+    let named = subst (λ (d : DueItems). IsFirst (Has (g.D.Disk.state c.args.io.now.disk.now).seen c.args.io.now.space) d item) c.in-Tail.is first in
+    record {
+      size = ap payload_size c.of-in-Tail.ensures.payload ∙ sym (ap (λ (i : Item). length (item_payload i)) named);
+      blocks = ap blocks_behind c.of-in-Tail.ensures.payload ∙ sym (ap reads_of named);
+    }
+
+pub returns-in-Holes-clause-put : goal.returns-in-Holes-clause-put
+returns-in-Holes-clause-put g c = λ text item honest loaded written first.
+    let has = Has (g.D.Disk.state c.args.io.now.disk.now).seen c.args.io.now.space in
+    let named = subst (λ (d : DueItems). IsFirst has d item) c.in-Holes.is first in
+    lone_put has c.args.to text item _ c.of-in-Holes.new.writer c.of-in-Holes.result named (c.of-in-Holes.ensures.put text written) c.of-in-Holes.ensures.payload c.of-in-Holes.ensures.given
+
+pub returns-in-Holes-clause-size : goal.returns-in-Holes-clause-size
+returns-in-Holes-clause-size g c = λ item first.
+    let named = subst (λ (d : DueItems). IsFirst (Has (g.D.Disk.state c.args.io.now.disk.now).seen c.args.io.now.space) d item) c.in-Holes.is first in
+    record {
+      size = ap payload_size c.of-in-Holes.ensures.payload ∙ sym (ap (λ (i : Item). length (item_payload i)) named);
+      blocks = ap blocks_behind c.of-in-Holes.ensures.payload ∙ sym (ap reads_of named);
+    }
+
+pub returns-in-Redacted-clause-put : goal.returns-in-Redacted-clause-put
+returns-in-Redacted-clause-put g c = λ text item honest loaded written first.
+    let has = Has (g.D.Disk.state c.args.io.now.disk.now).seen c.args.io.now.space in
+    let named = subst (λ (d : DueItems). IsFirst has d item) c.in-Redacted.is first in
+    lone_put has c.args.to text item _ c.of-in-Redacted.new.writer c.of-in-Redacted.result named (c.of-in-Redacted.ensures.put text written) c.of-in-Redacted.ensures.payload c.of-in-Redacted.ensures.given
+
+pub returns-in-Redacted-clause-size : goal.returns-in-Redacted-clause-size
+returns-in-Redacted-clause-size g c = λ item first.
+    let named = subst (λ (d : DueItems). IsFirst (Has (g.D.Disk.state c.args.io.now.disk.now).seen c.args.io.now.space) d item) c.in-Redacted.is first in
+    record {
+      size = ap payload_size c.of-in-Redacted.ensures.payload ∙ sym (ap (λ (i : Item). length (item_payload i)) named);
+      blocks = ap blocks_behind c.of-in-Redacted.ensures.payload ∙ sym (ap reads_of named);
+    }
+
+pub returns-in_err-load-in-Spill-clause-loaded : goal.returns-in_err-load-in-Spill-clause-loaded
+returns-in_err-load-in-Spill-clause-loaded g c = λ item honest loaded first.
+    let named = subst (λ (d : DueItems). IsFirst (Has (g.D.Disk.state c.args.io.now.disk.now).seen c.args.io.now.space) d item) c.in-Spill.is first in
+    c.in_err-load-in-Spill.ensures.loaded named.0 honest loaded named.1
+
+pub returns-in_err-load-in-Spill-clause-looks : goal.returns-in_err-load-in-Spill-clause-looks
+returns-in_err-load-in-Spill-clause-looks g c =
+    let p = err_from_is_err_and c.from_residual.result c.from_residual.ensures.1 in
+    rw (p.1, p.2) c.in_err-load-in-Spill.ensures.looks
+
+pub returns-in_err-load-in-Block-clause-loaded : goal.returns-in_err-load-in-Block-clause-loaded
+returns-in_err-load-in-Block-clause-loaded g c = λ item honest loaded first.
+    let named = subst (λ (d : DueItems). IsFirst (Has (g.D.Disk.state c.args.io.now.disk.now).seen c.args.io.now.space) d item) c.in-Block.is first in
+    c.in_err-load-in-Block.ensures.loaded named.0 honest loaded named.1
+
+pub returns-in_err-load-in-Block-clause-looks : goal.returns-in_err-load-in-Block-clause-looks
+returns-in_err-load-in-Block-clause-looks g c =
+    let p = err_from_is_err_and c.from_residual-in_err-load-in-Block.result c.from_residual-in_err-load-in-Block.ensures.1 in
+    rw (p.1, p.2) c.in_err-load-in-Block.ensures.looks
+
+pub returns-in_ok-load-in-Spill-clause-loaded : goal.returns-in_ok-load-in-Spill-clause-loaded
+returns-in_ok-load-in-Spill-clause-loaded g c = λ item honest loaded first.
+    let named = subst (λ (d : DueItems). IsFirst (Has (g.D.Disk.state c.args.io.now.disk.now).seen c.args.io.now.space) d item) c.in-Spill.is first in
+    c.in_ok-load-in-Spill.ensures.loaded named.0 honest loaded named.1
+
+pub returns-in_ok-load-in-Block-clause-loaded : goal.returns-in_ok-load-in-Block-clause-loaded
+returns-in_ok-load-in-Block-clause-loaded g c = λ item honest loaded first.
+    let named = subst (λ (d : DueItems). IsFirst (Has (g.D.Disk.state c.args.io.now.disk.now).seen c.args.io.now.space) d item) c.in-Block.is first in
+    c.in_ok-load-in-Block.ensures.loaded named.0 honest loaded named.1
