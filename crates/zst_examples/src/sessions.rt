@@ -148,8 +148,7 @@ impl Session {
         ask: &Option<Ask>,
     ) -> Result<Handed, AllocError> {
         if is_zst(stage) {
-            let mut words = stage.words.clone()?;
-            words.remove(0);
+            let words = words_behind(alloc, &stage.words)?;
             return self.zst(alloc, words, handed, pieces, ask);
         }
         let Handed { bytes, mut notes } = handed;
@@ -274,6 +273,15 @@ fn is_zst(stage: &Stage) -> bool {
         .words
         .first()
         .is_some_and(|name| name.as_str() == "zst")
+}
+
+/// The words behind the first one.
+fn words_behind(alloc: Global, words: &[String]) -> Result<Vec<String>, AllocError> {
+    let mut behind = Vec::new(alloc);
+    for word in words.iter().skip(1) {
+        behind.push(word.clone()?)?;
+    }
+    Ok(behind)
 }
 
 /// The size of the pieces in which the command at a place reads, and in which what it writes is taken.
