@@ -6,7 +6,5 @@ mod checks;
 mod cut_ranges;
 mod objects;
 mod record_table;
-#[cfg(test)]
-mod tests;
 
 pub use record_table::apply;

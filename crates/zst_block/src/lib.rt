@@ -5,8 +5,6 @@ mod fault;
 mod io;
 mod node;
 mod ptr;
-#[cfg(test)]
-mod tests;
 
 pub use fault::BlockFault;
 pub use io::{Io, load, read, save, write};

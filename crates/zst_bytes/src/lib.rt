@@ -14,5 +14,3 @@ pub use padding::pad8;
 pub use text::decimal;
 pub use words::{fill_up, push_text, push_word, push_words};
 
-#[cfg(test)]
-mod tests;

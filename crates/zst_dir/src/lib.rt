@@ -11,8 +11,6 @@ mod removal;
 mod row_checks;
 mod row_reads;
 mod rows;
-#[cfg(test)]
-mod tests;
 
 pub use dir::Dir;
 pub use laws::bytes_are_one_directory;

@@ -4,8 +4,6 @@
 mod dnode;
 mod ranges;
 mod slot;
-#[cfg(test)]
-mod tests;
 
 pub use dnode::Dnode;
 pub use slot::Slot;

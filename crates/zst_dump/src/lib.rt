@@ -8,5 +8,3 @@ mod part;
 pub use counts::Counts;
 pub use line::{line_of, summary};
 
-#[cfg(test)]
-mod tests;

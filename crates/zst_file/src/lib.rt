@@ -28,8 +28,6 @@ mod output;
 mod pipe;
 mod record;
 mod start;
-#[cfg(test)]
-mod tests;
 
 pub use file_disk::FileDisk;
 pub use input::Input;

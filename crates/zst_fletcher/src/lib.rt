@@ -3,8 +3,6 @@
 
 mod lanes;
 mod sum;
-#[cfg(test)]
-mod tests;
 mod weights;
 mod word_sums;
 

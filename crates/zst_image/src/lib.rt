@@ -9,8 +9,6 @@ mod laws;
 mod open_fault;
 mod pool_reads;
 mod pool_state;
-#[cfg(test)]
-mod tests;
 
 pub use commit_fault::CommitFault;
 pub use commits::commit_dir;

@@ -5,8 +5,6 @@ mod fault;
 mod laws;
 mod reads;
 mod sizes;
-#[cfg(test)]
-mod tests;
 mod writes;
 
 pub use fault::LeavesFault;

@@ -14,8 +14,6 @@ mod slot;
 mod snapshots;
 mod streams;
 mod table;
-#[cfg(test)]
-mod tests;
 mod text;
 mod tools;
 mod word_values;

@@ -4,8 +4,6 @@
 mod coding;
 mod laws;
 mod reads;
-#[cfg(test)]
-mod tests;
 
 pub use coding::{decode_list, encode_list};
 pub use laws::root_has_one_list;

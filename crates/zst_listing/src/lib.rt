@@ -11,5 +11,3 @@ pub use fault::ListFault;
 pub use objects::list_objects;
 pub use rows::list_rows;
 
-#[cfg(test)]
-mod tests;

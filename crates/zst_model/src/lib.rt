@@ -29,5 +29,3 @@ pub use states::attr::{Attr, ObjectHead};
 pub use states::cell::{Cell, Run};
 pub use states::item::{Change, Item};
 
-#[cfg(test)]
-mod tests;

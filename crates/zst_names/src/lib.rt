@@ -7,8 +7,6 @@ mod laws;
 mod mark_split;
 mod marked_name;
 mod scan;
-#[cfg(test)]
-mod tests;
 
 pub use dataset::DatasetName;
 pub use fault::NameFault;

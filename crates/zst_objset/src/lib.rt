@@ -17,8 +17,6 @@ mod set;
 mod slot_puts;
 mod slot_reads;
 mod slots;
-#[cfg(test)]
-mod tests;
 mod trees;
 
 pub use commands::{changes_are_commands, reads_are_commands};

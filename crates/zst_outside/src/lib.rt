@@ -11,8 +11,6 @@ mod plan;
 mod sink;
 mod source;
 mod sure_disk;
-#[cfg(test)]
-mod tests;
 
 pub use call_log::{Call, Entry};
 pub use disk::{Disk, put};

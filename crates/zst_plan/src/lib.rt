@@ -10,8 +10,6 @@ mod receive;
 mod resume;
 mod send;
 mod source;
-#[cfg(test)]
-mod tests;
 
 pub use plan::SendPlan;
 pub use receive::{RecvAsk, RecvPlan, recv_plan};

@@ -21,8 +21,6 @@ mod pool;
 mod queries;
 mod reopened_pools;
 mod rollbacks;
-#[cfg(test)]
-mod tests;
 
 pub use fault::PoolFault;
 pub use laws::{blocks_leave_it_at_rest, opened_is_at_rest, rows_name_a_pool};

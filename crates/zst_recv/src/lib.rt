@@ -10,8 +10,6 @@ mod point;
 mod received_snapshot;
 mod recv;
 mod stage;
-#[cfg(test)]
-mod tests;
 mod tokens;
 
 pub use fault::RecvFault;

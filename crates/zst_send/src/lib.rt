@@ -8,8 +8,6 @@ mod room;
 mod send;
 mod send_state;
 mod support;
-#[cfg(test)]
-mod tests;
 mod walk;
 mod work;
 

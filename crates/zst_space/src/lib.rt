@@ -5,5 +5,3 @@ mod space;
 
 pub use space::{Extent, Space, SpaceFault};
 
-#[cfg(test)]
-mod tests;

@@ -6,8 +6,6 @@ mod digits;
 mod fault;
 mod fields;
 mod parser;
-#[cfg(test)]
-mod tests;
 mod token;
 
 pub use fault::TokenFault;

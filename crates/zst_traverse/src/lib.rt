@@ -8,8 +8,6 @@ mod number_search;
 mod objects;
 mod pairs;
 mod slots;
-#[cfg(test)]
-mod tests;
 mod walk_entry;
 
 pub use cells::next_cell;

@@ -9,8 +9,6 @@ mod present_indices;
 mod puts;
 mod spans;
 mod steps;
-#[cfg(test)]
-mod tests;
 mod tree;
 mod walks;
 mod words;

@@ -5,8 +5,6 @@ mod commits;
 mod fault;
 mod latest_body;
 mod slot;
-#[cfg(test)]
-mod tests;
 mod uber;
 
 pub use commits::{commit, commit_event};

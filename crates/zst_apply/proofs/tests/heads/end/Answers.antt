@@ -1,5 +1,0 @@
-use Rattle.std.proofs.Common.{arith, refl}
-use Rattle.zst_apply.proofs.tests.heads.end.Goals as goal
-
-pub returns : goal.returns
-returns c = (0, (record { four = refl; a = omega arith; b = omega arith; c = omega arith; d = omega arith }, omega arith))

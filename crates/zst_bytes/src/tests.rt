@@ -1,5 +1,0 @@
-mod cursor;
-mod fields;
-mod padding;
-mod text;
-mod words;

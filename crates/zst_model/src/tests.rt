@@ -1,6 +1,0 @@
-mod bytes;
-mod guids;
-mod list;
-mod name;
-mod points;
-mod refusals;

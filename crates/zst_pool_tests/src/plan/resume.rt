@@ -1,0 +1,18 @@
+//! Sends from tokens of what was redacted.
+use crate::plan::twins::{is_refused, planned, token, twins};
+use std::test::Fail;
+
+#[test]
+fn redaction_bookmarks_are_found_by_their_guids(rt: HostRuntime) -> Result<(), Fail> {
+    let dir = twins(rt.alloc())?;
+    let plan = planned(&dir, &token(18, 16, &[], &[7]))?;
+    assert!(rt; plan.book_f == Some(1) && plan.from_snap.is_none());
+    assert!(rt; plan.from_number == Some(4) && plan.from_guid == 16);
+    let plan = planned(&dir, &token(17, 16, &[7, 9], &[]))?;
+    assert!(rt; plan.snap == 1 && plan.book_t == Some(0));
+    let text = "no such guid 0000000000000010";
+    assert!(rt; is_refused(&dir, &token(18, 16, &[], &[9]), text));
+    let text = "no such guid 0000000000000011";
+    assert!(rt; is_refused(&dir, &token(17, 16, &[7], &[]), text));
+    Ok(())
+}

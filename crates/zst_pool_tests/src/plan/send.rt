@@ -1,0 +1,58 @@
+//! Sends of what no command makes: redactions, a bookmark beside its snapshot's guid, and origins in a circle.
+use crate::plan::senders::{ask, circle, clones, is_refused, planned};
+use std::test::Fail;
+use zst_plan::send_plan;
+
+#[test]
+fn redactions_are_sent_by_their_bookmarks(rt: HostRuntime) -> Result<(), Fail> {
+    let dir = clones(rt.alloc())?;
+    for (snap, from, place, flags) in [("a@t", "a#o", 0, 12), ("c@w", "a#r", 1, 13)] {
+        let plan = planned(&dir, snap, from)?;
+        assert!(rt;
+            plan.book_f == Some(place) && plan.flags == flags,
+            "{snap} from {from}"
+        );
+        assert!(rt;
+            plan.from_number == Some(3) && plan.from_snap.is_none(),
+            "{snap} from {from}"
+        );
+    }
+    let header = planned(&dir, "c@w", "a#r")?.header(&dir);
+    assert!(rt; header.from == 17 && header.from_redact.as_slice() == [7, 9].as_slice());
+    assert!(rt; header.redact.as_slice().is_empty() && header.features == 4);
+    match send_plan(&dir, &ask("a@s", "a@q", "a#r")?) {
+        Ok(plan) => {
+            assert_eq!(rt; plan.book_t, Some(1));
+            let header = plan.header(&dir);
+            // REDACTED is bit 21, SA_SPILL bit 2.
+            assert_eq!(rt; header.features, 0x20_0004);
+            assert!(rt; header.redact.as_slice() == [7, 9].as_slice());
+            assert!(rt; header.from_redact.as_slice().is_empty());
+        }
+        Err(_) => return Err(Fail::new("it is refused")),
+    }
+    Ok(())
+}
+
+#[test]
+fn what_no_command_makes_is_refused_in_order(rt: HostRuntime) -> Result<(), Fail> {
+    let dir = clones(rt.alloc())?;
+    for (snap, from, redact, text) in [
+        ("d@y", "a@s", "", "not an ancestor of d@y: a@s"),
+        ("b@u", "a#o", "", "not an ancestor of b@u: a#o"),
+        ("d@x", "d@y", "", "not an ancestor of d@x: d@y"),
+        ("a@t", "", "a#r", "not a redaction of a@t: a#r"),
+        ("d@x", "", "d#x", "not a redaction of d@x: d#x"),
+        ("d@x", "", "", "unsupported: relay"),
+        ("d@y", "d@x", "", "unsupported: relay"),
+    ] {
+        let ask = ask(snap, from, redact)?;
+        assert!(rt; is_refused(&dir, &ask, text), "{text}");
+    }
+    for numbers in [(20, 20), (20, 21), (21, 20)] {
+        let dir = circle(rt.alloc(), numbers)?;
+        let ask = ask("e@x", "a@s", "")?;
+        assert!(rt; is_refused(&dir, &ask, "not an ancestor of e@x: a@s"));
+    }
+    Ok(())
+}

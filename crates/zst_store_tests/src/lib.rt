@@ -1,0 +1,16 @@
+//! Tests of object sets on disks in memory: what a change and a walk cost, and what records make of a set.
+//! They make only public calls, so that no library is proved a second time for them.
+#![tactic(auto)]
+
+mod disks;
+
+pub use disks::{all_free, zeros};
+
+#[cfg(test)]
+mod apply;
+#[cfg(test)]
+mod costs;
+#[cfg(test)]
+mod list;
+#[cfg(test)]
+mod traverse;

@@ -1,4 +1,0 @@
-use Rattle.zst_tree.proofs.tests.comparisons.is_alike.Given as goal
-
-abbrev pub ghosts-first_after : goal.ghosts-first_after
-ghosts-first_after g a = record { name = a.blank.name; parts = a.blank.parts }
