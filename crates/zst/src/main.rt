@@ -4,9 +4,6 @@
 ghost use Rattle.std.specs.Prelude.{◌≡◌, []};
 ghost use Rattle.zst_file.specs.FileDisk.{history_of};
 
-#[cfg(test)]
-mod tests;
-
 use std::env;
 use std::io::{self, Stderr, Stdin, Stdout, Write};
 use std::process::ExitCode;

@@ -17,4 +17,6 @@ mod reader;
 #[cfg(test)]
 mod record;
 #[cfg(test)]
+mod run;
+#[cfg(test)]
 mod writer;

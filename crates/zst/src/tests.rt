@@ -1,5 +1,0 @@
-mod flushes;
-mod items;
-mod outputs;
-mod round_trip;
-mod statuses;
