@@ -2,3 +2,4 @@ mod sends
 mod histories
 mod pools
 mod examples
+mod runs

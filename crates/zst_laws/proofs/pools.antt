@@ -1,7 +1,12 @@
 pub mod Ancestry
 pub mod Rows
 pub mod SourceBases
+pub mod CoveredBases
+pub mod ContainedBases
+pub mod ListedSteps
+pub mod RedactionSteps
 pub mod Aborts
+pub mod AlikePools
 pub mod AcceptedCommands
 pub mod AcceptedRemovals
 pub mod Filters

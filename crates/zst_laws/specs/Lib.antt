@@ -1,4 +1,5 @@
 pub mod Aborts
+pub mod AlikePools
 pub mod CloneExample
 pub mod CommandExample
 pub mod Commits
@@ -20,6 +21,9 @@ pub mod SendPlans
 pub mod Ranges
 pub mod ReceivedRecords
 pub mod RedactExample
+pub mod RedactionLists
+pub mod RedactionSteps
+pub mod RunsOf
 pub mod RememberedStates
 pub mod ResumedSends
 pub mod SendExample

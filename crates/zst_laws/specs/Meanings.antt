@@ -10,7 +10,7 @@ use Rattle.zst_model.specs.declared.states.item.Item.TheVariants.{FreeObjects, A
 use Rattle.zst_model.specs.declared.refusals.apply_fault.ApplyFault.{ApplyFault}
 use Rattle.zst_model.specs.declared.refusals.apply_fault.ApplyFault.TheVariants.{NoObject, SizeDiffers, Unaligned, OddBlock, NotUserData}
 use Rattle.zst_model.specs.declared.pools.command.Command.TheVariants as commands
-use Rattle.zst_model.specs.states.State.{Block, Hole, Redacted, Data, Object, Empty, BytesOf, RedactedOf, content_at, end_at, is_block_size, is_number, is_user_data}
+use Rattle.zst_model.specs.states.State.{Block, Hole, Redacted, Data, Object, State, Empty, BytesOf, RedactedOf, content_at, end_at, is_block_size, is_number, is_user_data}
 use Rattle.zst_model.specs.states.AppliedItems.{apply_change}
 use Rattle.zst_model.specs.states.DatedState.{DatedState, apply_dated}
 use Rattle.zst_model.specs.sends.Inclusion.{Choice, includes_pair, includes_number}
@@ -308,9 +308,11 @@ HeadersFrom =
     × ((header_from (record header { features = 4 }) (Some point)).features ≡ 1048580)
     × ((header_from header (Some point)).resume ≡ Some point)
 
+-- each redacted block of a state is one of a file or a volume
+abbrev pub RedactsUserData : State → Type 0
+RedactsUserData state = (k i : ℕ) (object : Object) → state k ≡ Some object → object.blocks i ≡ Redacted → is_user_data object.attr ≡ true
+
 -- what a redaction bookmark lists can be redacted, where what is redacted already is user data
 abbrev pub ListsCanBeRedacted : Type 0
 ListsCanBeRedacted =
-    (snap : DatedState) (number : ℕ) (redactions : List DatedState)
-    → ((k i : ℕ) (object : Object) → snap.state k ≡ Some object → object.blocks i ≡ Redacted → is_user_data object.attr ≡ true)
-    → CanRedact snap.state (red_set snap number redactions)
+    (snap : DatedState) (number : ℕ) (redactions : List DatedState) → RedactsUserData snap.state → CanRedact snap.state (red_set snap number redactions)

@@ -10,6 +10,7 @@ ghost use Rattle.zst_laws.specs.ExactSends.{SnapshotHasView, SendIsExact, FullIs
 ghost use Rattle.zst_laws.specs.Walk.{WalkBegins, WalkEnds, ObjectIsNext, GoneIsNext, GoneRunIsNext, BlockIsNext, BlockRunIsNext};
 
 mod aborts;
+mod alike_pools;
 mod clone_example;
 mod command_examples;
 mod commits;
@@ -25,7 +26,10 @@ mod meanings;
 mod plan_examples;
 mod received_records;
 mod redact_example;
+mod redaction_lists;
+mod redaction_steps;
 mod remembered_states;
+mod runs_of;
 mod send_examples;
 mod send_plans;
 mod sessions;
@@ -81,6 +85,14 @@ pub use step_refusals::{
     heads_are_refused, new_datasets_are_refused, numbers_are_refused, punches_are_refused,
     reads_are_refused, snapshots_are_refused, writes_are_refused,
 };
+
+// Laws that no command uses yet: of redaction bookmarks.
+pub use alike_pools::alike_pools_are_sent_alike;
+pub use redaction_lists::{covered_is_base, listed_may_be_redacted};
+pub use redaction_steps::{
+    lists_are_kept, redactions_keep_sound, redactions_list, steps_keep_lists,
+};
+pub use runs_of::{more_runs, one_list, runs_are_pairs};
 
 /// A lawful snapshot with a lawful choice has a lawful view.
 pub fn snapshot_has_view()

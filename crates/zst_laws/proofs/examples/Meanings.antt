@@ -199,7 +199,7 @@ unfolding resuming
 headers_from header point = (refl, refl, refl)
 
 -- data of what stands at a number
-data_of : (object : Object) (i : ℕ) → is_user_block (Some object) i ≡ true → (is_user_data object.attr ≡ true) × (bytes : List ℕ) × (object.blocks i ≡ Data bytes)
+pub data_of : (object : Object) (i : ℕ) → is_user_block (Some object) i ≡ true → (is_user_data object.attr ≡ true) × (bytes : List ℕ) × (object.blocks i ≡ Data bytes)
 data_of object i h =
     let parts = and_parts (is_user_data object.attr) _ h in
     let found = go (object.blocks i) parts.1 in

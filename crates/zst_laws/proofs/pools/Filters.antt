@@ -1,7 +1,7 @@
--- What a filter leaves of a list.
+-- What a filter leaves of a list, and what a test of all of a list says of each.
 use Rattle.std.proofs.Common.{◌≡◌, inl, inr, ◌⊎◌, Bool, true, false, List, [], ◌∷◌, Contains, if◌then◌else◌, filter, refl, sym, ap, subst, ◌∙◌}
-use Rattle.std.specs.List.{list_any}
-use Rattle.std.proofs.lemmas.Bool.{true≢false, or_cases, or_left, or_right}
+use Rattle.std.specs.List.{list_all, list_any}
+use Rattle.std.proofs.lemmas.Bool.{true≢false, and_from, and_parts, or_cases, or_left, or_right}
 use Rattle.zst_model.proofs.InsertedLaws.{contains_cases, contains_first, contains_later, contains_nothing}
 
 -- what a filter leaves was there, and what was there and passes is left
@@ -63,3 +63,15 @@ some_passes p (y ∷ ys) h = elim (or_cases (p y) (list_any p ys) h) [
   | inl e ↦ (y, contains_first y ys, e)
   | inr later ↦ let found = some_passes p ys later in (found.0, contains_later y ys found.0 found.1, found.2)
 ]
+
+-- what passes for all of a list passes for each of it, and the other way round
+pub each_passes : {A : Type 0} (test : A → Bool) (xs : List A) (x : A) → list_all test xs ≡ true → Contains xs x → test x ≡ true
+each_passes test [] x all there = absurd (contains_nothing x there)
+each_passes test (y ∷ ys) x all there = elim (contains_cases y ys x there) [
+  | inl e ↦ ap test (sym e) ∙ (and_parts (test y) _ all).0
+  | inr k ↦ each_passes test ys x (and_parts (test y) _ all).1 k
+]
+
+pub all_pass : {A : Type 0} (test : A → Bool) (xs : List A) → ((x : A) → Contains xs x → test x ≡ true) → list_all test xs ≡ true
+all_pass test [] each = refl
+all_pass test (x ∷ xs) each = and_from (test x) _ (each x (contains_first x xs)) (all_pass test xs (λ y k. each y (contains_later x xs y k)))

@@ -18,6 +18,7 @@ use Rattle.zst_laws.specs.Dates.{AreLawfulItems}
 use Rattle.zst_laws.proofs.sends.AppliedItemLemmas.{bind_ok, ok_inj}
 use Rattle.zst_laws.proofs.histories.Dates.{remembered_itself, remembered_through}
 use Rattle.zst_laws.proofs.pools.Rows.{limited_ok, of_applying_ok}
+use Rattle.zst_laws.proofs.sends.ExactSends.{number_there}
 
 -- lawful items that are applied in the next commit leave a lawful state
 pub applied_is_lawful : (pool : Pool) (items : List Item) (head after : DatedState)
@@ -29,13 +30,6 @@ applied_is_lawful pool items head after s lawful h =
 -- a number that is less than the bound and not 0 is one that an object may have
 pub number_from : (k : ℕ) → 0 < k → k < number_bound → is_number k ≡ true
 number_from k some below = and_from (nat_lt 0 k) (nat_lt k number_bound) (lt-ltb 0 k some) (lt-ltb k number_bound below)
-
--- where an object stands, its number is one that an object may have
-number_of_object : (state : State) (k : ℕ) (object : Object) → IsState state → 0 < k → state k ≡ Some object → is_number k ≡ true
-number_of_object state k object s some there = elim (cases_lt k number_bound) [
-  | inl below ↦ number_from k some below
-  | inr past ↦ let none = s.bounded k past in absurd (cc)
-]
 
 -- a change that needs an object found one where it was applied
 object_there : (number k : ℕ) (change : Change) (head after : DatedState) → ((p : Option Object) → apply_change change None ≡ Ok p → ⊥)
@@ -94,7 +88,7 @@ write_is_lawful pool k i bytes head after s some h =
     let there = object_there (pool.number + 1) k _ head made.0 (write_needs _ _ _) (of_applying_ok _ made.0 made.1) in
     let object : IsObject there.0 = subst IsObjectOrNone there.1 (s.objects k) in
     let sized : 0 < size = subst (λ o. 0 < size_at o) (sym there.1) (size_of_lawful there.0 object) in
-    let lawful : AreLawfulItems items head.state = ((number_of_object head.state k there.0 s some there.1, λ j past. place_differs size i j sized (omega (arith, below.0))), λ later e. tt) in
+    let lawful : AreLawfulItems items head.state = ((number_there head.state s k there.0 there.1, λ j past. place_differs size i j sized (omega (arith, below.0))), λ later e. tt) in
     subst (λ d. IsState d.state) (ok_inj made.0 after below.1) (applied_is_lawful pool items head made.0 s lawful made.1)
 
 -- punch
@@ -106,7 +100,7 @@ punch_is_lawful pool k first count head after s some h =
     let made = bind_ok (applied pool items head) _ after h in
     let below = limited_ok quantities.Block index_bound (first + count) _ after made.2 in
     let there = object_there (pool.number + 1) k _ head made.0 (free_needs _ _) (of_applying_ok _ made.0 made.1) in
-    let lawful : AreLawfulItems items head.state = ((number_of_object head.state k there.0 s some there.1, tt), λ later e. tt) in
+    let lawful : AreLawfulItems items head.state = ((number_there head.state s k there.0 there.1, tt), λ later e. tt) in
     subst (λ d. IsState d.state) (ok_inj made.0 after below.1) (applied_is_lawful pool items head made.0 s lawful made.1)
 
 -- free

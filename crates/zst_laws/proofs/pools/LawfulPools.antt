@@ -7,6 +7,7 @@ use Rattle.zst_names.specs.Marks.{at_is_mark}
 use Rattle.zst_names.proofs.MarkedNames.{join_is_name}
 use Rattle.zst_model.specs.fields.Guids.{IsGuidSet}
 use Rattle.zst_model.specs.fields.Lists.{IsRunList}
+use Rattle.zst_model.specs.fields.Lists.{IsRunList}
 use Rattle.zst_model.specs.declared.pools.command.Command.TheVariants as commands
 use Rattle.zst_model.specs.declared.refusals.subjects.Name.TheVariants as names
 use Rattle.zst_model.specs.declared.refusals.refusal.Refusal.{Refusal}
@@ -47,7 +48,7 @@ numbered_pool pool number p below = record {
   partials = p.partials;
 }
 
-committed_pool : (pool : Pool) (after : Stepped) → IsPool pool → committed pool ≡ Ok after → IsPool after.pool
+pub committed_pool : (pool : Pool) (after : Stepped) → IsPool pool → committed pool ≡ Ok after → IsPool after.pool
 committed_pool pool after p h =
     let made = committed_ok pool after h in
     subst (λ s. IsPool s.pool) made.1 (numbered_pool pool (pool.number + 1) p made.0)
@@ -214,15 +215,13 @@ snapshot_added now name pool dataset fits p is_name there free absent guids =
       partials = p.partials;
     }
 
--- a lawful pool with a bookmark of a snapshot that is there
-bookmark_added : (name : List ℕ) (snapshot : Snapshot) (pool : Pool) → IsPool pool → IsBookmark name → Contains pool.snapshots snapshot
-    → is_some (bookmark_named name pool) ≡ false
-    → IsPool (record pool { bookmarks = inserted (λ a b. is_before a.name b.name) (bookmark_of name snapshot) pool.bookmarks })
-bookmark_added name snapshot pool p is_name there absent =
-    let row = bookmark_of name snapshot in
+-- a lawful pool with a lawful bookmark
+pub bookmark_added : (row : Bookmark) (pool : Pool) → IsPool pool → IsBookmark row.name → IsGuid row.guid × IsGuidSet row.redact × IsRunList row.runs × (row.time < 2 ^ 64)
+    → is_some (bookmark_named row.name pool) ≡ false
+    → IsPool (record pool { bookmarks = inserted (λ a b. is_before a.name b.name) row pool.bookmarks })
+bookmark_added row pool p is_name lawful absent =
     let by_name = λ (a b : Bookmark). is_before a.name b.name in
-    let differs : (x : Bookmark) → Contains pool.bookmarks x → x.name ≢ name = none_named (λ b. b.name) name pool.bookmarks absent in
-    let lawful = All-contains (λ s. IsGuid s.guid × IsGuidSet s.redact × IsState s.objects.state × (s.time < 2 ^ 64)) pool.snapshots snapshot p.snapshots there in
+    let differs : (x : Bookmark) → Contains pool.bookmarks x → x.name ≢ row.name = none_named (λ b. b.name) row.name pool.bookmarks absent in
     record {
       id = p.id;
       number = p.number;
@@ -243,7 +242,7 @@ bookmark_added name snapshot pool p is_name there absent =
       snapshots = p.snapshots;
       bookmarks =
           All-inserted (λ b. IsGuid b.guid × IsGuidSet b.redact × IsRunList b.runs × (b.time < 2 ^ 64)) by_name row pool.bookmarks
-          (lawful.0, no_guids, no_runs, lawful.3) p.bookmarks;
+          lawful p.bookmarks;
       partials = p.partials;
     }
 
@@ -272,7 +271,8 @@ bookmark_steps : (of name : List ℕ) (pool : Pool) (after : Stepped) → IsPool
 bookmark_steps of name pool after p is_name h =
     let new = with_bookmark_ok of name pool after h in
     let there = (named_found (λ s. s.name) of pool.snapshots new.snapshot new.there).0 in
-    committed_pool _ after (bookmark_added name new.snapshot pool p is_name there new.absent) new.made
+    let lawful = All-contains (λ s. IsGuid s.guid × IsGuidSet s.redact × IsState s.objects.state × (s.time < 2 ^ 64)) pool.snapshots new.snapshot p.snapshots there in
+    committed_pool _ after (bookmark_added (bookmark_of name new.snapshot) pool p is_name (lawful.0, no_guids, no_runs, lawful.3) new.absent) new.made
 
 head_steps : (name : List ℕ) (pool : Pool) (change : DatedState → Result DatedState Refusal) (after : Stepped) → IsPool pool
     → ((old new : DatedState) → IsState old.state → change old ≡ Ok new → IsState new.state)

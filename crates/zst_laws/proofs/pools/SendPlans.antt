@@ -3,7 +3,7 @@ use Rattle.std.proofs.Common.{◌≡◌, ℕ, zero, suc, ◌<◌, ◌≤◌, Boo
 use Rattle.std.specs.List.{find}
 use Rattle.std.specs.Option.{IfSome, ok_or, option_and_then, option_map_or}
 use Rattle.std.specs.Str.{bytes_eq}
-use Rattle.std.proofs.lemmas.Bool.{true≢false}
+use Rattle.std.proofs.lemmas.Bool.{true≢false, not-false}
 use Rattle.std.proofs.lemmas.Bool.Decides.{nat_tests}
 use Rattle.std.proofs.lemmas.List.Elements.{All-contains}
 use Rattle.zst_model.specs.declared.refusals.faults.Lack.TheVariants as lacks
@@ -182,14 +182,10 @@ before_tested pool source snapshot lawful sound here there = (
   (λ before. stands_tested pool lawful sound source snapshot.number snapshot there (omega arith) (dataset_of_snapshot snapshot) (Some snapshot.number) refl refl before),
 )
 
--- an answer of what was found, and a test that isn't turned
-found_ok : {A : Type 0} (fault : PlanFault) (o : Option A) (x : A) → ok_or o fault ≡ Ok x → o ≡ Some x
+-- an answer of what was found
+pub found_ok : {A : Type 0} (fault : PlanFault) (o : Option A) (x : A) → ok_or o fault ≡ Ok x → o ≡ Some x
 found_ok fault None x h = absurd (cc)
 found_ok fault (Some y) x h = ap (λ z. Some z) (ok_inj y x h)
-
-not_false : (b : Bool) → not b ≡ false → b ≡ true
-not_false true h = refl
-not_false false h = absurd (cc)
 
 -- what is there where a snapshot, a bookmark or a source is found by its name
 snapshot_is_named : (name : List ℕ) (pool : Pool) (s : Snapshot) → find_snapshot name pool ≡ Ok s → Contains pool.snapshots s × (s.name ≡ name)
@@ -227,14 +223,14 @@ before_passed : (pool : Pool) (s : Snapshot) (source : Option Source) (rest : Re
 before_passed pool s None rest sent h = (tt, h)
 before_passed pool s (Some source) rest sent h =
     let ok = unless_ok (not (comes_before pool source s)) (plans.NotAncestor (names.Snapshot s.name) (name_of_source source)) rest sent h in
-    (not_false (comes_before pool source s) ok.0, ok.1)
+    (not-false (comes_before pool source s) ok.0, ok.1)
 
 redaction_passed : (pool : Pool) (s : Snapshot) (list : Option Bookmark) (rest : Result Sent PlanFault) (sent : Sent) → IfSome list (Contains pool.bookmarks)
     → if_redaction s list rest ≡ Ok sent → IfSome list (IsRedactionOf pool s) × (rest ≡ Ok sent)
 redaction_passed pool s None rest sent there h = (tt, h)
 redaction_passed pool s (Some bookmark) rest sent there h =
     let ok = unless_ok (not (redacts_snapshot bookmark s)) (plans.NotRedactionOf bookmark.name s.name) rest sent h in
-    let yes_it = not_false (redacts_snapshot bookmark s) ok.0 in
+    let yes_it = not-false (redacts_snapshot bookmark s) ok.0 in
     (record { there = there; guid = grind (yes_it, nat_tests, arith); guids = grind (yes_it, nat_tests, arith) }, ok.1)
 
 no_guids : (guids : List ℕ) → has_guids guids ≡ false → guids ≡ []
@@ -340,3 +336,23 @@ ancestor_wanted ask pool snapshot source list lawful sound has_snapshot has_sour
           (sym (ap (λ b. unless (not b) fault rest) (tested.1 before)) ∙ sym left ∙ refused)),
       (λ none. left ∙ ap (λ b. unless b fault rest) (negated (comes_before pool source snapshot) (λ h. none (tested.0 h)))),
     )
+
+-- a plan has what is found by the asked names
+pub record HasFound (ask : SendAsk) (pool : Pool) (sent : Sent) : Type 0 where
+  pub snapshot : find_snapshot ask.snap pool ≡ Ok sent.snapshot
+  pub source : find_source ask.from pool ≡ Ok sent.source
+  pub redaction : find_redaction ask.redact pool ≡ Ok sent.redaction
+  pub kind : sent.kind ≡ kind_of pool sent.snapshot
+
+pub plan_has_found : (ask : SendAsk) (pool : Pool) (sent : Sent) → send_plan ask pool ≡ Ok sent → HasFound ask pool sent
+unfolding send_plan
+plan_has_found ask pool sent h =
+    let s = bind_ok (find_snapshot ask.snap pool) (λ snapshot. find_source ask.from pool >>= (λ source. find_redaction ask.redact pool >>= (λ redaction. sent_of pool snapshot source redaction))) sent h in
+    let f = bind_ok (find_source ask.from pool) (λ source. find_redaction ask.redact pool >>= (λ redaction. sent_of pool s.0 source redaction)) sent s.2 in
+    let l = bind_ok (find_redaction ask.redact pool) (λ redaction. sent_of pool s.0 f.0 redaction) sent f.2 in
+    let list = redaction_is_named ask.redact pool l.0 l.1 in
+    let made : Sent = record { snapshot = s.0; kind = kind_of pool s.0; source = f.0; redaction = l.0 } in
+    let past_before = before_passed pool s.0 f.0 (if_redaction s.0 l.0 (if_no_relay s.0 f.0 (Ok made))) sent l.2 in
+    let past_redaction = redaction_passed pool s.0 l.0 (if_no_relay s.0 f.0 (Ok made)) sent list.0 past_before.1 in
+    let past_relay = relay_passed s.0 f.0 (Ok made) sent past_redaction.1 in
+    subst (HasFound ask pool) (ok_inj made sent past_relay.2) (record { snapshot = s.1; source = f.1; redaction = l.1; kind = refl })

@@ -1,8 +1,8 @@
 -- A command that makes a bookmark keeps a pool sound.
-use Rattle.std.proofs.Common.{◌≡◌, ◌⊎◌, inl, inr, ℕ, ◌+◌, ◌≤◌, List, Contains, refl, subst, sym, ◌∙◌, ap, arith}
+use Rattle.std.proofs.Common.{◌≡◌, ◌⊎◌, inl, inr, ℕ, ◌+◌, ◌<◌, ◌≤◌, List, Contains, refl, subst, sym, ◌∙◌, ap, arith}
 use Rattle.std.proofs.lemmas.List.Elements.{All-contains}
 use Rattle.zst_names.specs.Names.{dataset_of}
-use Rattle.zst_model.specs.pools.Pool.{Pool, Snapshot, Bookmark, HasDataset, IsLinked, dataset_of_snapshot, is_before, inserted}
+use Rattle.zst_model.specs.pools.Pool.{Pool, Snapshot, Bookmark, HasDataset, IsLinked, dataset_of_snapshot, dataset_of_bookmark, is_before, inserted}
 use Rattle.zst_model.specs.pools.Ancestry.{IsOrigin}
 use Rattle.zst_model.specs.pools.Rows.{Row}
 use Rattle.zst_model.specs.pools.Soundness.{IsBookmarkOf, Sound}
@@ -15,12 +15,10 @@ use Rattle.zst_laws.proofs.pools.Descent.{IsRow, SnapshotRow, HeadRow, PartialRo
 abbrev pub with_new_bookmark : Pool → Bookmark → Pool
 with_new_bookmark pool row = record pool { bookmarks = inserted (λ a b. is_before a.name b.name) row pool.bookmarks; number = pool.number + 1 }
 
-module _ (pool : Pool) (name : List ℕ) (snapshot : Snapshot) (linked : IsLinked pool) (sound : Sound pool)
-    (there : Contains pool.snapshots snapshot) (same : dataset_of_snapshot snapshot ≡ dataset_of 35 name)
+-- the new bookmark has its snapshot's guid and number, and is of its dataset
+module _ (pool : Pool) (row : Bookmark) (snapshot : Snapshot) (linked : IsLinked pool) (sound : Sound pool)
+    (there : Contains pool.snapshots snapshot) (guid_is : row.guid ≡ snapshot.guid) (number_is : row.number ≡ snapshot.number) (same : dataset_of_snapshot snapshot ≡ dataset_of_bookmark row)
   where
-    abbrev row : Bookmark
-    row = bookmark_of name snapshot
-
     abbrev next_pool : Pool
     next_pool = with_new_bookmark pool row
 
@@ -31,11 +29,11 @@ module _ (pool : Pool) (name : List ℕ) (snapshot : Snapshot) (linked : IsLinke
     new_is_of : IsBookmarkOf next_pool row
     new_is_of = record {
       dataset = subst (HasDataset pool) same (All-contains (λ s. HasDataset pool (dataset_of_snapshot s)) pool.snapshots snapshot linked.snapshots there);
-      above = λ origin is. sound.dated.above origin snapshot there (old_origins origin (dataset_of_snapshot snapshot)
+      above = λ origin is. subst (λ n. origin.number < n) (sym number_is) (sound.dated.above origin snapshot there (old_origins origin (dataset_of_snapshot snapshot)
           (All-contains (λ s. HasDataset pool (dataset_of_snapshot s)) pool.snapshots snapshot linked.snapshots there)
-          (subst (IsOrigin next_pool origin) (sym same) is));
-      number = let l : snapshot.number ≤ pool.number = All-contains (λ s. s.number ≤ pool.number) pool.snapshots snapshot sound.dated.numbers there in omega arith;
-      guid = λ other is of number. ap (λ s. s.guid) (same_snapshot pool.snapshots sound.dated.rise snapshot other there is (same ∙ sym of) (sym number));
+          (subst (IsOrigin next_pool origin) (sym same) is)));
+      number = let l : snapshot.number ≤ pool.number = All-contains (λ s. s.number ≤ pool.number) pool.snapshots snapshot sound.dated.numbers there in omega (arith, number_is);
+      guid = λ other is of number. guid_is ∙ ap (λ s. s.guid) (same_snapshot pool.snapshots sound.dated.rise snapshot other there is (same ∙ sym of) (sym number_is ∙ sym number));
     }
 
     next_bookmark : (bookmark : Bookmark) → (row ≡ bookmark) ⊎ Contains pool.bookmarks bookmark → IsNextBookmark pool next_pool bookmark

@@ -20,7 +20,7 @@ use Rattle.zst_model.specs.states.DatedState.{DatedState, size_at, apply_all_dat
 use Rattle.zst_model.specs.pools.Sessions.{Held}
 use Rattle.zst_model.specs.pools.Pool.{Pool, Dataset, Snapshot, Bookmark, Partial, HasDataset, IsKind, IsPool}
 use Rattle.zst_model.specs.pools.Soundness.{Sound}
-use Rattle.zst_model.specs.pools.Step.{Stepped, stepped, IsCommand, committed, with_head, in_numbers, in_indices, applied, filled, written, punched, on_head, new_dataset, with_dataset, with_snapshot, snapshot_of, clone_of, with_clone, with_bookmark, with_rollback, with_destroyed, with_aborted}
+use Rattle.zst_model.specs.pools.Step.{Stepped, stepped, IsCommand, committed, with_head, in_numbers, in_indices, applied, filled, written, punched, on_head, new_dataset, with_dataset, with_snapshot, snapshot_of, clone_of, with_clone, bookmark_of, with_bookmark, with_rollback, with_destroyed, with_aborted}
 use Rattle.zst_laws.specs.StepInvariants.{StepsKeepSound}
 use Rattle.zst_laws.specs.RememberedStates.{SourceRemembers, StepsRemember}
 use Rattle.zst_laws.proofs.sends.AppliedItemLemmas.{bind_ok, ok_inj}
@@ -77,8 +77,8 @@ marked_follows of name pool after is sound h =
     let new = with_bookmark_ok of name pool after h in
     let there = (named_found (λ s. s.name) of pool.snapshots new.snapshot new.there).0 in
     subst (λ s. IsSoundNext pool s.pool) (committed_ok _ after new.made).1 (record {
-      next = bookmark_next pool name new.snapshot is.linked sound there new.same;
-      sound = bookmark_sound pool name new.snapshot is.linked sound there new.same;
+      next = bookmark_next pool (bookmark_of name new.snapshot) new.snapshot is.linked sound there refl refl new.same;
+      sound = bookmark_sound pool (bookmark_of name new.snapshot) new.snapshot is.linked sound there refl refl new.same;
     })
 
 -- a rollback
@@ -191,7 +191,7 @@ punch_keeps pool k first count head after s h =
     let size = size_at (head.state k) in within_keeps pool (At k (Free (first * size) (count * size))) (first + count) head after s h
 
 -- an accepted command leaves the pool as it was, or makes a sound pool of the next commit
-steps_follow : (held : List Held) (now : ℕ) (command : Command) (pool : Pool) (after : Stepped)
+pub steps_follow : (held : List Held) (now : ℕ) (command : Command) (pool : Pool) (after : Stepped)
     → IsCommand command → IsPool pool → Sound pool → stepped held now command pool ≡ Ok after → (after.pool ≡ pool) ⊎ IsSoundNext pool after.pool
 unfolding stepped
 steps_follow held now (commands.Fs name) pool after command is sound h = inr (new_follows 2 name pool after is sound h)

@@ -33,7 +33,7 @@ module _ (pool : Pool) (source : Source) (own : Snapshot) (sound : Sound pool) (
   own_below bound below = subst (λ n. IsBelow n bound) is.number below
 
   -- the own snapshot stands before all that the source does
-  own_before : (name : List ℕ) (bound : Option ℕ) → StandsBefore pool source name bound → StandsBefore pool (OfSnapshot own) name bound
+  pub own_before : (name : List ℕ) (bound : Option ℕ) → StandsBefore pool source name bound → StandsBefore pool (OfSnapshot own) name bound
   own_before name bound (Earlier _ _ same below) = Earlier name bound (sym is.dataset ∙ same) (own_below bound below)
   own_before name bound (AtOrigin _ _ origin origins marks) = AtOrigin name bound origin origins (own_marks origin origins.snapshot_there marks)
   own_before name bound (BeforeOrigin _ _ origin origins before) = BeforeOrigin name bound origin origins (own_before (dataset_of_snapshot origin) (Some origin.number) before)
@@ -71,7 +71,7 @@ own_remembered pool source own sound there is = record {
 }
 
 -- the rows of a lawful pool have lawful states
-row_is_state : (pool : Pool) → IsPool pool → (row : Row) → IsRow pool row → IsState row.objects.state
+pub row_is_state : (pool : Pool) → IsPool pool → (row : Row) → IsRow pool row → IsState row.objects.state
 row_is_state pool is row (SnapshotRow snapshot there) = (All-contains (λ s. IsGuid s.guid × IsGuidSet s.redact × IsState s.objects.state × (s.time < 2 ^ 64)) pool.snapshots snapshot is.snapshots there).2
 row_is_state pool is row (HeadRow dataset there) = (All-contains (λ d. IsKind d.kind × IsGuidSet d.redact × IsState d.head.state) pool.datasets dataset is.datasets there).2
 row_is_state pool is row (PartialRow partial there) = (All-contains (λ p. IsStated p.header × IsState p.objects.state) pool.partials partial is.partials there).1

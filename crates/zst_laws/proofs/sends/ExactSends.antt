@@ -1,7 +1,7 @@
 -- A send gives exactly its snapshot.
 use Rattle.std.proofs.Common.{inl, inr, ◌⊎◌, subst, ◌≡◌, ℕ, suc, pred, ◌*◌, ◌<◌, ◌≤◌, Bool, true, false, cond, Option, Some, None, Ok, option_map, unwrap_or, IfSome, refl, sym, ap, ◌∙◌, arith, ◌==◌, nat_lt, nat_le, if◌then◌else◌, mul-le-mul_right}
 use Rattle.std.proofs.Math.Path.{fun_ext}
-use Rattle.std.proofs.lemmas.Bool.{cases_lt, or_left, or_right, and_from, and_left, and_parts, true≢false, false_from_ne_true, cond-true, cond-false, ltb-true, lt-ltb, le-ltb, le-leb, lt-leb}
+use Rattle.std.proofs.lemmas.Bool.{cases_lt, or_left, or_right, and_from, and_left, and_parts, true≢false, true_from_ne_false, false_from_ne_true, cond-true, cond-false, ltb-true, lt-ltb, le-ltb, le-leb, lt-leb}
 use Rattle.std.proofs.lemmas.Bool.Decides.{nat_tests}
 use Rattle.zst_model.specs.states.State.{no_objects, State, Block, Hole, Redacted, Data, Object, end_of, end_at, attr_at, content_at, BlockFits, IsObject, IsObjectOrNone, IsState, number_bound, index_bound, is_number}
 use Rattle.zst_model.specs.declared.sends.header.Header.{Header}
@@ -75,6 +75,10 @@ absent_outside state s k e = go (cases_lt 0 k) (cases_lt k number_bound)
     go (inr z) b = let same : k ≡ 0 = omega arith in ap state same ∙ s.zero
     go (inl p) (inr g) = s.bounded k g
     go (inl p) (inl l) = absurd (true≢false (sym (and_from (nat_lt 0 k) (nat_lt k number_bound) (lt-ltb _ _ p) (lt-ltb _ _ l)) ∙ e))
+
+-- where an object stands, its number is one that an object may have
+pub number_there : (state : State) → IsState state → (k : ℕ) (object : Object) → state k ≡ Some object → is_number k ≡ true
+number_there state s k object there = true_from_ne_false (is_number k) (λ outside. let none : state k ≡ None = absent_outside state s k outside in absurd (cc))
 
 pub from_origin : (view : View) (k : ℕ) (o : Option Object) → made_from view origin k o ≡ made (view.shown k) 0 o
 from_origin view k o =

@@ -1,0 +1,63 @@
+-- A stream that is contained in a redacted base covers the snapshots that the base was redacted for.
+use Rattle.std.proofs.Common.{◌≡◌, ◌⊎◌, inl, inr, ⊎_elim, ℕ, ◌<◌, Bool, true, false, not, ◌&&◌, ◌||◌, ◌==◌, List, [], ◌∷◌, length, Option, Some, None, All, Contains, nat_lt, refl, sym, ap, ◌∙◌, subst, arith}
+use Rattle.std.specs.Prelude.{bit_and}
+use Rattle.std.specs.List.{list_all, list_any}
+use Rattle.std.proofs.lemmas.Bool.{and_parts, eqb-true, false≢true, lt-ltb, ltb-true, not_from_true, or_cases}
+use Rattle.zst_model.proofs.InsertedLaws.{All-from_contains, contains_first, contains_later}
+use Rattle.zst_model.specs.declared.sends.header.Header.{Header}
+use Rattle.zst_model.specs.pools.Ancestry.{Source, OfSnapshot, OfBookmark}
+use Rattle.zst_model.specs.pools.Pool.{Bookmark}
+use Rattle.zst_model.specs.sends.Features.{redacts, sa_spill}
+use Rattle.zst_model.specs.sends.Headers.{Sent, features_of, guid_of_source, header_of}
+use Rattle.zst_model.specs.sends.SendPlan.{has_guids}
+use Rattle.zst_laws.specs.RedactionLists.{IsCovered, ToOne, ByRedaction, BySource}
+use Rattle.zst_laws.proofs.pools.Filters.{each_passes}
+
+-- as in zst_plan's RecvPlan
+abbrev is_among : List ℕ → ℕ → Bool
+is_among guids guid = list_any (λ other. other == guid) guids
+
+abbrev is_redacted : Header → Bool
+is_redacted header = not (bit_and header.features redacts == 0)
+
+abbrev is_contained : List ℕ → Header → Bool
+is_contained guids header =
+    not (has_guids guids) || (header.from == 0 || (is_among guids header.to
+    || ((is_redacted header && list_all (is_among guids) header.redact)
+    || (has_guids header.from_redact && list_all (is_among guids) header.from_redact))))
+
+among : (guids : List ℕ) (guid : ℕ) → is_among guids guid ≡ true → Contains guids guid
+among [] guid is = absurd (false≢true is)
+among (first ∷ rest) guid is = ⊎_elim
+    (λ here. subst (Contains (first ∷ rest)) (eqb-true first guid here) (contains_first first rest))
+    (λ later. contains_later first rest guid (among rest guid later))
+    (or_cases (first == guid) (is_among rest guid) is)
+
+all_among : (guids stated : List ℕ) → list_all (is_among guids) stated ≡ true → All (Contains guids) stated
+all_among guids stated is = All-from_contains (Contains guids) stated (λ guid there. among guids guid (each_passes (is_among guids) stated guid is there))
+
+module _ (sent : Sent) (guids : List ℕ) where
+  -- a stream that may have REDACT records has a redaction bookmark
+  by_redaction : (redaction : Option Bookmark) → sent.redaction ≡ redaction → is_redacted (header_of sent) ≡ true → list_all (is_among guids) (header_of sent).redact ≡ true → IsCovered sent guids
+  unfolding features_of redacts sa_spill
+  by_redaction None e is all = let none : is_redacted (header_of sent) ≡ false = rw e refl in absurd (false≢true (sym none ∙ is))
+  by_redaction (Some bookmark) e is all = ByRedaction bookmark e (all_among guids bookmark.redact (rw e at all))
+
+  by_source : (source : Source) → sent.source ≡ Some source → has_guids (header_of sent).from_redact ≡ true → list_all (is_among guids) (header_of sent).from_redact ≡ true → IsCovered sent guids
+  by_source (OfSnapshot snapshot) e some all = let none : has_guids (header_of sent).from_redact ≡ false = rw e refl in absurd (false≢true (sym none ∙ some))
+  by_source (OfBookmark bookmark) e some all = BySource bookmark e (ltb-true 0 (length bookmark.redact) (rw e at some)) (all_among guids bookmark.redact (rw e at all))
+
+  pub contained_covers : (source : Source) → sent.source ≡ Some source → 0 < guid_of_source source → 0 < length guids → is_contained guids (header_of sent) ≡ true → IsCovered sent guids
+  contained_covers source e guid some is = ⊎_elim
+      (λ none. absurd (false≢true (sym (not_from_true (has_guids guids) (lt-ltb 0 (length guids) some)) ∙ none)))
+      (λ rest. ⊎_elim
+      (λ full. let from : (header_of sent).from ≡ guid_of_source source = rw e refl in let zero = eqb-true (header_of sent).from 0 full in absurd (omega arith))
+      (λ more. ⊎_elim
+      (λ to. ToOne (among guids sent.snapshot.guid to))
+      (λ last. ⊎_elim
+      (λ redaction. let both = and_parts (is_redacted (header_of sent)) _ redaction in by_redaction sent.redaction refl both.0 both.1)
+      (λ from. let both = and_parts (has_guids (header_of sent).from_redact) _ from in by_source source e both.0 both.1)
+      (or_cases _ _ last))
+      (or_cases _ _ more))
+      (or_cases _ _ rest))
+      (or_cases _ _ is)
