@@ -16,6 +16,7 @@ pub mod SendPlans
 pub mod Lineages
 pub mod CommitCounts
 pub mod Descent
+pub mod NearestSnapshots
 pub mod OtherDatasets
 pub mod SoundHeads
 pub mod SoundDatasets

@@ -16,6 +16,7 @@ pub mod Lineage
 pub mod LineageExample
 pub mod LineageRefusals
 pub mod Meanings
+pub mod NearestSnapshots
 pub mod PlanExample
 pub mod SendPlans
 pub mod Ranges

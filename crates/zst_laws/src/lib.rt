@@ -23,6 +23,7 @@ mod lineage;
 mod lineage_examples;
 mod lineage_refusals;
 mod meanings;
+mod nearest_snapshots;
 mod plan_examples;
 mod received_records;
 mod redact_example;
@@ -86,8 +87,9 @@ pub use step_refusals::{
     reads_are_refused, snapshots_are_refused, writes_are_refused,
 };
 
-// Laws that no command uses yet: of redaction bookmarks.
+// Laws that no command uses yet: of redaction bookmarks, and of nearest snapshots.
 pub use alike_pools::alike_pools_are_sent_alike;
+pub use nearest_snapshots::nearest_is_enough;
 pub use redaction_lists::{covered_is_base, listed_may_be_redacted};
 pub use redaction_steps::{
     lists_are_kept, redactions_keep_sound, redactions_list, steps_keep_lists,
