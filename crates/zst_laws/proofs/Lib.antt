@@ -2,4 +2,3 @@ mod sends
 mod histories
 mod pools
 mod examples
-mod runs

@@ -1,10 +1,9 @@
 -- Pools that are alike but for the bytes of pairs that aren't sent.
-use Rattle.std.specs.Prelude.{◌≡◌, ℕ, List, Option, Some, None, Ok, option_map}
+use Rattle.std.specs.Prelude.{◌≡◌, ℕ, List, Option, Some, None, Ok}
 use Rattle.zst_model.specs.declared.sends.ask.FromName.{FromName}
 use Rattle.zst_model.specs.declared.sends.ask.FromName.TheVariants.{Snap, Book}
 use Rattle.zst_model.specs.declared.sends.ask.SendAsk.{SendAsk}
-use Rattle.zst_model.specs.declared.sends.header.Point.{Point}
-use Rattle.zst_model.specs.pools.Pool.{Pool, Snapshot, bookmark_named, dataset_named, dataset_of_snapshot, snapshot_named}
+use Rattle.zst_model.specs.pools.Pool.{Pool, Snapshot, bookmark_named, snapshot_named}
 use Rattle.zst_model.specs.sends.Headers.{Sent, choice_of, sent_view}
 use Rattle.zst_model.specs.sends.Inclusion.{Pairs}
 use Rattle.zst_model.specs.sends.SendPlan.{kind_of, send_plan}

@@ -24,7 +24,6 @@ pub mod ReceivedRecords
 pub mod RedactExample
 pub mod RedactionLists
 pub mod RedactionSteps
-pub mod RunsOf
 pub mod RememberedStates
 pub mod ResumedSends
 pub mod SendExample

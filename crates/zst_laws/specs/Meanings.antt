@@ -176,15 +176,15 @@ typed type date = record {
 -- a snapshot of commit 7 lists data of a file and of a volume that each clone dates after it, and nothing of another type, of holes, of redacted blocks, or of commit 7
 abbrev pub ListsUserData : Type 0
 ListsUserData =
-    (red_set (typed 19 4) 7 (typed 19 8 ∷ []) 1 0 ≡ true)
-    × (red_set (typed 23 4) 7 (typed 23 8 ∷ []) 1 0 ≡ true)
-    × (red_set (typed 20 4) 7 (typed 20 8 ∷ []) 1 0 ≡ false)
-    × (red_set (typed 19 4) 7 (typed 19 8 ∷ []) 1 1 ≡ false)
-    × (red_set (typed 19 4) 7 (typed 19 8 ∷ []) 1 2 ≡ false)
-    × (red_set (typed 19 4) 7 (typed 19 8 ∷ []) 2 0 ≡ false)
-    × (red_set (typed 19 4) 7 (typed 19 7 ∷ []) 1 0 ≡ false)
-    × (red_set (typed 19 4) 7 (typed 19 8 ∷ typed 19 7 ∷ []) 1 0 ≡ false)
-    × (red_set (typed 19 4) 7 (typed 19 8 ∷ typed 19 9 ∷ []) 1 0 ≡ true)
+    (red_set (typed 19 4).state 7 (typed 19 8 ∷ []) 1 0 ≡ true)
+    × (red_set (typed 23 4).state 7 (typed 23 8 ∷ []) 1 0 ≡ true)
+    × (red_set (typed 20 4).state 7 (typed 20 8 ∷ []) 1 0 ≡ false)
+    × (red_set (typed 19 4).state 7 (typed 19 8 ∷ []) 1 1 ≡ false)
+    × (red_set (typed 19 4).state 7 (typed 19 8 ∷ []) 1 2 ≡ false)
+    × (red_set (typed 19 4).state 7 (typed 19 8 ∷ []) 2 0 ≡ false)
+    × (red_set (typed 19 4).state 7 (typed 19 7 ∷ []) 1 0 ≡ false)
+    × (red_set (typed 19 4).state 7 (typed 19 8 ∷ typed 19 7 ∷ []) 1 0 ≡ false)
+    × (red_set (typed 19 4).state 7 (typed 19 8 ∷ typed 19 9 ∷ []) 1 0 ≡ true)
 
 -- a file system whose head has the redaction guids 7 and 9
 abbrev pub redacted_tank : Dataset
@@ -315,4 +315,4 @@ RedactsUserData state = (k i : ℕ) (object : Object) → state k ≡ Some objec
 -- what a redaction bookmark lists can be redacted, where what is redacted already is user data
 abbrev pub ListsCanBeRedacted : Type 0
 ListsCanBeRedacted =
-    (snap : DatedState) (number : ℕ) (redactions : List DatedState) → RedactsUserData snap.state → CanRedact snap.state (red_set snap number redactions)
+    (state : State) (number : ℕ) (redactions : List DatedState) → RedactsUserData state → CanRedact state (red_set state number redactions)

@@ -44,7 +44,7 @@ middle k i = k == 1 && i == 1
 
 -- what the redaction bookmark of the snapshot with these clones lists
 abbrev pub listed : Pairs
-listed = red_set three 7 (first_clone ∷ second_clone ∷ [])
+listed = red_set three.state 7 (first_clone ∷ second_clone ∷ [])
 
 -- the block that both clones changed is listed, and no other
 abbrev pub TwoClonesList : Type 0

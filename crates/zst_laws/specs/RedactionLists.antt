@@ -2,7 +2,7 @@
 use Rattle.std.specs.Prelude.{◌≡◌, ℕ, ◌<◌, true, List, map, length, Some, Contains, All}
 use Rattle.zst_model.specs.fields.Lists.{has_pair}
 use Rattle.zst_model.specs.pools.Ancestry.{Source, OfSnapshot, OfBookmark, number_of_source}
-use Rattle.zst_model.specs.pools.Pool.{Pool, Snapshot, Bookmark, IsPool, untouched}
+use Rattle.zst_model.specs.pools.Pool.{Pool, Snapshot, Bookmark, IsPool}
 use Rattle.zst_model.specs.pools.RedSet.{red_set}
 use Rattle.zst_model.specs.pools.Soundness.{Sound}
 use Rattle.zst_model.specs.sends.Headers.{Sent, IsOf, choice_of}
@@ -31,7 +31,7 @@ objects_of snapshots = map (λ snapshot. snapshot.objects) snapshots
 
 -- a bookmark lists what these redaction snapshots leave of its own snapshot
 abbrev pub Lists : Bookmark → Snapshot → List Snapshot → Type 0
-Lists bookmark own redactions = (k i : ℕ) → has_pair bookmark.runs k i ≡ red_set own.objects own.number (objects_of redactions) k i
+Lists bookmark own redactions = (k i : ℕ) → has_pair bookmark.runs k i ≡ red_set own.objects.state own.number (objects_of redactions) k i
 
 -- part 4 of soundness: where a redaction bookmark's own snapshot is there, and each of its guids is that of one snapshot behind it, the list is theirs
 abbrev pub AreListed : Pool → Type 0
@@ -56,13 +56,9 @@ pub data IsCovered (sent : Sent) (guids : List ℕ) : Type 0 where
   ByRedaction : (bookmark : Bookmark) → sent.redaction ≡ Some bookmark → All (Contains guids) bookmark.redact → IsCovered sent guids
   BySource : (bookmark : Bookmark) → sent.source ≡ Some (OfBookmark bookmark) → 0 < length bookmark.redact → All (Contains guids) bookmark.redact → IsCovered sent guids
 
--- a state as an undated one has no dates of its own
-abbrev pub undated : State → DatedState
-undated state = record untouched { state = state }
-
 -- the pairs of a state of this number that none of these snapshots has kept
 abbrev pub lost : State → ℕ → List Snapshot → Pairs
-lost state number redactions = red_set (undated state) number (objects_of redactions)
+lost state number redactions = red_set state number (objects_of redactions)
 
 -- what is sent of a pool, from a source, over a base that was redacted for these snapshots
 pub record IsOverRedacted (pool : Pool) (sent : Sent) (source : Source) (own : Snapshot) (state : State) (redactions : List Snapshot) : Type 0 where

@@ -1,5 +1,5 @@
 -- `redact`: a redaction bookmark of a snapshot, and what commands keep of the lists of redaction bookmarks.
-use Rattle.std.specs.Prelude.{◌≡◌, ℕ, ◌+◌, ◌^◌, ◌<◌, ◌≤◌, ◌⊎◌, Bool, not, ◌&&◌, ◌==◌, List, [], ◌∷◌, length, map, find, All, Contains, Option, is_some, Result, Ok, bytes_eq, nat_lt, if◌then◌else◌}
+use Rattle.std.specs.Prelude.{◌≡◌, ℕ, ◌+◌, ◌<◌, ◌≤◌, ◌⊎◌, not, ◌==◌, List, [], ◌∷◌, length, find, All, Contains, is_some, Result, Ok, bytes_eq, nat_lt, if◌then◌else◌}
 use Rattle.zst_names.specs.Names.{IsSnapshot, IsBookmark, dataset_of}
 use Rattle.zst_model.specs.declared.pools.command.Command.{Command}
 use Rattle.zst_model.specs.declared.refusals.faults.Lack.TheVariants as lacks
@@ -8,6 +8,7 @@ use Rattle.zst_model.specs.declared.refusals.subjects.Name.TheVariants as names
 use Rattle.zst_model.specs.declared.refusals.plan_fault.PlanFault.TheVariants as plans
 use Rattle.zst_model.specs.declared.refusals.refusal.Refusal.{Refusal}
 use Rattle.zst_model.specs.declared.refusals.refusal.Refusal.TheVariants as refusals
+use Rattle.zst_model.specs.fields.RunsOf.{runs_of}
 use Rattle.zst_model.specs.pools.Ancestry.{Source, OfSnapshot, IsIn, IsOrigin}
 use Rattle.zst_model.specs.pools.Limits.{most_bookmarks}
 use Rattle.zst_model.specs.pools.Pool.{Pool, Snapshot, Bookmark, HasDataset, IsPool, bookmark_named, dataset_of_snapshot, inserted, is_before, snapshot_named}
@@ -20,7 +21,6 @@ use Rattle.zst_model.specs.states.AppliedItems.{unless, ◌>>=◌}
 use Rattle.zst_model.specs.states.State.{State}
 use Rattle.zst_laws.specs.RedactionLists.{AreListed, HaveNewGuids, HaveOwnGuids, objects_of}
 use Rattle.zst_laws.specs.RememberedStates.{SourceRemembers}
-use Rattle.zst_laws.specs.RunsOf.{runs_of}
 
 -- a list has at most so many runs
 unfoldable pub most_runs : ℕ
@@ -58,7 +58,7 @@ redaction_of name snapshot redactions = record {
   time = snapshot.time;
   number = snapshot.number;
   redact = guids_of redactions;
-  runs = runs_of (red_set snapshot.objects snapshot.number (objects_of redactions));
+  runs = runs_of (red_set snapshot.objects.state snapshot.number (objects_of redactions));
 }
 
 -- redact (zfs-redact(8)): E3 of the snapshot, then of the first redaction snapshot that is absent, E6, E4, E19, E8 of the first that doesn't come of the snapshot, E23 of bookmarks, then of runs
@@ -79,12 +79,13 @@ with_redaction of_snapshot name kept pool =
 abbrev pub IsRedact : List ℕ → List ℕ → List (List ℕ) → Type 0
 IsRedact of_snapshot name kept = IsSnapshot of_snapshot × IsBookmark name × All IsSnapshot kept × (0 < length kept) × (length kept ≤ 16)
 
--- it makes a lawful and sound pool of one, in which each source remembers what it did
+-- it makes a lawful and sound pool of one
 abbrev pub RedactionsKeepSound : Type 0
 RedactionsKeepSound =
     (of_snapshot name : List ℕ) (kept : List (List ℕ)) (pool : Pool) (after : Stepped) → IsRedact of_snapshot name kept → IsPool pool → Sound pool
     → with_redaction of_snapshot name kept pool ≡ Ok after → IsPool after.pool × Sound after.pool
 
+-- and each source remembers what it did
 abbrev pub RedactionsRemember : Type 0
 RedactionsRemember =
     (of_snapshot name : List ℕ) (kept : List (List ℕ)) (pool : Pool) (after : Stepped) (source : Source) (state : State) → IsPool pool → Sound pool

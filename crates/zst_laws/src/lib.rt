@@ -30,7 +30,6 @@ mod redact_example;
 mod redaction_lists;
 mod redaction_steps;
 mod remembered_states;
-mod runs_of;
 mod send_examples;
 mod send_plans;
 mod sessions;
@@ -94,7 +93,6 @@ pub use redaction_lists::{covered_is_base, listed_may_be_redacted};
 pub use redaction_steps::{
     lists_are_kept, redactions_keep_sound, redactions_list, steps_keep_lists,
 };
-pub use runs_of::{more_runs, one_list, runs_are_pairs};
 
 /// A lawful snapshot with a lawful choice has a lawful view.
 pub fn snapshot_has_view()

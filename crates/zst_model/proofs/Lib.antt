@@ -1,5 +1,7 @@
 mod SpacedTexts
-mod RunLists
+pub mod RunLists
+pub mod OneList
+pub mod RunsOf
 pub mod Sizes
 mod RisingGuids
 pub mod OrderLaws

@@ -1,5 +1,5 @@
 -- What a search among the runs of a list finds.
-use Rattle.std.proofs.Common.{◌≡◌, ℕ, ◌+◌, ◌≤◌, ◌<◌, Bool, true, false, not, cond, [], ◌∷◌, Option, Some, None, inl, inr, refl, sym, ap, ◌∙◌, zero, suc, max, find, MatchOption, get_or, slice_get, length, drop, add-one, drop-cons, nat_le, ◌==◌, ◌&&◌, arith}
+use Rattle.std.proofs.Common.{◌≡◌, ◌⊎◌, ℕ, ◌+◌, ◌≤◌, ◌<◌, Bool, true, false, not, cond, [], ◌∷◌, Option, Some, None, inl, inr, refl, sym, ap, ◌∙◌, zero, suc, max, find, MatchOption, get_or, slice_get, length, drop, add-one, drop-cons, nat_le, ◌==◌, ◌&&◌, arith}
 use Rattle.std.proofs.lemmas.Bool.{false≢true, true≢false, and_parts, or_cases, or_left, or_right, or_from, false_from_ne_true, not_from_true, not_from_false}
 use Rattle.std.proofs.lemmas.Bool.Decides.{nat_tests}
 use Rattle.std.proofs.lemmas.List.Folds.{find_at}
@@ -11,17 +11,17 @@ use Rattle.zst_model.specs.sends.Inclusion.{Pairs}
 use Rattle.zst_model.specs.fields.Lists.{Runs, is_in_run, has_pair, is_run, stands_before, is_run_list, IsRunList, ends_by, IsAtOrAfter, IsLeastFrom, HasNoneFrom}
 
 -- the rest of a lawful list is lawful
-rest_is_lawful : (run : Run) (rest : Runs) → is_run_list (run ∷ rest) ≡ true → is_run_list rest ≡ true
+pub rest_is_lawful : (run : Run) (rest : Runs) → is_run_list (run ∷ rest) ≡ true → is_run_list rest ≡ true
 rest_is_lawful run [] lawful = refl
 rest_is_lawful run (next ∷ rest) lawful = (and_parts _ _ (and_parts _ _ lawful).1).1
 
 -- its first run is lawful
-first_is_lawful : (run : Run) (rest : Runs) → is_run_list (run ∷ rest) ≡ true → is_run run ≡ true
+pub first_is_lawful : (run : Run) (rest : Runs) → is_run_list (run ∷ rest) ≡ true → is_run run ≡ true
 first_is_lawful run [] lawful = lawful
 first_is_lawful run (next ∷ rest) lawful = (and_parts _ _ lawful).0
 
 -- its first run stands before the second
-next_is_apart : (run next : Run) (rest : Runs) → is_run_list (run ∷ next ∷ rest) ≡ true → stands_before run next ≡ true
+pub next_is_apart : (run next : Run) (rest : Runs) → is_run_list (run ∷ next ∷ rest) ≡ true → stands_before run next ≡ true
 next_is_apart run next rest lawful = (and_parts _ _ (and_parts _ _ lawful).1).0
 
 -- a lawful list from a place on: the run in front, and that it stands before the run at the place
@@ -29,16 +29,20 @@ pub run_list_step : (last : Run) (rest : Runs) (i : ℕ) (d : Run) → i < lengt
     → is_run_list (last ∷ drop i rest) ≡ (is_run last && (stands_before last (get_or rest i d) && is_run_list (get_or rest i d ∷ drop (i + 1) rest)))
 run_list_step last rest i d inside = rw (add-one, drop-cons rest i d) refl
 
+-- a pair stands past a run, and doesn't touch it
+abbrev pub IsPast : Run → ℕ → ℕ → Type 0
+IsPast run l j = (run.object < l) ⊎ ((run.object ≡ l) × (run.first + run.count < j))
+
 -- a pair of a run stands past a run that stands before it
-past_in_next : (run next : Run) (l j : ℕ) → stands_before run next ≡ true → is_in_run next l j ≡ true → IsAtOrAfter run.object (run.first + run.count) l j
+past_in_next : (run next : Run) (l j : ℕ) → stands_before run next ≡ true → is_in_run next l j ≡ true → IsPast run l j
 past_in_next run next l j before here = grind (arith, nat_tests)
 
 -- and so does a pair past it
-past_next : (run next : Run) (l j : ℕ) → stands_before run next ≡ true → IsAtOrAfter next.object (next.first + next.count) l j → IsAtOrAfter run.object (run.first + run.count) l j
+past_next : (run next : Run) (l j : ℕ) → stands_before run next ≡ true → IsPast next l j → IsPast run l j
 past_next run next l j before after = grind (arith, nat_tests)
 
 -- the pairs of the rest of a list stand past its first run
-past_first : (run : Run) (rest : Runs) (l j : ℕ) → is_run_list (run ∷ rest) ≡ true → has_pair rest l j ≡ true → IsAtOrAfter run.object (run.first + run.count) l j
+pub past_first : (run : Run) (rest : Runs) (l j : ℕ) → is_run_list (run ∷ rest) ≡ true → has_pair rest l j ≡ true → IsPast run l j
 past_first run [] l j lawful has = absurd (false≢true has)
 past_first run (next ∷ rest) l j lawful has =
     elim (or_cases (is_in_run next l j) _ has) [
@@ -55,8 +59,20 @@ past_start : (run : Run) (l j : ℕ) → is_in_run run l j ≡ true → IsAtOrAf
 past_start run l j here = grind (arith, nat_tests)
 
 -- and so does a pair past it
-past_end : (run : Run) (l j : ℕ) → IsAtOrAfter run.object (run.first + run.count) l j → IsAtOrAfter run.object run.first l j
+past_end : (run : Run) (l j : ℕ) → IsPast run l j → IsAtOrAfter run.object run.first l j
 past_end run l j after = grind arith
+
+-- a run has its first pair
+pub has_start : (run : Run) → is_run run ≡ true → is_in_run run run.object run.first ≡ true
+has_start run lawful = grind (arith, nat_tests)
+
+-- the first run of a list begins at the least pair
+pub least_first : (run : Run) (rest : Runs) (l j : ℕ) → is_run_list (run ∷ rest) ≡ true → has_pair (run ∷ rest) l j ≡ true → IsAtOrAfter run.object run.first l j
+least_first run rest l j lawful has =
+    elim (or_cases (is_in_run run l j) _ has) [
+      | inl here ↦ past_start run l j here
+      | inr later ↦ past_end run l j (past_first run rest l j lawful later)
+    ]
 
 -- what is known of the first run that doesn't end by a pair: the list has its pairs, and no pair at or after the pair stands before it
 pub record IsFound (runs : Runs) (object block : ℕ) (run : Run) : Type 0 where
@@ -93,10 +109,7 @@ search_finds object block (run ∷ rest) lawful = by_end (ends_by run object blo
       lawful = first_is_lawful run rest lawful;
       behind = ends;
       has = λ l j here. or_left (is_in_run run l j) _ here;
-      least = λ l j has after. elim (or_cases (is_in_run run l j) _ has) [
-        | inl here ↦ past_start run l j here
-        | inr later ↦ past_end run l j (past_first run rest l j lawful later)
-      ];
+      least = λ l j has after. least_first run rest l j lawful has;
     }
 
 -- the same of what a search gave
@@ -176,14 +189,11 @@ least_here runs object block run found same = record {
 pub least_later : (runs : Runs) (object block : ℕ) (run : Run) → IsFound runs object block run → (run.object ≡ object → ⊥)
     → IsLeastFrom (has_pair runs) object block run.object run.first
 least_later runs object block run found other = record {
-  has = found.has run.object run.first here;
+  has = found.has run.object run.first (has_start run found.lawful);
   after = inl higher;
   least = λ l j has after. found.least l j has after;
 }
   where
-    here : is_in_run run run.object run.first ≡ true
-    here = let lawful : is_run run ≡ true = found.lawful in grind (arith, nat_tests)
-
     higher : object < run.object
     higher = let behind : ends_by run object block ≡ false = found.behind in grind (arith, nat_tests)
 

@@ -1,2 +1,3 @@
 pub mod Guids
 pub mod Lists
+pub mod RunsOf

@@ -3,6 +3,7 @@
 
 pub mod features;
 mod fields;
+mod laws;
 pub mod limits;
 mod pools;
 mod refusals;
@@ -13,6 +14,7 @@ pub use fields::bytes::Bytes;
 pub use fields::guids::GuidSet;
 pub use fields::list::List;
 pub use fields::name::NameText;
+pub use laws::{more_runs, one_list, runs_are_pairs};
 pub use pools::command::Command;
 pub use pools::reply::Reply;
 pub use refusals::apply_fault::ApplyFault;

@@ -211,7 +211,7 @@ data_of object i h =
     go (Data bytes) e = (bytes, refl)
 
 pub lists_can_be_redacted : ListsCanBeRedacted
-lists_can_be_redacted snap number redactions user k object stands = record {
-  listed = λ i h. data_of object i (subst (λ o. is_user_block o i ≡ true) stands (and_parts (is_user_block (snap.state k) i) _ h).0);
+lists_can_be_redacted state number redactions user k object stands = record {
+  listed = λ i h. data_of object i (subst (λ o. is_user_block o i ≡ true) stands (and_parts (is_user_block (state k) i) _ h).0);
   redacted = λ i h. user k i object stands h;
 }

@@ -1,21 +1,18 @@
 -- Pools that are alike in what is asked of them have one view of it.
-use Rattle.std.proofs.Common.{◌≡◌, ℕ, ◌+◌, Bool, not, List, [], Option, Some, None, option_map, Result, Ok, Err, refl, sym, ap, ◌∙◌, subst, if◌then◌else◌}
+use Rattle.std.proofs.Common.{◌≡◌, ℕ, ◌+◌, not, List, Option, Some, None, option_map, Ok, refl, sym, ap, ◌∙◌, subst, if◌then◌else◌}
 use Rattle.std.specs.Str.{bytes_eq}
 use Rattle.std.proofs.lemmas.Option.{same_Some}
 use Rattle.zst_model.specs.declared.refusals.subjects.Name.TheVariants as names
 use Rattle.zst_model.specs.declared.sends.ask.FromName.{FromName}
 use Rattle.zst_model.specs.declared.sends.ask.FromName.TheVariants.{Snap, Book}
-use Rattle.zst_model.specs.declared.sends.ask.SendAsk.{SendAsk}
 use Rattle.zst_names.specs.Names.{dataset_of}
 use Rattle.zst_model.specs.pools.Ancestry.{Source, OfSnapshot, OfBookmark, number_of_source}
-use Rattle.zst_model.specs.pools.Pool.{Pool, Snapshot, Bookmark, bookmark_named, dataset_of_snapshot, snapshot_named}
-use Rattle.zst_model.specs.sends.Headers.{Sent, choice_of, clone_flag, clone_part, features_of, flags_of, free_records, from_guid, header_of, is_elsewhere, redacted_part, redaction_guids, redaction_list, sent_view, source_guids, source_list, spill_block}
+use Rattle.zst_model.specs.pools.Pool.{Pool, Snapshot, Bookmark, bookmark_named, snapshot_named}
+use Rattle.zst_model.specs.sends.Headers.{choice_of, clone_flag, clone_part, features_of, flags_of, free_records, from_guid, header_of, redacted_part, redaction_guids, redaction_list, sent_view, source_guids, source_list, spill_block}
 use Rattle.zst_model.specs.sends.Features.{sa_spill}
-use Rattle.zst_model.specs.sends.Inclusion.{Choice}
-use Rattle.zst_model.specs.sends.SendPlan.{absent, find_bookmark, find_redaction, find_snapshot, find_source, kind_of, send_plan}
+use Rattle.zst_model.specs.sends.SendPlan.{absent, find_bookmark, find_redaction, find_snapshot, find_source, kind_of}
 use Rattle.zst_model.specs.sends.View.{view_of}
-use Rattle.zst_model.specs.states.AppliedItems.{◌>>=◌}
-use Rattle.zst_laws.specs.AlikePools.{AlikeFor, AlikePoolsAreSentAlike, AreAlike, AreRedacting, AreSources}
+use Rattle.zst_laws.specs.AlikePools.{AlikePoolsAreSentAlike, AreAlike, AreRedacting, AreSources}
 use Rattle.zst_laws.proofs.pools.SendPlans.{HasFound, found_ok, plan_has_found}
 use Rattle.zst_laws.proofs.sends.AppliedItemLemmas.{bind_ok, ok_inj}
 use Rattle.zst_laws.proofs.sends.ViewLaws.{views_same}

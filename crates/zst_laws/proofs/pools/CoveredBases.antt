@@ -1,33 +1,32 @@
 -- A base that is redacted for some snapshots is fit for a stream that covers these.
-use Rattle.std.proofs.Common.{◌≡◌, ◌⊎◌, inl, inr, ℕ, ◌^◌, ◌<◌, ◌≤◌, Bool, true, false, ◌&&◌, ◌||◌, List, [], ◌∷◌, map, length, Option, Some, None, option_map, All, Contains, nat_lt, nat_le, refl, sym, ap, ◌∙◌, subst, arith}
-use Rattle.std.specs.List.{list_all}
+use Rattle.std.proofs.Common.{◌≡◌, inl, inr, ℕ, ◌^◌, ◌<◌, ◌≤◌, true, ◌||◌, List, [], ◌∷◌, length, Option, Some, None, option_map, All, Contains, nat_lt, nat_le, refl, sym, ap, ◌∙◌, subst, arith}
 use Rattle.std.specs.Option.{IfSome}
 use Rattle.std.proofs.Math.Path.{fun_ext}
 use Rattle.std.proofs.lemmas.Option.{same_Some}
-use Rattle.std.proofs.lemmas.Bool.{cases_lt, true≢false, false≢true, and_parts, and_from, or_left, or_right, lt-ltb, le-leb, ltb-true}
+use Rattle.std.proofs.lemmas.Bool.{cases_lt, false≢true, and_parts, and_from, or_left, or_right, lt-ltb, le-leb, ltb-true}
 use Rattle.std.proofs.lemmas.List.Elements.{All-contains}
 use Rattle.zst_model.proofs.InsertedLaws.{contains_first, contains_later, contains_cases, contains_nothing, contains-map, map_contains, All-from_contains}
 use Rattle.zst_model.specs.fields.Lists.{has_pair}
-use Rattle.zst_model.specs.pools.Ancestry.{Source, OfSnapshot, OfBookmark, number_of_source, IsIn, StandsBefore}
+use Rattle.zst_model.specs.pools.Ancestry.{Source, OfSnapshot, OfBookmark, number_of_source, IsIn}
 use Rattle.zst_model.specs.pools.Pool.{Pool, Snapshot, Bookmark, IsPool, IsGuid, dataset_of_snapshot}
 use Rattle.zst_model.specs.pools.RedSet.{is_data, is_user_block, red_set}
 use Rattle.zst_model.specs.pools.Rows.{snapshot_row, Row, rows}
-use Rattle.zst_model.specs.pools.Soundness.{Agrees, DatedUpTo, IsBookmarkOf, Sound}
+use Rattle.zst_model.specs.pools.Soundness.{DatedUpTo, Sound}
 use Rattle.zst_model.specs.fields.Guids.{IsGuidSet}
 use Rattle.zst_model.specs.sends.Headers.{Sent, IsRedactionOf, choice_of, source_list, redaction_list}
 use Rattle.zst_model.specs.sends.Inclusion.{Choice, Pairs, is_after, includes_pair, includes_number}
 use Rattle.zst_model.specs.sends.Target.{BaseOk, CanRedact, Remembers}
 use Rattle.zst_model.specs.states.DatedState.{DatedState}
-use Rattle.zst_model.specs.states.State.{Block, Hole, Redacted, Data, Object, State, IsState, IsObjectOrNone, Content, BytesOf, attr_at, content_at, block_content, end_at, end_of, index_bound, is_number, is_user_data}
+use Rattle.zst_model.specs.states.State.{Block, Hole, Redacted, Data, Object, State, IsState, IsObjectOrNone, BytesOf, attr_at, content_at, block_content, end_at, index_bound, is_number, is_user_data}
 use Rattle.zst_laws.specs.Bases.{IsRewritten}
-use Rattle.zst_laws.specs.RedactionLists.{AreListed, AreRedactions, CoveredIsBase, ListedMayBeRedacted, HaveOwnGuids, IsCovered, ToOne, ByRedaction, BySource, IsOverRedacted, Lists, each_guid, lost, objects_of, undated}
+use Rattle.zst_laws.specs.RedactionLists.{AreListed, AreRedactions, CoveredIsBase, ListedMayBeRedacted, HaveOwnGuids, IsCovered, ToOne, ByRedaction, BySource, IsOverRedacted, each_guid, lost, objects_of}
 use Rattle.zst_laws.specs.RememberedStates.{IsOwn}
 use Rattle.zst_laws.specs.SendPlans.{StandsBeforeSnapshot}
 use Rattle.zst_laws.proofs.examples.Meanings.{data_of, lists_can_be_redacted}
 use Rattle.zst_laws.proofs.pools.Descent.{snapshot_has_row}
 use Rattle.zst_laws.proofs.pools.Filters.{all_pass, each_passes}
-use Rattle.zst_laws.proofs.pools.SourceBases.{own_before, remembered_base, row_is_state}
-use Rattle.zst_laws.proofs.sends.Ends.{any_passes, past_bounded}
+use Rattle.zst_laws.proofs.pools.SourceBases.{own_before, remembered_base}
+use Rattle.zst_laws.proofs.sends.Ends.{any_passes}
 use Rattle.zst_laws.proofs.sends.ExactSends.{after_end, below_bound, number_there}
 use Rattle.zst_laws.proofs.sends.ViewLaws.{redacted_base}
 
@@ -78,18 +77,18 @@ pub record IsLost (state : State) (number : ℕ) (redactions : List Snapshot) (k
   pub block : IsUserBlock (state k) i
   pub late : (redaction : Snapshot) → Contains redactions redaction → number < redaction.objects.index_date k i
 
-pub lost_parts : (snap : DatedState) (number : ℕ) (redactions : List Snapshot) (k i : ℕ) → red_set snap number (objects_of redactions) k i ≡ true → IsLost snap.state number redactions k i
-lost_parts snap number redactions k i e =
-    let parts = and_parts (is_user_block (snap.state k) i) _ e in record {
-      block = user_block (snap.state k) i parts.0;
+pub lost_parts : (state : State) (number : ℕ) (redactions : List Snapshot) (k i : ℕ) → red_set state number (objects_of redactions) k i ≡ true → IsLost state number redactions k i
+lost_parts state number redactions k i e =
+    let parts = and_parts (is_user_block (state k) i) _ e in record {
+      block = user_block (state k) i parts.0;
       late = λ redaction there. ltb-true number (redaction.objects.index_date k i)
           (each_passes (λ (d : DatedState). nat_lt number (d.index_date k i)) (objects_of redactions) redaction.objects parts.1
           (contains-map (λ (s : Snapshot). s.objects) redactions redaction there));
     }
 
-lost_from : (snap : DatedState) (number : ℕ) (redactions : List Snapshot) (k i : ℕ) → IsLost snap.state number redactions k i → red_set snap number (objects_of redactions) k i ≡ true
-lost_from snap number redactions k i is =
-    and_from (is_user_block (snap.state k) i) _ (user_tested (snap.state k) i is.block)
+lost_from : (state : State) (number : ℕ) (redactions : List Snapshot) (k i : ℕ) → IsLost state number redactions k i → red_set state number (objects_of redactions) k i ≡ true
+lost_from state number redactions k i is =
+    and_from (is_user_block (state k) i) _ (user_tested (state k) i is.block)
     (all_pass (λ (d : DatedState). nat_lt number (d.index_date k i)) (objects_of redactions) (λ d there.
     let found = map_contains (λ (s : Snapshot). s.objects) redactions d there in
     subst (λ (x : DatedState). nat_lt number (x.index_date k i) ≡ true) found.2 (lt-ltb number (found.0.objects.index_date k i) (is.late found.0 found.1))))
@@ -218,7 +217,7 @@ module _ (pool : Pool) (sent : Sent) (source : Source) (own : Snapshot) (state :
             let some = chosen redactions bookmark.redact all in
             let are = are_redactions sent.snapshot bookmark.redact some (over.later bookmark e) in
             listed bookmark sent.snapshot some.some of.there of.guids over.is_of.snapshot (over.marked bookmark e) are k i
-            ∙ lost_from snap sent.snapshot.number some.some k i (record {
+            ∙ lost_from snap.state sent.snapshot.number some.some k i (record {
               block = sent_user;
               late = λ redaction there. late redaction (some.there redaction there).0 (are.later redaction there);
             })
@@ -243,7 +242,7 @@ module _ (pool : Pool) (sent : Sent) (source : Source) (own : Snapshot) (state :
             let are = are_redactions own bookmark.redact some (λ redaction k among.
             own_before pool source own sound over.own_there over.own_is (dataset_of_snapshot redaction) (Some redaction.number) (over.behind redaction k)) in
             listed bookmark own some.some there has over.own_there (subst (λ s. IsOwn s own) marks over.own_is) are k i
-            ∙ lost_from own.objects own.number some.some k i (record {
+            ∙ lost_from own.objects.state own.number some.some k i (record {
               block = own_user;
               late = λ redaction inside. subst (λ n. n < redaction.objects.index_date k i) over.own_is.number (gone.late redaction (some.there redaction inside).0);
             })
@@ -301,10 +300,10 @@ pub covered_base : CoveredIsBase
 covered_base pool sent source own state redactions is sound listed guids over covered =
     redacted_base state sent.snapshot.objects (choice_of sent) (lost state (number_of_source source) redactions)
     (remembered_fit pool sent source own state redactions is sound listed guids over)
-    (λ k i e. rewritten pool sent source own state redactions is sound listed guids over k i (lost_parts (undated state) (number_of_source source) redactions k i e) covered)
+    (λ k i e. rewritten pool sent source own state redactions is sound listed guids over k i (lost_parts state (number_of_source source) redactions k i e) covered)
 
 -- the pairs of a list are data of files and volumes
 pub listed_may : ListedMayBeRedacted
 listed_may bookmark own redactions lists user =
     subst (λ (pairs : Pairs). CanRedact own.objects.state pairs) (fun_ext (λ k. fun_ext (λ i. sym (lists k i))))
-    (lists_can_be_redacted own.objects own.number (objects_of redactions) user)
+    (lists_can_be_redacted own.objects.state own.number (objects_of redactions) user)

@@ -1,5 +1,5 @@
 -- What redaction bookmarks list stays so from one commit to the next.
-use Rattle.std.proofs.Common.{◌≡◌, ◌⊎◌, inl, inr, ℕ, ◌+◌, ◌<◌, ◌≤◌, Bool, not, List, map, filter, length, Option, Some, Result, Ok, All, Contains, bytes_eq, refl, sym, ap, ◌∙◌, subst, arith}
+use Rattle.std.proofs.Common.{◌≡◌, ◌⊎◌, inl, inr, ℕ, ◌<◌, ◌≤◌, Bool, not, List, filter, length, Some, Result, Ok, Contains, bytes_eq, sym, ap, subst, arith}
 use Rattle.std.proofs.lemmas.List.Elements.{All-contains}
 use Rattle.zst_model.proofs.InsertedLaws.{contains-map, map_contains, contains-inserted}
 use Rattle.zst_model.specs.declared.pools.command.Command.{Command}
@@ -10,8 +10,8 @@ use Rattle.zst_model.specs.declared.refusals.subjects.Name.TheVariants as names
 use Rattle.zst_model.specs.pools.Sessions.{Held}
 use Rattle.zst_model.specs.pools.Step.{Stepped, stepped, committed, on_head, new_dataset, bookmark_of, with_bookmark, with_destroyed, is_bookmark_of, is_newer_bookmark}
 use Rattle.zst_model.specs.states.DatedState.{DatedState}
-use Rattle.zst_model.specs.pools.Ancestry.{Source, OfSnapshot, OfBookmark, StandsBefore}
-use Rattle.zst_model.specs.pools.Pool.{Pool, Snapshot, Bookmark, HasDataset, IsPool, IsLinked, dataset_of_snapshot, is_before}
+use Rattle.zst_model.specs.pools.Ancestry.{OfSnapshot, OfBookmark}
+use Rattle.zst_model.specs.pools.Pool.{Pool, Snapshot, Bookmark, HasDataset, IsLinked, dataset_of_snapshot, is_before}
 use Rattle.zst_model.specs.pools.Soundness.{IsBookmarkOf, Sound}
 use Rattle.zst_laws.specs.RedactionLists.{AreListed, AreRedactions, HaveNewGuids, HaveOwnGuids, Lists}
 use Rattle.zst_laws.specs.RedactionSteps.{HasNoNewLists, ListsAreKept, OnlyAddsTo, StepsKeepLists}
@@ -22,7 +22,7 @@ use Rattle.zst_laws.proofs.pools.Ancestry.{stood_before}
 use Rattle.zst_laws.proofs.pools.Filters.{filter_contains}
 use Rattle.zst_laws.proofs.pools.Rows.{committed_ok, on_head_ok}
 use Rattle.zst_laws.proofs.pools.Descent.{IsNext}
-use Rattle.zst_laws.proofs.pools.SoundSteps.{IsSoundNext, steps_follow}
+use Rattle.zst_laws.proofs.pools.SoundSteps.{steps_follow}
 
 module _ (pool other : Pool) (linked : IsLinked pool) (sound : Sound pool) (next : OnlyAddsTo pool other) (guids : HaveOwnGuids pool) (new : HaveNewGuids pool other) where
   -- an old bookmark's own snapshot is an old one: a new one has a greater number

@@ -1,10 +1,10 @@
 -- A row agrees with each snapshot before it where each row agrees with the nearest one.
-use Rattle.std.proofs.Common.{◌≡◌, ◌⊎◌, inl, inr, ⊎_elim, ℕ, zero, suc, ◌+◌, ◌<◌, ◌≤◌, List, [], ◌∷◌, Option, Some, None, AllPairs, Contains, true, refl, sym, ◌∙◌, ap, subst, arith}
+use Rattle.std.proofs.Common.{◌≡◌, ◌⊎◌, inl, inr, ⊎_elim, ℕ, zero, suc, ◌+◌, ◌<◌, ◌≤◌, List, [], ◌∷◌, Option, Some, None, AllPairs, Contains, refl, sym, ◌∙◌, ap, subst, arith}
 use Rattle.std.proofs.lemmas.Bool.{cases_lt}
 use Rattle.std.proofs.lemmas.List.Elements.{All-contains}
 use Rattle.zst_model.specs.states.DatedState.{DatedState}
-use Rattle.zst_model.specs.pools.Pool.{Pool, Snapshot, Partial, dataset_of_snapshot, is_before}
-use Rattle.zst_model.specs.pools.Ancestry.{IsBase, IsBefore, IsBelow, IsOrigin, Marks, OfSnapshot, StandsBefore, Earlier, AtOrigin, BeforeOrigin, IsBeforeTarget, IsBeforeClone, IsBeforePartial}
+use Rattle.zst_model.specs.pools.Pool.{Pool, Snapshot, dataset_of_snapshot, is_before}
+use Rattle.zst_model.specs.pools.Ancestry.{IsBefore, IsBelow, IsOrigin, OfSnapshot, StandsBefore, Earlier, AtOrigin, BeforeOrigin}
 use Rattle.zst_model.specs.pools.Rows.{Row, rows, snapshot_row}
 use Rattle.zst_model.specs.pools.Soundness.{Agree, Agrees, Dated}
 use Rattle.zst_model.proofs.InsertedLaws.{contains_cases, contains_first, contains_later, contains_nothing, AllPairs-head, AllPairs-tail}

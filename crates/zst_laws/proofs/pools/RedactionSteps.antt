@@ -1,16 +1,19 @@
 -- A redaction keeps a pool sound, and lists what its redaction snapshots leave.
-use Rattle.std.proofs.Common.{◌≡◌, ◌⊎◌, inl, inr, ℕ, ◌+◌, ◌^◌, ◌<◌, ◌≤◌, Bool, true, false, not, ◌&&◌, ◌==◌, List, [], ◌∷◌, map, length, find, Option, Some, None, is_some, Result, Ok, Err, All, Contains, bytes_eq, nat_lt, if◌then◌else◌, refl, sym, ap, ◌∙◌, subst, arith}
+use Rattle.std.proofs.Common.{◌≡◌, ◌⊎◌, inl, inr, ℕ, ◌+◌, ◌^◌, ◌<◌, ◌≤◌, Bool, true, false, not, ◌&&◌, ◌==◌, List, [], ◌∷◌, length, find, Some, None, is_some, Ok, Contains, bytes_eq, nat_lt, if◌then◌else◌, refl, sym, ap, ◌∙◌, subst, arith}
 use Rattle.std.specs.List.{list_all}
-use Rattle.std.proofs.lemmas.Bool.{true≢false, false≢true, not-false, and_from, and_parts, cases_lt, lt-ltb}
+use Rattle.std.proofs.lemmas.Bool.{true≢false, not-false, and_from, and_parts, cases_lt, lt-ltb}
 use Rattle.std.proofs.lemmas.Bool.Decides.{nat_tests}
 use Rattle.std.proofs.lemmas.List.Elements.{All-contains}
 use Rattle.zst_names.specs.Names.{IsBookmark, dataset_of}
 use Rattle.zst_model.proofs.InsertedLaws.{contains_first, contains_later, contains_cases, contains_nothing, contains-map, map_contains, contains-inserted, inserted_has_rest, All-from_contains}
+use Rattle.zst_model.proofs.OneList.{pair_bounded}
+use Rattle.zst_model.proofs.RunsOf.{runs_list}
 use Rattle.zst_model.proofs.OrderLaws.{same_bytes}
 use Rattle.zst_model.specs.declared.refusals.faults.Quantity.TheVariants as quantities
 use Rattle.zst_model.specs.declared.refusals.subjects.Name.TheVariants as names
 use Rattle.zst_model.specs.fields.Guids.{is_rising, IsGuidSet}
 use Rattle.zst_model.specs.fields.Lists.{has_pair}
+use Rattle.zst_model.specs.fields.RunsOf.{runs_of}
 use Rattle.zst_model.specs.pools.Ancestry.{Source, OfSnapshot, OfBookmark, IsIn}
 use Rattle.zst_model.specs.pools.Limits.{most_bookmarks}
 use Rattle.zst_model.specs.pools.Pool.{Pool, Snapshot, Bookmark, IsGuid, IsPool, bookmark_named, dataset_of_snapshot, inserted, is_before, snapshot_named}
@@ -24,19 +27,16 @@ use Rattle.zst_model.specs.states.State.{IsState, State, index_bound, is_number}
 use Rattle.zst_laws.specs.RedactionLists.{AreListed, AreRedactions, HaveOwnGuids, Lists, objects_of}
 use Rattle.zst_laws.specs.RedactionSteps.{RedactionsKeepSound, RedactionsList, RedactionsRemember, find_each, guids_of, most_runs, not_descendant, redaction_of, relayed, with_guid, with_redaction}
 use Rattle.zst_laws.specs.RememberedStates.{IsOwn, SourceRemembers}
-use Rattle.zst_laws.specs.RunsOf.{runs_of}
 use Rattle.zst_laws.proofs.pools.AcceptedRemovals.{unless_there_ok}
 use Rattle.zst_laws.proofs.pools.Ancestry.{HasOrigins, stands_on}
 use Rattle.zst_laws.proofs.pools.CoveredBases.{lost_parts, lost_bounded}
 use Rattle.zst_laws.proofs.pools.Filters.{all_pass, each_passes}
 use Rattle.zst_laws.proofs.pools.ListedSteps.{adds_to, old_listed}
-use Rattle.zst_laws.proofs.runs.OneList.{pair_bounded}
 use Rattle.zst_laws.proofs.pools.Descent.{next_remembers, same_snapshot}
 use Rattle.zst_laws.proofs.pools.LawfulPools.{bookmark_added, committed_pool}
 use Rattle.zst_laws.proofs.pools.Rows.{committed_ok, limited_ok, named_found, none_passes, or_else_ok}
 use Rattle.zst_laws.proofs.pools.SendPlans.{before_tested}
 use Rattle.zst_laws.proofs.pools.SoundBookmarks.{bookmark_next, bookmark_sound}
-use Rattle.zst_laws.proofs.runs.RunsOf.{runs_list}
 use Rattle.zst_laws.proofs.sends.AppliedItemLemmas.{bind_ok, ok_inj, unless_ok}
 
 -- ---- what is found
@@ -243,7 +243,7 @@ module _ (of name : List ℕ) (kept : List (List ℕ)) (pool : Pool) (after : St
   pub redacted_lawful : IsBookmark name → length kept ≤ 16 → IsPool after.pool
   redacted_lawful is_name few =
       let lawful = lawful_of new.snapshot here in
-      committed_pool _ after (bookmark_added row pool is is_name (lawful.0, is_set few, (runs_list (red_set new.snapshot.objects new.snapshot.number (objects_of new.redactions))).lawful, lawful.3) new.absent) new.made
+      committed_pool _ after (bookmark_added row pool is is_name (lawful.0, is_set few, (runs_list (red_set new.snapshot.objects.state new.snapshot.number (objects_of new.redactions))).lawful, lawful.3) new.absent) new.made
 
   pub redacted_sound : Sound after.pool
   redacted_sound = next_is Sound (bookmark_sound pool row new.snapshot is.linked sound here refl refl new.same)
@@ -276,7 +276,7 @@ module _ (of name : List ℕ) (kept : List (List ℕ)) (pool : Pool) (after : St
         let stands = (before_tested pool (OfSnapshot new.snapshot) redaction is sound here there).0 passes in
         are.alone redaction there (stands_on pool next_pool (OfSnapshot new.snapshot) origins (dataset_of_snapshot redaction) (Some redaction.number) stands) (one_has_guid new.redactions redaction k)
 
-    same_redactions : (k i : ℕ) → red_set new.snapshot.objects new.snapshot.number (objects_of new.redactions) k i ≡ red_set new.snapshot.objects new.snapshot.number (objects_of redactions) k i
+    same_redactions : (k i : ℕ) → red_set new.snapshot.objects.state new.snapshot.number (objects_of new.redactions) k i ≡ red_set new.snapshot.objects.state new.snapshot.number (objects_of redactions) k i
     same_redactions k i = ap (λ t. is_user_block (new.snapshot.objects.state k) i && t) (go _ _ refl refl)
       where
         test : DatedState → Bool
@@ -294,7 +294,7 @@ module _ (of name : List ℕ) (kept : List (List ℕ)) (pool : Pool) (after : St
         go false true e f = absurd (true≢false (sym (moved redactions new.redactions wanted f) ∙ e))
 
     abbrev pairs : Pairs
-    pairs = red_set new.snapshot.objects new.snapshot.number (objects_of new.redactions)
+    pairs = red_set new.snapshot.objects.state new.snapshot.number (objects_of new.redactions)
 
     -- so its list is theirs
     new_lists : Lists row new.snapshot redactions
@@ -307,7 +307,7 @@ module _ (of name : List ℕ) (kept : List (List ℕ)) (pool : Pool) (after : St
             none true u e f = absurd (out (pair_bounded (runs_of pairs) k i (runs_list pairs).lawful e))
             none false false e f = refl
             none false true e f =
-                let gone = lost_parts new.snapshot.objects new.snapshot.number new.redactions k i f in
+                let gone = lost_parts new.snapshot.objects.state new.snapshot.number new.redactions k i f in
                 absurd (out (lost_bounded new.snapshot.objects.state (lawful_of new.snapshot here).2 new.snapshot.number new.redactions k i gone))
 
         both : (k i : ℕ) (t : Bool) → is_number k ≡ t → (i < index_bound) ⊎ (index_bound ≤ i) → has_pair (runs_of pairs) k i ≡ pairs k i

@@ -1,12 +1,10 @@
 -- A command that makes a bookmark keeps a pool sound.
-use Rattle.std.proofs.Common.{◌≡◌, ◌⊎◌, inl, inr, ℕ, ◌+◌, ◌<◌, ◌≤◌, List, Contains, refl, subst, sym, ◌∙◌, ap, arith}
+use Rattle.std.proofs.Common.{◌≡◌, ◌⊎◌, inl, inr, ◌+◌, ◌<◌, ◌≤◌, Contains, refl, subst, sym, ◌∙◌, ap, arith}
 use Rattle.std.proofs.lemmas.List.Elements.{All-contains}
-use Rattle.zst_names.specs.Names.{dataset_of}
 use Rattle.zst_model.specs.pools.Pool.{Pool, Snapshot, Bookmark, HasDataset, IsLinked, dataset_of_snapshot, dataset_of_bookmark, is_before, inserted}
 use Rattle.zst_model.specs.pools.Ancestry.{IsOrigin}
 use Rattle.zst_model.specs.pools.Rows.{Row}
 use Rattle.zst_model.specs.pools.Soundness.{IsBookmarkOf, Sound}
-use Rattle.zst_model.specs.pools.Step.{bookmark_of}
 use Rattle.zst_model.proofs.InsertedLaws.{contains-inserted}
 use Rattle.zst_laws.proofs.pools.Ancestry.{HasOldOrigins}
 use Rattle.zst_laws.proofs.pools.Descent.{IsRow, SnapshotRow, HeadRow, PartialRow, row_cases, same_snapshot, Descends, IsNextBookmark, IsNext, next_sound, snapshot_stays, head_stays, partial_stays}

@@ -1,7 +1,7 @@
 -- Which pairs a redaction bookmark lists (zfs-redact(8)): the blocks that no redaction snapshot has kept.
 use Rattle.std.specs.Prelude.{ℕ, Bool, true, false, List, Option, Some, None, nat_lt, ◌&&◌}
 use Rattle.std.specs.List.{list_all}
-use Rattle.zst_model.specs.states.State.{Block, Hole, Redacted, Data, Object, is_user_data}
+use Rattle.zst_model.specs.states.State.{Block, Hole, Redacted, Data, Object, State, is_user_data}
 use Rattle.zst_model.specs.states.DatedState.{DatedState}
 use Rattle.zst_model.specs.sends.Inclusion.{Pairs}
 
@@ -16,6 +16,6 @@ abbrev pub is_user_block : Option Object → ℕ → Bool
 is_user_block None i = false
 is_user_block (Some object) i = is_user_data object.attr && is_data (object.blocks i)
 
--- the pairs of user data of a snapshot with this number that every redaction snapshot dates after it
-abbrev pub red_set : DatedState → ℕ → List DatedState → Pairs
-red_set snap number redactions k i = is_user_block (snap.state k) i && list_all (λ redaction. nat_lt number (redaction.index_date k i)) redactions
+-- the pairs of user data of a snapshot with this state and number that every redaction snapshot dates after it
+abbrev pub red_set : State → ℕ → List DatedState → Pairs
+red_set state number redactions k i = is_user_block (state k) i && list_all (λ redaction. nat_lt number (redaction.index_date k i)) redactions

@@ -1,4 +1,4 @@
-ghost use Rattle.zst_laws.specs.RunsOf.{MoreRuns, OneList, RunsArePairs};
+ghost use Rattle.zst_model.specs.fields.RunsOf.{MoreRuns, OneList, RunsArePairs};
 
 /// The runs of a set of pairs are a list that has exactly these pairs.
 pub fn runs_are_pairs()

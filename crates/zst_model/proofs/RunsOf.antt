@@ -1,14 +1,16 @@
 -- The runs of a set of pairs are its list.
-use Rattle.std.proofs.Common.{◌≡◌, ◌⊎◌, ℕ, ◌+◌, ◌≤◌, ◌<◌, Bool, true, false, List, [], ◌∷◌, ◌++◌, length, flat_map, Option, Some, None, inl, inr, refl, sym, ap, ◌∙◌, subst, zero, suc, pred, nat_le, nat_lt, if◌then◌else◌, ◌==◌, ◌&&◌, ◌||◌, append_assoc, length-append, arith}
-use Rattle.std.proofs.lemmas.Bool.{false≢true, true≢false, and_parts, and_from, or_cases, or_left, or_right, or_from, false_from_ne_true, cases_lt, cases_eq, lt-ltb}
+use Rattle.std.proofs.Common.{◌≡◌, ◌⊎◌, ℕ, ◌+◌, ◌≤◌, ◌<◌, Bool, true, false, [], ◌∷◌, ◌++◌, length, flat_map, Option, Some, None, inl, inr, refl, sym, ap, ◌∙◌, subst, zero, suc, pred, nat_le, nat_lt, if◌then◌else◌, ◌==◌, ◌&&◌, ◌||◌, length-append, arith}
+use Rattle.std.proofs.lemmas.Bool.{false≢true, true≢false, and_parts, and_from, or_left, or_right, cases_eq}
 use Rattle.std.proofs.lemmas.Bool.Decides.{nat_tests}
+use Rattle.std.proofs.lemmas.List.Folds.{list_any-append}
 use Rattle.zst_model.specs.declared.states.cell.Run.{Run}
 use Rattle.zst_model.specs.states.State.{is_number, number_bound, index_bound}
 use Rattle.zst_model.specs.sends.Inclusion.{Pairs}
 use Rattle.zst_model.specs.sends.Items.{rising}
-use Rattle.zst_model.specs.fields.Lists.{Runs, is_in_run, has_pair, is_run, stands_before, is_run_list, IsRunList, IsAtOrAfter}
-use Rattle.zst_laws.specs.RunsOf.{join_runs, before_run, run_before, joined_runs, run_at, runs_at, runs_of, IsListOf, RunsArePairs, is_earlier, IsListBefore, MoreRuns}
-use Rattle.zst_laws.proofs.runs.OneList.{rest_lawful, first_lawful, next_apart, has_first, least_first, pair_bounded, same_runs, same_list}
+use Rattle.zst_model.specs.fields.Lists.{Runs, is_in_run, has_pair, is_run, stands_before, IsRunList, IsAtOrAfter}
+use Rattle.zst_model.specs.fields.RunsOf.{before_run, run_before, joined_runs, run_at, runs_at, runs_of, IsListOf, RunsArePairs, is_earlier, IsListBefore, MoreRuns}
+use Rattle.zst_model.proofs.OneList.{has_first, pair_bounded, same_list}
+use Rattle.zst_model.proofs.RunLists.{first_is_lawful, next_is_apart, rest_is_lawful}
 
 -- ---- runs that follow one another, and may touch
 
@@ -17,6 +19,7 @@ abbrev Follow : ℕ → ℕ → Runs → Type 0
 Follow k i [] = Unit {0}
 Follow k i (run ∷ rest) = (is_run run ≡ true) × IsAtOrAfter k i run.object run.first × Follow run.object (run.first + run.count) rest
 
+-- what stands after a pair that stands after another stands after that one too
 later_start : (k i l j m n : ℕ) → IsAtOrAfter k i l j → IsAtOrAfter l j m n → IsAtOrAfter k i m n
 later_start k i l j m n a b = grind arith
 
@@ -33,6 +36,7 @@ from_lawful : (k i : ℕ) (runs : Runs) → ListFrom k i runs → IsRunList runs
 from_lawful k i [] h = refl
 from_lawful k i (run ∷ rest) h = h.0
 
+-- two runs that touch are one run that a list may have
 touching : (run next : Run) → is_run run ≡ true → is_run next ≡ true → (run.object == next.object && run.first + run.count == next.first) ≡ true
     → is_run (record { object = run.object; first = run.first; count = run.count + next.count }) ≡ true
 touching run next a b touch = record_run run next a b touch
@@ -46,10 +50,12 @@ touching run next a b touch = record_run run next a b touch
             → (nat_lt 0 (run.count + next.count) && nat_le (run.first + (run.count + next.count)) index_bound) ≡ true
         parts run next a b touch = grind (arith, nat_tests)
 
+-- two runs that don't touch stand apart
 apart : (run next : Run) → (run.object == next.object && run.first + run.count == next.first) ≡ false → IsAtOrAfter run.object (run.first + run.count) next.object next.first
     → stands_before run next ≡ true
 apart run next touch after = grind (arith, nat_tests)
 
+-- what stands apart from the second of two that touch stands apart from both as one
 over : (run next third : Run) → (run.object == next.object && run.first + run.count == next.first) ≡ true → stands_before next third ≡ true
     → stands_before (record { object = run.object; first = run.first; count = run.count + next.count }) third ≡ true
 over run next third touch before = go run.object run.first run.count touch
@@ -57,6 +63,7 @@ over run next third touch before = go run.object run.first run.count touch
     go : (o f c : ℕ) → (o == next.object && f + c == next.first) ≡ true → (nat_lt o third.object || (o == third.object && nat_lt (f + (c + next.count)) third.first)) ≡ true
     go o f c touch = grind (arith, nat_tests)
 
+-- so a run in front of a list, joined with its first where they touch, makes a list
 list_of : (run : Run) (rest : Runs) → is_run run ≡ true → ListFrom run.object (run.first + run.count) rest → (t : Option Run) → IsRunList (run_before run rest)
 list_of run [] a h t = a
 list_of run (next ∷ rest) a h t = go (run.object == next.object && run.first + run.count == next.first) refl
@@ -66,7 +73,7 @@ list_of run (next ∷ rest) a h t = go (run.object == next.object && run.first +
 
     merged : (rest : Runs) → IsRunList (next ∷ rest) → (run.object == next.object && run.first + run.count == next.first) ≡ true → IsRunList (record { object = run.object; first = run.first; count = run.count + next.count } ∷ rest)
     merged [] b touch = touching run next a b touch
-    merged (third ∷ rest) b touch = and_from _ _ (touching run next a (first_lawful next (third ∷ rest) b) touch) (and_from _ _ (over run next third touch (next_apart next third rest b)) (rest_lawful next (third ∷ rest) b))
+    merged (third ∷ rest) b touch = and_from _ _ (touching run next a (first_is_lawful next (third ∷ rest) b) touch) (and_from _ _ (over run next third touch (next_is_apart next third rest b)) (rest_is_lawful next (third ∷ rest) b))
 
     go : (touch : Bool) → (run.object == next.object && run.first + run.count == next.first) ≡ touch
         → IsRunList (before_run run (if touch then Some (record { object = run.object; first = run.first; count = run.count + next.count }) else None) next rest)
@@ -88,6 +95,7 @@ unfolding joined_runs
 joined_list k i [] f = tt
 joined_list k i (run ∷ rest) f = from_of k i run (joined_runs rest) f.1 f.0 (joined_list run.object (run.first + run.count) rest f.2)
 
+-- two runs that touch have as one the pairs of both
 joins_in : (run next : Run) (l j : ℕ) → (run.object == next.object && run.first + run.count == next.first) ≡ true
     → (run.object == l && (nat_le run.first j && nat_lt j (run.first + (run.count + next.count)))) ≡ (is_in_run run l j || is_in_run next l j)
 joins_in run next l j touch = grind (arith, nat_tests)
@@ -114,6 +122,7 @@ joined_pairs (run ∷ rest) l j = before_pairs run (joined_runs rest) l j ∙ ap
 
 -- ---- the pairs one by one
 
+-- a pair of a number and an index is a run that a list may have
 unit_run : (k i : ℕ) → is_number k ≡ true → i < index_bound → (is_number k && (nat_lt 0 1 && nat_le (i + 1) index_bound)) ≡ true
 unit_run k i n l = and_from (is_number k) _ n (go i l)
   where
@@ -138,6 +147,7 @@ inside (suc n) k i b number l = grind (arith, nat_tests)
 both_same : (k a l j : ℕ) → (k == l && a == j) ≡ true → (k ≡ l) × (a ≡ j)
 both_same k a l j e = (grind (arith, nat_tests), grind (arith, nat_tests))
 
+-- tests that share a part
 share : (x y p : Bool) → ((x && p) || (y && p)) ≡ ((x || y) && p)
 share true true true = refl
 share true true false = refl
@@ -147,6 +157,7 @@ share false true true = refl
 share false true false = refl
 share false false p = refl
 
+-- which pairs a range of indices has, and one of numbers
 none_at : (k a l j : ℕ) → (k == l && (nat_le a j && nat_lt j (a + 0))) ≡ false
 none_at k a l j = grind (arith, nat_tests)
 
@@ -160,6 +171,7 @@ number_more : (k n l j b : ℕ) → ((k == l && (nat_le 0 j && nat_lt j (0 + b))
 number_more k n l j b = grind (arith, nat_tests)
 
 module _ (pairs : Pairs) where
+  -- the runs of one of a number's indices follow one another, and so do those of all numbers
   follow_at : (k a n : ℕ) (rest : Runs) → is_number k ≡ true → a + n ≤ index_bound → Follow (suc k) 0 rest → Follow k a (flat_map (run_at pairs k) (rising a n) ++ rest)
   unfolding rising
   follow_at k a zero rest number most f = follow_from k a (suc k) 0 rest (inl (omega arith)) f
@@ -175,13 +187,14 @@ module _ (pairs : Pairs) where
   follow_all k zero some most = tt
   follow_all k (suc n) some most = follow_at k 0 index_bound (flat_map (runs_at pairs) (rising (suc k) n)) (number_in k n some most) (omega arith) (follow_all (suc k) n (omega arith) (omega arith))
 
+  -- lists one behind the other have the pairs of both
   append_pairs : (runs rest : Runs) (l j : ℕ) → has_pair (runs ++ rest) l j ≡ (has_pair runs l j || has_pair rest l j)
-  append_pairs [] rest l j = refl
-  append_pairs (run ∷ runs) rest l j = ap (λ t. is_in_run run l j || t) (append_pairs runs rest l j) ∙ sym (or_assoc (is_in_run run l j) (has_pair runs l j) (has_pair rest l j))
+  append_pairs runs rest l j = list_any-append (λ run. is_in_run run l j) runs rest
 
   in_unit : (k a l j : ℕ) → (k == l && (nat_le a j && nat_lt j (a + 1))) ≡ (k == l && (a == j))
   in_unit k a l j = grind (arith, nat_tests)
 
+  -- which pairs they have: of a pair, of a number, of all numbers
   unit_pairs : (k a l j : ℕ) → has_pair (run_at pairs k a) l j ≡ ((k == l && a == j) && pairs l j)
   unit_pairs k a l j = go (k == l && a == j) refl (pairs k a) refl
     where
@@ -234,15 +247,16 @@ appended : (runs : Runs) (first : Run) (later : Runs) → IsRunList runs → IsR
 appended [] first later a b before = b
 appended (run ∷ []) first later a b before = and_from (is_run run) _ a (and_from (stands_before run first) _ (before run a (λ k i h. or_left (is_in_run run k i) false h)) b)
 appended (run ∷ next ∷ rest) first later a b before =
-    and_from (is_run run) _ (first_lawful run (next ∷ rest) a)
-    (and_from (stands_before run next) _ (next_apart run next rest a)
-    (appended (next ∷ rest) first later (rest_lawful run (next ∷ rest) a) b
+    and_from (is_run run) _ (first_is_lawful run (next ∷ rest) a)
+    (and_from (stands_before run next) _ (next_is_apart run next rest a)
+    (appended (next ∷ rest) first later (rest_is_lawful run (next ∷ rest) a) b
     (λ one lawful h. before one lawful (λ k i e. or_right (is_in_run run k i) (has_pair (next ∷ rest) k i) (h k i e)))))
 
 -- the last pair of a run
 last_in : (run : Run) (i : ℕ) → is_run run ≡ true → suc i ≡ run.first + run.count → is_in_run run run.object i ≡ true
 last_in run i lawful e = grind (arith, nat_tests)
 
+-- which it has
 last_of : (run : Run) → is_run run ≡ true → (i : ℕ) × (suc i ≡ run.first + run.count)
 last_of run lawful = go (run.first + run.count) refl (grind (arith, nat_tests))
   where
@@ -250,6 +264,7 @@ last_of run lawful = go (run.first + run.count) refl (grind (arith, nat_tests))
     go zero e some = absurd (omega arith)
     go (suc n) e some = (n, e)
 
+-- a run whose last pair stands before a pair that it doesn't touch stands apart from a run that doesn't begin before that pair
 stands_apart : (run first : Run) (l j i : ℕ) → is_run run ≡ true → suc i ≡ run.first + run.count → is_earlier run.object i l j ≡ true → (run.object ≡ l → suc i ≡ j → ⊥)
     → is_earlier first.object first.first l j ≡ false → stands_before run first ≡ true
 stands_apart run first l j i lawful e earlier gap late = go (cases_eq run.object l) (cases_eq (suc i) j)
@@ -259,6 +274,7 @@ stands_apart run first l j i lawful e earlier gap late = go (cases_eq run.object
     go (inl o) (inr n) = grind (arith, nat_tests)
     go (inr o) n = grind (arith, nat_tests)
 
+-- what passes a test, and what doesn't
 parted : (p e : Bool) → ((p && e) || (p && (if e then false else true))) ≡ p
 parted true true = refl
 parted true false = refl
@@ -267,6 +283,7 @@ parted false e = refl
 module _ (pairs : Pairs) (runs : Runs) (l j : ℕ) (before : IsListBefore pairs l j runs) (number : is_number l ≡ true) (index : j < index_bound) (has : pairs l j ≡ true)
     (gap : (i : ℕ) → suc i ≡ j → has_pair runs l i ≡ false)
   where
+    -- the pairs that don't stand before this one, which it is one of
     abbrev late : Pairs
     late k i = pairs k i && (if is_earlier k i l j then false else true)
 
@@ -279,6 +296,7 @@ module _ (pairs : Pairs) (runs : Runs) (l j : ℕ) (before : IsListBefore pairs 
     has_late : late l j ≡ true
     has_late = and_from (pairs l j) _ has (ap (λ t. if t then false else true) (late_itself (is_earlier l j l j) refl))
 
+    -- the pairs of the list stand before it, and those of a list of the others don't
     early : (k i : ℕ) → has_pair runs k i ≡ true → is_earlier k i l j ≡ true
     early k i h =
         let at = pair_bounded runs k i before.list.lawful h in
@@ -293,6 +311,7 @@ module _ (pairs : Pairs) (runs : Runs) (l j : ℕ) (before : IsListBefore pairs 
         flip true e = absurd (false≢true e)
         flip false e = refl
 
+    -- so both lists are the list of all, which is longer than the first of them
     whole : (first : Run) (later : Runs) → IsListOf late (first ∷ later) → IsListOf pairs (runs ++ first ∷ later)
     whole first later list = record {
       lawful = appended runs first later before.list.lawful list.lawful (λ run lawful inside.

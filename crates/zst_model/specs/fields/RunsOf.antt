@@ -1,5 +1,5 @@
 -- The runs of a set of pairs: each as long as it can be.
-use Rattle.std.specs.Prelude.{◌≡◌, ℕ, suc, pred, ◌+◌, ◌<◌, ◌⊎◌, Bool, true, false, List, [], ◌∷◌, length, flat_map, Option, Some, None, if◌then◌else◌, nat_lt, ◌==◌, ◌&&◌, ◌||◌}
+use Rattle.std.specs.Prelude.{◌≡◌, ℕ, suc, pred, ◌+◌, ◌<◌, Bool, true, false, [], ◌∷◌, length, flat_map, Option, Some, None, if◌then◌else◌, nat_lt, ◌==◌, ◌&&◌, ◌||◌}
 use Rattle.zst_model.specs.declared.states.cell.Run.{Run}
 use Rattle.zst_model.specs.states.State.{is_number, number_bound, index_bound}
 use Rattle.zst_model.specs.fields.Lists.{Runs, has_pair, IsRunList}
@@ -45,10 +45,11 @@ pub record IsListOf (pairs : Pairs) (runs : Runs) : Type 0 where
   pub lawful : IsRunList runs
   pub same : (k i : ℕ) → is_number k ≡ true → i < index_bound → has_pair runs k i ≡ pairs k i
 
+-- the runs of a set of pairs are such a list
 abbrev pub RunsArePairs : Type 0
 RunsArePairs = (pairs : Pairs) → IsListOf pairs (runs_of pairs)
 
--- a set of pairs has one list
+-- a set of pairs has no other
 abbrev pub OneList : Type 0
 OneList = (pairs : Pairs) (runs other : Runs) → IsListOf pairs runs → IsListOf pairs other → runs ≡ other
 
@@ -60,7 +61,7 @@ is_earlier k i l j = nat_lt k l || (k == l && nat_lt i j)
 pub record IsListBefore (pairs : Pairs) (l j : ℕ) (runs : Runs) : Type 0 where
   pub list : IsListOf (λ k i. pairs k i && is_earlier k i l j) runs
 
--- where they have no pair that it touches, a pair makes the whole list longer
+-- where it touches none of them, a pair of the set makes the list of all longer
 abbrev pub MoreRuns : Type 0
 MoreRuns =
     (pairs : Pairs) (runs : Runs) (l j : ℕ) → IsListBefore pairs l j runs → is_number l ≡ true → j < index_bound → pairs l j ≡ true
