@@ -2,7 +2,6 @@ pub mod Ancestry
 pub mod Rows
 pub mod SourceBases
 pub mod CoveredBases
-pub mod ContainedBases
 pub mod ListedSteps
 pub mod RedactionSteps
 pub mod Aborts

@@ -9,3 +9,4 @@ mod LatestSnapshots
 mod FirstPlaces
 mod TextMarks
 mod ReceiveChecks
+mod ContainedBases

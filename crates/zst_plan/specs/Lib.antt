@@ -1,3 +1,4 @@
+pub mod ContainedBases
 pub mod Places
 pub mod Plans
 pub mod Receipts

@@ -3,6 +3,7 @@
 
 mod checks;
 mod flags;
+mod laws;
 mod lookups;
 mod origin_walk;
 mod plan;
@@ -11,6 +12,7 @@ mod resume;
 mod send;
 mod source;
 
+pub use laws::contained_is_covered;
 pub use plan::SendPlan;
 pub use receive::{RecvAsk, RecvPlan, recv_plan};
 pub use resume::resume_plan;
