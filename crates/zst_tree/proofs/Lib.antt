@@ -19,3 +19,4 @@ pub mod Damage
 pub mod TreeDates
 pub mod LaterDamage
 pub mod ChangedTrees
+pub mod LeafMaps

@@ -6,3 +6,4 @@ pub mod Indices
 pub mod LateIndices
 pub mod PathAnswer
 pub mod Sets
+pub mod Leaves

@@ -2,6 +2,7 @@
 #![tactic(auto)]
 
 mod late_indices;
+mod leaf_puts;
 mod lookups;
 mod nodes;
 mod path_answer;
@@ -14,6 +15,7 @@ mod walks;
 mod words;
 mod writes;
 
+pub use leaf_puts::Leaf;
 pub use nodes::child_at;
 pub use puts::put_child;
 pub use spans::{INDEX_BOUND, span_of};

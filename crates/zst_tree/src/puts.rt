@@ -37,7 +37,7 @@ pub(crate) fn fill(node: &mut Node, from: usize, below: usize, ptr: &Ptr)
 }
 
 // Fills the node with the pointers below this one.
-fn open<D: Disk>(io: &mut Io<'_, D>, level: u8, ptr: Ptr) -> Result<(), BlockFault>
+pub(crate) fn open<D: Disk>(io: &mut Io<'_, D>, level: u8, ptr: Ptr) -> Result<(), BlockFault>
     requires inner { 0 < level }
     requires fits { FitsDisk (D.state io.old.disk.now).size io.old.space }
     ensures parts { (base : ℕ) (map : Map) → (D.state io.new.disk.now).honest → Subtree (Has (D.state io.old.disk.now).seen io.old.space) level ptr base map → Delivers (λ done. Parts (Has (D.state io.old.disk.now).seen io.old.space) (level - 1) io.new.node base map) result }
@@ -100,7 +100,7 @@ pub(crate) fn close<D: Disk>(io: &mut Io<'_, D>, level: u8) -> Result<Ptr, Block
 }
 
 // One child is put in place of another.
-fn mend_one<D: Disk>(
+pub(crate) fn mend_one<D: Disk>(
     io: &mut Io<'_, D>,
     level: u8,
     ptr: Ptr,

@@ -48,7 +48,11 @@ fn is_enough(levels: u8, need: u64) -> bool
 }
 
 // Grows a tree until it has so many indices.
-fn grow_to<D: Disk>(io: &mut Io<'_, D>, tree: Tree, need: u64) -> Result<Tree, BlockFault>
+pub(crate) fn grow_to<D: Disk>(
+    io: &mut Io<'_, D>,
+    tree: Tree,
+    need: u64,
+) -> Result<Tree, BlockFault>
     requires levels { tree.levels ≤ 7 }
     requires need { need ≤ 2 ^ 44 }
     requires fits { FitsDisk (D.state io.old.disk.now).size io.old.space }
