@@ -66,7 +66,7 @@ module _ (number j : ℕ) (change : Change) (old : DatedState) where
   unfolding apply
   changed_is object is = rw is refl
 
-  kept_at : (object : Object) (k : ℕ) → (k == j) ≡ false → Alike old (changed_to object) k
+  pub kept_at : (object : Object) (k : ℕ) → (k == j) ≡ false → Alike old (changed_to object) k
   kept_at object k other = record {
     state = rw other refl;
     date = no_at (k == j) (dates_number change) number (old.number_date k) other;
@@ -112,6 +112,14 @@ module _ (number j : ℕ) (change : Change) (old : DatedState) where
           index_dates = λ i less. object_is.index_dates i less ∙ sym (dates_put i less);
         };
       }
+
+  -- what isn't a number or an index has the date 0 still
+  pub change_bounded : (object : Object) → is_number j ≡ true → IsBounded old → IsBounded (changed_to object)
+  change_bounded object is_one bounded = record {
+    no_number = λ k none. no_at (k == j) (dates_number change) number (old.number_date k) (no_number_beside j k is_one none (k == j) refl) ∙ bounded.no_number k none;
+    no_numbers_index = λ k i none. no_at_index (k == j) (dates_index change (old.state j) i) (nat_lt i index_bound) number (old.index_date k i) (no_number_beside j k is_one none (k == j) refl) ∙ bounded.no_numbers_index k i none;
+    no_index = λ k i le. no_index_at (k == j && dates_index change (old.state j) i) (nat_lt i index_bound) number (old.index_date k i) (over i le) ∙ bounded.no_index k i le;
+  }
 
 -- what a change makes of an object is what the definition makes, and its slot is put
 pub makes_dnode : (has : Blocks) (number j : ℕ) (change : Change) (old : DatedState) (dnode : Dnode) → IsState old.state → IsBounded old → AppliedIsState → (makes : MakesDnode has number j change old dnode)

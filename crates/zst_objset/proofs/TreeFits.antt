@@ -30,7 +30,7 @@ pub record RootFits (size levels : ℕ) (root : Ptr) : Type 0 where
   pub lawful : is_lawful root ≡ true
   pub is : is_root levels size root ≡ true
 
-named_fits : (size levels : ℕ) (root : Ptr) → 0 < levels → (root.kind ≡ 3) ⊎ (root.kind ≡ 4) → RootFits size levels root
+pub named_fits : (size levels : ℕ) (root : Ptr) → 0 < levels → (root.kind ≡ 3) ⊎ (root.kind ≡ 4) → RootFits size levels root
 named_fits size zero root some kind = absurd (omega arith)
 named_fits size (suc levels) root some (inl kind) = record { lawful = node_lawful root true kind; is = node_root levels size root true kind }
 named_fits size (suc levels) root some (inr kind) = record { lawful = node_lawful root false kind; is = node_root levels size root false kind }

@@ -64,7 +64,7 @@ past_last-put old new i there same (suc bound) less = go (past_last-put old new 
         rw top (omega (arith, le))
 
 -- the place of an index
-same_place : (size i j : ℕ) → 0 < size → (j * size == i * size) ≡ (j == i)
+pub same_place : (size i j : ℕ) → 0 < size → (j * size == i * size) ≡ (j == i)
 same_place size i j some = go (cases_order j i)
   where
     go : (j ≡ i) ⊎ ((j < i) ⊎ (i < j)) → (j * size == i * size) ≡ (j == i)
@@ -98,7 +98,7 @@ write_some i bytes object some =
     (passed (is_unaligned size (i * size)) Unaligned _ (ap (λ (n : ℕ). not (n == 0)) (mul-mod_left i size))
     ∙ ap (λ (b : Bool). unless (is_odd_size size && b) OddBlock (Ok (Some (written_to i bytes object)))) (some_times i size some))
 
-write_is : (i : ℕ) (bytes : List ℕ) (there : Option Object) (object : Object) → there ≡ Some object → 0 < object.attr.block_size
+pub write_is : (i : ℕ) (bytes : List ℕ) (there : Option Object) (object : Object) → there ≡ Some object → 0 < object.attr.block_size
     → apply_change (write_at i bytes there) there
     ≡ unless (not (length bytes == object.attr.block_size)) SizeDiffers (unless (is_odd_size object.attr.block_size && nat_lt 0 i) OddBlock (Ok (Some (written_to i bytes object))))
 write_is i bytes there object is some = rw is (write_some i bytes object some)

@@ -1,32 +1,38 @@
-//! The call that writes a block of an object.
-ghost use Rattle.std.specs.Prelude.{◌≡◌, ◌+◌, ◌/◌, ◌%◌, ◌<◌, ◌≤◌, ◌^◌, ◌&&◌, not, nat_lt, IfErr, IfOk, None, OnErr, OnOk, length};
+//! The calls that write blocks of an object.
+ghost use Rattle.std.specs.Prelude.{true, false, ℕ, List, suc, max, ◌*◌, ◌≡◌, ◌+◌, ◌/◌, ◌%◌, ◌<◌, ◌≤◌, ◌^◌, ◌&&◌, not, nat_lt, IfErr, IfOk, None, OnErr, OnOk, length};
 ghost use Rattle.zst_block.specs.Blocks.{FitsDisk, Has, SparesTaken};
 ghost use Rattle.zst_block.specs.IoCalls.{Works, stop_of as block_stop};
 ghost use Rattle.zst_model.specs.declared.refusals.faults.Quantity.TheVariants as quantities;
 ghost use Rattle.zst_model.specs.pools.Soundness.{DatedUpTo};
 ghost use Rattle.zst_model.specs.states.DatedState.{DatedState};
-ghost use Rattle.zst_model.specs.states.State.{index_bound, is_odd_size};
+ghost use Rattle.zst_model.specs.states.State.{index_bound, is_block_size, is_odd_size};
 ghost use Rattle.zst_tree.specs.Changes.{TreeDatedUpTo};
 ghost use Rattle.zst_tree.specs.Damage.{NamesDamage, NamesNode};
 ghost use Rattle.zst_tree.specs.Indices.{Delivers, Map, TreeIs};
 ghost use Rattle.zst_tree.specs.Sets.{SetFits};
-ghost use Rattle.zst_objset.specs.Answers.{Changes, stop_of, LimitOnly, NotRedacted};
+ghost use Rattle.zst_tree.specs.Leaves.{with_leaves};
+ghost use Rattle.zst_dnode.specs.Dnode.{DnodeFits};
+ghost use Rattle.zst_objset.specs.DueBlocks.{AreSoFar, CanRun, PutsBlocks, blocks_written, with_tree};
+ghost use Rattle.zst_objset.specs.Answers.{Changes, stop_of, LimitOnly, NotLimit, NotRedacted};
 ghost use Rattle.zst_objset.specs.Changes.{block_written};
-ghost use Rattle.zst_objset.specs.Damage.{IfSetDamaged, IsDamagedObject};
+ghost use Rattle.zst_objset.specs.Damage.{IfSetDamaged, IsDamagedObject, IsDamagedSet};
 ghost use Rattle.zst_objset.specs.Sets.{SetHolds};
-ghost use Rattle.zst_objset.specs.TightSets.{SetIsTight};
+ghost use Rattle.zst_dnode.specs.declared.slot.Slot.TheVariants.{There};
+ghost use Rattle.zst_objset.specs.TightSets.{IsTightSlot, SetIsTight};
 ghost use Rattle.zst_objset.specs.BlockWrites.{PutsData, PutsDataRoot, write_judged};
 
 use crate::answers::object_there;
 use crate::changes::{put_dnode, with_tree};
 use crate::fault::ObjFault;
+use crate::slot_puts::put_in_leaf;
 use crate::trees::tree_of;
-use zst_block::{BlockFault, Io, write};
-use zst_dnode::Dnode;
+use zst_block::{BlockFault, Io, Ptr, write};
+use zst_dnode::{Dnode, Slot};
+use zst_laws::applied_is_state;
 use zst_model::limits::INDEX_BOUND;
 use zst_model::{ApplyFault, Quantity};
 use zst_outside::Disk;
-use zst_tree::{ObjSet, Tree};
+use zst_tree::{Leaf, ObjSet, Tree};
 
 // Whether an object with blocks of this size may have one at an index.
 fn may_have_block(size: u32, index: u64) -> bool
@@ -124,4 +130,169 @@ pub(crate) fn write_block<D: Disk>(
     };
     let end = dnode.end.max(index + 1);
     put_dnode(set, io, object, with_tree(dnode, tree, end))
+}
+
+// Writes neighbouring blocks of so many bytes, for the indices from one on, and gives the leaves that name them.
+fn write_each<D: Disk>(
+    io: &mut Io<'_, D>,
+    index: u64,
+    size: usize,
+    bytes: &[u8],
+    number: u64,
+    into: &mut [Leaf],
+) -> Result<(), BlockFault>
+    requires some { 0 < size }
+    requires whole { size % 512 ≡ 0 }
+    requires small { size < 2 ^ 32 }
+    requires long { length bytes.now ≡ length into.old * size }
+    requires index { index + length into.old < 2 ^ 64 }
+    requires fits { FitsDisk (D.state io.old.disk.now).size io.old.space }
+    ensures written { OnOk result (AreSoFar (Has (D.state io.new.disk.now).seen io.new.space) number size index bytes.now into.new (length into.old)) }
+    ensures long { length into.new ≡ length into.old }
+    ensures never_damaged { (sector : ℕ) (stated found : List ℕ) → ¬ (result ≡ Err (BlockFault.Damaged sector stated found)) }
+    ensures works { Works (length into.old * (size / 512)) (size / 512) (D.state io.old.disk.now) io.old.space io.old.failed (D.state io.new.disk.now) io.new.space io.new.failed (block_stop result) }
+    ensures same { io.new.disk.ghost_name ≡ io.old.disk.ghost_name }
+{
+    for k in 0..into.len() {
+        let block = &bytes[k * size..(k + 1) * size];
+        let ptr = write(io, block, 0, number)?;
+        into[k] = Leaf {
+            index: index + k as u64,
+            ptr,
+        };
+    }
+    Ok(())
+}
+
+// Writes neighbouring blocks of so many bytes, one for each of the leaves, and gives the tree that has them at the indices from one on.
+fn put_blocks<D: Disk>(
+    io: &mut Io<'_, D>,
+    tree: Tree,
+    index: u64,
+    size: usize,
+    count: usize,
+    bytes: &[u8],
+    number: u64,
+    leaves: &mut [Leaf],
+) -> Result<Tree, BlockFault>
+    requires leaves { length leaves.old ≡ count }
+    requires levels { tree.levels ≤ 7 }
+    requires group { index % 128 + count ≤ 128 }
+    requires inside { index + count ≤ 2 ^ 43 }
+    requires some { 0 < size }
+    requires whole { size % 512 ≡ 0 }
+    requires small { size < 2 ^ 32 }
+    requires long { length bytes.now ≡ count * size }
+    requires fits { FitsDisk (D.state io.old.disk.now).size io.old.space }
+    ensures puts { (map : Map) → (D.state io.new.disk.now).honest → TreeIs (Has (D.state io.old.disk.now).seen io.old.space) tree map
+        → Delivers (PutsBlocks (Has (D.state io.new.disk.now).seen io.new.space) map number size count index bytes.now) result }
+    ensures dated { (map : Map) → (D.state io.new.disk.now).honest → TreeIs (Has (D.state io.old.disk.now).seen io.old.space) tree map → TreeDatedUpTo number tree → IfOk result (TreeDatedUpTo number) }
+    ensures levels { IfOk result (λ made. made.levels ≤ 7) }
+    ensures root { IfOk result (λ made. (0 < made.levels) × NamesNode made.levels made.root) }
+    ensures damaged { (D.state io.new.disk.now).honest → NamesDamage (SparesTaken io.old.space (D.state io.old.disk.now).seen) (D.state io.old.disk.now).size NamesNode tree.levels tree.root result }
+    ensures works { Works (count * (size / 512) + 224) (size / 512) (D.state io.old.disk.now) io.old.space io.old.failed (D.state io.new.disk.now) io.new.space io.new.failed (block_stop result) }
+    ensures same { io.new.disk.ghost_name ≡ io.old.disk.ghost_name }
+{
+    write_each(io, index, size, bytes, number, leaves)?;
+    let mut made = tree;
+    made.set_all(io, index / 128, leaves)?;
+    Ok(made)
+}
+
+// Gives the slot of an object whose tree has what was due.
+fn put_run<D: Disk>(
+    set: &mut ObjSet,
+    io: &mut Io<'_, D>,
+    object: u64,
+    dnode: Dnode,
+) -> Result<(), ObjFault>
+    requires object { (0 < object) × (object < 2 ^ 48) }
+    requires dnode { DnodeFits dnode }
+    requires fits { FitsDisk (D.state io.old.disk.now).size io.old.space }
+    ensures changed { (number size count i : ℕ) (bytes : List ℕ) (before : DatedState) (was : Dnode) (map : Map) (leaves : List Leaf) (tree : Tree) → (D.state io.new.disk.now).honest
+        → SetHolds (Has (D.state io.old.disk.now).seen io.old.space) set.old before → CanRun (Has (D.state io.old.disk.now).seen io.old.space) number object size count i bytes before was map leaves
+        → TreeIs (Has (D.state io.old.disk.now).seen io.old.space) tree (with_leaves map leaves) → dnode ≡ with_tree was tree (max was.end (i + suc count))
+        → Changes (SetHolds (Has (D.state io.new.disk.now).seen io.new.space) set.new) (blocks_written number object size (suc count) i bytes before) result }
+    ensures tight { (number size count i : ℕ) (bytes : List ℕ) (before : DatedState) (was : Dnode) (map : Map) (leaves : List Leaf) (tree : Tree) → (D.state io.new.disk.now).honest
+        → SetIsTight (Has (D.state io.old.disk.now).seen io.old.space) set.old before → CanRun (Has (D.state io.old.disk.now).seen io.old.space) number object size count i bytes before was map leaves
+        → TreeIs (Has (D.state io.old.disk.now).seen io.old.space) tree (with_leaves map leaves) → dnode ≡ with_tree was tree (max was.end (i + suc count))
+        → DatedUpTo number before → IsTightSlot before object (There was) → TreeDatedUpTo number tree
+        → Changes (SetIsTight (Has (D.state io.new.disk.now).seen io.new.space) set.new) (blocks_written number object size (suc count) i bytes before) result }
+    ensures limits { IfErr result NotLimit }
+    ensures unredacted { IfErr result NotRedacted }
+    ensures damaged { (D.state io.new.disk.now).honest → IfSetDamaged result (IsDamagedSet (SparesTaken io.old.space (D.state io.old.disk.now).seen) (D.state io.old.disk.now).size set.old) }
+    ensures kept { OnErr result (set.new ≡ set.old) }
+    ensures levels { OnOk result (SetFits set.new) }
+    ensures works { Works 240 16 (D.state io.old.disk.now) io.old.space io.old.failed (D.state io.new.disk.now) io.new.space io.new.failed (stop_of result) }
+    ensures same { io.new.disk.ghost_name ≡ io.old.disk.ghost_name }
+{
+    applied_is_state();
+    match put_in_leaf(*set, io, object, object + 1, &Slot::There(dnode)) {
+        Ok(made) => {
+            *set = made;
+            Ok(())
+        }
+        Err(fault) => Err(ObjFault::Block(fault)),
+    }
+}
+
+/// Writes neighbouring whole blocks of an object, which stand below one node of its tree, as writes one after another do.
+pub fn write_blocks<D: Disk>(
+    set: &mut ObjSet,
+    io: &mut Io<'_, D>,
+    object: u64,
+    index: u64,
+    size: u32,
+    count: usize,
+    bytes: &[u8],
+    number: u64,
+) -> Result<(), ObjFault>
+    requires object { 0 < object }
+    requires size { is_block_size size ≡ true }
+    requires even { is_odd_size size ≡ false }
+    requires some { 0 < count }
+    requires group { index % 128 + count ≤ 128 }
+    requires inside { index + count ≤ 2 ^ 43 }
+    requires long { length bytes.now ≡ count * size }
+    requires fits { FitsDisk (D.state io.old.disk.now).size io.old.space }
+    ensures changed { (state : DatedState) → (D.state io.new.disk.now).honest → SetHolds (Has (D.state io.old.disk.now).seen io.old.space) set.old state
+        → Changes (SetHolds (Has (D.state io.new.disk.now).seen io.new.space) set.new) (blocks_written number object size count index bytes.now state) result }
+    ensures tight { (state : DatedState) → (D.state io.new.disk.now).honest → SetIsTight (Has (D.state io.old.disk.now).seen io.old.space) set.old state → DatedUpTo number state
+        → Changes (SetIsTight (Has (D.state io.new.disk.now).seen io.new.space) set.new) (blocks_written number object size count index bytes.now state) result }
+    ensures limits { IfErr result NotLimit }
+    ensures unredacted { IfErr result NotRedacted }
+    ensures damaged { (D.state io.new.disk.now).honest → IfSetDamaged result (IsDamagedObject (SparesTaken io.old.space (D.state io.old.disk.now).seen) (D.state io.old.disk.now).size NamesNode set.old) }
+    ensures kept { OnErr result (set.new ≡ set.old) }
+    ensures levels { OnOk result (SetFits set.new) }
+    ensures works { Works (count * (size / 512) + 464) (size / 512) (D.state io.old.disk.now) io.old.space io.old.failed (D.state io.new.disk.now) io.new.space io.new.failed (stop_of result) }
+    ensures same { io.new.disk.ghost_name ≡ io.old.disk.ghost_name }
+{
+    applied_is_state();
+    let dnode = match object_there(set, io, object) {
+        Ok(dnode) => dnode,
+        Err(fault) => return Err(fault),
+    };
+    if dnode.block_size != size {
+        return Err(ObjFault::CannotApply(ApplyFault::SizeDiffers));
+    }
+    let mut leaves = [Leaf {
+        index: 0,
+        ptr: Ptr::hole(0),
+    }; 128];
+    let outcome = put_blocks(
+        io,
+        tree_of(&dnode),
+        index,
+        size as usize,
+        count,
+        bytes,
+        number,
+        &mut leaves[..count],
+    );
+    let tree = match outcome {
+        Ok(tree) => tree,
+        Err(fault) => return Err(ObjFault::Block(fault)),
+    };
+    let end = dnode.end.max(index + count as u64);
+    put_run(set, io, object, with_tree(dnode, tree, end))
 }

@@ -19,6 +19,7 @@ mod slot_reads;
 mod slots;
 mod trees;
 
+pub use block_writes::write_blocks;
 pub use commands::{changes_are_commands, reads_are_commands};
 pub use fault::ObjFault;
 pub use laws::sets_hold_states;

@@ -1,0 +1,153 @@
+use Rattle.std.proofs.Common.{◌≡◌, ◌≢◌, ◌∙◌, ℕ, suc, ◌+◌, ◌-◌, ◌*◌, ◌^◌, ◌<◌, ◌≤◌, max, false, length, List, Err, arith, ap, sym, subst}
+use Rattle.zst_block.specs.Blocks.{Has, KeepsBlocks}
+use Rattle.zst_block.proofs.BlocksLaws.{FillsFree-then, KeepsBlocks-fills}
+use Rattle.zst_block.proofs.IoCallLemmas.{Works-after, Works-block, Works-more, Works-then}
+use Rattle.zst_dnode.specs.Dnode.{DnodeFits}
+use Rattle.zst_dnode.specs.declared.dnode.Dnode.{Dnode}
+use Rattle.zst_model.specs.declared.refusals.apply_fault.ApplyFault.TheVariants.{SizeDiffers}
+use Rattle.zst_tree.specs.Damage.{NamesNode}
+use Rattle.zst_tree.specs.Indices.{TreeIs}
+use Rattle.zst_tree.specs.declared.tree.Tree.{Tree}
+use Rattle.zst_tree.proofs.LaterDamage.{fills_looks}
+use Rattle.zst_objset.specs.Answers.{BlockStops, Changes, Refuses}
+use Rattle.zst_objset.specs.DueBlocks.{CanRun, blocks_written}
+use Rattle.zst_objset.specs.Sets.{SetHolds}
+use Rattle.zst_objset.specs.declared.fault.ObjFault.TheVariants as faults
+use Rattle.zst_model.specs.states.State.{is_odd_size}
+use Rattle.zst_objset.proofs.DamageLaws.{told_before, object_told, set_after, set_spared, tree_told}
+use Rattle.zst_objset.proofs.DueLaws.{MayWrite, all_accepted, blocks_differ, no_blocks_there, run_begins_over, run_fits, tree_early}
+use Rattle.zst_objset.specs.TightSets.{SetIsTight}
+use Rattle.zst_objset.proofs.TightLaws.{tight_grows}
+use Rattle.zst_objset.proofs.LeafLaws.{is_number_at, keeps_on}
+use Rattle.zst_objset.proofs.SetGrowth.{SetHolds-grows}
+use Rattle.zst_objset.proofs.SpillLaws.{stops}
+use Rattle.zst_objset.proofs.TreeFits.{with_tree}
+use Rattle.zst_objset.proofs.WriteLaws.{block_whole}
+use Rattle.zst_objset.proofs.block_writes.write_blocks.Goals as goal
+
+-- one of them, and so many more
+more : (count : ℕ) → 0 < count → suc (count - 1) ≡ count
+more count some = omega arith
+
+may_write : (size index count : ℕ) (bytes : List ℕ) → 0 < count → length bytes ≡ count * size → is_odd_size size ≡ false → index + count ≤ 2 ^ 43 → MayWrite size index (suc (count - 1)) bytes
+may_write size index count bytes some long even inside = record { whole = long ∙ ap (λ (m : ℕ). m * size) (sym (more count some)); even = even; inside = omega arith }
+
+pub returns-in-Err-clause-changed : goal.returns-in-Err-clause-changed
+returns-in-Err-clause-changed g c = λ state honest holds.
+    subst (λ (m : ℕ). Refuses (blocks_written c.args.number c.args.object c.args.size m c.args.index c.args.bytes.now state) c.in-Err.fault) (more c.args.count c.requires.some)
+    (no_blocks_there (Has (g.D.Disk.state c.object_there.new.io.disk.now).seen c.object_there.new.io.space) c.args.number c.args.object c.args.size (c.args.count - 1) c.args.index c.args.bytes.now state c.in-Err.fault (c.in-Err.ensures.found state honest holds))
+
+pub returns-in-Err-clause-damaged : goal.returns-in-Err-clause-damaged
+returns-in-Err-clause-damaged g c = λ honest.
+    object_told _ _ NamesNode c.args.set.now {T = Unit {0}} (Err c.in-Err.fault) (set_spared _ _ _ c.args.set.now Dnode (Unit {0}) c.in-Err.fault (c.in-Err.ensures.damaged honest))
+
+pub returns-then-dnode-size-clause-changed : goal.returns-then-dnode-size-clause-changed
+returns-then-dnode-size-clause-changed g c = λ state honest holds.
+    let differs : c.args.size ≢ c.in-Ok.dnode.block_size = omega (arith, c.if-dnode-size.true) in
+    subst (λ (m : ℕ). Refuses (blocks_written c.args.number c.args.object c.args.size m c.args.index c.args.bytes.now state) (faults.CannotApply SizeDiffers)) (more c.args.count c.requires.some)
+    (blocks_differ (Has (g.D.Disk.state c.object_there.new.io.disk.now).seen c.object_there.new.io.space) c.args.number c.args.object c.args.size (c.args.count - 1) c.args.index c.args.bytes.now state c.in-Ok.dnode (c.in-Ok.ensures.found state honest holds) holds.lawful differs
+    (may_write c.args.size c.args.index c.args.count c.args.bytes.now c.requires.some c.requires.long c.requires.even c.requires.inside).whole)
+
+pub put_blocks-outcome-requires-clause-whole : goal.put_blocks-outcome-requires-clause-whole
+put_blocks-outcome-requires-clause-whole g c = block_whole _ c.requires.size
+
+pub returns-in-Err-outcome-clause-changed : goal.returns-in-Err-outcome-clause-changed
+returns-in-Err-outcome-clause-changed g c = λ state honest holds.
+    let has = Has (g.D.Disk.state c.object_there.new.io.disk.now).seen c.object_there.new.io.space in
+    let there = c.in-Ok.ensures.found state (c.in-Err-outcome.ensures.works.fills.honest honest) holds in
+    let size_is : c.in-Ok.dnode.block_size ≡ c.args.size = omega (arith, c.if-dnode-size.false) in
+    let made = all_accepted has c.args.number c.args.object c.args.size (c.args.count - 1) c.args.index c.args.bytes.now state c.in-Ok.dnode c.applied_is_state.ensures (is_number_at c.args.object c.requires.object c.in-Ok.ensures.bound) size_is holds.lawful holds.bounded there
+    (may_write c.args.size c.args.index c.args.count c.args.bytes.now c.requires.some c.requires.long c.requires.even c.requires.inside) in
+    subst (λ (m : ℕ). BlockStops (blocks_written c.args.number c.args.object c.args.size m c.args.index c.args.bytes.now state) c.in-Err-outcome.fault) (more c.args.count c.requires.some)
+    (stops _ _ c.in-Err-outcome.fault made.1 (c.in-Err-outcome.ensures.puts there.map honest (subst (λ (tree : Tree). TreeIs has tree there.map) (sym c.tree_of.ensures) there.is.tree)))
+
+pub returns-in-Err-outcome-clause-damaged : goal.returns-in-Err-outcome-clause-damaged
+returns-in-Err-outcome-clause-damaged g c = λ honest.
+    let old = g.D.Disk.state c.args.io.now.disk.now in
+    let stands = c.in-Ok.ensures.stands (c.in-Err-outcome.ensures.works.fills.honest honest) in
+    tree_told old c.args.io.now.space c.args.set.now NamesNode c.in-Ok.dnode stands c.in-Err-outcome.fault
+    (told_before (λ space seen. NamesNode) c.in-Ok.dnode.levels c.in-Ok.dnode.root _ _ _ _ _ _ _ c.in-Ok.ensures.looks _
+    (rw c.tree_of.ensures at (c.in-Err-outcome.ensures.damaged honest)))
+
+pub returns-in-Err-outcome-clause-works : goal.returns-in-Err-outcome-clause-works
+returns-in-Err-outcome-clause-works g c = Works-after c.in-Ok.ensures.looks (Works-more (omega arith) c.in-Err-outcome.ensures.works)
+
+pub put_run-requires-clause-dnode : goal.put_run-requires-clause-dnode
+put_run-requires-clause-dnode g c =
+    let made = c.with_tree.ensures in
+    let size_is : c.in-Ok.dnode.block_size ≡ c.args.size = omega (arith, c.if-dnode-size.false) in
+    subst (λ (dnode : Dnode). DnodeFits dnode) (sym (made.made ∙ ap (with_tree c.in-Ok.dnode c.in-Ok-outcome.tree) c.max-end.ensures))
+    (run_fits c.in-Ok.dnode c.in-Ok-outcome.tree c.args.size c.args.index c.args.count c.in-Ok.ensures.ranges size_is c.requires.even c.requires.inside c.in-Ok-outcome.ensures.root c.in-Ok-outcome.ensures.levels made.root made.past)
+
+pub returns-clause-changed : goal.returns-clause-changed
+returns-clause-changed g c = λ state honest holds.
+    let old = g.D.Disk.state c.args.io.now.disk.now in
+    let mid = g.D.Disk.state c.object_there.new.io.disk.now in
+    let new = g.D.Disk.state c.put_blocks-outcome.new.io.disk.now in
+    let last = g.D.Disk.state c.put_run.new.io.disk.now in
+    let was_put = c.put_run.ensures.works.fills.honest honest in
+    let there = c.in-Ok.ensures.found state (c.in-Ok-outcome.ensures.works.fills.honest was_put) holds in
+    let size_is : c.in-Ok.dnode.block_size ≡ c.args.size = omega (arith, c.if-dnode-size.false) in
+    let put = c.in-Ok-outcome.ensures.puts there.map was_put (subst (λ (tree : Tree). TreeIs (Has mid.seen c.object_there.new.io.space) tree there.map) (sym c.tree_of.ensures) there.is.tree) in
+    let putting : KeepsBlocks mid.seen c.object_there.new.io.space new.seen c.put_blocks-outcome.new.io.space = KeepsBlocks-fills _ _ _ _ c.in-Ok-outcome.ensures.works.fills in
+    let grown = SetHolds-grows (Has old.seen c.args.io.now.space) (Has new.seen c.put_blocks-outcome.new.io.space) (keeps_on _ _ _ _ _ _ _ _ _ c.in-Ok.ensures.looks c.in-Ok-outcome.ensures.works.fills) c.args.set.now state holds in
+    let may = may_write c.args.size c.args.index c.args.count c.args.bytes.now c.requires.some c.requires.long c.requires.even c.requires.inside in
+    let can : CanRun (Has new.seen c.put_blocks-outcome.new.io.space) c.args.number c.args.object c.args.size (c.args.count - 1) c.args.index c.args.bytes.now state c.in-Ok.dnode there.map put.leaves = record {
+      size_is = size_is;
+      long = put.long ∙ sym (more c.args.count c.requires.some);
+      run = run_begins_over (Has mid.seen c.object_there.new.io.space) (Has new.seen c.put_blocks-outcome.new.io.space) putting state c.args.object c.in-Ok.dnode holds.lawful holds.bounded there;
+      whole = may.whole;
+      even = may.even;
+      inside = may.inside;
+      written = put.written;
+    } in
+    let made_is = c.with_tree.ensures.made ∙ ap (with_tree c.in-Ok.dnode c.in-Ok-outcome.tree) (c.max-end.ensures ∙ ap (λ (m : ℕ). max c.in-Ok.dnode.end (c.args.index + m)) (sym (more c.args.count c.requires.some))) in
+    subst (λ (m : ℕ). Changes (SetHolds (Has last.seen c.put_run.new.io.space) c.put_run.new.set) (blocks_written c.args.number c.args.object c.args.size m c.args.index c.args.bytes.now state) c.put_run.result) (more c.args.count c.requires.some)
+    (c.put_run.ensures.changed c.args.number c.args.size (c.args.count - 1) c.args.index c.args.bytes.now state c.in-Ok.dnode there.map put.leaves c.in-Ok-outcome.tree honest grown can put.tree_is made_is)
+
+pub returns-clause-tight : goal.returns-clause-tight
+returns-clause-tight g c = λ state honest tight dated.
+    let holds = tight.holds in
+    let old = g.D.Disk.state c.args.io.now.disk.now in
+    let mid = g.D.Disk.state c.object_there.new.io.disk.now in
+    let new = g.D.Disk.state c.put_blocks-outcome.new.io.disk.now in
+    let last = g.D.Disk.state c.put_run.new.io.disk.now in
+    let was_put = c.put_run.ensures.works.fills.honest honest in
+    let there = c.in-Ok.ensures.found state (c.in-Ok-outcome.ensures.works.fills.honest was_put) holds in
+    let size_is : c.in-Ok.dnode.block_size ≡ c.args.size = omega (arith, c.if-dnode-size.false) in
+    let put = c.in-Ok-outcome.ensures.puts there.map was_put (subst (λ (tree : Tree). TreeIs (Has mid.seen c.object_there.new.io.space) tree there.map) (sym c.tree_of.ensures) there.is.tree) in
+    let putting : KeepsBlocks mid.seen c.object_there.new.io.space new.seen c.put_blocks-outcome.new.io.space = KeepsBlocks-fills _ _ _ _ c.in-Ok-outcome.ensures.works.fills in
+    let grown = tight_grows c.args.set.now old.seen c.args.io.now.space new.seen c.put_blocks-outcome.new.io.space state (keeps_on _ _ _ _ _ _ _ _ _ c.in-Ok.ensures.looks c.in-Ok-outcome.ensures.works.fills) tight in
+    let was = c.in-Ok.ensures.tight state (c.in-Ok-outcome.ensures.works.fills.honest was_put) tight in
+    let had : TreeIs (Has mid.seen c.object_there.new.io.space) c.tree_of.result there.map = subst (λ (tree : Tree). TreeIs (Has mid.seen c.object_there.new.io.space) tree there.map) (sym c.tree_of.ensures) there.is.tree in
+    let early = c.in-Ok-outcome.ensures.dated there.map was_put had (rw c.tree_of.ensures (tree_early c.args.number c.args.object state c.in-Ok.dnode dated was)) in
+    let may = may_write c.args.size c.args.index c.args.count c.args.bytes.now c.requires.some c.requires.long c.requires.even c.requires.inside in
+    let can : CanRun (Has new.seen c.put_blocks-outcome.new.io.space) c.args.number c.args.object c.args.size (c.args.count - 1) c.args.index c.args.bytes.now state c.in-Ok.dnode there.map put.leaves = record {
+      size_is = size_is;
+      long = put.long ∙ sym (more c.args.count c.requires.some);
+      run = run_begins_over (Has mid.seen c.object_there.new.io.space) (Has new.seen c.put_blocks-outcome.new.io.space) putting state c.args.object c.in-Ok.dnode holds.lawful holds.bounded there;
+      whole = may.whole;
+      even = may.even;
+      inside = may.inside;
+      written = put.written;
+    } in
+    let made_is = c.with_tree.ensures.made ∙ ap (with_tree c.in-Ok.dnode c.in-Ok-outcome.tree) (c.max-end.ensures ∙ ap (λ (m : ℕ). max c.in-Ok.dnode.end (c.args.index + m)) (sym (more c.args.count c.requires.some))) in
+    subst (λ (m : ℕ). Changes (SetIsTight (Has last.seen c.put_run.new.io.space) c.put_run.new.set) (blocks_written c.args.number c.args.object c.args.size m c.args.index c.args.bytes.now state) c.put_run.result) (more c.args.count c.requires.some)
+    (c.put_run.ensures.tight c.args.number c.args.size (c.args.count - 1) c.args.index c.args.bytes.now state c.in-Ok.dnode there.map put.leaves c.in-Ok-outcome.tree honest grown can put.tree_is made_is dated was early)
+
+pub returns-in-Err-clause-tight : goal.returns-in-Err-clause-tight
+returns-in-Err-clause-tight g c = λ state honest tight dated. returns-in-Err-clause-changed g c state honest tight.holds
+
+pub returns-then-dnode-size-clause-tight : goal.returns-then-dnode-size-clause-tight
+returns-then-dnode-size-clause-tight g c = λ state honest tight dated. returns-then-dnode-size-clause-changed g c state honest tight.holds
+
+pub returns-in-Err-outcome-clause-tight : goal.returns-in-Err-outcome-clause-tight
+returns-in-Err-outcome-clause-tight g c = λ state honest tight dated. returns-in-Err-outcome-clause-changed g c state honest tight.holds
+
+pub returns-clause-damaged : goal.returns-clause-damaged
+returns-clause-damaged g c = λ honest.
+    let filled = FillsFree-then _ _ _ _ _ _ (fills_looks _ _ _ _ _ _ _ c.in-Ok.ensures.looks) c.in-Ok-outcome.ensures.works.fills in
+    object_told _ _ NamesNode c.args.set.now c.put_run.result (set_after _ _ _ _ filled c.args.set.now c.put_run.result (c.put_run.ensures.damaged honest))
+
+pub returns-clause-works : goal.returns-clause-works
+returns-clause-works g c = Works-after c.in-Ok.ensures.looks (Works-more (omega arith) (Works-then c.in-Ok-outcome.ensures.works (Works-block c.put_run.ensures.works)))
