@@ -6,3 +6,4 @@ pub mod ByteRanges
 pub mod ReceivedRecords
 pub mod RecordCosts
 pub mod SetFaults
+pub mod RunLaws

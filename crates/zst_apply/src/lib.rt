@@ -6,5 +6,7 @@ mod checks;
 mod cut_ranges;
 mod objects;
 mod record_table;
+mod runs;
 
 pub use record_table::apply;
+pub use runs::write_run;

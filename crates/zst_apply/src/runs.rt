@@ -1,0 +1,58 @@
+//! WRITE records of neighbouring blocks of an object, applied at once.
+ghost use Rattle.std.specs.Prelude.{◌≡◌, ◌+◌, ◌*◌, ◌/◌, ◌%◌, ◌^◌, ◌<◌, ◌≤◌, ℕ, List, Some, IfErr, OnErr, length, true, false};
+ghost use Rattle.zst_block.specs.Blocks.{FitsDisk, Has, SparesTaken};
+ghost use Rattle.zst_block.specs.IoCalls.{Works};
+ghost use Rattle.zst_model.specs.states.DatedState.{DatedState};
+ghost use Rattle.zst_model.specs.states.State.{Object, is_block_size, is_odd_size};
+ghost use Rattle.zst_objset.specs.Answers.{NotRedacted, stop_of};
+ghost use Rattle.zst_objset.specs.Sets.{SetHolds};
+ghost use Rattle.zst_apply.specs.AppliedRecords.{Applies, LimitOfIndex};
+ghost use Rattle.zst_apply.specs.Damage.{apply_damage};
+ghost use Rattle.zst_model.specs.pools.Soundness.{DatedUpTo};
+ghost use Rattle.zst_objset.specs.Damage.{IfSetDamaged};
+ghost use Rattle.zst_objset.specs.TightSets.{SetIsTight};
+ghost use Rattle.zst_tree.specs.Sets.{SetFits};
+ghost use Rattle.zst_apply.specs.AppliedRuns.{run_received};
+
+use zst_block::Io;
+use zst_laws::applied_is_state;
+use zst_objset::{ObjFault, write_blocks};
+use zst_outside::Disk;
+use zst_tree::ObjSet;
+
+/// Applies WRITE records of neighbouring whole blocks, all below one node of the object's tree.
+pub fn write_run<D: Disk>(
+    io: &mut Io<'_, D>,
+    set: &mut ObjSet,
+    object: u64,
+    index: u64,
+    size: u32,
+    count: usize,
+    bytes: &[u8],
+    number: u64,
+) -> Result<(), ObjFault>
+    requires object { (0 < object) × (object < 2 ^ 48) }
+    requires size { is_block_size size ≡ true }
+    requires even { is_odd_size size ≡ false }
+    requires some { 0 < count }
+    requires group { index % 128 + count ≤ 128 }
+    requires inside { index + count ≤ 2 ^ 43 }
+    requires long { length bytes.now ≡ count * size }
+    requires fits { FitsDisk (D.state io.old.disk.now).size io.old.space }
+    ensures changed { (records : List (ℕ × ℕ)) (thing : Object) (state : DatedState) → (D.state io.new.disk.now).honest → SetHolds (Has (D.state io.old.disk.now).seen io.old.space) set.old state
+        → state.state object ≡ Some thing → thing.attr.block_size ≡ size → length records ≡ count
+        → Applies 0 (SetHolds (Has (D.state io.new.disk.now).seen io.new.space) set.new) (run_received number object size (index * size) records bytes.now state) result }
+    ensures tight { (records : List (ℕ × ℕ)) (thing : Object) (state : DatedState) → (D.state io.new.disk.now).honest → SetIsTight (Has (D.state io.old.disk.now).seen io.old.space) set.old state → DatedUpTo number state
+        → state.state object ≡ Some thing → thing.attr.block_size ≡ size → length records ≡ count
+        → Applies 0 (SetIsTight (Has (D.state io.new.disk.now).seen io.new.space) set.new) (run_received number object size (index * size) records bytes.now state) result }
+    ensures limits { IfErr result LimitOfIndex }
+    ensures never_redacted { IfErr result NotRedacted }
+    ensures damaged { (D.state io.new.disk.now).honest → IfSetDamaged result (apply_damage (SparesTaken io.old.space (D.state io.old.disk.now).seen) (D.state io.old.disk.now).size set.old) }
+    ensures kept { OnErr result (set.new ≡ set.old) }
+    ensures levels { SetFits set.old → SetFits set.new }
+    ensures works { Works (count * (size / 512) + 464) (size / 512) (D.state io.old.disk.now) io.old.space io.old.failed (D.state io.new.disk.now) io.new.space io.new.failed (stop_of result) }
+    ensures same { io.new.disk.ghost_name ≡ io.old.disk.ghost_name }
+{
+    applied_is_state();
+    write_blocks(set, io, object, index, size, count, bytes, number)
+}
