@@ -17,17 +17,17 @@ use Rattle.zst_model.specs.states.AppliedItems.{◌>>=◌, unless}
 use Rattle.zst_model.specs.states.DatedState.{DatedState, apply_dated, size_at}
 use Rattle.zst_model.specs.states.State.{Block, Data, Hole, Redacted, IsState, Object, end_of, index_bound, is_number}
 use Rattle.zst_model.specs.pools.Step.{of_applying}
-use Rattle.zst_tree.specs.Indices.{Blocks, Map}
+use Rattle.zst_tree.specs.Indices.{Map}
 use Rattle.zst_tree.specs.Leaves.{with_leaf}
 use Rattle.zst_tree.specs.declared.leaf_puts.Leaf.{Leaf}
 use Rattle.zst_objset.specs.Answers.{Changes, NotLimit}
 use Rattle.zst_objset.specs.Changes.{block_written}
 use Rattle.zst_objset.specs.Dnodes.{BlockIs, SpillIs}
-use Rattle.zst_objset.specs.DueBlocks.{IsRun, IsWritten, blocks_written}
+use Rattle.zst_objset.specs.BlockRuns.{IsWritten, blocks_written}
 use Rattle.zst_objset.specs.Sets.{IsBounded}
 use Rattle.zst_objset.specs.declared.fault.ObjFault.{ObjFault}
 use Rattle.zst_objset.specs.declared.fault.ObjFault.TheVariants as faults
-use Rattle.zst_objset.proofs.DueLaws.{MayWrite, may_one, may_rest, step, with_end}
+use Rattle.zst_objset.proofs.RunLaws.{Anything, IsRun, MayWrite, may_one, may_rest, step, then_is, with_end}
 use Rattle.zst_apply.specs.AppliedRecords.{Applies, LimitOfIndex}
 use Rattle.zst_apply.specs.AppliedRuns.{run_received}
 use Rattle.zst_apply.proofs.ByteRanges.{ends_past}
@@ -50,19 +50,12 @@ write_says number index k size i kind bytes state size_is some long =
     ∙ ap (λ (r : Result DatedState ApplyFault). for_record index (of_applying r >>= λ after. unless (nat_lt index_bound (i + 1)) far (Ok after)))
     (same_write number k (i * size) kind 0 bytes state ∙ ap (λ (n : ℕ). apply_dated number (At k (Write n 0 bytes)) state) (sym place))
 
--- every pointer names every text
-abbrev pub Anything : Blocks
-Anything ptr bytes = Unit {0}
-
 leaf_for : ℕ → ℕ → Leaf
 leaf_for number i = record { index = i; ptr = record { kind = 1; level = 0; length = 0; sector = 0; number = number; sum = record { a = 0; b = 0; c = 0; d = 0 } } }
 
 is_for : (number i : ℕ) (bytes : List ℕ) → IsWritten Anything number i bytes (leaf_for number i)
 unfolding leaf_for
 is_for number i bytes = record { index_is = refl; block = (refl, tt); dated = refl }
-
-then_is : (first : Result DatedState Refusal) (mid : DatedState) (next : DatedState → Result DatedState Refusal) → first ≡ Ok mid → (first >>= next) ≡ next mid
-then_is first mid next is = rw is refl
 
 -- both make the same state
 pub record Both (number k size i : ℕ) (records : List (ℕ × ℕ)) (bytes : List ℕ) (snap : DatedState) : Type 0 where

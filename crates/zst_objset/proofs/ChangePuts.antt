@@ -17,10 +17,10 @@ use Rattle.zst_objset.specs.SlotPuts.{Alike, PutsSlot, MakesDnode, date_to, date
 use Rattle.zst_objset.specs.Changes.{changed}
 use Rattle.zst_objset.specs.Sets.{IsBounded}
 
-same : (j : ℕ) → (j == j) ≡ true
+pub same : (j : ℕ) → (j == j) ≡ true
 same j = grind (arith, nat_tests)
 
-beside : (j k : ℕ) → (k < j) ⊎ (j + 1 ≤ k) → (k == j) ≡ false
+pub beside : (j k : ℕ) → (k < j) ⊎ (j + 1 ≤ k) → (k == j) ≡ false
 beside j k (inl less) = grind (arith, nat_tests)
 beside j k (inr more) = grind (arith, nat_tests)
 
@@ -80,16 +80,20 @@ module _ (number j : ℕ) (change : Change) (old : DatedState) where
   pub dates_put : (i : ℕ) → i < index_bound → (if (j == j && dates_index change (old.state j) i) && nat_lt i index_bound then number else old.index_date j i) ≡ dates_to number j change old i
   dates_put i less = at_index (j == j) (dates_index change (old.state j) i) (nat_lt i index_bound) number (old.index_date j i) (same j) (under i less)
 
+  -- what isn't a number or an index has the date 0 still
+  pub change_bounded : (object : Object) → is_number j ≡ true → IsBounded old → IsBounded (changed_to object)
+  change_bounded object is_one bounded = record {
+    no_number = λ k none. no_at (k == j) (dates_number change) number (old.number_date k) (no_number_beside j k is_one none (k == j) refl) ∙ bounded.no_number k none;
+    no_numbers_index = λ k i none. no_at_index (k == j) (dates_index change (old.state j) i) (nat_lt i index_bound) number (old.index_date k i) (no_number_beside j k is_one none (k == j) refl) ∙ bounded.no_numbers_index k i none;
+    no_index = λ k i le. no_index_at (k == j && dates_index change (old.state j) i) (nat_lt i index_bound) number (old.index_date k i) (over i le) ∙ bounded.no_index k i le;
+  }
+
   -- the slot of the number is put
   pub change_puts : (has : Blocks) (object : Object) (dnode : Dnode) (map : Map) → is_number j ≡ true → IsState old.state → IsBounded old → apply_change change (old.state j) ≡ Ok (Some object) → IsLawfulItem (At j change) old.state
       → AppliedIsState → ObjectIs has dnode object (date_to number j change old) (dates_to number j change old) map → PutsSlot has old (changed_to object) j (j + 1) (There dnode)
   change_puts has object dnode map is_one lawful bounded is item law object_is = record {
     lawful = law number (At j change) old (changed_to object) lawful item (changed_is object is);
-    bounded = record {
-      no_number = λ k none. no_at (k == j) (dates_number change) number (old.number_date k) (no_number_beside j k is_one none (k == j) refl) ∙ bounded.no_number k none;
-      no_numbers_index = λ k i none. no_at_index (k == j) (dates_index change (old.state j) i) (nat_lt i index_bound) number (old.index_date k i) (no_number_beside j k is_one none (k == j) refl) ∙ bounded.no_numbers_index k i none;
-      no_index = λ k i le. no_index_at (k == j && dates_index change (old.state j) i) (nat_lt i index_bound) number (old.index_date k i) (over i le) ∙ bounded.no_index k i le;
-    };
+    bounded = change_bounded object is_one bounded;
     put = λ k number_k from below. subst (λ (n : ℕ). SlotIs has (changed_to object) n (There dnode)) (omega (arith, from, below)) here;
     kept = λ k number_k other. kept_at object k (beside j k other);
   }
@@ -112,14 +116,6 @@ module _ (number j : ℕ) (change : Change) (old : DatedState) where
           index_dates = λ i less. object_is.index_dates i less ∙ sym (dates_put i less);
         };
       }
-
-  -- what isn't a number or an index has the date 0 still
-  pub change_bounded : (object : Object) → is_number j ≡ true → IsBounded old → IsBounded (changed_to object)
-  change_bounded object is_one bounded = record {
-    no_number = λ k none. no_at (k == j) (dates_number change) number (old.number_date k) (no_number_beside j k is_one none (k == j) refl) ∙ bounded.no_number k none;
-    no_numbers_index = λ k i none. no_at_index (k == j) (dates_index change (old.state j) i) (nat_lt i index_bound) number (old.index_date k i) (no_number_beside j k is_one none (k == j) refl) ∙ bounded.no_numbers_index k i none;
-    no_index = λ k i le. no_index_at (k == j && dates_index change (old.state j) i) (nat_lt i index_bound) number (old.index_date k i) (over i le) ∙ bounded.no_index k i le;
-  }
 
 -- what a change makes of an object is what the definition makes, and its slot is put
 pub makes_dnode : (has : Blocks) (number j : ℕ) (change : Change) (old : DatedState) (dnode : Dnode) → IsState old.state → IsBounded old → AppliedIsState → (makes : MakesDnode has number j change old dnode)

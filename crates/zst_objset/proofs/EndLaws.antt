@@ -143,9 +143,6 @@ end_is object end is = IsEnd-one object.blocks index_bound end (end_of object) i
 pub end_redacted : (object : Object) (end first count : ℕ) → 0 < count → first + count ≤ index_bound → end ≡ end_of object → max end (first + count) ≡ end_of (with_range first count Redacted object)
 end_redacted object end first count some range is = end_is (with_range first count Redacted object) _ (IsEnd-redacted object.blocks index_bound end first count some range (is_end object end is))
 
-pub end_with_holes : (object : Object) (end first count : ℕ) → (end ≤ first) ⊎ (first + count < end) → end ≡ end_of object → end ≡ end_of (with_range first count Hole object)
-end_with_holes object end first count away is = end_is (with_range first count Hole object) end (IsEnd-kept object.blocks index_bound end first count away (is_end object end is))
-
 pub end_unchanged : (object : Object) (end first count : ℕ) (block : Block) → count ≡ 0 → end ≡ end_of object → end ≡ end_of (with_range first count block object)
 end_unchanged object end first count block none is = end_is (with_range first count block object) end (IsEnd-unchanged object.blocks index_bound end first count block none (is_end object end is))
 

@@ -20,4 +20,4 @@ pub mod TightLaws
 pub mod TreeFits
 pub mod RangeIndices
 pub mod WriteLaws
-pub mod DueLaws
+pub mod RunLaws

@@ -29,7 +29,7 @@ use Rattle.zst_tree.specs.Damage.{IsSeen}
 use Rattle.zst_objset.specs.Damage.{IsLoaded}
 use Rattle.zst_objset.specs.Dnodes.{SlotIs, tree_of}
 use Rattle.zst_objset.specs.FreedNumbers.{freed}
-use Rattle.zst_objset.specs.SlotPuts.{Alike, PutsSlot, dates_to}
+use Rattle.zst_objset.specs.SlotPuts.{Alike, PutsSlot}
 use Rattle.zst_objset.specs.Sets.{date_in, AreSlots, HasSlots, LeafIs, NamesSlots, SetHolds, Spells}
 use Rattle.zst_objset.specs.TightSets.{AreTight, IsTightDnode, IsTightLeaf, IsTightSlot, SetIsTight}
 use Rattle.zst_objset.proofs.ChangePuts.{changed_to, date_put, dates_put}
@@ -120,7 +120,7 @@ SetIsTight-of image space set snap map holds tree leaves = record {
   tight = λ j less. subst (IsTightLeaf (Has image space) snap j) (TreeIs-one (Has image space) (Has-one image space) set.tree map holds.map tree holds.tree j less) (leaves j less);
 }
 
-alike_same : (snap : DatedState) (k : ℕ) → Alike snap snap k
+pub alike_same : (snap : DatedState) (k : ℕ) → Alike snap snap k
 alike_same snap k = record { state = refl; date = refl; dates = λ i less. refl }
 
 -- what is held tightly is, as long as its blocks are there
@@ -255,12 +255,9 @@ pub freed_tight : (has : Blocks) (number first below : ℕ) (old : DatedState) �
 freed_tight has number first below old puts some bound k from less = tight_absent has (freed number first below old) k number (puts.put k (is_number_at k (omega arith) (omega arith)) from less)
 
 -- a slot whose dates a change gives its number or an index of it
-pub change_tight : (number j : ℕ) (change : Change) (old : DatedState) (object : Object) (dnode : Dnode) → IsTightDnode number j change old dnode → (k : ℕ) → j ≤ k → k < j + 1 → IsTightSlot (changed_to number j change old object) k (There dnode)
-change_tight number j change old object dnode tight k from less = subst (λ (n : ℕ). IsTightSlot (changed_to number j change old object) n (There dnode)) (omega (arith, from, less)) (go tight)
-  where
-    go : IsTightDnode number j change old dnode → IsTightSlot (changed_to number j change old object) j (There dnode)
-    go (inl date) = inl (subst (λ (n : ℕ). date_in (There dnode) ≤ n) (sym (date_put number j change old)) date)
-    go (inr index) = inr (index.0, index.1, subst (λ (n : ℕ). date_in (There dnode) ≤ n) (sym (dates_put number j change old index.0 index.1)) index.2)
+pub change_tight : (number j : ℕ) (change : Change) (old : DatedState) (object : Object) (dnode : Dnode) → IsTightDnode number j change old dnode → IsTightSlot (changed_to number j change old object) j (There dnode)
+change_tight number j change old object dnode (inl date) = inl (subst (λ (n : ℕ). date_in (There dnode) ≤ n) (sym (date_put number j change old)) date)
+change_tight number j change old object dnode (inr index) = inr (index.0, index.1, subst (λ (n : ℕ). date_in (There dnode) ≤ n) (sym (dates_put number j change old index.0 index.1)) index.2)
 
 -- a date stays, or is the commit's
 later_date : (number date : ℕ) (t : Bool) → date ≤ number → date ≤ (if t then number else date)
@@ -287,10 +284,3 @@ module _ (number k : ℕ) (change : Change) (state : DatedState) (old new : Dnod
       let made = tree number (omega (arith, early), omega (arith, early)) (λ some. omega arith) in
       let test : within first (suc count) first ≡ true = grind (arith, nat_tests) in
       inr (first, omega (arith, range), rw (dates first, test) (omega (arith, same, early, made.0, made.1)))
-
-  -- one with another tree, in which an index has the commit's date
-  pub index_tight : (i : ℕ) → new.date ≡ old.date → dates_to number k change state i ≡ number → i < index_bound → (TreeDatedUpTo number (tree_of old) → TreeDatedUpTo number (tree_of new)) → IsTightDnode number k change state new
-  index_tight i same date less tree =
-      let early = tight_dated number state k (There old) dated tight in
-      let made = tree (omega (arith, early), omega (arith, early)) in
-      inr (i, less, omega (arith, date, same, early, made.0, made.1))

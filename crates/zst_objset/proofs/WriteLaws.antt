@@ -3,8 +3,6 @@ use Rattle.std.proofs.Common.{◌≡◌, ◌⊎◌, inl, inr, ℕ, zero, suc, �
 use Rattle.std.proofs.Math.Nat.{mul-mod_left}
 use Rattle.std.proofs.lemmas.Bool.{cases_lt, cases_order}
 use Rattle.std.proofs.lemmas.Bool.Decides.{nat_tests}
-use Rattle.zst_space.specs.FreeSectors.{FreeSectors}
-use Rattle.zst_block.specs.Blocks.{Has, KeepsBlocks}
 use Rattle.zst_block.specs.Ptr.{PtrFits}
 use Rattle.zst_dnode.specs.Dnode.{DnodeFits}
 use Rattle.zst_dnode.specs.declared.dnode.Dnode.{Dnode}
@@ -17,21 +15,18 @@ use Rattle.zst_model.specs.declared.states.item.Change.TheVariants.{Write}
 use Rattle.zst_model.specs.declared.states.item.Item.TheVariants.{At}
 use Rattle.zst_model.specs.states.AppliedItems.{apply, apply_change, is_unaligned, unless}
 use Rattle.zst_model.specs.states.DatedState.{DatedState, size_at}
-use Rattle.zst_model.specs.states.State.{Block, Data, IsObject, IsState, Object, end_of, index_bound, is_block_size, is_hole, is_number, is_odd_size, past_last}
+use Rattle.zst_model.specs.states.State.{Block, Data, IsObject, IsState, Object, index_bound, is_block_size, is_hole, is_odd_size, past_last}
 use Rattle.zst_model.specs.pools.Step.{in_indices, of_applying}
 use Rattle.zst_tree.specs.Indices.{Blocks}
 use Rattle.zst_tree.specs.declared.tree.Tree.{Tree}
 use Rattle.zst_objset.specs.Answers.{FindsThere, Refuses}
-use Rattle.zst_objset.specs.Changes.{block_written, changed, indices_changed}
-use Rattle.zst_objset.specs.Dnodes.{BlockIs, IsThere, ObjectIs, tree_of}
-use Rattle.zst_objset.specs.SlotPuts.{MakesDnode, dates_to}
-use Rattle.zst_objset.specs.BlockWrites.{PutsData, PutsDataRoot, write_judged}
+use Rattle.zst_objset.specs.Changes.{block_written, indices_changed}
+use Rattle.zst_objset.specs.Dnodes.{IsThere, tree_of}
+use Rattle.zst_objset.specs.BlockWrites.{PutsDataRoot, write_judged}
 use Rattle.zst_objset.specs.declared.fault.ObjFault.{ObjFault}
 use Rattle.zst_objset.specs.declared.fault.ObjFault.TheVariants as faults
-use Rattle.zst_objset.proofs.AnswerLaws.{none_refused, in_indices_far, in_indices_ok, object_of}
+use Rattle.zst_objset.proofs.AnswerLaws.{none_refused, in_indices_far, object_of}
 use Rattle.zst_objset.proofs.ChangePuts.{changed_is, changed_to}
-use Rattle.zst_objset.proofs.SetGrowth.{ObjectIs-grows}
-use Rattle.zst_objset.proofs.OneState.{under_bound}
 use Rattle.zst_objset.proofs.TreeFits.{data_fits, dnode_root, root_fits, with_tree, with_tree_fits}
 use Rattle.zst_objset.proofs.RangeIndices.{some_times}
 
@@ -75,10 +70,6 @@ same_place size i j some = go (cases_order j i)
 -- the write of a whole block at an index of what stands at a number
 abbrev pub write_at : ℕ → List ℕ → Option Object → Change
 write_at i bytes there = Write (i * size_at there) 0 bytes
-
--- it dates its index
-pub dates_written : (number k i : ℕ) (bytes : List ℕ) (snap : DatedState) → dates_to number k (write_at i bytes (snap.state k)) snap i ≡ number
-dates_written number k i bytes snap = let is : (i * size_at (snap.state k) == i * size_at (snap.state k)) ≡ true = eq-eqb _ _ refl in rw is refl
 
 -- an object with a block
 abbrev pub written_to : ℕ → List ℕ → Object → Object
@@ -162,11 +153,8 @@ module _ (has : Blocks) (number k i : ℕ) (bytes : List ℕ) (snap : DatedState
   abbrev pub after_write : DatedState
   after_write = changed_to number k (write_at i bytes (snap.state k)) snap (written_to i bytes there.object)
 
-  write_ok : apply_change (write_at i bytes (snap.state k)) (snap.state k) ≡ Ok (Some (written_to i bytes there.object))
-      → (changed number (At k (write_at i bytes (snap.state k))) snap ≡ Ok after_write) × (block_written number k i bytes snap ≡ in_indices (i + 1) (Ok after_write))
-  write_ok made =
-      let is = ap of_applying (changed_is number k (write_at i bytes (snap.state k)) snap (written_to i bytes there.object) made) in
-      (is, ap (indices_changed (i + 1)) is)
+  write_ok : apply_change (write_at i bytes (snap.state k)) (snap.state k) ≡ Ok (Some (written_to i bytes there.object)) → block_written number k i bytes snap ≡ in_indices (i + 1) (Ok after_write)
+  write_ok made = ap (indices_changed (i + 1)) (ap of_applying (changed_is number k (write_at i bytes (snap.state k)) snap (written_to i bytes there.object) made))
 
   pub is_refused : (fault : ObjFault) → Err fault ≡ write_judged dnode.block_size i (length bytes) → Refuses (block_written number k i bytes snap) fault
   unfolding index_bound
@@ -180,24 +168,8 @@ module _ (has : Blocks) (number k i : ℕ) (bytes : List ℕ) (snap : DatedState
       go false true far far_is made e = let same : faults.CannotApply OddBlock ≡ fault = cc in subst (Refuses (block_written number k i bytes snap)) same (write_err OddBlock made)
       go false false true far_is made e =
           let same : faults.Limit quantities.Block index_bound ≡ fault = cc in
-          subst (Refuses (block_written number k i bytes snap)) same ((write_ok made).1 ∙ in_indices_far i after_write (grind (arith, nat_tests)))
+          subst (Refuses (block_written number k i bytes snap)) same (write_ok made ∙ in_indices_far i after_write (grind (arith, nat_tests)))
       go false false false far_is made e = absurd (cc)
-
-  module _ (may : IsWritable dnode.block_size i (length bytes)) where
-    is_made : apply_change (write_at i bytes (snap.state k)) (snap.state k) ≡ Ok (Some (written_to i bytes there.object))
-    is_made =
-        let whole : not (length bytes == dnode.block_size) ≡ false = grind (arith, nat_tests, may.whole) in
-        makes_write ∙ rw (whole, alone (is_odd_size dnode.block_size) may.alone) refl
-      where
-        alone : (odd : Bool) → (odd ≡ true → i ≡ 0) → (odd && nat_lt 0 i) ≡ false
-        alone true first = let zero_is : i ≡ 0 = first refl in rw zero_is refl
-        alone false first = refl
-
-    pub is_accepted : block_written number k i bytes snap ≡ Ok after_write
-    is_accepted = (write_ok is_made).1 ∙ in_indices_ok i after_write may.inside
-
-    pub is_change : block_written number k i bytes snap ≡ changed number (At k (write_at i bytes (snap.state k))) snap
-    is_change = is_accepted ∙ sym (write_ok is_made).0
 
 -- its dnode is in its ranges
 pub written_fits : (dnode : Dnode) (tree : Tree) (i count : ℕ) → DnodeFits dnode → IsWritable dnode.block_size i count → PutsDataRoot (tree_of dnode) count tree → tree.levels ≤ 7 → PtrFits tree.root → tree.past < 2 ^ 64
@@ -207,72 +179,3 @@ written_fits dnode tree i count fits may put levels ptr past =
     with_tree_fits dnode tree (max dnode.end (i + 1)) fits levels ptr past
     (root_fits dnode.block_size (tree_of dnode) tree put.block (dnode_root dnode fits) (data_fits dnode.block_size put.block put.kind (put.length_is ∙ may.whole)) put.root)
     (omega (arith, fits.end, may.inside)) (λ odd. omega (arith, fits.odd odd, may.alone odd))
-
--- an object with a block, whose tree was put
-module _ (old_image : List ℕ) (old_space : FreeSectors) (image : List ℕ) (space : FreeSectors) (keeps : KeepsBlocks old_image old_space image space) (number k i : ℕ) (bytes : List ℕ) (snap : DatedState) (dnode : Dnode)
-    (there : IsThere (Has old_image old_space) snap k dnode) (lawful : IsState snap.state) (may : IsWritable dnode.block_size i (length bytes)) (tree : Tree) (put : PutsData (Has image space) there.map i bytes number tree) where
-  size_is : size_at (snap.state k) ≡ there.object.attr.block_size
-  size_is = ap size_at there.there
-
-  size_over : 0 < there.object.attr.block_size
-  size_over = some_size (Has old_image old_space) number k i bytes snap dnode there lawful
-
-  is_now : ObjectIs (Has image space) dnode there.object (snap.number_date k) (snap.index_date k) there.map
-  is_now = ObjectIs-grows (Has old_image old_space) (Has image space) keeps dnode there.object (snap.number_date k) (snap.index_date k) there.map there.is
-
-  here : (j : ℕ) → (j == i) ≡ true → put.map j ≡ put.block
-  here j test = let same : j ≡ i = grind (arith, nat_tests) in put.puts.inside.is j (omega arith) (omega arith)
-
-  beside : (j : ℕ) → j < 2 ^ 44 → (j == i) ≡ false → put.map j ≡ there.map j
-  beside j less test = go (cases_lt j i)
-    where
-      go : (j < i) ⊎ (i ≤ j) → put.map j ≡ there.map j
-      go (inl lower) = put.puts.beside.before j (omega arith) lower
-      go (inr over) = let more : i + 1 ≤ j = grind (arith, nat_tests) in put.puts.beside.behind j more less
-
-  block_at : (j : ℕ) → j < index_bound → BlockIs (Has image space) (put.map j) ((written_to i bytes there.object).blocks j)
-  block_at j less = rw (same_place there.object.attr.block_size i j size_over) (go (j == i) refl)
-    where
-      go : (same : Bool) → (j == i) ≡ same → BlockIs (Has image space) (put.map j) (if same then Data bytes else there.object.blocks j)
-      go true test = rw (here j test) put.is
-      go false test = rw (beside j (under_bound j less) test) (is_now.blocks j less)
-
-  date_at : (j : ℕ) → j < index_bound → (put.map j).number ≡ dates_to number k (write_at i bytes (snap.state k)) snap j
-  date_at j less = rw (size_is) (rw (same_place there.object.attr.block_size i j size_over) (go (j == i) refl))
-    where
-      go : (same : Bool) → (j == i) ≡ same → (put.map j).number ≡ (if same then number else snap.index_date k j)
-      go true test = rw (here j test) put.date
-      go false test = rw (beside j (under_bound j less) test) (is_now.index_dates j less)
-
-  end_at : max dnode.end (i + 1) ≡ end_of (written_to i bytes there.object)
-  unfolding index_bound
-  end_at = ap (λ (n : ℕ). max n (i + 1)) is_now.end_is ∙ sym (past_last-put there.object.blocks (written_to i bytes there.object).blocks i full same index_bound may.inside)
-    where
-      full : is_hole ((written_to i bytes there.object).blocks i) ≡ false
-      full = let is : (i * there.object.attr.block_size == i * there.object.attr.block_size) ≡ true = eq-eqb _ _ refl in rw is refl
-
-      same : (j : ℕ) → i < j → (written_to i bytes there.object).blocks j ≡ there.object.blocks j
-      same j more = let is : (j == i) ≡ false = grind (arith, nat_tests) in rw (same_place there.object.attr.block_size i j size_over, is) refl
-
-  -- its dnode
-  pub writes_dnode : is_number k ≡ true → DnodeFits (with_tree dnode tree (max dnode.end (i + 1))) → MakesDnode (Has image space) number k (write_at i bytes (snap.state k)) snap (with_tree dnode tree (max dnode.end (i + 1)))
-  unfolding index_bound
-  writes_dnode number_is fits = record {
-    object = written_to i bytes there.object;
-    made = is_made (Has old_image old_space) number k i bytes snap dnode there lawful may;
-    lawful = (number_is, λ j over. rw (size_is) (let is : (j == i) ≡ false = grind (arith, nat_tests, may.inside) in rw (same_place there.object.attr.block_size i j size_over, is) refl));
-    fits = fits;
-    map = put.map;
-    is = record {
-      type_is = is_now.type_is;
-      bonus_type_is = is_now.bonus_type_is;
-      size_is = is_now.size_is;
-      bonus_is = is_now.bonus_is;
-      date_is = is_now.date_is;
-      end_is = end_at;
-      spill_is = is_now.spill_is;
-      tree = put.tree_is;
-      blocks = block_at;
-      index_dates = date_at;
-    };
-  }

@@ -10,4 +10,4 @@ pub mod Searches
 pub mod Sets
 pub mod TightSets
 pub mod BlockWrites
-pub mod DueBlocks
+pub mod BlockRuns

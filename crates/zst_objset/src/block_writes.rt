@@ -1,5 +1,5 @@
 //! The calls that write blocks of an object.
-ghost use Rattle.std.specs.Prelude.{true, false, ℕ, List, suc, max, ◌*◌, ◌≡◌, ◌+◌, ◌/◌, ◌%◌, ◌<◌, ◌≤◌, ◌^◌, ◌&&◌, not, nat_lt, IfErr, IfOk, None, OnErr, OnOk, length};
+ghost use Rattle.std.specs.Prelude.{true, false, ℕ, List, ◌*◌, ◌≡◌, ◌+◌, ◌/◌, ◌%◌, ◌<◌, ◌≤◌, ◌^◌, ◌&&◌, not, nat_lt, IfErr, IfOk, None, OnErr, OnOk, length};
 ghost use Rattle.zst_block.specs.Blocks.{FitsDisk, Has, SparesTaken};
 ghost use Rattle.zst_block.specs.IoCalls.{Works, stop_of as block_stop};
 ghost use Rattle.zst_model.specs.declared.refusals.faults.Quantity.TheVariants as quantities;
@@ -10,24 +10,20 @@ ghost use Rattle.zst_tree.specs.Changes.{TreeDatedUpTo};
 ghost use Rattle.zst_tree.specs.Damage.{NamesDamage, NamesNode};
 ghost use Rattle.zst_tree.specs.Indices.{Delivers, Map, TreeIs};
 ghost use Rattle.zst_tree.specs.Sets.{SetFits};
-ghost use Rattle.zst_tree.specs.Leaves.{with_leaves};
-ghost use Rattle.zst_dnode.specs.Dnode.{DnodeFits};
-ghost use Rattle.zst_objset.specs.DueBlocks.{AreSoFar, CanRun, PutsBlocks, blocks_written, with_tree};
+ghost use Rattle.zst_objset.specs.BlockRuns.{AreSoFar, PutsBlocks, blocks_written};
 ghost use Rattle.zst_objset.specs.Answers.{Changes, stop_of, LimitOnly, NotLimit, NotRedacted};
 ghost use Rattle.zst_objset.specs.Changes.{block_written};
-ghost use Rattle.zst_objset.specs.Damage.{IfSetDamaged, IsDamagedObject, IsDamagedSet};
+ghost use Rattle.zst_objset.specs.Damage.{IfSetDamaged, IsDamagedObject};
 ghost use Rattle.zst_objset.specs.Sets.{SetHolds};
-ghost use Rattle.zst_dnode.specs.declared.slot.Slot.TheVariants.{There};
-ghost use Rattle.zst_objset.specs.TightSets.{IsTightSlot, SetIsTight};
+ghost use Rattle.zst_objset.specs.TightSets.{SetIsTight};
 ghost use Rattle.zst_objset.specs.BlockWrites.{PutsData, PutsDataRoot, write_judged};
 
 use crate::answers::object_there;
-use crate::changes::{put_dnode, with_tree};
+use crate::changes::{put_there, with_tree};
 use crate::fault::ObjFault;
-use crate::slot_puts::put_in_leaf;
 use crate::trees::tree_of;
 use zst_block::{BlockFault, Io, Ptr, write};
-use zst_dnode::{Dnode, Slot};
+use zst_dnode::Dnode;
 use zst_laws::applied_is_state;
 use zst_model::limits::INDEX_BOUND;
 use zst_model::{ApplyFault, Quantity};
@@ -117,6 +113,7 @@ pub(crate) fn write_block<D: Disk>(
     ensures works { Works (640 + length bytes.now / 512) (length bytes.now / 512) (D.state io.old.disk.now) io.old.space io.old.failed (D.state io.new.disk.now) io.new.space io.new.failed (stop_of result) }
     ensures same { io.new.disk.ghost_name ≡ io.old.disk.ghost_name }
 {
+    applied_is_state();
     let dnode = match object_there(set, io, object) {
         Ok(dnode) => dnode,
         Err(fault) => return Err(fault),
@@ -129,7 +126,7 @@ pub(crate) fn write_block<D: Disk>(
         Err(fault) => return Err(ObjFault::Block(fault)),
     };
     let end = dnode.end.max(index + 1);
-    put_dnode(set, io, object, with_tree(dnode, tree, end))
+    put_there(set, io, object, with_tree(dnode, tree, end))
 }
 
 // Writes neighbouring blocks of so many bytes, for the indices from one on, and gives the leaves that name them.
@@ -199,43 +196,6 @@ fn put_blocks<D: Disk>(
     Ok(made)
 }
 
-// Gives the slot of an object whose tree has what was due.
-fn put_run<D: Disk>(
-    set: &mut ObjSet,
-    io: &mut Io<'_, D>,
-    object: u64,
-    dnode: Dnode,
-) -> Result<(), ObjFault>
-    requires object { (0 < object) × (object < 2 ^ 48) }
-    requires dnode { DnodeFits dnode }
-    requires fits { FitsDisk (D.state io.old.disk.now).size io.old.space }
-    ensures changed { (number size count i : ℕ) (bytes : List ℕ) (before : DatedState) (was : Dnode) (map : Map) (leaves : List Leaf) (tree : Tree) → (D.state io.new.disk.now).honest
-        → SetHolds (Has (D.state io.old.disk.now).seen io.old.space) set.old before → CanRun (Has (D.state io.old.disk.now).seen io.old.space) number object size count i bytes before was map leaves
-        → TreeIs (Has (D.state io.old.disk.now).seen io.old.space) tree (with_leaves map leaves) → dnode ≡ with_tree was tree (max was.end (i + suc count))
-        → Changes (SetHolds (Has (D.state io.new.disk.now).seen io.new.space) set.new) (blocks_written number object size (suc count) i bytes before) result }
-    ensures tight { (number size count i : ℕ) (bytes : List ℕ) (before : DatedState) (was : Dnode) (map : Map) (leaves : List Leaf) (tree : Tree) → (D.state io.new.disk.now).honest
-        → SetIsTight (Has (D.state io.old.disk.now).seen io.old.space) set.old before → CanRun (Has (D.state io.old.disk.now).seen io.old.space) number object size count i bytes before was map leaves
-        → TreeIs (Has (D.state io.old.disk.now).seen io.old.space) tree (with_leaves map leaves) → dnode ≡ with_tree was tree (max was.end (i + suc count))
-        → DatedUpTo number before → IsTightSlot before object (There was) → TreeDatedUpTo number tree
-        → Changes (SetIsTight (Has (D.state io.new.disk.now).seen io.new.space) set.new) (blocks_written number object size (suc count) i bytes before) result }
-    ensures limits { IfErr result NotLimit }
-    ensures unredacted { IfErr result NotRedacted }
-    ensures damaged { (D.state io.new.disk.now).honest → IfSetDamaged result (IsDamagedSet (SparesTaken io.old.space (D.state io.old.disk.now).seen) (D.state io.old.disk.now).size set.old) }
-    ensures kept { OnErr result (set.new ≡ set.old) }
-    ensures levels { OnOk result (SetFits set.new) }
-    ensures works { Works 240 16 (D.state io.old.disk.now) io.old.space io.old.failed (D.state io.new.disk.now) io.new.space io.new.failed (stop_of result) }
-    ensures same { io.new.disk.ghost_name ≡ io.old.disk.ghost_name }
-{
-    applied_is_state();
-    match put_in_leaf(*set, io, object, object + 1, &Slot::There(dnode)) {
-        Ok(made) => {
-            *set = made;
-            Ok(())
-        }
-        Err(fault) => Err(ObjFault::Block(fault)),
-    }
-}
-
 /// Writes neighbouring whole blocks of an object, which stand below one node of its tree, as writes one after another do.
 pub fn write_blocks<D: Disk>(
     set: &mut ObjSet,
@@ -294,5 +254,5 @@ pub fn write_blocks<D: Disk>(
         Err(fault) => return Err(ObjFault::Block(fault)),
     };
     let end = dnode.end.max(index + count as u64);
-    put_run(set, io, object, with_tree(dnode, tree, end))
+    put_there(set, io, object, with_tree(dnode, tree, end))
 }

@@ -1,9 +1,10 @@
 //! The calls that change a set.
-ghost use Rattle.std.specs.Prelude.{◌≡◌, ◌+◌, ◌/◌, ◌<◌, ◌^◌, ℕ, OnErr, OnOk, length, IfErr};
+ghost use Rattle.std.specs.Prelude.{◌≡◌, ◌+◌, ◌/◌, ◌<◌, ◌^◌, ℕ, Ok, OnErr, OnOk, length, IfErr};
 ghost use Rattle.zst_block.specs.Blocks.{FitsDisk, Has, SparesTaken};
 ghost use Rattle.zst_block.specs.Ptr.{PtrFits};
 ghost use Rattle.zst_block.specs.IoCalls.{Works};
 ghost use Rattle.zst_dnode.specs.Dnode.{DnodeFits};
+ghost use Rattle.zst_dnode.specs.declared.slot.Slot.TheVariants.{There};
 ghost use Rattle.zst_model.specs.declared.states.item.Change.{Change};
 ghost use Rattle.zst_model.specs.declared.states.item.Item.TheVariants.{At};
 ghost use Rattle.zst_model.specs.pools.Soundness.{DatedUpTo};
@@ -13,9 +14,9 @@ ghost use Rattle.zst_tree.specs.Sets.{SetFits};
 ghost use Rattle.zst_objset.specs.Answers.{Changes, stop_of, NotLimit, NotRedacted};
 ghost use Rattle.zst_objset.specs.Changes.{changed, spill_put};
 ghost use Rattle.zst_objset.specs.Damage.{IfSetDamaged, IsDamagedSet, IsSetWithin};
-ghost use Rattle.zst_objset.specs.SlotPuts.{MakesDnode};
+ghost use Rattle.zst_objset.specs.SlotPuts.{MakesDnode, PutsSlot};
 ghost use Rattle.zst_objset.specs.Sets.{SetHolds};
-ghost use Rattle.zst_objset.specs.TightSets.{IsTightDnode, SetIsTight};
+ghost use Rattle.zst_objset.specs.TightSets.{IsTightDnode, IsTightSlot, SetIsTight};
 
 use crate::answers::object_there;
 use crate::fault::ObjFault;
@@ -55,6 +56,40 @@ pub(crate) fn with_tree(dnode: Dnode, tree: Tree, end: u64) -> Dnode
     }
 }
 
+/// Puts the dnode of an object that a state has.
+pub(crate) fn put_there<D: Disk>(
+    set: &mut ObjSet,
+    io: &mut Io<'_, D>,
+    object: u64,
+    dnode: Dnode,
+) -> Result<(), ObjFault>
+    requires object { (0 < object) × (object < 2 ^ 48) }
+    requires dnode { DnodeFits dnode }
+    requires fits { FitsDisk (D.state io.old.disk.now).size io.old.space }
+    ensures changed { (before now : DatedState) → (D.state io.new.disk.now).honest → SetHolds (Has (D.state io.old.disk.now).seen io.old.space) set.old before
+        → PutsSlot (Has (D.state io.old.disk.now).seen io.old.space) before now object (object + 1) (There dnode)
+        → Changes (SetHolds (Has (D.state io.new.disk.now).seen io.new.space) set.new) (Ok now) result }
+    ensures tight { (before now : DatedState) → (D.state io.new.disk.now).honest → SetIsTight (Has (D.state io.old.disk.now).seen io.old.space) set.old before
+        → PutsSlot (Has (D.state io.old.disk.now).seen io.old.space) before now object (object + 1) (There dnode) → IsTightSlot now object (There dnode)
+        → Changes (SetIsTight (Has (D.state io.new.disk.now).seen io.new.space) set.new) (Ok now) result }
+    ensures limits { IfErr result NotLimit }
+    ensures unredacted { IfErr result NotRedacted }
+    ensures damaged { (D.state io.new.disk.now).honest → IfSetDamaged result (IsDamagedSet (SparesTaken io.old.space (D.state io.old.disk.now).seen) (D.state io.old.disk.now).size set.old) }
+    ensures within { (D.state io.new.disk.now).honest → OnOk result (IsSetWithin (SparesTaken io.old.space (D.state io.old.disk.now).seen) (D.state io.old.disk.now).size set.old (SparesTaken io.new.space (D.state io.new.disk.now).seen) set.new) }
+    ensures kept { OnErr result (set.new ≡ set.old) }
+    ensures levels { OnOk result (SetFits set.new) }
+    ensures works { Works 240 16 (D.state io.old.disk.now) io.old.space io.old.failed (D.state io.new.disk.now) io.new.space io.new.failed (stop_of result) }
+    ensures same { io.new.disk.ghost_name ≡ io.old.disk.ghost_name }
+{
+    match put_in_leaf(*set, io, object, object + 1, &Slot::There(dnode)) {
+        Ok(made) => {
+            *set = made;
+            Ok(())
+        }
+        Err(fault) => Err(ObjFault::Block(fault)),
+    }
+}
+
 /// Puts the dnode of what a change makes of an object.
 pub(crate) fn put_dnode<D: Disk>(
     set: &mut ObjSet,
@@ -81,13 +116,7 @@ pub(crate) fn put_dnode<D: Disk>(
     ensures same { io.new.disk.ghost_name ≡ io.old.disk.ghost_name }
 {
     applied_is_state();
-    match put_in_leaf(*set, io, object, object + 1, &Slot::There(dnode)) {
-        Ok(made) => {
-            *set = made;
-            Ok(())
-        }
-        Err(fault) => Err(ObjFault::Block(fault)),
-    }
+    put_there(set, io, object, dnode)
 }
 
 /// Gives an object another spill block.

@@ -1,5 +1,6 @@
-use Rattle.std.proofs.Common.{◌*◌, ℕ, sym, ap, ◌∙◌}
+use Rattle.std.proofs.Common.{◌*◌, ℕ, length, sym, ap, ◌∙◌}
 use Rattle.zst_objset.proofs.LeafLaws.{is_number_at}
+use Rattle.zst_objset.proofs.RunLaws.{may_write}
 use Rattle.zst_objset.proofs.WriteLaws.{block_some}
 use Rattle.zst_apply.proofs.RunLaws.{applies_both, both, no_limit, run_of, so_many}
 use Rattle.zst_apply.proofs.SetFaults.{names_told}
@@ -9,7 +10,7 @@ pub returns-clause-changed : goal.returns-clause-changed
 returns-clause-changed g c = λ records thing state honest holds there size_is long.
     let all = both c.args.number c.args.object c.args.size c.args.index records c.args.bytes.now state state _ _ c.applied_is_state.ensures (is_number_at c.args.object c.requires.object.0 c.requires.object.1) (block_some c.args.size c.requires.size) size_is
     (run_of state c.args.object thing there holds.lawful holds.bounded)
-    (record { whole = c.requires.long ∙ ap (λ (n : ℕ). n * c.args.size) (sym long); even = c.requires.even; inside = rw long c.requires.inside }) in
+    (may_write c.args.size c.args.index (length records) c.args.bytes.now (c.requires.long ∙ ap (λ (n : ℕ). n * c.args.size) (sym long)) c.requires.even (rw long c.requires.inside)) in
     applies_both _ _ _ all.now (so_many c.args.number c.args.object c.args.size c.args.index c.args.count records c.args.bytes.now state all.now long all.written) all.received_is c.write_blocks.result (c.write_blocks.ensures.changed state honest holds)
 
 pub returns-clause-tight : goal.returns-clause-tight
@@ -17,7 +18,7 @@ returns-clause-tight g c = λ records thing state honest tight dated there size_
     let holds = tight.holds in
     let all = both c.args.number c.args.object c.args.size c.args.index records c.args.bytes.now state state _ _ c.applied_is_state.ensures (is_number_at c.args.object c.requires.object.0 c.requires.object.1) (block_some c.args.size c.requires.size) size_is
     (run_of state c.args.object thing there holds.lawful holds.bounded)
-    (record { whole = c.requires.long ∙ ap (λ (n : ℕ). n * c.args.size) (sym long); even = c.requires.even; inside = rw long c.requires.inside }) in
+    (may_write c.args.size c.args.index (length records) c.args.bytes.now (c.requires.long ∙ ap (λ (n : ℕ). n * c.args.size) (sym long)) c.requires.even (rw long c.requires.inside)) in
     applies_both _ _ _ all.now (so_many c.args.number c.args.object c.args.size c.args.index c.args.count records c.args.bytes.now state all.now long all.written) all.received_is c.write_blocks.result (c.write_blocks.ensures.tight state honest tight dated)
 
 pub returns-clause-damaged : goal.returns-clause-damaged

@@ -6,8 +6,8 @@ use Rattle.zst_block.proofs.IoCallLemmas.{Works-block, Works-then}
 use Rattle.zst_tree.specs.Damage.{NamesNode}
 use Rattle.zst_tree.proofs.LaterDamage.{fault_after, same_now}
 use Rattle.zst_tree.proofs.IndicesLaws.{TreeIs-grows}
-use Rattle.zst_objset.specs.DueBlocks.{AreSoFar}
-use Rattle.zst_objset.proofs.DueLaws.{AreWritten-grows, are_written}
+use Rattle.zst_objset.specs.BlockRuns.{AreSoFar}
+use Rattle.zst_objset.proofs.RunLaws.{AreWritten-grows, are_written}
 use Rattle.zst_objset.proofs.block_writes.put_blocks.Goals as goal
 
 pub returns-in_err-set_all-clause-puts : goal.returns-in_err-set_all-clause-puts

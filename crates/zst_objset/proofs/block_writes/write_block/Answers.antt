@@ -1,30 +1,29 @@
-use Rattle.std.proofs.Common.{◌∙◌, ◌+◌, Err, arith, ap, subst, sym, Result}
+use Rattle.std.proofs.Common.{◌∙◌, ◌+◌, Err, arith, ap, refl, subst, sym, Result}
 use Rattle.zst_block.specs.Blocks.{Has, KeepsBlocks}
 use Rattle.zst_block.proofs.BlocksLaws.{FillsFree-then, KeepsBlocks-fills}
 use Rattle.zst_block.proofs.IoCallLemmas.{Works-after, Works-block, Works-looks, Works-more, Works-then}
+use Rattle.zst_dnode.specs.Dnode.{DnodeFits}
+use Rattle.zst_dnode.specs.declared.dnode.Dnode.{Dnode}
 use Rattle.zst_model.specs.declared.refusals.refusal.Refusal.{Refusal}
 use Rattle.zst_model.specs.states.DatedState.{DatedState}
 use Rattle.zst_model.specs.states.State.{index_bound}
+use Rattle.zst_model.specs.declared.refusals.faults.Quantity.TheVariants as quantities
 use Rattle.zst_tree.specs.Indices.{TreeIs}
 use Rattle.zst_tree.specs.declared.tree.Tree.{Tree}
+use Rattle.zst_tree.specs.Damage.{NamesNode}
+use Rattle.zst_tree.proofs.LaterDamage.{fills_looks}
 use Rattle.zst_objset.specs.Answers.{Changes}
-use Rattle.zst_objset.specs.SlotPuts.{MakesDnode}
 use Rattle.zst_objset.specs.Sets.{SetHolds}
+use Rattle.zst_objset.specs.TightSets.{SetIsTight}
 use Rattle.zst_objset.proofs.LeafLaws.{is_number_at, keeps_on}
 use Rattle.zst_objset.proofs.SetGrowth.{SetHolds-grows}
 use Rattle.zst_objset.proofs.SpillLaws.{stops}
-use Rattle.zst_objset.proofs.WriteLaws.{block_some, block_whole, dates_written, index_under, is_accepted, is_change, is_refused, judged, write_at, write_not_there, writes_dnode, written_fits}
-use Rattle.zst_dnode.specs.Dnode.{DnodeFits}
-use Rattle.zst_dnode.specs.declared.dnode.Dnode.{Dnode}
-use Rattle.zst_tree.specs.Damage.{NamesNode}
-use Rattle.zst_tree.proofs.LaterDamage.{fills_looks}
+use Rattle.zst_objset.proofs.WriteLaws.{block_some, block_whole, is_refused, judged, write_not_there, written_fits}
 use Rattle.zst_objset.proofs.DamageLaws.{told_before, object_told, set_after, set_spared, tree_told}
 use Rattle.zst_objset.proofs.TreeFits.{with_tree}
-use Rattle.zst_model.specs.declared.refusals.faults.Quantity.TheVariants as quantities
 use Rattle.zst_objset.proofs.LimitLaws.{if_no_limit, no_limit}
-use Rattle.std.proofs.Common.{max, refl}
-use Rattle.zst_objset.specs.TightSets.{IsTightDnode, SetIsTight}
-use Rattle.zst_objset.proofs.TightLaws.{index_tight, tight_grows}
+use Rattle.zst_objset.proofs.RunLaws.{all_accepted, blocks_end, may_write_one, one_written, puts_one, run_begins_over, tree_early}
+use Rattle.zst_objset.proofs.TightLaws.{tight_grows}
 use Rattle.zst_objset.proofs.block_writes.write_block.Goals as goal
 
 pub returns-in-Err-clause-changed : goal.returns-in-Err-clause-changed
@@ -47,14 +46,16 @@ returns-in-Err-put_data-clause-changed g c = λ state honest holds.
     let has = Has (g.D.Disk.state c.object_there.new.io.disk.now).seen c.object_there.new.io.space in
     let there = c.in-Ok.ensures.found state (c.in-Err-put_data.ensures.works.fills.honest honest) holds in
     let may = judged _ _ _ c.in_default.ensures.judged in
-    stops _ _ c.in-Err-put_data.fault (is_accepted has c.args.number c.args.object c.args.index c.args.bytes.now state c.in-Ok.dnode there holds.lawful may)
+    let made = all_accepted has c.args.number c.args.object c.in-Ok.dnode.block_size 1 c.args.index c.args.bytes.now state c.in-Ok.dnode c.applied_is_state.ensures (is_number_at c.args.object c.requires.object c.in-Ok.ensures.bound) refl
+    (omega arith) holds.lawful holds.bounded there (may_write_one c.in-Ok.dnode.block_size c.args.index c.args.bytes.now may) in
+    stops _ _ c.in-Err-put_data.fault (sym (one_written c.args.number c.args.object c.in-Ok.dnode.block_size c.args.index c.args.bytes.now state may.whole) ∙ made.1)
     (c.in-Err-put_data.ensures.puts there.map honest (subst (λ (tree : Tree). TreeIs has tree there.map) (sym c.tree_of.ensures) there.is.tree))
 
 pub returns-in-Err-put_data-clause-works : goal.returns-in-Err-put_data-clause-works
 returns-in-Err-put_data-clause-works g c = Works-after c.in-Ok.ensures.looks (Works-more (omega arith) c.in-Err-put_data.ensures.works)
 
-pub put_dnode-requires-clause-dnode : goal.put_dnode-requires-clause-dnode
-put_dnode-requires-clause-dnode g c =
+pub put_there-requires-clause-dnode : goal.put_there-requires-clause-dnode
+put_there-requires-clause-dnode g c =
     let may = judged _ _ _ c.in_default.ensures.judged in
     let made = c.with_tree.ensures in
     subst (λ (dnode : Dnode). DnodeFits dnode) (sym (made.made ∙ ap (with_tree c.in-Ok.dnode c.in-Ok-put_data.tree) c.max-end.ensures))
@@ -65,24 +66,23 @@ returns-clause-changed g c = λ state honest holds.
     let old = g.D.Disk.state c.args.io.now.disk.now in
     let mid = g.D.Disk.state c.object_there.new.io.disk.now in
     let new = g.D.Disk.state c.put_data.new.io.disk.now in
-    let was_put = c.put_dnode.ensures.works.fills.honest honest in
+    let last = g.D.Disk.state c.put_there.new.io.disk.now in
+    let was_put = c.put_there.ensures.works.fills.honest honest in
     let there = c.in-Ok.ensures.found state (c.in-Ok-put_data.ensures.works.fills.honest was_put) holds in
     let may = judged _ _ _ c.in_default.ensures.judged in
-    let put = c.in-Ok-put_data.ensures.puts there.map was_put (subst (λ (tree : Tree). TreeIs (Has mid.seen c.object_there.new.io.space) tree there.map) (sym c.tree_of.ensures) there.is.tree) in
+    let had : TreeIs (Has mid.seen c.object_there.new.io.space) c.tree_of.result there.map = subst (λ (tree : Tree). TreeIs (Has mid.seen c.object_there.new.io.space) tree there.map) (sym c.tree_of.ensures) there.is.tree in
     let putting : KeepsBlocks mid.seen c.object_there.new.io.space new.seen c.put_data.new.io.space = KeepsBlocks-fills _ _ _ _ c.in-Ok-put_data.ensures.works.fills in
     let grown = SetHolds-grows (Has old.seen c.args.io.now.space) (Has new.seen c.put_data.new.io.space) (keeps_on _ _ _ _ _ _ _ _ _ c.in-Ok.ensures.looks c.in-Ok-put_data.ensures.works.fills) c.args.set.now state holds in
-    let change = write_at c.args.index c.args.bytes.now (state.state c.args.object) in
-    let made_is = c.with_tree.ensures.made ∙ ap (with_tree c.in-Ok.dnode c.in-Ok-put_data.tree) c.max-end.ensures in
-    let makes = subst (MakesDnode (Has new.seen c.put_data.new.io.space) c.args.number c.args.object change state) (sym made_is)
-    (writes_dnode mid.seen c.object_there.new.io.space new.seen c.put_data.new.io.space putting c.args.number c.args.object c.args.index c.args.bytes.now state c.in-Ok.dnode there holds.lawful may c.in-Ok-put_data.tree put
-    (is_number_at c.args.object c.requires.object c.in-Ok.ensures.bound) (written_fits c.in-Ok.dnode c.in-Ok-put_data.tree c.args.index _ c.in-Ok.ensures.ranges may (rw c.tree_of.ensures at c.in-Ok-put_data.ensures.root) c.in-Ok-put_data.ensures.levels c.with_tree.ensures.root c.with_tree.ensures.past)) in
-    let last = g.D.Disk.state c.put_dnode.new.io.disk.now in
-    subst (λ (definition : Result DatedState Refusal). Changes (SetHolds (Has last.seen c.put_dnode.new.io.space) c.put_dnode.new.set) definition c.put_dnode.result)
-    (sym (is_change (Has mid.seen c.object_there.new.io.space) c.args.number c.args.object c.args.index c.args.bytes.now state c.in-Ok.dnode there holds.lawful may))
-    (c.put_dnode.ensures.changed c.args.number change state honest grown makes)
+    let ends = blocks_end (Has new.seen c.put_data.new.io.space) c.args.number c.args.object c.in-Ok.dnode.block_size 1 c.args.index c.args.bytes.now state c.in-Ok.dnode _ there.map c.in-Ok-put_data.tree c.applied_is_state.ensures
+    (is_number_at c.args.object c.requires.object c.in-Ok.ensures.bound) refl (omega arith) (run_begins_over (Has mid.seen c.object_there.new.io.space) (Has new.seen c.put_data.new.io.space) putting state c.args.object c.in-Ok.dnode holds.lawful holds.bounded there)
+    (may_write_one c.in-Ok.dnode.block_size c.args.index c.args.bytes.now may) (puts_one (Has new.seen c.put_data.new.io.space) there.map c.args.number c.in-Ok.dnode.block_size c.args.index c.args.bytes.now c.in-Ok-put_data.tree may.whole (c.in-Ok-put_data.ensures.puts there.map was_put had))
+    (c.with_tree.ensures.made ∙ ap (with_tree c.in-Ok.dnode c.in-Ok-put_data.tree) c.max-end.ensures) in
+    let is = sym (one_written c.args.number c.args.object c.in-Ok.dnode.block_size c.args.index c.args.bytes.now state may.whole) ∙ ends.is in
+    subst (λ (definition : Result DatedState Refusal). Changes (SetHolds (Has last.seen c.put_there.new.io.space) c.put_there.new.set) definition c.put_there.result) (sym is)
+    (c.put_there.ensures.changed state ends.now honest grown ends.puts)
 
 pub returns-clause-works : goal.returns-clause-works
-returns-clause-works g c = Works-after c.in-Ok.ensures.looks (Works-more (omega arith) (Works-then c.in-Ok-put_data.ensures.works (Works-block c.put_dnode.ensures.works)))
+returns-clause-works g c = Works-after c.in-Ok.ensures.looks (Works-more (omega arith) (Works-then c.in-Ok-put_data.ensures.works (Works-block c.put_there.ensures.works)))
 
 pub returns-in-Err-clause-damaged : goal.returns-in-Err-clause-damaged
 returns-in-Err-clause-damaged g c = λ honest.
@@ -99,13 +99,13 @@ returns-in-Err-put_data-clause-damaged g c = λ honest.
 pub returns-clause-damaged : goal.returns-clause-damaged
 returns-clause-damaged g c = λ honest.
     let filled = FillsFree-then _ _ _ _ _ _ (fills_looks _ _ _ _ _ _ _ c.in-Ok.ensures.looks) c.in-Ok-put_data.ensures.works.fills in
-    object_told _ _ NamesNode c.args.set.now c.put_dnode.result (set_after _ _ _ _ filled c.args.set.now c.put_dnode.result (c.put_dnode.ensures.damaged honest))
+    object_told _ _ NamesNode c.args.set.now c.put_there.result (set_after _ _ _ _ filled c.args.set.now c.put_there.result (c.put_there.ensures.damaged honest))
 
 pub returns-in-Err-clause-limits : goal.returns-in-Err-clause-limits
 returns-in-Err-clause-limits g c = no_limit quantities.Block index_bound (c.args.index + 1) c.in-Err.fault c.in-Err.ensures.limits
 
 pub returns-clause-limits : goal.returns-clause-limits
-returns-clause-limits g c = if_no_limit quantities.Block index_bound (c.args.index + 1) c.put_dnode.result c.put_dnode.ensures.limits
+returns-clause-limits g c = if_no_limit quantities.Block index_bound (c.args.index + 1) c.put_there.result c.put_there.ensures.limits
 
 pub returns-in-Err-clause-tight : goal.returns-in-Err-clause-tight
 returns-in-Err-clause-tight g c = λ state honest tight dated. returns-in-Err-clause-changed g c state honest tight.holds
@@ -121,26 +121,22 @@ returns-clause-tight g c = λ state honest tight dated.
     let old = g.D.Disk.state c.args.io.now.disk.now in
     let mid = g.D.Disk.state c.object_there.new.io.disk.now in
     let new = g.D.Disk.state c.put_data.new.io.disk.now in
-    let was_put = c.put_dnode.ensures.works.fills.honest honest in
+    let last = g.D.Disk.state c.put_there.new.io.disk.now in
+    let was_put = c.put_there.ensures.works.fills.honest honest in
     let there = c.in-Ok.ensures.found state (c.in-Ok-put_data.ensures.works.fills.honest was_put) tight.holds in
     let may = judged _ _ _ c.in_default.ensures.judged in
-    let put = c.in-Ok-put_data.ensures.puts there.map was_put (subst (λ (tree : Tree). TreeIs (Has mid.seen c.object_there.new.io.space) tree there.map) (sym c.tree_of.ensures) there.is.tree) in
+    let had : TreeIs (Has mid.seen c.object_there.new.io.space) c.tree_of.result there.map = subst (λ (tree : Tree). TreeIs (Has mid.seen c.object_there.new.io.space) tree there.map) (sym c.tree_of.ensures) there.is.tree in
     let putting : KeepsBlocks mid.seen c.object_there.new.io.space new.seen c.put_data.new.io.space = KeepsBlocks-fills _ _ _ _ c.in-Ok-put_data.ensures.works.fills in
     let grown = tight_grows c.args.set.now old.seen c.args.io.now.space new.seen c.put_data.new.io.space state (keeps_on _ _ _ _ _ _ _ _ _ c.in-Ok.ensures.looks c.in-Ok-put_data.ensures.works.fills) tight in
-    let change = write_at c.args.index c.args.bytes.now (state.state c.args.object) in
-    let made_is = c.with_tree.ensures.made ∙ ap (with_tree c.in-Ok.dnode c.in-Ok-put_data.tree) c.max-end.ensures in
-    let makes = subst (MakesDnode (Has new.seen c.put_data.new.io.space) c.args.number c.args.object change state) (sym made_is)
-    (writes_dnode mid.seen c.object_there.new.io.space new.seen c.put_data.new.io.space putting c.args.number c.args.object c.args.index c.args.bytes.now state c.in-Ok.dnode there tight.holds.lawful may c.in-Ok-put_data.tree put
-    (is_number_at c.args.object c.requires.object c.in-Ok.ensures.bound) (written_fits c.in-Ok.dnode c.in-Ok-put_data.tree c.args.index _ c.in-Ok.ensures.ranges may (rw c.tree_of.ensures at c.in-Ok-put_data.ensures.root) c.in-Ok-put_data.ensures.levels c.with_tree.ensures.root c.with_tree.ensures.past)) in
-    let had : TreeIs (Has mid.seen c.object_there.new.io.space) c.tree_of.result there.map = subst (λ (tree : Tree). TreeIs (Has mid.seen c.object_there.new.io.space) tree there.map) (sym c.tree_of.ensures) there.is.tree in
     let was = c.in-Ok.ensures.tight state (c.in-Ok-put_data.ensures.works.fills.honest was_put) tight in
-    let dnode_tight = subst (IsTightDnode c.args.number c.args.object change state) (sym made_is)
-    (index_tight c.args.number c.args.object change state c.in-Ok.dnode (with_tree c.in-Ok.dnode c.in-Ok-put_data.tree (max c.in-Ok.dnode.end (c.args.index + 1))) dated was c.args.index refl (dates_written c.args.number c.args.object c.args.index c.args.bytes.now state) (index_under c.args.index may.inside)
-    (λ early. c.in-Ok-put_data.ensures.dated there.map was_put had (rw c.tree_of.ensures early))) in
-    let last = g.D.Disk.state c.put_dnode.new.io.disk.now in
-    subst (λ (definition : Result DatedState Refusal). Changes (SetIsTight (Has last.seen c.put_dnode.new.io.space) c.put_dnode.new.set) definition c.put_dnode.result)
-    (sym (is_change (Has mid.seen c.object_there.new.io.space) c.args.number c.args.object c.args.index c.args.bytes.now state c.in-Ok.dnode there tight.holds.lawful may))
-    (c.put_dnode.ensures.tight c.args.number change state honest grown makes dnode_tight)
+    let early = c.in-Ok-put_data.ensures.dated there.map was_put had (rw c.tree_of.ensures (tree_early c.args.number c.args.object state c.in-Ok.dnode dated was)) in
+    let ends = blocks_end (Has new.seen c.put_data.new.io.space) c.args.number c.args.object c.in-Ok.dnode.block_size 1 c.args.index c.args.bytes.now state c.in-Ok.dnode _ there.map c.in-Ok-put_data.tree c.applied_is_state.ensures
+    (is_number_at c.args.object c.requires.object c.in-Ok.ensures.bound) refl (omega arith) (run_begins_over (Has mid.seen c.object_there.new.io.space) (Has new.seen c.put_data.new.io.space) putting state c.args.object c.in-Ok.dnode tight.holds.lawful tight.holds.bounded there)
+    (may_write_one c.in-Ok.dnode.block_size c.args.index c.args.bytes.now may) (puts_one (Has new.seen c.put_data.new.io.space) there.map c.args.number c.in-Ok.dnode.block_size c.args.index c.args.bytes.now c.in-Ok-put_data.tree may.whole (c.in-Ok-put_data.ensures.puts there.map was_put had))
+    (c.with_tree.ensures.made ∙ ap (with_tree c.in-Ok.dnode c.in-Ok-put_data.tree) c.max-end.ensures) in
+    let is = sym (one_written c.args.number c.args.object c.in-Ok.dnode.block_size c.args.index c.args.bytes.now state may.whole) ∙ ends.is in
+    subst (λ (definition : Result DatedState Refusal). Changes (SetIsTight (Has last.seen c.put_there.new.io.space) c.put_there.new.set) definition c.put_there.result) (sym is)
+    (c.put_there.ensures.tight state ends.now honest grown ends.puts (ends.tight dated was early))
 
 pub object_there-requires-clause-object : goal.object_there-requires-clause-object
 object_there-requires-clause-object g c = c.requires.object
@@ -190,20 +186,20 @@ returns-in-Err-put_data-clause-unredacted g c = tt
 pub put_data-requires-clause-fits : goal.put_data-requires-clause-fits
 put_data-requires-clause-fits g c = c.in-Ok.ensures.kept_fit
 
-pub put_dnode-requires-clause-object : goal.put_dnode-requires-clause-object
-put_dnode-requires-clause-object g c = (c.requires.object, c.in-Ok.ensures.bound)
+pub put_there-requires-clause-object : goal.put_there-requires-clause-object
+put_there-requires-clause-object g c = (c.requires.object, c.in-Ok.ensures.bound)
 
-pub put_dnode-requires-clause-fits : goal.put_dnode-requires-clause-fits
-put_dnode-requires-clause-fits g c = c.in-Ok-put_data.ensures.works.fits
+pub put_there-requires-clause-fits : goal.put_there-requires-clause-fits
+put_there-requires-clause-fits g c = c.in-Ok-put_data.ensures.works.fits
 
 pub returns-clause-unredacted : goal.returns-clause-unredacted
-returns-clause-unredacted g c = c.put_dnode.ensures.unredacted
+returns-clause-unredacted g c = c.put_there.ensures.unredacted
 
 pub returns-clause-kept : goal.returns-clause-kept
-returns-clause-kept g c = c.put_dnode.ensures.kept
+returns-clause-kept g c = c.put_there.ensures.kept
 
 pub returns-clause-levels : goal.returns-clause-levels
-returns-clause-levels g c = c.put_dnode.ensures.levels
+returns-clause-levels g c = c.put_there.ensures.levels
 
 pub returns-clause-same : goal.returns-clause-same
-returns-clause-same g c = c.put_dnode.ensures.same ∙ (c.in-Ok-put_data.ensures.same ∙ c.in-Ok.ensures.same)
+returns-clause-same g c = c.put_there.ensures.same ∙ (c.in-Ok-put_data.ensures.same ∙ c.in-Ok.ensures.same)

@@ -1,41 +1,31 @@
-use Rattle.std.proofs.Common.{◌≡◌, ◌≢◌, ◌∙◌, ℕ, suc, ◌+◌, ◌-◌, ◌*◌, ◌^◌, ◌<◌, ◌≤◌, max, false, length, List, Err, arith, ap, sym, subst}
+use Rattle.std.proofs.Common.{◌≡◌, ◌≢◌, ◌∙◌, ℕ, ◌+◌, ◌*◌, ◌<◌, ◌≤◌, Err, Result, arith, ap, refl, sym, subst}
 use Rattle.zst_block.specs.Blocks.{Has, KeepsBlocks}
 use Rattle.zst_block.proofs.BlocksLaws.{FillsFree-then, KeepsBlocks-fills}
-use Rattle.zst_block.proofs.IoCallLemmas.{Works-after, Works-block, Works-more, Works-then}
+use Rattle.zst_block.proofs.IoCallLemmas.{Works-after, Works-block, Works-looks, Works-more, Works-then}
 use Rattle.zst_dnode.specs.Dnode.{DnodeFits}
 use Rattle.zst_dnode.specs.declared.dnode.Dnode.{Dnode}
-use Rattle.zst_model.specs.declared.refusals.apply_fault.ApplyFault.TheVariants.{SizeDiffers}
+use Rattle.zst_model.specs.declared.refusals.refusal.Refusal.{Refusal}
+use Rattle.zst_model.specs.states.DatedState.{DatedState}
 use Rattle.zst_tree.specs.Damage.{NamesNode}
 use Rattle.zst_tree.specs.Indices.{TreeIs}
 use Rattle.zst_tree.specs.declared.tree.Tree.{Tree}
 use Rattle.zst_tree.proofs.LaterDamage.{fills_looks}
-use Rattle.zst_objset.specs.Answers.{BlockStops, Changes, Refuses}
-use Rattle.zst_objset.specs.DueBlocks.{CanRun, blocks_written}
+use Rattle.zst_objset.specs.Answers.{Changes}
 use Rattle.zst_objset.specs.Sets.{SetHolds}
-use Rattle.zst_objset.specs.declared.fault.ObjFault.TheVariants as faults
-use Rattle.zst_model.specs.states.State.{is_odd_size}
-use Rattle.zst_objset.proofs.DamageLaws.{told_before, object_told, set_after, set_spared, tree_told}
-use Rattle.zst_objset.proofs.DueLaws.{MayWrite, all_accepted, blocks_differ, no_blocks_there, run_begins_over, run_fits, tree_early}
 use Rattle.zst_objset.specs.TightSets.{SetIsTight}
-use Rattle.zst_objset.proofs.TightLaws.{tight_grows}
+use Rattle.zst_objset.proofs.DamageLaws.{told_before, object_told, set_after, set_spared, tree_told}
 use Rattle.zst_objset.proofs.LeafLaws.{is_number_at, keeps_on}
+use Rattle.zst_objset.proofs.RunLaws.{all_accepted, blocks_differ, blocks_end, may_write, no_blocks_there, run_begins_over, run_fits, tree_early}
 use Rattle.zst_objset.proofs.SetGrowth.{SetHolds-grows}
 use Rattle.zst_objset.proofs.SpillLaws.{stops}
+use Rattle.zst_objset.proofs.TightLaws.{tight_grows}
 use Rattle.zst_objset.proofs.TreeFits.{with_tree}
 use Rattle.zst_objset.proofs.WriteLaws.{block_whole}
 use Rattle.zst_objset.proofs.block_writes.write_blocks.Goals as goal
 
--- one of them, and so many more
-more : (count : ℕ) → 0 < count → suc (count - 1) ≡ count
-more count some = omega arith
-
-may_write : (size index count : ℕ) (bytes : List ℕ) → 0 < count → length bytes ≡ count * size → is_odd_size size ≡ false → index + count ≤ 2 ^ 43 → MayWrite size index (suc (count - 1)) bytes
-may_write size index count bytes some long even inside = record { whole = long ∙ ap (λ (m : ℕ). m * size) (sym (more count some)); even = even; inside = omega arith }
-
 pub returns-in-Err-clause-changed : goal.returns-in-Err-clause-changed
 returns-in-Err-clause-changed g c = λ state honest holds.
-    subst (λ (m : ℕ). Refuses (blocks_written c.args.number c.args.object c.args.size m c.args.index c.args.bytes.now state) c.in-Err.fault) (more c.args.count c.requires.some)
-    (no_blocks_there (Has (g.D.Disk.state c.object_there.new.io.disk.now).seen c.object_there.new.io.space) c.args.number c.args.object c.args.size (c.args.count - 1) c.args.index c.args.bytes.now state c.in-Err.fault (c.in-Err.ensures.found state honest holds))
+    no_blocks_there (Has (g.D.Disk.state c.object_there.new.io.disk.now).seen c.object_there.new.io.space) c.args.number c.args.object c.args.size c.args.count c.args.index c.args.bytes.now state c.in-Err.fault c.requires.some (c.in-Err.ensures.found state honest holds)
 
 pub returns-in-Err-clause-damaged : goal.returns-in-Err-clause-damaged
 returns-in-Err-clause-damaged g c = λ honest.
@@ -44,9 +34,7 @@ returns-in-Err-clause-damaged g c = λ honest.
 pub returns-then-dnode-size-clause-changed : goal.returns-then-dnode-size-clause-changed
 returns-then-dnode-size-clause-changed g c = λ state honest holds.
     let differs : c.args.size ≢ c.in-Ok.dnode.block_size = omega (arith, c.if-dnode-size.true) in
-    subst (λ (m : ℕ). Refuses (blocks_written c.args.number c.args.object c.args.size m c.args.index c.args.bytes.now state) (faults.CannotApply SizeDiffers)) (more c.args.count c.requires.some)
-    (blocks_differ (Has (g.D.Disk.state c.object_there.new.io.disk.now).seen c.object_there.new.io.space) c.args.number c.args.object c.args.size (c.args.count - 1) c.args.index c.args.bytes.now state c.in-Ok.dnode (c.in-Ok.ensures.found state honest holds) holds.lawful differs
-    (may_write c.args.size c.args.index c.args.count c.args.bytes.now c.requires.some c.requires.long c.requires.even c.requires.inside).whole)
+    blocks_differ (Has (g.D.Disk.state c.object_there.new.io.disk.now).seen c.object_there.new.io.space) c.args.number c.args.object c.args.size c.args.count c.args.index c.args.bytes.now state c.in-Ok.dnode (c.in-Ok.ensures.found state honest holds) holds.lawful differs c.requires.some c.requires.long
 
 pub put_blocks-outcome-requires-clause-whole : goal.put_blocks-outcome-requires-clause-whole
 put_blocks-outcome-requires-clause-whole g c = block_whole _ c.requires.size
@@ -55,11 +43,9 @@ pub returns-in-Err-outcome-clause-changed : goal.returns-in-Err-outcome-clause-c
 returns-in-Err-outcome-clause-changed g c = λ state honest holds.
     let has = Has (g.D.Disk.state c.object_there.new.io.disk.now).seen c.object_there.new.io.space in
     let there = c.in-Ok.ensures.found state (c.in-Err-outcome.ensures.works.fills.honest honest) holds in
-    let size_is : c.in-Ok.dnode.block_size ≡ c.args.size = omega (arith, c.if-dnode-size.false) in
-    let made = all_accepted has c.args.number c.args.object c.args.size (c.args.count - 1) c.args.index c.args.bytes.now state c.in-Ok.dnode c.applied_is_state.ensures (is_number_at c.args.object c.requires.object c.in-Ok.ensures.bound) size_is holds.lawful holds.bounded there
-    (may_write c.args.size c.args.index c.args.count c.args.bytes.now c.requires.some c.requires.long c.requires.even c.requires.inside) in
-    subst (λ (m : ℕ). BlockStops (blocks_written c.args.number c.args.object c.args.size m c.args.index c.args.bytes.now state) c.in-Err-outcome.fault) (more c.args.count c.requires.some)
-    (stops _ _ c.in-Err-outcome.fault made.1 (c.in-Err-outcome.ensures.puts there.map honest (subst (λ (tree : Tree). TreeIs has tree there.map) (sym c.tree_of.ensures) there.is.tree)))
+    let made = all_accepted has c.args.number c.args.object c.args.size c.args.count c.args.index c.args.bytes.now state c.in-Ok.dnode c.applied_is_state.ensures (is_number_at c.args.object c.requires.object c.in-Ok.ensures.bound) (omega (arith, c.if-dnode-size.false))
+    c.requires.some holds.lawful holds.bounded there (may_write c.args.size c.args.index c.args.count c.args.bytes.now c.requires.long c.requires.even c.requires.inside) in
+    stops _ _ c.in-Err-outcome.fault made.1 (c.in-Err-outcome.ensures.puts there.map honest (subst (λ (tree : Tree). TreeIs has tree there.map) (sym c.tree_of.ensures) there.is.tree))
 
 pub returns-in-Err-outcome-clause-damaged : goal.returns-in-Err-outcome-clause-damaged
 returns-in-Err-outcome-clause-damaged g c = λ honest.
@@ -72,8 +58,8 @@ returns-in-Err-outcome-clause-damaged g c = λ honest.
 pub returns-in-Err-outcome-clause-works : goal.returns-in-Err-outcome-clause-works
 returns-in-Err-outcome-clause-works g c = Works-after c.in-Ok.ensures.looks (Works-more (omega arith) c.in-Err-outcome.ensures.works)
 
-pub put_run-requires-clause-dnode : goal.put_run-requires-clause-dnode
-put_run-requires-clause-dnode g c =
+pub put_there-requires-clause-dnode : goal.put_there-requires-clause-dnode
+put_there-requires-clause-dnode g c =
     let made = c.with_tree.ensures in
     let size_is : c.in-Ok.dnode.block_size ≡ c.args.size = omega (arith, c.if-dnode-size.false) in
     subst (λ (dnode : Dnode). DnodeFits dnode) (sym (made.made ∙ ap (with_tree c.in-Ok.dnode c.in-Ok-outcome.tree) c.max-end.ensures))
@@ -84,56 +70,36 @@ returns-clause-changed g c = λ state honest holds.
     let old = g.D.Disk.state c.args.io.now.disk.now in
     let mid = g.D.Disk.state c.object_there.new.io.disk.now in
     let new = g.D.Disk.state c.put_blocks-outcome.new.io.disk.now in
-    let last = g.D.Disk.state c.put_run.new.io.disk.now in
-    let was_put = c.put_run.ensures.works.fills.honest honest in
+    let last = g.D.Disk.state c.put_there.new.io.disk.now in
+    let was_put = c.put_there.ensures.works.fills.honest honest in
     let there = c.in-Ok.ensures.found state (c.in-Ok-outcome.ensures.works.fills.honest was_put) holds in
-    let size_is : c.in-Ok.dnode.block_size ≡ c.args.size = omega (arith, c.if-dnode-size.false) in
-    let put = c.in-Ok-outcome.ensures.puts there.map was_put (subst (λ (tree : Tree). TreeIs (Has mid.seen c.object_there.new.io.space) tree there.map) (sym c.tree_of.ensures) there.is.tree) in
+    let had : TreeIs (Has mid.seen c.object_there.new.io.space) c.tree_of.result there.map = subst (λ (tree : Tree). TreeIs (Has mid.seen c.object_there.new.io.space) tree there.map) (sym c.tree_of.ensures) there.is.tree in
     let putting : KeepsBlocks mid.seen c.object_there.new.io.space new.seen c.put_blocks-outcome.new.io.space = KeepsBlocks-fills _ _ _ _ c.in-Ok-outcome.ensures.works.fills in
     let grown = SetHolds-grows (Has old.seen c.args.io.now.space) (Has new.seen c.put_blocks-outcome.new.io.space) (keeps_on _ _ _ _ _ _ _ _ _ c.in-Ok.ensures.looks c.in-Ok-outcome.ensures.works.fills) c.args.set.now state holds in
-    let may = may_write c.args.size c.args.index c.args.count c.args.bytes.now c.requires.some c.requires.long c.requires.even c.requires.inside in
-    let can : CanRun (Has new.seen c.put_blocks-outcome.new.io.space) c.args.number c.args.object c.args.size (c.args.count - 1) c.args.index c.args.bytes.now state c.in-Ok.dnode there.map put.leaves = record {
-      size_is = size_is;
-      long = put.long ∙ sym (more c.args.count c.requires.some);
-      run = run_begins_over (Has mid.seen c.object_there.new.io.space) (Has new.seen c.put_blocks-outcome.new.io.space) putting state c.args.object c.in-Ok.dnode holds.lawful holds.bounded there;
-      whole = may.whole;
-      even = may.even;
-      inside = may.inside;
-      written = put.written;
-    } in
-    let made_is = c.with_tree.ensures.made ∙ ap (with_tree c.in-Ok.dnode c.in-Ok-outcome.tree) (c.max-end.ensures ∙ ap (λ (m : ℕ). max c.in-Ok.dnode.end (c.args.index + m)) (sym (more c.args.count c.requires.some))) in
-    subst (λ (m : ℕ). Changes (SetHolds (Has last.seen c.put_run.new.io.space) c.put_run.new.set) (blocks_written c.args.number c.args.object c.args.size m c.args.index c.args.bytes.now state) c.put_run.result) (more c.args.count c.requires.some)
-    (c.put_run.ensures.changed c.args.number c.args.size (c.args.count - 1) c.args.index c.args.bytes.now state c.in-Ok.dnode there.map put.leaves c.in-Ok-outcome.tree honest grown can put.tree_is made_is)
+    let ends = blocks_end (Has new.seen c.put_blocks-outcome.new.io.space) c.args.number c.args.object c.args.size c.args.count c.args.index c.args.bytes.now state c.in-Ok.dnode _ there.map c.in-Ok-outcome.tree c.applied_is_state.ensures
+    (is_number_at c.args.object c.requires.object c.in-Ok.ensures.bound) (omega (arith, c.if-dnode-size.false)) c.requires.some (run_begins_over (Has mid.seen c.object_there.new.io.space) (Has new.seen c.put_blocks-outcome.new.io.space) putting state c.args.object c.in-Ok.dnode holds.lawful holds.bounded there)
+    (may_write c.args.size c.args.index c.args.count c.args.bytes.now c.requires.long c.requires.even c.requires.inside) (c.in-Ok-outcome.ensures.puts there.map was_put had) (c.with_tree.ensures.made ∙ ap (with_tree c.in-Ok.dnode c.in-Ok-outcome.tree) c.max-end.ensures) in
+    subst (λ (definition : Result DatedState Refusal). Changes (SetHolds (Has last.seen c.put_there.new.io.space) c.put_there.new.set) definition c.put_there.result) (sym ends.is)
+    (c.put_there.ensures.changed state ends.now honest grown ends.puts)
 
 pub returns-clause-tight : goal.returns-clause-tight
 returns-clause-tight g c = λ state honest tight dated.
-    let holds = tight.holds in
     let old = g.D.Disk.state c.args.io.now.disk.now in
     let mid = g.D.Disk.state c.object_there.new.io.disk.now in
     let new = g.D.Disk.state c.put_blocks-outcome.new.io.disk.now in
-    let last = g.D.Disk.state c.put_run.new.io.disk.now in
-    let was_put = c.put_run.ensures.works.fills.honest honest in
-    let there = c.in-Ok.ensures.found state (c.in-Ok-outcome.ensures.works.fills.honest was_put) holds in
-    let size_is : c.in-Ok.dnode.block_size ≡ c.args.size = omega (arith, c.if-dnode-size.false) in
-    let put = c.in-Ok-outcome.ensures.puts there.map was_put (subst (λ (tree : Tree). TreeIs (Has mid.seen c.object_there.new.io.space) tree there.map) (sym c.tree_of.ensures) there.is.tree) in
+    let last = g.D.Disk.state c.put_there.new.io.disk.now in
+    let was_put = c.put_there.ensures.works.fills.honest honest in
+    let there = c.in-Ok.ensures.found state (c.in-Ok-outcome.ensures.works.fills.honest was_put) tight.holds in
+    let had : TreeIs (Has mid.seen c.object_there.new.io.space) c.tree_of.result there.map = subst (λ (tree : Tree). TreeIs (Has mid.seen c.object_there.new.io.space) tree there.map) (sym c.tree_of.ensures) there.is.tree in
     let putting : KeepsBlocks mid.seen c.object_there.new.io.space new.seen c.put_blocks-outcome.new.io.space = KeepsBlocks-fills _ _ _ _ c.in-Ok-outcome.ensures.works.fills in
     let grown = tight_grows c.args.set.now old.seen c.args.io.now.space new.seen c.put_blocks-outcome.new.io.space state (keeps_on _ _ _ _ _ _ _ _ _ c.in-Ok.ensures.looks c.in-Ok-outcome.ensures.works.fills) tight in
     let was = c.in-Ok.ensures.tight state (c.in-Ok-outcome.ensures.works.fills.honest was_put) tight in
-    let had : TreeIs (Has mid.seen c.object_there.new.io.space) c.tree_of.result there.map = subst (λ (tree : Tree). TreeIs (Has mid.seen c.object_there.new.io.space) tree there.map) (sym c.tree_of.ensures) there.is.tree in
     let early = c.in-Ok-outcome.ensures.dated there.map was_put had (rw c.tree_of.ensures (tree_early c.args.number c.args.object state c.in-Ok.dnode dated was)) in
-    let may = may_write c.args.size c.args.index c.args.count c.args.bytes.now c.requires.some c.requires.long c.requires.even c.requires.inside in
-    let can : CanRun (Has new.seen c.put_blocks-outcome.new.io.space) c.args.number c.args.object c.args.size (c.args.count - 1) c.args.index c.args.bytes.now state c.in-Ok.dnode there.map put.leaves = record {
-      size_is = size_is;
-      long = put.long ∙ sym (more c.args.count c.requires.some);
-      run = run_begins_over (Has mid.seen c.object_there.new.io.space) (Has new.seen c.put_blocks-outcome.new.io.space) putting state c.args.object c.in-Ok.dnode holds.lawful holds.bounded there;
-      whole = may.whole;
-      even = may.even;
-      inside = may.inside;
-      written = put.written;
-    } in
-    let made_is = c.with_tree.ensures.made ∙ ap (with_tree c.in-Ok.dnode c.in-Ok-outcome.tree) (c.max-end.ensures ∙ ap (λ (m : ℕ). max c.in-Ok.dnode.end (c.args.index + m)) (sym (more c.args.count c.requires.some))) in
-    subst (λ (m : ℕ). Changes (SetIsTight (Has last.seen c.put_run.new.io.space) c.put_run.new.set) (blocks_written c.args.number c.args.object c.args.size m c.args.index c.args.bytes.now state) c.put_run.result) (more c.args.count c.requires.some)
-    (c.put_run.ensures.tight c.args.number c.args.size (c.args.count - 1) c.args.index c.args.bytes.now state c.in-Ok.dnode there.map put.leaves c.in-Ok-outcome.tree honest grown can put.tree_is made_is dated was early)
+    let ends = blocks_end (Has new.seen c.put_blocks-outcome.new.io.space) c.args.number c.args.object c.args.size c.args.count c.args.index c.args.bytes.now state c.in-Ok.dnode _ there.map c.in-Ok-outcome.tree c.applied_is_state.ensures
+    (is_number_at c.args.object c.requires.object c.in-Ok.ensures.bound) (omega (arith, c.if-dnode-size.false)) c.requires.some (run_begins_over (Has mid.seen c.object_there.new.io.space) (Has new.seen c.put_blocks-outcome.new.io.space) putting state c.args.object c.in-Ok.dnode tight.holds.lawful tight.holds.bounded there)
+    (may_write c.args.size c.args.index c.args.count c.args.bytes.now c.requires.long c.requires.even c.requires.inside) (c.in-Ok-outcome.ensures.puts there.map was_put had) (c.with_tree.ensures.made ∙ ap (with_tree c.in-Ok.dnode c.in-Ok-outcome.tree) c.max-end.ensures) in
+    subst (λ (definition : Result DatedState Refusal). Changes (SetIsTight (Has last.seen c.put_there.new.io.space) c.put_there.new.set) definition c.put_there.result) (sym ends.is)
+    (c.put_there.ensures.tight state ends.now honest grown ends.puts (ends.tight dated was early))
 
 pub returns-in-Err-clause-tight : goal.returns-in-Err-clause-tight
 returns-in-Err-clause-tight g c = λ state honest tight dated. returns-in-Err-clause-changed g c state honest tight.holds
@@ -147,7 +113,79 @@ returns-in-Err-outcome-clause-tight g c = λ state honest tight dated. returns-i
 pub returns-clause-damaged : goal.returns-clause-damaged
 returns-clause-damaged g c = λ honest.
     let filled = FillsFree-then _ _ _ _ _ _ (fills_looks _ _ _ _ _ _ _ c.in-Ok.ensures.looks) c.in-Ok-outcome.ensures.works.fills in
-    object_told _ _ NamesNode c.args.set.now c.put_run.result (set_after _ _ _ _ filled c.args.set.now c.put_run.result (c.put_run.ensures.damaged honest))
+    object_told _ _ NamesNode c.args.set.now c.put_there.result (set_after _ _ _ _ filled c.args.set.now c.put_there.result (c.put_there.ensures.damaged honest))
 
 pub returns-clause-works : goal.returns-clause-works
-returns-clause-works g c = Works-after c.in-Ok.ensures.looks (Works-more (omega arith) (Works-then c.in-Ok-outcome.ensures.works (Works-block c.put_run.ensures.works)))
+returns-clause-works g c = Works-after c.in-Ok.ensures.looks (Works-more (omega arith) (Works-then c.in-Ok-outcome.ensures.works (Works-block c.put_there.ensures.works)))
+
+pub object_there-requires-clause-object : goal.object_there-requires-clause-object
+object_there-requires-clause-object g c = c.requires.object
+
+pub object_there-requires-clause-fits : goal.object_there-requires-clause-fits
+object_there-requires-clause-fits g c = c.requires.fits
+
+pub returns-in-Err-clause-kept : goal.returns-in-Err-clause-kept
+returns-in-Err-clause-kept g c = refl
+
+pub returns-in-Err-clause-levels : goal.returns-in-Err-clause-levels
+returns-in-Err-clause-levels g c = tt
+
+pub returns-then-dnode-size-clause-kept : goal.returns-then-dnode-size-clause-kept
+returns-then-dnode-size-clause-kept g c = refl
+
+pub returns-then-dnode-size-clause-levels : goal.returns-then-dnode-size-clause-levels
+returns-then-dnode-size-clause-levels g c = tt
+
+pub returns-in-Err-outcome-clause-kept : goal.returns-in-Err-outcome-clause-kept
+returns-in-Err-outcome-clause-kept g c = refl
+
+pub returns-in-Err-outcome-clause-levels : goal.returns-in-Err-outcome-clause-levels
+returns-in-Err-outcome-clause-levels g c = tt
+
+pub returns-in-Err-clause-limits : goal.returns-in-Err-clause-limits
+returns-in-Err-clause-limits g c = c.in-Err.ensures.limits
+
+pub returns-in-Err-clause-unredacted : goal.returns-in-Err-clause-unredacted
+returns-in-Err-clause-unredacted g c = c.in-Err.ensures.unredacted
+
+pub returns-in-Err-clause-works : goal.returns-in-Err-clause-works
+returns-in-Err-clause-works g c = Works-looks c.requires.fits c.in-Err.ensures.looks
+
+pub returns-in-Err-clause-same : goal.returns-in-Err-clause-same
+returns-in-Err-clause-same g c = c.in-Err.ensures.same
+
+pub returns-then-dnode-size-clause-same : goal.returns-then-dnode-size-clause-same
+returns-then-dnode-size-clause-same g c = c.in-Ok.ensures.same
+
+pub returns-in-Err-outcome-clause-same : goal.returns-in-Err-outcome-clause-same
+returns-in-Err-outcome-clause-same g c = c.in-Err-outcome.ensures.same ∙ c.in-Ok.ensures.same
+
+pub returns-in-Err-outcome-clause-limits : goal.returns-in-Err-outcome-clause-limits
+returns-in-Err-outcome-clause-limits g c = tt
+
+pub returns-in-Err-outcome-clause-unredacted : goal.returns-in-Err-outcome-clause-unredacted
+returns-in-Err-outcome-clause-unredacted g c = tt
+
+pub put_blocks-outcome-requires-clause-fits : goal.put_blocks-outcome-requires-clause-fits
+put_blocks-outcome-requires-clause-fits g c = c.in-Ok.ensures.kept_fit
+
+pub put_there-requires-clause-object : goal.put_there-requires-clause-object
+put_there-requires-clause-object g c = (c.requires.object, c.in-Ok.ensures.bound)
+
+pub put_there-requires-clause-fits : goal.put_there-requires-clause-fits
+put_there-requires-clause-fits g c = c.in-Ok-outcome.ensures.works.fits
+
+pub returns-clause-limits : goal.returns-clause-limits
+returns-clause-limits g c = c.put_there.ensures.limits
+
+pub returns-clause-unredacted : goal.returns-clause-unredacted
+returns-clause-unredacted g c = c.put_there.ensures.unredacted
+
+pub returns-clause-kept : goal.returns-clause-kept
+returns-clause-kept g c = c.put_there.ensures.kept
+
+pub returns-clause-levels : goal.returns-clause-levels
+returns-clause-levels g c = c.put_there.ensures.levels
+
+pub returns-clause-same : goal.returns-clause-same
+returns-clause-same g c = c.put_there.ensures.same ∙ (c.in-Ok-outcome.ensures.same ∙ c.in-Ok.ensures.same)

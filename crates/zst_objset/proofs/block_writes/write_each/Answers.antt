@@ -4,7 +4,7 @@ use Rattle.std.proofs.Math.Nat.{mul-le-mul_right}
 use Rattle.zst_block.specs.Blocks.{Has}
 use Rattle.zst_block.specs.declared.ptr.Ptr.{Ptr}
 use Rattle.zst_block.proofs.IoCallLemmas.{Works-more, Works-then}
-use Rattle.zst_objset.proofs.DueLaws.{block_is, block_long, so_far_more}
+use Rattle.zst_objset.proofs.RunLaws.{block_is, block_long, so_far_more}
 use Rattle.zst_objset.proofs.block_writes.write_each.Goals as goal
 
 sectors : (k size count : ℕ) (bytes : List ℕ) → k < count → length bytes ≡ count * size → length (take ((k + 1) * size - k * size) (drop (k * size) bytes)) / 512 ≡ size / 512

@@ -2,7 +2,7 @@ use Rattle.std.proofs.Common.{◌≡◌, ◌*◌, ◌/◌, length}
 use Rattle.std.specs.Prelude.{None}
 use Rattle.zst_block.specs.Blocks.{Has}
 use Rattle.zst_block.specs.IoCalls.{Works}
-use Rattle.zst_objset.specs.DueBlocks.{AreSoFar}
+use Rattle.zst_objset.specs.BlockRuns.{AreSoFar}
 use Rattle.zst_objset.proofs.block_writes.write_each.Given as goal
 
 abbrev pub invariant-loop-k : goal.invariant-loop-k

@@ -1,81 +1,59 @@
-use Rattle.std.proofs.Common.{refl}
+use Rattle.std.proofs.Common.{Result, subst, sym}
 use Rattle.zst_block.specs.Blocks.{Has}
-use Rattle.zst_objset.proofs.ChangePuts.{makes_dnode}
-use Rattle.zst_objset.proofs.SpillLaws.{stops}
+use Rattle.zst_model.specs.declared.refusals.refusal.Refusal.{Refusal}
+use Rattle.zst_model.specs.states.DatedState.{DatedState}
+use Rattle.zst_objset.specs.Answers.{Changes}
+use Rattle.zst_objset.specs.Sets.{SetHolds}
+use Rattle.zst_objset.specs.TightSets.{SetIsTight}
+use Rattle.zst_objset.proofs.ChangePuts.{changed_to, makes_dnode}
 use Rattle.zst_objset.proofs.TightLaws.{change_tight}
 use Rattle.zst_objset.proofs.changes.put_dnode.Goals as goal
 
-pub returns-in-Ok-clause-changed : goal.returns-in-Ok-clause-changed
-returns-in-Ok-clause-changed g c = λ number change state honest holds makes.
-    let does = makes_dnode (Has (g.D.Disk.state c.args.io.now.disk.now).seen c.args.io.now.space) number c.args.object change state c.args.dnode holds.lawful holds.bounded c.applied_is_state.ensures makes in
-    (_, does.0, c.in-Ok.ensures.put state _ honest holds does.1)
+pub returns-clause-changed : goal.returns-clause-changed
+returns-clause-changed g c = λ number change state honest holds makes.
+    let old = g.D.Disk.state c.args.io.now.disk.now in
+    let new = g.D.Disk.state c.put_there.new.io.disk.now in
+    let does = makes_dnode (Has old.seen c.args.io.now.space) number c.args.object change state c.args.dnode holds.lawful holds.bounded c.applied_is_state.ensures makes in
+    subst (λ (definition : Result DatedState Refusal). Changes (SetHolds (Has new.seen c.put_there.new.io.space) c.put_there.new.set) definition c.put_there.result) (sym does.0)
+    (c.put_there.ensures.changed state (changed_to number c.args.object change state makes.object) honest holds does.1)
 
-pub returns-in-Err-clause-changed : goal.returns-in-Err-clause-changed
-returns-in-Err-clause-changed g c = λ number change state honest holds makes.
-    let does = makes_dnode (Has (g.D.Disk.state c.args.io.now.disk.now).seen c.args.io.now.space) number c.args.object change state c.args.dnode holds.lawful holds.bounded c.applied_is_state.ensures makes in
-    stops _ _ c.in-Err.fault does.0 (c.in-Err.ensures.put state _ honest holds does.1)
+pub returns-clause-tight : goal.returns-clause-tight
+returns-clause-tight g c = λ number change state honest tight makes dnode_tight.
+    let old = g.D.Disk.state c.args.io.now.disk.now in
+    let new = g.D.Disk.state c.put_there.new.io.disk.now in
+    let does = makes_dnode (Has old.seen c.args.io.now.space) number c.args.object change state c.args.dnode tight.holds.lawful tight.holds.bounded c.applied_is_state.ensures makes in
+    subst (λ (definition : Result DatedState Refusal). Changes (SetIsTight (Has new.seen c.put_there.new.io.space) c.put_there.new.set) definition c.put_there.result) (sym does.0)
+    (c.put_there.ensures.tight state (changed_to number c.args.object change state makes.object) honest tight does.1 (change_tight number c.args.object change state makes.object c.args.dnode dnode_tight))
 
-pub returns-in-Ok-clause-tight : goal.returns-in-Ok-clause-tight
-returns-in-Ok-clause-tight g c = λ number change state honest tight makes dnode_tight.
-    let does = makes_dnode (Has (g.D.Disk.state c.args.io.now.disk.now).seen c.args.io.now.space) number c.args.object change state c.args.dnode tight.holds.lawful tight.holds.bounded c.applied_is_state.ensures makes in
-    (_, does.0, c.in-Ok.ensures.tight state _ honest tight does.1 (change_tight number c.args.object change state makes.object c.args.dnode dnode_tight))
+pub put_there-requires-clause-object : goal.put_there-requires-clause-object
+put_there-requires-clause-object g c = c.requires.object
 
-pub returns-in-Err-clause-tight : goal.returns-in-Err-clause-tight
-returns-in-Err-clause-tight g c = λ number change state honest tight makes dnode_tight. returns-in-Err-clause-changed g c number change state honest tight.holds makes
+pub put_there-requires-clause-dnode : goal.put_there-requires-clause-dnode
+put_there-requires-clause-dnode g c = c.requires.dnode
 
-pub put_in_leaf-requires-clause-first : goal.put_in_leaf-requires-clause-first
-put_in_leaf-requires-clause-first g c = c.requires.object.0
+pub put_there-requires-clause-fits : goal.put_there-requires-clause-fits
+put_there-requires-clause-fits g c = c.requires.fits
 
-pub put_in_leaf-requires-clause-slot : goal.put_in_leaf-requires-clause-slot
-put_in_leaf-requires-clause-slot g c = c.requires.dnode
+pub returns-clause-limits : goal.returns-clause-limits
+returns-clause-limits g c = c.put_there.ensures.limits
 
-pub put_in_leaf-requires-clause-fits : goal.put_in_leaf-requires-clause-fits
-put_in_leaf-requires-clause-fits g c = c.requires.fits
+pub returns-clause-unredacted : goal.returns-clause-unredacted
+returns-clause-unredacted g c = c.put_there.ensures.unredacted
 
-pub returns-in-Ok-clause-limits : goal.returns-in-Ok-clause-limits
-returns-in-Ok-clause-limits g c = tt
+pub returns-clause-damaged : goal.returns-clause-damaged
+returns-clause-damaged g c = c.put_there.ensures.damaged
 
-pub returns-in-Ok-clause-unredacted : goal.returns-in-Ok-clause-unredacted
-returns-in-Ok-clause-unredacted g c = tt
+pub returns-clause-within : goal.returns-clause-within
+returns-clause-within g c = c.put_there.ensures.within
 
-pub returns-in-Ok-clause-damaged : goal.returns-in-Ok-clause-damaged
-returns-in-Ok-clause-damaged g c = λ honest. tt
+pub returns-clause-kept : goal.returns-clause-kept
+returns-clause-kept g c = c.put_there.ensures.kept
 
-pub returns-in-Ok-clause-within : goal.returns-in-Ok-clause-within
-returns-in-Ok-clause-within g c = c.in-Ok.ensures.within
+pub returns-clause-levels : goal.returns-clause-levels
+returns-clause-levels g c = c.put_there.ensures.levels
 
-pub returns-in-Ok-clause-kept : goal.returns-in-Ok-clause-kept
-returns-in-Ok-clause-kept g c = tt
+pub returns-clause-works : goal.returns-clause-works
+returns-clause-works g c = c.put_there.ensures.works
 
-pub returns-in-Ok-clause-levels : goal.returns-in-Ok-clause-levels
-returns-in-Ok-clause-levels g c = c.in-Ok.ensures.levels
-
-pub returns-in-Ok-clause-works : goal.returns-in-Ok-clause-works
-returns-in-Ok-clause-works g c = c.in-Ok.ensures.works
-
-pub returns-in-Ok-clause-same : goal.returns-in-Ok-clause-same
-returns-in-Ok-clause-same g c = c.in-Ok.ensures.same
-
-pub returns-in-Err-clause-limits : goal.returns-in-Err-clause-limits
-returns-in-Err-clause-limits g c = tt
-
-pub returns-in-Err-clause-unredacted : goal.returns-in-Err-clause-unredacted
-returns-in-Err-clause-unredacted g c = tt
-
-pub returns-in-Err-clause-damaged : goal.returns-in-Err-clause-damaged
-returns-in-Err-clause-damaged g c = c.in-Err.ensures.damaged
-
-pub returns-in-Err-clause-within : goal.returns-in-Err-clause-within
-returns-in-Err-clause-within g c = λ honest. tt
-
-pub returns-in-Err-clause-kept : goal.returns-in-Err-clause-kept
-returns-in-Err-clause-kept g c = refl
-
-pub returns-in-Err-clause-levels : goal.returns-in-Err-clause-levels
-returns-in-Err-clause-levels g c = tt
-
-pub returns-in-Err-clause-works : goal.returns-in-Err-clause-works
-returns-in-Err-clause-works g c = c.in-Err.ensures.works
-
-pub returns-in-Err-clause-same : goal.returns-in-Err-clause-same
-returns-in-Err-clause-same g c = c.in-Err.ensures.same
+pub returns-clause-same : goal.returns-clause-same
+returns-clause-same g c = c.put_there.ensures.same

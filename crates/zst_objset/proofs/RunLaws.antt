@@ -1,60 +1,72 @@
 -- Blocks of an object that are written one after another, while its tree stays as it is until all of them are.
-use Rattle.std.proofs.Common.{◌≡◌, ◌⊎◌, inl, inr, ℕ, ◌+◌, ◌*◌, ◌<◌, ◌≤◌, ◌==◌, ◌&&◌, nat_lt, not, max, Bool, true, false, List, [], ◌∷◌, zero, suc, ◌^◌, length, take, drop, refl, sym, ◌∙◌, ap, subst, arith, if◌then◌else◌, Some, Result, Ok, ⊎_elim, get_or, set, drop-drop, eq-eqb, length-drop, length-take, ◌-◌, mul-le-mul_right}
-use Rattle.std.proofs.lemmas.List.{get_or-set_other, get_or-set_same}
-use Rattle.std.proofs.lemmas.Bool.{cases_lt}
-use Rattle.std.proofs.lemmas.Bool.{true≢false}
+use Rattle.std.proofs.Common.{◌≡◌, ◌⊎◌, inl, inr, ℕ, ◌+◌, ◌*◌, ◌<◌, ◌≤◌, ◌==◌, ◌&&◌, nat_lt, not, max, Bool, true, false, List, [], ◌∷◌, zero, suc, ◌^◌, length, take, drop, refl, sym, ◌∙◌, ap, subst, arith, if◌then◌else◌, Some, Result, Ok, ⊎_elim, get_or, set, drop-drop, eq-eqb, length-drop, length-take, ◌-◌, mul-le-mul_right, ◌≢◌, Err}
+use Rattle.std.proofs.lemmas.List.{get_or-set_other, get_or-set_same, take_all}
+use Rattle.std.proofs.lemmas.Bool.{cases_lt, true≢false}
 use Rattle.std.proofs.lemmas.Bool.Decides.{nat_tests}
 use Rattle.zst_block.specs.declared.ptr.Ptr.{Ptr}
+use Rattle.zst_block.specs.Ptr.{PtrFits}
+use Rattle.zst_block.specs.declared.fault.BlockFault.TheVariants as blocks
 use Rattle.zst_dnode.specs.declared.dnode.Dnode.{Dnode}
 use Rattle.zst_dnode.specs.declared.slot.Slot.TheVariants.{There}
+use Rattle.zst_dnode.specs.Dnode.{DnodeFits}
 use Rattle.zst_laws.specs.Dates.{AppliedIsState, IsLawfulItem}
 use Rattle.zst_model.specs.declared.states.item.Item.TheVariants.{At}
 use Rattle.zst_model.specs.declared.refusals.refusal.Refusal.{Refusal}
 use Rattle.zst_model.specs.states.AppliedItems.{◌>>=◌, apply_change}
 use Rattle.zst_model.specs.states.DatedState.{DatedState}
-use Rattle.zst_model.specs.states.State.{Data, Hole, IsState, Object, end_of, index_bound, is_hole, is_number, is_odd_size}
+use Rattle.zst_model.specs.states.State.{Data, IsState, Object, end_of, index_bound, is_hole, is_number, is_odd_size}
 use Rattle.zst_model.specs.pools.Step.{of_applying}
+use Rattle.zst_model.specs.declared.refusals.apply_fault.ApplyFault.TheVariants.{SizeDiffers}
+use Rattle.zst_model.specs.declared.refusals.refusal.Refusal.TheVariants as refusals
+use Rattle.zst_model.specs.pools.Soundness.{DatedUpTo}
 use Rattle.zst_tree.specs.Indices.{Blocks, Map, TreeIs}
 use Rattle.zst_tree.specs.Leaves.{with_leaf, with_leaves}
 use Rattle.zst_tree.specs.declared.leaf_puts.Leaf.{Leaf}
 use Rattle.zst_tree.specs.declared.tree.Tree.{Tree}
+use Rattle.zst_tree.specs.Damage.{NamesNode}
+use Rattle.zst_tree.specs.Changes.{TreeDatedUpTo}
 use Rattle.zst_tree.proofs.LeafMaps.{here as leaf_here, elsewhere as leaf_elsewhere}
 use Rattle.zst_objset.specs.Changes.{block_written, indices_changed}
-use Rattle.zst_objset.specs.Dnodes.{BlockIs, IsThere, tree_of}
-use Rattle.zst_objset.specs.DueBlocks.{AreSoFar, block_of, AreWritten, IsRun, IsWritten, blocks_written}
+use Rattle.zst_objset.specs.Dnodes.{BlockIs, IsThere, SpillIs, tree_of}
+use Rattle.zst_objset.specs.BlockWrites.{PutsData}
+use Rattle.zst_objset.specs.BlockRuns.{AreSoFar, AreWritten, IsWritten, PutsBlocks, block_of, blocks_written}
 use Rattle.zst_objset.specs.SlotPuts.{Alike, PutsSlot, dates_to}
 use Rattle.zst_objset.specs.Sets.{IsBounded}
-use Rattle.std.proofs.Common.{◌≢◌, Err}
-use Rattle.zst_block.specs.Ptr.{PtrFits}
-use Rattle.zst_block.specs.declared.fault.BlockFault.TheVariants as blocks
-use Rattle.zst_dnode.specs.Dnode.{DnodeFits}
-use Rattle.zst_model.specs.declared.refusals.apply_fault.ApplyFault.TheVariants.{SizeDiffers}
-use Rattle.zst_model.specs.declared.refusals.refusal.Refusal.TheVariants as refusals
-use Rattle.zst_tree.specs.Damage.{NamesNode}
 use Rattle.zst_objset.specs.Answers.{FindsThere, Refuses}
 use Rattle.zst_objset.specs.declared.fault.ObjFault.{ObjFault}
 use Rattle.zst_objset.specs.declared.fault.ObjFault.TheVariants as faults
-use Rattle.zst_model.specs.pools.Soundness.{DatedUpTo}
-use Rattle.zst_tree.specs.Changes.{TreeDatedUpTo}
 use Rattle.zst_objset.specs.TightSets.{IsTightSlot}
-use Rattle.zst_objset.proofs.TightLaws.{tight_dated}
-use Rattle.zst_block.specs.Ptr.{hole_of}
-use Rattle.zst_model.specs.states.AppliedItems.{within}
-use Rattle.zst_objset.specs.Changes.{changed, holes_made}
-use Rattle.zst_objset.specs.DueBlocks.{leaves_of}
-use Rattle.zst_objset.specs.Ranges.{free_of, put_range, with_range}
-use Rattle.zst_objset.proofs.EndLaws.{end_with_holes}
-use Rattle.zst_objset.proofs.IndicesChanged.{change_made, in_range}
-use Rattle.zst_objset.proofs.RangeIndices.{put_range-inside, put_range-outside}
-use Rattle.zst_objset.proofs.RangeLaws.{Fills, Fills-free}
+use Rattle.zst_objset.proofs.TightLaws.{alike_same, tight_dated}
 use Rattle.zst_objset.proofs.SetGrowth.{IsThere-grows, ObjectIs-grows}
 use Rattle.zst_objset.proofs.AnswerLaws.{in_indices_ok, object_of}
-use Rattle.zst_objset.proofs.ChangePuts.{change_bounded, changed_is, changed_to, date_put, dates_put, kept_at}
+use Rattle.zst_objset.proofs.ChangePuts.{beside as beside_number, change_bounded, changed_is, changed_to, date_put, dates_put, kept_at, same as same_number}
 use Rattle.zst_objset.proofs.TreeFits.{named_fits, with_tree, with_tree_fits}
-use Rattle.zst_objset.proofs.WriteLaws.{IsWritable, is_refused, write_not_there, block_some, past_last-put, same_place, write_at, write_is, written_to}
+use Rattle.zst_objset.proofs.WriteLaws.{IsWritable, index_under, is_refused, write_not_there, block_some, past_last-put, same_place, write_at, write_is, written_to}
 
-itself : (k : ℕ) → (k == k) ≡ true
-itself k = eq-eqb k k refl
+-- a dnode is of this object with these dates, but for its tree; this map of its indices has the blocks and their dates
+pub record ContentIs (has : Blocks) (dnode : Dnode) (object : Object) (date : ℕ) (dates : ℕ → ℕ) (map : Map) : Type 0 where
+  pub type_is : dnode.type_ ≡ object.attr.type_
+  pub bonus_type_is : dnode.bonus_type ≡ object.attr.bonus_type
+  pub size_is : dnode.block_size ≡ object.attr.block_size
+  pub bonus_is : object.attr.bonus ≡ take dnode.bonus_len dnode.bonus
+  pub date_is : dnode.date ≡ date
+  pub end_is : dnode.end ≡ end_of object
+  pub spill_is : SpillIs has dnode.spill object.attr.spill
+  pub blocks : (i : ℕ) → i < index_bound → BlockIs has (map i) (object.blocks i)
+  pub index_dates : (i : ℕ) → i < index_bound → (map i).number ≡ dates i
+
+-- an object is at a number, and a dnode is that object's, but for its tree
+pub record IsDue (has : Blocks) (snap : DatedState) (k : ℕ) (dnode : Dnode) (map : Map) : Type 0 where
+  pub object : Object
+  pub there : snap.state k ≡ Some object
+  pub is : ContentIs has dnode object (snap.number_date k) (snap.index_date k) map
+
+-- from one state to another an object's blocks changed alone, and these are due
+pub record IsRun (has : Blocks) (before now : DatedState) (k : ℕ) (dnode : Dnode) (map : Map) : Type 0 where
+  pub lawful : IsState now.state
+  pub bounded : IsBounded now
+  pub due : IsDue has now k dnode map
+  pub others : (j : ℕ) → is_number j ≡ true → (j < k) ⊎ (k + 1 ≤ j) → Alike before now j
 
 -- what two changes of another number leave they leave together
 Alike-then : (old mid new : DatedState) (j : ℕ) → Alike old mid j → Alike mid new j → Alike old new j
@@ -63,9 +75,6 @@ Alike-then old mid new j first second = record {
   date = second.date ∙ first.date;
   dates = λ i less. second.dates i less ∙ first.dates i less;
 }
-
-Alike-self : (state : DatedState) (j : ℕ) → Alike state state j
-Alike-self state j = record { state = refl; date = refl; dates = λ i less. refl }
 
 -- nothing is due yet
 pub run_begins : (has : Blocks) (snap : DatedState) (k : ℕ) (dnode : Dnode) → IsState snap.state → IsBounded snap → (there : IsThere has snap k dnode) → IsRun has snap snap k dnode there.map
@@ -87,7 +96,7 @@ run_begins has snap k dnode lawful bounded there = record {
       index_dates = there.is.index_dates;
     };
   };
-  others = λ j number other. Alike-self snap j;
+  others = λ j number other. alike_same snap j;
 }
 
 -- the dnode with another end
@@ -96,9 +105,6 @@ with_end dnode end = record dnode { end = end }
 
 -- one block more is written
 module _ (has : Blocks) (number k i : ℕ) (bytes : List ℕ) (before snap : DatedState) (dnode : Dnode) (map : Map) (run : IsRun has before snap k dnode map) (is_one : is_number k ≡ true) (may : IsWritable dnode.block_size i (length bytes)) where
-  thing : Object
-  thing = run.due.object
-
   size_over : 0 < run.due.object.attr.block_size
   size_over = block_some run.due.object.attr.block_size (object_of (snap.state k) run.due.object run.due.there (run.lawful.objects k)).attr.head.size
 
@@ -123,9 +129,6 @@ module _ (has : Blocks) (number k i : ℕ) (bytes : List ℕ) (before snap : Dat
   lawful_item = (is_one, λ j over. rw run.due.there (let is : (j == i) ≡ false = grind (arith, nat_tests, may.inside) in rw (same_place run.due.object.attr.block_size i j size_over, is) refl))
 
   module _ (block : Ptr) (is : BlockIs has block (Data bytes)) (dated : block.number ≡ number) where
-    leaf : Leaf
-    leaf = record { index = i; ptr = block }
-
     at : (j : ℕ) → (j == i) ≡ true → with_leaf map (record { index = i; ptr = block }) j ≡ block
     at j test = leaf_here map (record { index = i; ptr = block }) j (grind (arith, nat_tests))
 
@@ -162,7 +165,7 @@ module _ (has : Blocks) (number k i : ℕ) (bytes : List ℕ) (before snap : Dat
       bounded = change_bounded number k (write_at i bytes (snap.state k)) snap (written_to i bytes run.due.object) is_one run.bounded;
       due = record {
         object = written_to i bytes run.due.object;
-        there = rw (itself k) refl;
+        there = rw (same_number k) refl;
         is = record {
           type_is = run.due.is.type_is;
           bonus_type_is = run.due.is.bonus_type_is;
@@ -175,12 +178,8 @@ module _ (has : Blocks) (number k i : ℕ) (bytes : List ℕ) (before snap : Dat
           index_dates = λ j less. date_at j less ∙ sym (dates_put number k (write_at i bytes (snap.state k)) snap j less);
         };
       };
-      others = λ j number_j other. Alike-then before snap after j (run.others j number_j other) (kept_at number k (write_at i bytes (snap.state k)) snap (written_to i bytes run.due.object) j (apart j other));
+      others = λ j number_j other. Alike-then before snap after j (run.others j number_j other) (kept_at number k (write_at i bytes (snap.state k)) snap (written_to i bytes run.due.object) j (beside_number k j other));
     }
-      where
-        apart : (j : ℕ) → (j < k) ⊎ (k + 1 ≤ j) → (j == k) ≡ false
-        apart j (inl less) = grind (arith, nat_tests)
-        apart j (inr more) = grind (arith, nat_tests)
 
 -- once its tree has what is due, the slot of the object is put
 pub run_ends : (has : Blocks) (before now : DatedState) (k : ℕ) (dnode : Dnode) (map : Map) (tree : Tree) → IsRun has before now k dnode map → TreeIs has tree map → PutsSlot has before now k (k + 1) (There (with_tree dnode tree dnode.end))
@@ -213,20 +212,26 @@ run_ends has before now k dnode map tree run stands = record {
 -- an object may be written neighbouring whole blocks
 pub record MayWrite (size i count : ℕ) (bytes : List ℕ) : Type 0 where
   pub whole : length bytes ≡ count * size
-  pub even : is_odd_size size ≡ false
+  pub alone : is_odd_size size ≡ true → i + count ≤ 1
   pub inside : i + count ≤ 2 ^ 43
+
+pub may_write : (size i count : ℕ) (bytes : List ℕ) → length bytes ≡ count * size → is_odd_size size ≡ false → i + count ≤ 2 ^ 43 → MayWrite size i count bytes
+may_write size i count bytes whole even inside = record { whole = whole; alone = λ odd. absurd (true≢false (sym odd ∙ even)); inside = inside }
+
+pub may_write_one : (size i : ℕ) (bytes : List ℕ) → IsWritable size i (length bytes) → MayWrite size i 1 bytes
+may_write_one size i bytes may = record { whole = may.whole ∙ omega arith; alone = λ odd. omega (arith, may.alone odd); inside = omega (arith, may.inside) }
 
 pub may_one : (size i count : ℕ) (bytes : List ℕ) → MayWrite size i (suc count) bytes → IsWritable size i (length (take size bytes))
 may_one size i count bytes may = record {
   whole = length-take size bytes ∙ omega (arith, may.whole);
-  alone = λ odd. absurd (true≢false (sym odd ∙ may.even));
+  alone = λ odd. omega (arith, may.alone odd);
   inside = omega (arith, may.inside);
 }
 
 pub may_rest : (size i count : ℕ) (bytes : List ℕ) → MayWrite size i (suc count) bytes → MayWrite size (i + 1) count (drop size bytes)
 may_rest size i count bytes may = record {
   whole = length-drop size bytes ∙ omega (arith, may.whole);
-  even = may.even;
+  alone = λ odd. omega (arith, may.alone odd);
   inside = omega (arith, may.inside);
 }
 
@@ -236,7 +241,7 @@ pub record Runs (has : Blocks) (number k size count i : ℕ) (bytes : List ℕ) 
   pub is : blocks_written number k size count i bytes snap ≡ Ok now
   pub run : IsRun has before now k dnode map
 
-then_is : (first : Result DatedState Refusal) (mid : DatedState) (next : DatedState → Result DatedState Refusal) → first ≡ Ok mid → (first >>= next) ≡ next mid
+pub then_is : (first : Result DatedState Refusal) (mid : DatedState) (next : DatedState → Result DatedState Refusal) → first ≡ Ok mid → (first >>= next) ≡ next mid
 then_is first mid next is = rw is refl
 
 -- the first of them
@@ -333,7 +338,8 @@ made_up : (number i count : ℕ) → List Leaf
 made_up number i zero = []
 made_up number i (suc count) = record { index = i; ptr = record { kind = 1; level = 0; length = 0; sector = 0; number = number; sum = record { a = 0; b = 0; c = 0; d = 0 } } } ∷ made_up number (i + 1) count
 
-Anything : Blocks
+-- every pointer names every text
+abbrev pub Anything : Blocks
 Anything ptr bytes = Unit {0}
 
 made_up-long : (number i count : ℕ) → length (made_up number i count) ≡ count
@@ -342,15 +348,15 @@ made_up-long number i zero = refl
 made_up-long number i (suc count) = omega (arith, made_up-long number (i + 1) count)
 
 made_up-written : (number size i count : ℕ) (bytes : List ℕ) → AreWritten Anything number size i bytes (made_up number i count)
-unfolding AreWritten made_up Anything
+unfolding AreWritten made_up
 made_up-written number size i zero bytes = tt
 made_up-written number size i (suc count) bytes = (record { index_is = refl; block = (refl, tt); dated = refl }, made_up-written number size (i + 1) count (drop size bytes))
 
 -- so the definition makes something of the state
-pub all_accepted : (has : Blocks) (number k size count i : ℕ) (bytes : List ℕ) (snap : DatedState) (dnode : Dnode) → AppliedIsState → is_number k ≡ true → dnode.block_size ≡ size → IsState snap.state → IsBounded snap → IsThere has snap k dnode
-    → MayWrite size i (suc count) bytes → (after : DatedState) × (blocks_written number k size (suc count) i bytes snap ≡ Ok after)
-unfolding Anything
-all_accepted has number k size count i bytes snap dnode law is_one size_is lawful bounded there may =
+pub all_accepted : (has : Blocks) (number k size count i : ℕ) (bytes : List ℕ) (snap : DatedState) (dnode : Dnode) → AppliedIsState → is_number k ≡ true → dnode.block_size ≡ size → 0 < count → IsState snap.state → IsBounded snap → IsThere has snap k dnode
+    → MayWrite size i count bytes → (after : DatedState) × (blocks_written number k size count i bytes snap ≡ Ok after)
+all_accepted has number k size zero i bytes snap dnode law is_one size_is some lawful bounded there may = absurd (omega (arith, some))
+all_accepted has number k size (suc count) i bytes snap dnode law is_one size_is some lawful bounded there may =
     let anything = IsThere-grows has Anything (λ ptr text is. tt) snap k dnode there in
     let runs = all_run Anything number k size count i bytes snap snap dnode anything.map (made_up number i (suc count)) law is_one size_is (made_up-long number i (suc count)) (run_begins Anything snap k dnode lawful bounded anything) may (made_up-written number size i (suc count) bytes) in
     (runs.now, runs.is)
@@ -359,19 +365,21 @@ all_accepted has number k size count i bytes snap dnode law is_one size_is lawfu
 first_err : (first : Result DatedState Refusal) (refusal : Refusal) (next : DatedState → Result DatedState Refusal) → first ≡ Err refusal → (first >>= next) ≡ Err refusal
 first_err first refusal next is = rw is refl
 
-pub no_blocks_there : (has : Blocks) (number k size count i : ℕ) (bytes : List ℕ) (snap : DatedState) (fault : ObjFault) → FindsThere has snap k (Err fault) → Refuses (blocks_written number k size (suc count) i bytes snap) fault
+pub no_blocks_there : (has : Blocks) (number k size count i : ℕ) (bytes : List ℕ) (snap : DatedState) (fault : ObjFault) → 0 < count → FindsThere has snap k (Err fault) → Refuses (blocks_written number k size count i bytes snap) fault
 unfolding blocks_written
-no_blocks_there has number k size count i bytes snap (faults.CannotApply fault) is = first_err (block_written number k i (take size bytes) snap) (refusals.CannotApply 0 fault) (blocks_written number k size count (i + 1) (drop size bytes)) (write_not_there has number k i (take size bytes) snap (faults.CannotApply fault) is)
-no_blocks_there has number k size count i bytes snap (faults.Redacted object block) is = absurd is
-no_blocks_there has number k size count i bytes snap (faults.Limit which limit) is = absurd is
-no_blocks_there has number k size count i bytes snap (faults.Block (blocks.Full need largest)) is = absurd is
-no_blocks_there has number k size count i bytes snap (faults.Block (blocks.Damaged sector stated found)) is = absurd is
-no_blocks_there has number k size count i bytes snap (faults.Block blocks.DiskFault) is = tt
+no_blocks_there has number k size zero i bytes snap fault some is = absurd (omega (arith, some))
+no_blocks_there has number k size (suc count) i bytes snap (faults.CannotApply fault) some is = first_err (block_written number k i (take size bytes) snap) (refusals.CannotApply 0 fault) (blocks_written number k size count (i + 1) (drop size bytes)) (write_not_there has number k i (take size bytes) snap (faults.CannotApply fault) is)
+no_blocks_there has number k size (suc count) i bytes snap (faults.Redacted object block) some is = absurd is
+no_blocks_there has number k size (suc count) i bytes snap (faults.Limit which limit) some is = absurd is
+no_blocks_there has number k size (suc count) i bytes snap (faults.Block (blocks.Full need largest)) some is = absurd is
+no_blocks_there has number k size (suc count) i bytes snap (faults.Block (blocks.Damaged sector stated found)) some is = absurd is
+no_blocks_there has number k size (suc count) i bytes snap (faults.Block blocks.DiskFault) some is = tt
 
-pub blocks_differ : (has : Blocks) (number k size count i : ℕ) (bytes : List ℕ) (snap : DatedState) (dnode : Dnode) → IsThere has snap k dnode → IsState snap.state → size ≢ dnode.block_size → length bytes ≡ suc count * size
-    → Refuses (blocks_written number k size (suc count) i bytes snap) (faults.CannotApply SizeDiffers)
+pub blocks_differ : (has : Blocks) (number k size count i : ℕ) (bytes : List ℕ) (snap : DatedState) (dnode : Dnode) → IsThere has snap k dnode → IsState snap.state → size ≢ dnode.block_size → 0 < count → length bytes ≡ count * size
+    → Refuses (blocks_written number k size count i bytes snap) (faults.CannotApply SizeDiffers)
 unfolding blocks_written
-blocks_differ has number k size count i bytes snap dnode there lawful differs long =
+blocks_differ has number k size zero i bytes snap dnode there lawful differs some long = absurd (omega (arith, some))
+blocks_differ has number k size (suc count) i bytes snap dnode there lawful differs some long =
     let one : length (take size bytes) ≡ size = length-take size bytes ∙ omega (arith, long) in
     let test : not (length (take size bytes) == dnode.block_size) ≡ true = rw one (grind (arith, nat_tests)) in
     first_err (block_written number k i (take size bytes) snap) (refusals.CannotApply 0 SizeDiffers) (blocks_written number k size count (i + 1) (drop size bytes))
@@ -417,73 +425,52 @@ run_tight has number k size i bytes before now was map leaves tree end dated tig
 pub tree_early : (number k : ℕ) (snap : DatedState) (dnode : Dnode) → DatedUpTo number snap → IsTightSlot snap k (There dnode) → TreeDatedUpTo number (tree_of dnode)
 tree_early number k snap dnode dated tight = let early = tight_dated number snap k (There dnode) dated tight in (omega (arith, early), omega (arith, early))
 
--- a map with the leaves of a range
-range_before : (map : Map) (first count : ℕ) (ptr : Ptr) (i : ℕ) → i < first → with_leaves map (leaves_of first count ptr) i ≡ map i
-unfolding with_leaves leaves_of
-range_before map first zero ptr i less = refl
-range_before map first (suc count) ptr i less = range_before (with_leaf map (record { index = first; ptr = ptr })) (first + 1) count ptr i (omega arith) ∙ leaf_elsewhere map (record { index = first; ptr = ptr }) i (omega arith)
+-- what is put once a tree has the blocks
+pub record BlocksEnd (has : Blocks) (number k size count i : ℕ) (bytes : List ℕ) (before : DatedState) (was made : Dnode) (tree : Tree) : Type 0 where
+  pub now : DatedState
+  pub is : blocks_written number k size count i bytes before ≡ Ok now
+  pub puts : PutsSlot has before now k (k + 1) (There made)
+  pub tight : DatedUpTo number before → IsTightSlot before k (There was) → TreeDatedUpTo number tree → IsTightSlot now k (There made)
 
-range_behind : (map : Map) (first count : ℕ) (ptr : Ptr) (i : ℕ) → first + count ≤ i → with_leaves map (leaves_of first count ptr) i ≡ map i
-unfolding with_leaves leaves_of
-range_behind map first zero ptr i over = refl
-range_behind map first (suc count) ptr i over = range_behind (with_leaf map (record { index = first; ptr = ptr })) (first + 1) count ptr i (omega arith) ∙ leaf_elsewhere map (record { index = first; ptr = ptr }) i (omega arith)
+pub blocks_end : (has : Blocks) (number k size count i : ℕ) (bytes : List ℕ) (before : DatedState) (was made : Dnode) (map : Map) (tree : Tree) → AppliedIsState → is_number k ≡ true → was.block_size ≡ size → 0 < count → IsRun has before before k was map
+    → MayWrite size i count bytes → PutsBlocks has map number size count i bytes tree → made ≡ with_tree was tree (max was.end (i + count)) → BlocksEnd has number k size count i bytes before was made tree
+blocks_end has number k size zero i bytes before was made map tree law is_one size_is some run may put made_is = absurd (omega (arith, some))
+blocks_end has number k size (suc count) i bytes before was made map tree law is_one size_is some run may put made_is =
+    let end = max was.end (i + suc count) in
+    let runs = all_run has number k size count i bytes before before was map put.leaves law is_one size_is put.long run may put.written in
+    record {
+      now = runs.now;
+      is = runs.is;
+      puts = subst (λ (d : Dnode). PutsSlot has before runs.now k (k + 1) (There d)) (sym made_is) (run_ends has before runs.now k (with_end was end) (with_leaves map put.leaves) tree runs.run put.tree_is);
+      tight = λ dated tight early. subst (λ (d : Dnode). IsTightSlot runs.now k (There d)) (sym made_is)
+          (run_tight has number k size i bytes before runs.now was map put.leaves tree end dated tight early (omega (arith, put.long)) (index_under i (omega (arith, may.inside))) put.written runs.run);
+    }
 
-range_inside : (map : Map) (first count : ℕ) (ptr : Ptr) (i : ℕ) → first ≤ i → i < first + count → with_leaves map (leaves_of first count ptr) i ≡ ptr
-unfolding with_leaves leaves_of
-range_inside map first zero ptr i from under = absurd (omega arith)
-range_inside map first (suc count) ptr i from under = ⊎_elim
-    (λ more. range_inside (with_leaf map (record { index = first; ptr = ptr })) (first + 1) count ptr i (omega arith) (omega arith))
-    (λ at. range_before (with_leaf map (record { index = first; ptr = ptr })) (first + 1) count ptr i (omega arith) ∙ leaf_here map (record { index = first; ptr = ptr }) i (omega arith)) (cases_lt first i)
+-- a write of one block
+written_last : (number k size i : ℕ) (bytes : List ℕ) (first : Result DatedState Refusal) → (first >>= blocks_written number k size 0 i bytes) ≡ first
+unfolding blocks_written
+written_last number k size i bytes (Ok snap) = refl
+written_last number k size i bytes (Err refusal) = refl
 
-pub with_range_of : (map : Map) (first count : ℕ) (ptr : Ptr) (i : ℕ) → with_leaves map (leaves_of first count ptr) i ≡ put_range first count ptr map i
-with_range_of map first count ptr i = ⊎_elim
-    (λ before. range_before map first count ptr i before ∙ sym (put_range-outside first count ptr map i (inl before)))
-    (λ from. ⊎_elim
-    (λ under. range_inside map first count ptr i from under ∙ sym (put_range-inside first count ptr map i from under))
-    (λ over. range_behind map first count ptr i over ∙ sym (put_range-outside first count ptr map i (inr over))) (cases_lt i (first + count))) (cases_lt i first)
+pub one_written : (number k size i : ℕ) (bytes : List ℕ) (snap : DatedState) → length bytes ≡ size → blocks_written number k size 1 i bytes snap ≡ block_written number k i bytes snap
+unfolding blocks_written
+one_written number k size i bytes snap whole =
+    written_last number k size (i + 1) (drop size bytes) (block_written number k i (take size bytes) snap)
+    ∙ ap (λ (text : List ℕ). block_written number k i text snap) (take_all size bytes (omega (arith, whole)))
 
--- holes more are made, in a range at which the object doesn't end
-module _ (has : Blocks) (number k first count : ℕ) (before snap : DatedState) (dnode : Dnode) (map : Map) (run : IsRun has before snap k dnode map) (is_one : is_number k ≡ true) (inside : first + count ≤ 2 ^ 43) where
-  fills : Fills has number k first count (free_of first count (snap.state k)) Hole (hole_of number) snap run.due.object
-  fills = Fills-free has number k first count snap run.due.object run.due.there (object_of (snap.state k) run.due.object run.due.there (run.lawful.objects k)) is_one
-
-  abbrev pub after_holes : DatedState
-  after_holes = changed_to number k (free_of first count (snap.state k)) snap (with_range first count Hole run.due.object)
-
-  pub holes_accepted : holes_made number k first count snap ≡ Ok after_holes
-  unfolding index_bound
-  holes_accepted = in_range (first + count) (changed number (At k (free_of first count (snap.state k))) snap) after_holes inside (change_made number k (free_of first count (snap.state k)) snap (with_range first count Hole run.due.object) fills.made)
-
-  pub holes_go_on : AppliedIsState → (dnode.end ≤ first) ⊎ (first + count < dnode.end) → IsRun has before after_holes k dnode (with_leaves map (leaves_of first count (hole_of number)))
-  holes_go_on law away = record {
-    lawful = law number (At k (free_of first count (snap.state k))) snap after_holes run.lawful fills.lawful (changed_is number k (free_of first count (snap.state k)) snap (with_range first count Hole run.due.object) fills.made);
-    bounded = change_bounded number k (free_of first count (snap.state k)) snap (with_range first count Hole run.due.object) is_one run.bounded;
-    due = record {
-      object = with_range first count Hole run.due.object;
-      there = rw (itself k) refl;
-      is = record {
-        type_is = run.due.is.type_is;
-        bonus_type_is = run.due.is.bonus_type_is;
-        size_is = run.due.is.size_is;
-        bonus_is = run.due.is.bonus_is;
-        date_is = run.due.is.date_is ∙ sym (date_put number k (free_of first count (snap.state k)) snap);
-        end_is = end_with_holes run.due.object dnode.end first count away run.due.is.end_is;
-        spill_is = run.due.is.spill_is;
-        blocks = λ i less. subst (λ (ptr : Ptr). BlockIs has ptr (put_range first count Hole run.due.object.blocks i)) (sym (with_range_of map first count (hole_of number) i)) (block_there i (within first count i) refl (run.due.is.blocks i less));
-        index_dates = λ i less. ap (λ (ptr : Ptr). ptr.number) (with_range_of map first count (hole_of number) i) ∙ (date_there i (within first count i) refl (run.due.is.index_dates i less) ∙ sym (dates_put number k (free_of first count (snap.state k)) snap i less));
-      };
-    };
-    others = λ j number_j other. Alike-then before snap after_holes j (run.others j number_j other) (kept_at number k (free_of first count (snap.state k)) snap (with_range first count Hole run.due.object) j (apart_from j other));
-  }
-    where
-      block_there : (i : ℕ) (t : Bool) → within first count i ≡ t → BlockIs has (map i) (run.due.object.blocks i) → BlockIs has (put_range first count (hole_of number) map i) (put_range first count Hole run.due.object.blocks i)
-      block_there i true test old = rw test refl
-      block_there i false test old = rw test old
-
-      date_there : (i : ℕ) (t : Bool) → within first count i ≡ t → (map i).number ≡ snap.index_date k i → (put_range first count (hole_of number) map i).number ≡ dates_to number k (free_of first count (snap.state k)) snap i
-      date_there i true test old = rw (fills.dates i, test) refl
-      date_there i false test old = rw (fills.dates i, test) old
-
-      apart_from : (j : ℕ) → (j < k) ⊎ (k + 1 ≤ j) → (j == k) ≡ false
-      apart_from j (inl less) = grind (arith, nat_tests)
-      apart_from j (inr more) = grind (arith, nat_tests)
+-- a tree that has it
+pub puts_one : (has : Blocks) (old : Map) (number size i : ℕ) (bytes : List ℕ) (tree : Tree) → length bytes ≡ size → PutsData has old i bytes number tree → PutsBlocks has old number size 1 i bytes tree
+unfolding AreWritten with_leaves
+puts_one has old number size i bytes tree whole put = record {
+  leaves = record { index = i; ptr = put.block } ∷ [];
+  long = refl;
+  written = (record { index_is = refl; block = subst (λ (text : List ℕ). BlockIs has put.block (Data text)) (sym (take_all size bytes (omega (arith, whole)))) put.is; dated = put.date }, tt);
+  tree_is = record { whole = put.tree_is.whole; stands = put.tree_is.stands; agrees = λ j less. same j less ∙ put.tree_is.agrees j less };
+}
+  where
+    same : (j : ℕ) → j < 2 ^ 44 → with_leaf old (record { index = i; ptr = put.block }) j ≡ put.map j
+    same j less = ⊎_elim
+        (λ lower. leaf_elsewhere old (record { index = i; ptr = put.block }) j (omega arith) ∙ sym (put.puts.beside.before j (omega arith) lower))
+        (λ over. ⊎_elim
+        (λ higher. leaf_elsewhere old (record { index = i; ptr = put.block }) j (omega arith) ∙ sym (put.puts.beside.behind j (omega arith) less))
+        (λ at. leaf_here old (record { index = i; ptr = put.block }) j (omega arith) ∙ sym (put.puts.inside.is j (omega arith) (omega arith))) (cases_lt i j)) (cases_lt j i)
