@@ -1,5 +1,5 @@
 -- Blocks of an object that are written one after another, while its tree stays as it is until all of them are.
-use Rattle.std.proofs.Common.{◌≡◌, ◌⊎◌, inl, inr, ℕ, ◌+◌, ◌*◌, ◌<◌, ◌≤◌, ◌==◌, ◌&&◌, nat_lt, not, max, Bool, true, false, List, [], ◌∷◌, zero, suc, ◌^◌, length, take, drop, refl, sym, ◌∙◌, ap, subst, arith, if◌then◌else◌, Some, Result, Ok, ⊎_elim, get_or, set, drop-drop, eq-eqb, length-drop, length-take, ◌-◌, mul-le-mul_right, ◌≢◌, Err}
+use Rattle.std.proofs.Common.{◌≡◌, ◌⊎◌, inr, ℕ, ◌+◌, ◌*◌, ◌<◌, ◌≤◌, ◌==◌, ◌&&◌, nat_lt, not, max, Bool, true, false, List, [], ◌∷◌, zero, suc, ◌^◌, length, take, drop, refl, sym, ◌∙◌, ap, subst, arith, if◌then◌else◌, Some, Result, Ok, ⊎_elim, get_or, set, drop-drop, eq-eqb, length-drop, length-take, ◌-◌, mul-le-mul_right, ◌≢◌, Err}
 use Rattle.std.proofs.lemmas.List.{get_or-set_other, get_or-set_same, take_all}
 use Rattle.std.proofs.lemmas.Bool.{cases_lt, true≢false}
 use Rattle.std.proofs.lemmas.Bool.Decides.{nat_tests}

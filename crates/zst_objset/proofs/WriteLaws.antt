@@ -12,7 +12,6 @@ use Rattle.zst_model.specs.declared.refusals.faults.Quantity.TheVariants as quan
 use Rattle.zst_model.specs.declared.refusals.refusal.Refusal.TheVariants as refusals
 use Rattle.zst_model.specs.declared.states.item.Change.{Change}
 use Rattle.zst_model.specs.declared.states.item.Change.TheVariants.{Write}
-use Rattle.zst_model.specs.declared.states.item.Item.TheVariants.{At}
 use Rattle.zst_model.specs.states.AppliedItems.{apply, apply_change, is_unaligned, unless}
 use Rattle.zst_model.specs.states.DatedState.{DatedState, size_at}
 use Rattle.zst_model.specs.states.State.{Block, Data, IsObject, IsState, Object, index_bound, is_block_size, is_hole, is_odd_size, past_last}

@@ -1,4 +1,4 @@
-use Rattle.std.proofs.Common.{◌∙◌, ℕ, List, [], inl, length, arith, subst, sym}
+use Rattle.std.proofs.Common.{◌∙◌, ℕ, List, [], length, arith, subst, sym}
 use Rattle.zst_space.specs.FreeSectors.{FreeSectors}
 use Rattle.zst_block.specs.Blocks.{Has}
 use Rattle.zst_block.specs.declared.ptr.Ptr.{Ptr}
@@ -13,7 +13,6 @@ use Rattle.zst_objset.proofs.AnswerLaws.{disk_fault, found_far, found_there, not
 use Rattle.zst_objset.proofs.LeafLaws.{calls_to_leaf, calls_through, calls_more, look_on}
 use Rattle.std.proofs.Common.{◌+◌}
 use Rattle.zst_model.specs.declared.refusals.faults.Quantity.TheVariants as quantities
-use Rattle.zst_objset.proofs.DamageLaws.{IfSetDamaged-fault}
 use Rattle.zst_objset.proofs.LimitLaws.{if_no_limit, no_limit}
 use Rattle.zst_objset.proofs.answers.read_block.Goals as goal
 

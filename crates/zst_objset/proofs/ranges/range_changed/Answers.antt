@@ -1,4 +1,3 @@
-use Rattle.std.proofs.Common.{sym}
 use Rattle.zst_objset.proofs.ranges.range_changed.Goals as goal
 
 pub punched-requires-clause-dnode : goal.punched-requires-clause-dnode
