@@ -1,0 +1,3 @@
+mod LineExamples
+mod LineSplits
+mod ReadLines
