@@ -2,7 +2,9 @@
 use Rattle.std.proofs.Common.{◌≡◌, ◌⊎◌, inl, inr, ℕ, ◌+◌, nat_lt, Bool, true, false, cond, List, length, Option, Result, Ok, Err, refl, sym, ap, ◌∙◌, subst, arith}
 use Rattle.zst_outside.specs.Images.{DiskState, Leaves, Leaves-weaker}
 use Rattle.zst_space.specs.FreeSectors.{FreeSectors}
+use Rattle.zst_model.specs.declared.refusals.faults.Quantity.TheVariants as quantities
 use Rattle.zst_model.specs.declared.refusals.refusal.Refusal.{Refusal}
+use Rattle.zst_model.specs.declared.refusals.refusal.Refusal.TheVariants as refusals
 use Rattle.zst_model.specs.pools.KeptPool.{kept_of}
 use Rattle.zst_model.specs.pools.Pool.{Pool, Partial}
 use Rattle.zst_tree.specs.Indices.{Blocks}
@@ -15,12 +17,12 @@ use Rattle.zst_block.specs.Blocks.{Has, KeepsBlocks}
 use Rattle.zst_pool.specs.Calls.{CallDid, CallFault, IsAtRest, IsUnderWay}
 use Rattle.zst_model.specs.pools.Limits.{most_partials}
 use Rattle.zst_model.specs.pools.Step.{count_datasets, last_number, most_datasets, most_snapshots}
-use Rattle.zst_model.specs.states.AppliedItems.{unless}
 use Rattle.zst_pool.specs.Partials.{next_commit, partial_finished, partial_put, with_partial}
 use Rattle.zst_pool.proofs.Bounds.{SetIs-later}
 use Rattle.zst_pool.specs.PartialRows.{rows_with_partial}
 use Rattle.zst_pool.specs.declared.fault.PoolFault.{PoolFault}
 use Rattle.zst_pool.proofs.PoolsAtRest.{rests_on, since}
+use Rattle.zst_recv.proofs.Results.{unless_ok}
 use Rattle.zst_recv.specs.ReceiveSteps.{Stage, Waits, Lives, Ends, Work, put, put_at}
 use Rattle.zst_recv.specs.Commits.{Puts}
 use Rattle.zst_recv.specs.Stages.{CanPut, IsStage, IsWork, LivesOn, StageFits, has_partial}
@@ -151,17 +153,15 @@ gave pool = Ok pool
 pub same_ok : (one other : Pool) → gave one ≡ gave other → one ≡ other
 same_ok one other is = cc
 
-ok_within : {A : Type 0} (past : Bool) (refusal : Refusal) (rest : Result A Refusal) (x : A) → unless past refusal rest ≡ Ok x → rest ≡ Ok x
-ok_within true refusal rest x is = absurd cc
-ok_within false refusal rest x is = is
-
--- a commit has the next number
-next_numbered : (pool next : Pool) → next_commit pool ≡ Ok next → next.number ≡ pool.number + 1
-next_numbered pool next is =
-    let one = ok_within (nat_lt most_partials (length pool.partials)) _ _ next is in
-    let two = ok_within (nat_lt most_datasets (count_datasets pool)) _ _ next one in
-    let three = ok_within (nat_lt most_snapshots (length pool.snapshots + length pool.partials)) _ _ next two in
-    ap (λ (p : Pool). p.number) (sym (same_ok (record pool { number = pool.number + 1 }) next (ok_within (nat_lt last_number (pool.number + 1)) _ _ next three)))
+-- what a commit makes of a pool is that with the next number
+pub commit_is : (pool next : Pool) → next_commit pool ≡ Ok next → next ≡ record pool { number = pool.number + 1 }
+commit_is pool next e =
+    let last : Result Pool Refusal = Ok (record pool { number = pool.number + 1 }) in
+    let a = unless_ok (nat_lt most_partials (length pool.partials)) (refusals.Limit quantities.Partials most_partials) _ next e in
+    let b = unless_ok (nat_lt most_datasets (count_datasets pool)) (refusals.Limit quantities.Datasets most_datasets) _ next a.1 in
+    let c = unless_ok (nat_lt most_snapshots (length pool.snapshots + length pool.partials)) (refusals.Limit quantities.Snapshots most_snapshots) _ next b.1 in
+    let d = unless_ok (nat_lt last_number (pool.number + 1)) (refusals.Limit quantities.Number last_number) last next c.1 in
+    sym (same_ok _ _ d.1)
 
 -- so a partial state that was put stands under the number of the next pool
 pub put_stands : (tight : Bool) (has : Blocks) (work : Work) (running next : Pool) (code : coded.Stage) → has_partial code ≡ true → work.taken ≡ true → put work running ≡ Ok next
@@ -169,7 +169,7 @@ pub put_stands : (tight : Bool) (has : Blocks) (work : Work) (running next : Poo
 put_stands tight has work running next stages.Waits lives taken is stands = absurd cc
 put_stands tight has work running next (stages.Lives flags row) lives taken is stands =
     let l = living (bound_of tight (running.number + 1)) has flags row work.stage stands in
-    let number : next.number ≡ running.number + 1 = next_numbered (with_partial work.rolls l.0 running) next (sym (put_living work running flags l.0 work.rolls taken l.1 refl) ∙ is) in
+    let number : next.number ≡ running.number + 1 = ap (λ (p : Pool). p.number) (commit_is (with_partial work.rolls l.0 running) next (sym (put_living work running flags l.0 work.rolls taken l.1 refl) ∙ is)) in
     subst (λ (n : ℕ). IsStage (bound_of tight n) has (stages.Lives flags row) work.stage) (sym number) stands
 put_stands tight has work running next (stages.Ends row) lives taken is stands = absurd cc
 put_stands tight has work running next (stages.Done received) lives taken is stands = absurd cc

@@ -1,3 +1,4 @@
+pub mod Results
 mod AlikeAnswers
 mod FirstPartials
 mod RecordEffects
@@ -11,7 +12,7 @@ mod CoveredEnds
 mod BatchStages
 mod ByteLimits
 mod FeedAnswers
-mod CommitLemmas
+pub mod CommitLemmas
 mod PieceStages
 mod FeedEnds
 mod DamageLemmas
@@ -19,3 +20,5 @@ mod CostLemmas
 mod TokenRows
 mod PlanRefusals
 mod KeptBlocks
+mod ListedRows
+mod KeptPartials

@@ -52,7 +52,7 @@ running_tell dataset rows pool found answer is told bound image space runs =
     ∙ tell_alike (PartialIs bound (Has image space)) (λ row partial stands. stands.named) dataset rows.partials pool.partials runs.partials
 
 -- what is found stands among the rows
-found_is : (P : Row → Type 0) (p : Row → Bool) (rows : List Row) (row : Row) → All P rows → Some row ≡ find p rows → P row
+pub found_is : (P : Row → Type 0) (p : Row → Bool) (rows : List Row) (row : Row) → All P rows → Some row ≡ find p rows → P row
 found_is P p [] row all is = absurd (cc is)
 found_is P p (first ∷ rows) row all is = go (p first) is (λ found. found_is P p rows row (λ k d below. all (suc k) d (omega (arith, below))) found)
   where

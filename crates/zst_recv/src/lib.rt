@@ -5,6 +5,7 @@ mod batch;
 mod commits;
 mod fault;
 mod first_partial;
+mod laws;
 mod pieces;
 mod point;
 mod received_snapshot;
@@ -13,6 +14,7 @@ mod stage;
 mod tokens;
 
 pub use fault::RecvFault;
+pub use laws::{listed_rows_fit, receives_go_on};
 pub use received_snapshot::ReceivedSnapshot;
 pub use recv::{FeedReport, Recv};
 pub use tokens::token;
