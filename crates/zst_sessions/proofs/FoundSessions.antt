@@ -1,0 +1,57 @@
+-- Sessions that are found by their ids in changed lists.
+use Rattle.std.proofs.Common.{◌≡◌, ℕ, Bool, true, false, List, [], ◌∷◌, ◌++◌, map, filter, find, Option, Some, refl, sym, ap, ◌∙◌, cond, ◌==◌, eqb-true, if◌then◌else◌, arith}
+use Rattle.zst_sessions.specs.World.{OpenSend}
+
+pub some_parts : {A : Type 0} (x y : A) → Some x ≡ Some y → x ≡ y
+some_parts x y e = cc
+
+-- one that is found is found in a longer list too
+pub found_front : {A : Type 0} (test : A → Bool) (xs ys : List A) (x : A) → find test xs ≡ Some x → find test (xs ++ ys) ≡ Some x
+found_front test [] ys x e = absurd cc
+found_front test (a ∷ xs) ys x e = go (test a) e (found_front test xs ys x)
+  where
+    go : (t : Bool) → cond t (Some a) (find test xs) ≡ Some x → (find test xs ≡ Some x → find test (xs ++ ys) ≡ Some x) → cond t (Some a) (find test (xs ++ ys)) ≡ Some x
+    go true e on = e
+    go false e on = on e
+
+-- and among those that another test leaves, where it passes that itself
+pub found_left : {A : Type 0} (test keep : A → Bool) (xs : List A) (x : A) → find test xs ≡ Some x → keep x ≡ true → find test (filter keep xs) ≡ Some x
+found_left test keep [] x e k = absurd cc
+found_left {A} test keep (a ∷ xs) x e k = go (test a) (keep a) refl refl e (λ rest. found_left test keep xs x rest k)
+  where
+    go : (t s : Bool) → test a ≡ t → keep a ≡ s → cond t (Some a) (find test xs) ≡ Some x → (find test xs ≡ Some x → find test (filter keep xs) ≡ Some x)
+        → find test (cond s (a ∷ filter keep xs) (filter keep xs)) ≡ Some x
+    go true true is kept e on = ap (λ (t : Bool). cond t (Some a) (find test (filter keep xs))) is ∙ e
+    go true false is kept e on = absurd (let one = ap keep (some_parts a x e) in cc)
+    go false true is kept e on = ap (λ (t : Bool). cond t (Some a) (find test (filter keep xs))) is ∙ on e
+    go false false is kept e on = on e
+
+module _ (put : OpenSend) where
+  abbrev pub placed : OpenSend → OpenSend
+  placed one = if one.id == put.id then put else one
+
+  -- one in place of that with its id is found by that
+  pub found_put : (sends : List OpenSend) (one : OpenSend) → find (λ send. send.id == put.id) sends ≡ Some one → find (λ send. send.id == put.id) (map placed sends) ≡ Some put
+  found_put [] one e = absurd cc
+  found_put (a ∷ rest) one e = go (a.id == put.id) refl e (found_put rest one)
+    where
+      own : (put.id == put.id) ≡ true
+      own = grind arith
+
+      go : (t : Bool) → (a.id == put.id) ≡ t → cond t (Some a) (find (λ send. send.id == put.id) rest) ≡ Some one
+          → (find (λ send. send.id == put.id) rest ≡ Some one → find (λ send. send.id == put.id) (map placed rest) ≡ Some put)
+          → find (λ send. send.id == put.id) (cond t put a ∷ map placed rest) ≡ Some put
+      go true is e on = ap (λ (t : Bool). cond t (Some put) (find (λ send. send.id == put.id) (map placed rest))) own
+      go false is e on = ap (λ (t : Bool). cond t (Some a) (find (λ send. send.id == put.id) (map placed rest))) is ∙ on e
+
+  -- and all others are as before
+  pub found_other : (sends : List OpenSend) (id : ℕ) → (put.id == id) ≡ false → find (λ send. send.id == id) (map placed sends) ≡ find (λ send. send.id == id) sends
+  found_other [] id differs = refl
+  found_other (a ∷ rest) id differs = go (a.id == put.id) refl (found_other rest id differs)
+    where
+      go : (t : Bool) → (a.id == put.id) ≡ t → find (λ send. send.id == id) (map placed rest) ≡ find (λ send. send.id == id) rest
+          → find (λ send. send.id == id) (cond t put a ∷ map placed rest) ≡ find (λ send. send.id == id) (a ∷ rest)
+      go true is more =
+          ap (λ (t : Bool). cond t (Some put) (find (λ send. send.id == id) (map placed rest))) differs ∙ more
+          ∙ sym (ap (λ (n : ℕ). cond (n == id) (Some a) (find (λ send. send.id == id) rest)) (eqb-true a.id put.id is) ∙ ap (λ (t : Bool). cond t (Some a) (find (λ send. send.id == id) rest)) differs)
+      go false is more = ap (λ (o : Option OpenSend). cond (a.id == id) (Some a) o) more

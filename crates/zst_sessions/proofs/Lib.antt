@@ -1,0 +1,12 @@
+mod SameContents
+mod OwnReceives
+mod FoundSessions
+mod OwnSends
+mod OwnPartials
+mod SessionLists
+mod Worlds
+mod BusySessions
+mod Numbers
+mod Matching
+mod Frames
+mod Ways
