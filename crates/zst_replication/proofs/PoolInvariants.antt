@@ -21,6 +21,7 @@ use Rattle.zst_record.specs.declared.head.Head.{Head}
 use Rattle.zst_record.specs.declared.head.Head.TheVariants as heads
 use Rattle.zst_record.specs.Heads.{Covered}
 use Rattle.zst_stream.specs.Reading.{reading}
+use Rattle.zst_recv.proofs.CommitLemmas.{commit_is}
 use Rattle.zst_recv.specs.Answers.{is_done}
 use Rattle.zst_recv.specs.Feeds.{and_feed, fault_of, fed_piece, feeds, new_records, receives}
 use Rattle.zst_recv.specs.ReceiveSteps.{Stage, Waits, Lives, Ends, Work, Fed, Goes, Stops, at_stage, batch, batch_by, began, begun, fed, left_by, moved_by, of_plan, opened, put, put_at, taken, taken_at, went_on, with_applied}
@@ -33,7 +34,7 @@ use Rattle.zst_replication.proofs.LatestBases.{planned_over}
 use Rattle.zst_replication.proofs.ReceivePlans.{begins_anew, filtered_there, found_there, resumes}
 use Rattle.zst_replication.proofs.Results.{bound, ok_parts, plan_ok}
 use Rattle.zst_replication.proofs.Rows.{none_left, others_all}
-use Rattle.zst_replication.proofs.RunningPools.{Heads, commit_is}
+use Rattle.zst_replication.proofs.RunningPools.{Heads}
 use Rattle.zst_replication.proofs.SoundSnapshots.{finished}
 use Rattle.zst_replication.proofs.SoundPartials.{AreOlds, back_olds, same_olds, under}
 use Rattle.zst_replication.proofs.Ancestry.{PartialRow, SnapshotRow, fewer_linked, none_passes, old_number, owner, sound_dated}

@@ -1,27 +1,24 @@
 -- The pool that runs while a receive is under way, whatever it reads.
-use Rattle.std.proofs.Common.{◌≡◌, ◌⊎◌, inl, inr, ℕ, ◌+◌, ◌<◌, Bool, true, false, List, [], ◌∷◌, ◌++◌, length, map, Option, Some, None, is_some, Result, Ok, Err, refl, sym, ap, ◌∙◌, subst, cond, find, nat_lt, arith}
+use Rattle.std.proofs.Common.{◌≡◌, ◌⊎◌, inl, inr, ℕ, ◌+◌, ◌<◌, Bool, true, false, List, [], ◌∷◌, ◌++◌, map, Option, Some, None, is_some, Result, Ok, Err, refl, sym, ap, ◌∙◌, subst, cond, find, arith}
 use Rattle.std.specs.Prelude.{bytes_eq}
 use Rattle.std.specs.Option.{option_map_or}
 use Rattle.zst_model.proofs.OrderLaws.{bytes_same}
-use Rattle.zst_model.specs.declared.refusals.faults.Quantity.TheVariants as quantities
 use Rattle.zst_model.specs.declared.refusals.refusal.Refusal.{Refusal}
-use Rattle.zst_model.specs.declared.refusals.refusal.Refusal.TheVariants as refusals
 use Rattle.zst_model.specs.declared.sends.header.Header.{Header}
-use Rattle.zst_model.specs.pools.Limits.{most_partials}
 use Rattle.zst_model.specs.pools.Pool.{Pool, Dataset, Snapshot, Partial, partial_of, inserted, is_before, snapshot_is_before}
-use Rattle.zst_model.specs.pools.Step.{count_datasets, last_number, most_datasets, most_snapshots}
 use Rattle.zst_model.specs.states.AppliedItems.{◌>>=◌}
 use Rattle.zst_plan.specs.RecvPlan.{RecvPlan, recv_plan}
 use Rattle.zst_plan.specs.declared.receive.RecvAsk.{RecvAsk}
-use Rattle.zst_pool.specs.Partials.{changed_at, dataset_from, head_from, next_commit, partial_finished, partial_put, partials_of_others, rolled_back, with_finished, with_partial}
+use Rattle.zst_pool.specs.Partials.{changed_at, dataset_from, head_from, partial_finished, partial_put, partials_of_others, rolled_back, with_finished, with_partial}
 use Rattle.zst_record.specs.declared.head.Head.{Head}
 use Rattle.zst_record.specs.declared.head.Head.TheVariants as heads
 use Rattle.zst_record.specs.Heads.{Covered}
+use Rattle.zst_recv.proofs.CommitLemmas.{commit_is}
 use Rattle.zst_recv.specs.Answers.{is_done}
 use Rattle.zst_recv.specs.ReceiveSteps.{Stage, Waits, Lives, Ends, Work, at_stage, batch, batch_by, began, moved_by, of_plan, opened, put, put_at, taken, taken_at, went_on, with_applied}
 use Rattle.zst_replication.proofs.RecordEffects.{moves}
 use Rattle.zst_replication.proofs.ReceivePlans.{base_there, begins_anew, own_target, resumes}
-use Rattle.zst_replication.proofs.Results.{bound, ok_parts, plan_ok, unless_ok}
+use Rattle.zst_replication.proofs.Results.{bound, ok_parts, plan_ok}
 use Rattle.zst_replication.proofs.Rows.{none_left, others_inserted}
 
 -- ---- the pools
@@ -189,15 +186,6 @@ batch_ended ask pool [] partial = refl
 batch_ended ask pool (c ∷ rest) partial = batch_ended ask pool rest partial
 
 -- ---- the commit
-
-pub commit_is : (pool next : Pool) → next_commit pool ≡ Ok next → next ≡ record pool { number = pool.number + 1 }
-commit_is pool next e =
-    let last : Result Pool Refusal = Ok (record pool { number = pool.number + 1 }) in
-    let a = unless_ok (nat_lt most_partials (length pool.partials)) (refusals.Limit quantities.Partials most_partials) _ next e in
-    let b = unless_ok (nat_lt most_datasets (count_datasets pool)) (refusals.Limit quantities.Datasets most_datasets) _ next a.1 in
-    let c = unless_ok (nat_lt most_snapshots (length pool.snapshots + length pool.partials)) (refusals.Limit quantities.Snapshots most_snapshots) _ next b.1 in
-    let d = unless_ok (nat_lt last_number (pool.number + 1)) (refusals.Limit quantities.Number last_number) last next c.1 in
-    sym (ok_parts _ _ d.1)
 
 module _ (ask : RecvAsk) (start : Pool) where
   -- what a receive has under way is the target's only partial state
