@@ -57,12 +57,18 @@ Works-after {more} {block} {old} {old_space} {old_failed} {mid} {less} {mid_fail
       cause = HasCause-then old.faults mid.faults new.faults stop first.cause.later second.cause;
     }
 
+-- after a call that only read, the free sectors fit the disk as before
+pub Looks-fits : {old : DiskState} {space : FreeSectors} {old_failed : Bool} {new : DiskState} {less : FreeSectors} {new_failed : Bool} {stop : Option BlockFault}
+    → FitsDisk old.size space → Looks old space old_failed new less new_failed stop → FitsDisk new.size less
+Looks-fits {old} {space} {old_failed} {new} {less} {new_failed} {stop} fits looks =
+    subst (λ (s : FreeSectors). FitsDisk new.size s) (sym looks.space) (subst (λ (n : ℕ). FitsDisk n space) (sym looks.reads.size) fits)
+
 module _ {most block : ℕ} {old : DiskState} {space : FreeSectors} {old_failed : Bool} {new : DiskState} {less : FreeSectors} {new_failed : Bool} {stop : Option BlockFault} where
   -- a call that only reads takes nothing
   pub Works-looks : FitsDisk old.size space → Looks old space old_failed new less new_failed stop → Works most block old space old_failed new less new_failed stop
   Works-looks fits looks = record {
     fills = subst (λ (s : FreeSectors). FillsFree old space new s) (sym looks.space) (FillsFree-reads old new space looks.reads);
-    fits = subst (λ (s : FreeSectors). FitsDisk new.size s) (sym looks.space) (subst (λ (n : ℕ). FitsDisk n space) (sym looks.reads.size) fits);
+    fits = Looks-fits fits looks;
     takes = subst (λ (s : FreeSectors). TakesAtMost most space s) (sym looks.space) (record { sectors = refl; left = omega arith; longest = omega arith; unbroken = λ none. none });
     full = λ need largest is. absurd (looks.never_full need largest is);
     failed = looks.failed;

@@ -193,6 +193,7 @@ pub fn write<D: Disk>(
     ensures follows { Follows (D.state io.old.disk.now).images io.old.space (D.state io.new.disk.now).images io.new.space }
     ensures takes { IfOk result (λ ptr. Takes io.old.space io.new.space ptr.sector (length bytes.now / 512)) }
     ensures after { length bytes.now / 512 ≤ largest_of io.old.space → io.new.space ≡ without io.old.space (length bytes.now / 512) }
+    ensures taken { OnOk result (io.new.space ≡ without io.old.space (length bytes.now / 512)) }
     ensures room { room io.old.space ≤ room io.new.space + length bytes.now / 512 }
     ensures kept_fit { FitsDisk (D.state io.new.disk.now).size io.new.space }
 
@@ -225,6 +226,7 @@ pub fn save<D: Disk>(io: &mut Io<'_, D>, level: u8, number: u64) -> Result<Ptr, 
     ensures long { length io.old.node ≡ 8192 }
 
     // Free sectors alone are written, 16 at most, and are then taken.
+    ensures after { OnOk result (io.new.space ≡ without io.old.space 16) }
     ensures works { Works 16 16 (D.state io.old.disk.now) io.old.space io.old.failed (D.state io.new.disk.now) io.new.space io.new.failed (stop_of result) }
     ensures never_damaged { (sector : ℕ) (stated found : List ℕ) → ¬ (result ≡ Err (BlockFault.Damaged sector stated found)) }
     ensures calls { (D.state io.new.disk.now).calls ≤ (D.state io.old.disk.now).calls + 1 }
@@ -264,6 +266,7 @@ fn write_block<D: Disk>(
     ensures follows { Follows (D.state disk.old).images space.old (D.state disk.new).images space.new }
     ensures takes { IfOk result (λ ptr. Takes space.old space.new ptr.sector (length bytes.now / 512)) }
     ensures after { length bytes.now / 512 ≤ largest_of space.old → space.new ≡ without space.old (length bytes.now / 512) }
+    ensures taken { OnOk result (space.new ≡ without space.old (length bytes.now / 512)) }
     ensures room { room space.old ≤ room space.new + length bytes.now / 512 }
     ensures kept_fit { FitsDisk (D.state disk.new).size space.new }
 

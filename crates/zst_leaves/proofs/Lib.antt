@@ -1,3 +1,4 @@
+pub mod TakenBlocks
 pub mod Span
 pub mod KeptBlocks
 pub mod LevelCounts

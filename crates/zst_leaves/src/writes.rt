@@ -1,6 +1,7 @@
 // A text is written into leaves.
 ghost use Rattle.std.specs.Prelude.{◌≡◌, ◌+◌, ◌*◌, ◌/◌, ◌^◌, ◌<◌, ◌≤◌, ℕ, List, IfOk, OnOk, length};
 ghost use Rattle.zst_space.specs.FreeSectors.{room};
+ghost use Rattle.zst_space.specs.TakenExtents.{without, without_blocks};
 ghost use Rattle.zst_block.specs.Blocks.{FitsDisk, Has};
 ghost use Rattle.zst_block.specs.IoCalls.{Works, stop_of};
 ghost use Rattle.zst_leaves.specs.Leaves.{HasLeaves, IsLeaf, IsOver, LeavesBelow, Numbered, blocks_for, bytes_below, leaves_for};
@@ -19,6 +20,7 @@ fn write_leaf<D: Disk>(io: &mut Io<'_, D>, bytes: &[u8], number: u64) -> Result<
     ensures leaf { IfOk result (λ ptr. IsLeaf (Numbered number (Has (D.state io.new.disk.now).seen io.new.space)) ptr bytes.now) }
     ensures works { Works 16 16 (D.state io.old.disk.now) io.old.space io.old.failed (D.state io.new.disk.now) io.new.space io.new.failed (stop_of result) }
     ensures takes { OnOk result (room io.new.space + 16 ≡ room io.old.space) }
+    ensures after { OnOk result (io.new.space ≡ without io.old.space 16) }
     ensures never_damaged { (sector : ℕ) (stated found : List ℕ) → ¬ (result ≡ Err (BlockFault.Damaged sector stated found)) }
     ensures calls { (D.state io.new.disk.now).calls ≤ (D.state io.old.disk.now).calls + 1 }
     ensures same { io.new.disk.ghost_name ≡ io.old.disk.ghost_name }
@@ -32,6 +34,7 @@ fn write_leaf<D: Disk>(io: &mut Io<'_, D>, bytes: &[u8], number: u64) -> Result<
 fn save_over<D: Disk>(io: &mut Io<'_, D>, level: u8, number: u64) -> Result<Ptr, BlockFault>
     requires fits { FitsDisk (D.state io.old.disk.now).size io.old.space }
     ensures over { IfOk result (λ ptr. IsOver (Numbered number (Has (D.state io.new.disk.now).seen io.new.space)) level ptr io.old.node) }
+    ensures after { OnOk result (io.new.space ≡ without io.old.space 16) }
     ensures works { Works 16 16 (D.state io.old.disk.now) io.old.space io.old.failed (D.state io.new.disk.now) io.new.space io.new.failed (stop_of result) }
     ensures never_damaged { (sector : ℕ) (stated found : List ℕ) → ¬ (result ≡ Err (BlockFault.Damaged sector stated found)) }
     ensures calls { (D.state io.new.disk.now).calls ≤ (D.state io.old.disk.now).calls + 1 }
@@ -53,6 +56,7 @@ fn write_below<D: Disk>(
     requires fits { FitsDisk (D.state io.old.disk.now).size io.old.space }
     ensures below { IfOk result (λ ptr. LeavesBelow (Numbered number (Has (D.state io.new.disk.now).seen io.new.space)) level ptr bytes.now) }
     ensures works { Works (16 * blocks_for level (length bytes.now)) 16 (D.state io.old.disk.now) io.old.space io.old.failed (D.state io.new.disk.now) io.new.space io.new.failed (stop_of result) }
+    ensures after { OnOk result (io.new.space ≡ without_blocks (blocks_for level (length bytes.now)) io.old.space) }
     ensures one_leaf { level ≡ 0 → 0 < length bytes.now → OnOk result (room io.new.space + 16 ≡ room io.old.space) }
     ensures never_damaged { (sector : ℕ) (stated found : List ℕ) → ¬ (result ≡ Err (BlockFault.Damaged sector stated found)) }
     ensures calls { (D.state io.new.disk.now).calls ≤ (D.state io.old.disk.now).calls + blocks_for level (length bytes.now) }
@@ -88,6 +92,8 @@ pub fn write_leaves<D: Disk>(
     ensures there { IfOk result (λ tree. HasLeaves (Has (D.state io.new.disk.now).seen io.new.space) tree.levels tree.root bytes.now) }
     ensures numbered { IfOk result (λ tree. HasLeaves (Numbered number (Has (D.state io.new.disk.now).seen io.new.space)) tree.levels tree.root bytes.now) }
     ensures past { IfOk result (λ tree. tree.past ≡ 0) }
+    // What is taken are so many blocks in turn.
+    ensures after { IfOk result (λ tree. io.new.space ≡ without_blocks (blocks_for tree.levels (length bytes.now)) io.old.space) }
 
     // Free sectors alone are written: 16 for each leaf and for each node above.
     ensures works { Works (16 * (leaves_for (length bytes.now) + leaves_for (length bytes.now) / 127 + 3)) 16 (D.state io.old.disk.now) io.old.space io.old.failed (D.state io.new.disk.now) io.new.space io.new.failed (stop_of result) }

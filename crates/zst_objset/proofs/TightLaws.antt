@@ -50,7 +50,7 @@ module _ (has : Blocks) where
       let place = find (span level) base j 128 from under in
       Subtree-lawful level (child node.0 place.0) (base + place.0 * span level) map (node.2 place.0 place.1) j place.2 place.3
 
-  TreeIs-lawful : (tree : Tree) (map : Map) → TreeIs has tree map → (j : ℕ) → j < 2 ^ 44 → is_lawful (map j) ≡ true
+  pub TreeIs-lawful : (tree : Tree) (map : Map) → TreeIs has tree map → (j : ℕ) → j < 2 ^ 44 → is_lawful (map j) ≡ true
   TreeIs-lawful tree map is j less = go (nat_lt j (span tree.levels)) refl
     where
       go : (b : Bool) → nat_lt j (span tree.levels) ≡ b → is_lawful (map j) ≡ true
@@ -66,7 +66,7 @@ both_true false b c is = absurd (cc)
 hole_sector : (ptr : Ptr) → ptr.kind ≡ 0 → is_lawful ptr ≡ true → ptr.sector ≡ 0
 hole_sector ptr kind lawful = let test : (ptr.sector == 0) ≡ true = both_true _ _ _ (rw kind at lawful) in grind (arith, nat_tests)
 
-no_block : (image : List ℕ) (space : FreeSectors) (ptr : Ptr) (bytes : List ℕ) → ptr.kind ≡ 0 → is_lawful ptr ≡ true → ¬ Has image space ptr bytes
+pub no_block : (image : List ℕ) (space : FreeSectors) (ptr : Ptr) (bytes : List ℕ) → ptr.kind ≡ 0 → is_lawful ptr ≡ true → ¬ Has image space ptr bytes
 no_block image space ptr bytes kind lawful = λ has. omega (arith, hole_sector ptr kind lawful, has.behind)
 
 -- the slots that a block spells are what it spells

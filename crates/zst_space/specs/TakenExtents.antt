@@ -1,5 +1,5 @@
 -- An extent is taken from the sectors that are free.
-use Rattle.std.specs.Prelude.{◌≡◌, ◌⊎◌, ℕ, ◌+◌, ◌-◌, ◌==◌, ◌≤◌, nat_le, if◌then◌else◌, List, [], ◌∷◌, ◌++◌}
+use Rattle.std.specs.Prelude.{◌≡◌, ◌⊎◌, ℕ, zero, suc, ◌+◌, ◌-◌, ◌==◌, ◌≤◌, nat_le, if◌then◌else◌, List, [], ◌∷◌, ◌++◌}
 use Rattle.zst_space.specs.FreeSectors.{FreeSectors, IsWithin, IsFree, room}
 use Rattle.zst_space.specs.declared.space.Extent.{Extent}
 
@@ -37,6 +37,11 @@ without space count = record {
   sectors = space.sectors;
   free = extents_without space.free count;
 }
+
+-- what is free once so many blocks of a tree, of 16 sectors each, are taken in turn
+unfoldable pub without_blocks : ℕ → FreeSectors → FreeSectors
+without_blocks zero space = space
+without_blocks (suc count) space = without (without_blocks count space) 16
 
 -- An extent was free and isn't free any more, and all other sectors are as before.
 pub record Takes (old new : FreeSectors) (first count : ℕ) : Type 0 where

@@ -1,6 +1,7 @@
 ghost use Rattle.std.specs.Prelude.{◌≡◌};
 ghost use Rattle.zst_space.specs.FreeSectors.{greatest};
 
+use std::alloc::{AllocError, Global};
 use std::marker::Model;
 
 /// Sectors in a row.
@@ -56,6 +57,26 @@ impl Space {
         ensures { result ≡ self.now.end }
     {
         self.end
+    }
+
+    /// The free extents below the end.
+    pub fn extents(&self) -> &[Extent]
+        ensures { result.now ≡ self.now.free }
+    {
+        &self.free
+    }
+
+    /// The same sectors, once more.
+    pub fn copy(&self, alloc: Global) -> Result<Space, AllocError>
+        ensures { IfOk result (λ space. space ≡ self.now) }
+    {
+        let mut free = Vec::new(alloc);
+        free.extend_from_slice(&self.free)?;
+        Ok(Space {
+            end: self.end,
+            sectors: self.sectors,
+            free,
+        })
     }
 
     /// How many sectors in a row are free at most, in an extent or from `end` on.

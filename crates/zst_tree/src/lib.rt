@@ -16,7 +16,7 @@ mod words;
 mod writes;
 
 pub use leaf_puts::Leaf;
-pub use nodes::child_at;
+pub use nodes::{child_at, load_node};
 pub use puts::put_child;
 pub use spans::{INDEX_BOUND, span_of};
 pub use steps::{Steps, tick};

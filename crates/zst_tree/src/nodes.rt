@@ -23,9 +23,9 @@ pub fn child_at(node: &Node, k: usize) -> Ptr
     node.child(k)
 }
 
-// Reads the node that a pointer at a level names. One whose pointer has another kind, level or
-// length is damaged, with both sums alike.
-pub(crate) fn load_node<D: Disk>(io: &mut Io<'_, D>, level: u8, ptr: Ptr) -> Result<(), BlockFault>
+/// Reads the node that a pointer at a level names. One whose pointer has another kind, level or
+/// length is damaged, with both sums alike.
+pub fn load_node<D: Disk>(io: &mut Io<'_, D>, level: u8, ptr: Ptr) -> Result<(), BlockFault>
     requires fits { FitsDisk (D.state io.old.disk.now).size io.old.space }
     ensures block { (D.state io.new.disk.now).honest → OnOk result (IsBlock (D.state io.old.disk.now).seen ptr io.new.node) }
     ensures there { (bytes : List ℕ) → (D.state io.new.disk.now).honest → IsNode (Has (D.state io.old.disk.now).seen io.old.space) level ptr bytes → GivesBlock bytes io.new.node result }

@@ -1,9 +1,11 @@
-use Rattle.std.proofs.Common.{rules, ◌≡◌, ◌+◌, ◌-◌, length, ap, arith}
-use Rattle.std.proofs.lemmas.Result.{IfOk-weaker, err_from_is_err_and}
+use Rattle.std.proofs.Common.{rules, ◌≡◌, ◌∙◌, ◌+◌, ◌-◌, ℕ, length, refl, sym, ap, arith}
+use Rattle.std.proofs.lemmas.Result.{IfOk-weaker, on_ok_weaker, err_from_is_err_and}
 use Rattle.zst_block.proofs.IoCallLemmas.{Works-then, Works-more}
-use Rattle.zst_leaves.specs.Leaves.{bytes_below}
+use Rattle.zst_leaves.specs.Leaves.{blocks_for, bytes_below}
+use Rattle.zst_space.specs.TakenExtents.{without_blocks}
+use Rattle.zst_leaves.proofs.TakenBlocks.{blocks_last, blocks_none_taken, blocks_then, one_block}
 use Rattle.zst_leaves.proofs.KeptBlocks.{kept_works}
-use Rattle.zst_leaves.proofs.BlockCounts.{blocks_before, blocks_bottom, blocks_over, first_blocks, next_blocks}
+use Rattle.zst_leaves.proofs.BlockCounts.{before_none, blocks_before, blocks_bottom, blocks_none, blocks_over, first_blocks, next_blocks}
 use Rattle.zst_leaves.proofs.LevelCounts.{leaf_room}
 use Rattle.zst_leaves.proofs.LeavesLaws.{LeavesBelow-grows, child_more, hole_below, leaf_below, numbered_kept, over_below}
 use Rattle.zst_leaves.proofs.writes.+write_below.Goals as goal
@@ -49,6 +51,7 @@ loop-k-preserved g t c =
       children = child_more _ _ (numbered_kept c.args.number _ _ _ _ (kept_works _ _ _ _ _ _ _ _ _ c.in_ok-child.ensures.works)) (c.args.level - 1) (bytes_below (c.args.level - 1)) c.args.bytes.now c.loop-k.node c.put_child.new.node c.loop-k.k c.in_ok-child.child
           (omega arith) c.put_child.ensures.puts c.loop-k.invariant.children (rw c.part_of.ensures.part at c.in_ok-child.ensures.below);
       works = Works-more (omega (arith, more)) (Works-then c.loop-k.invariant.works c.in_ok-child.ensures.works);
+      after = blocks_then _ _ _ _ _ c.loop-k.invariant.after c.in_ok-child.ensures.after ∙ ap (λ (n : ℕ). without_blocks n c.args.io.now.space) more;
       calls = omega (arith, more, c.loop-k.invariant.calls, c.in_ok-child.ensures.calls);
       same = search rules;
     }
@@ -72,3 +75,28 @@ returns-clause-calls g t c =
     let whole : c.loop-k.k ≡ 128 = omega arith in
     let first : blocks_before (c.args.level - 1) (length c.args.bytes.now) c.loop-k.k ≡ blocks_before (c.args.level - 1) (length c.args.bytes.now) 128 = ap (blocks_before (c.args.level - 1) (length c.args.bytes.now)) whole in
     omega (arith, all, first, c.loop-k.invariant.calls, c.save_over.ensures.calls)
+
+pub returns-then-is_empty-clause-after : goal.returns-then-is_empty-clause-after
+returns-then-is_empty-clause-after g t c =
+    let none : length c.args.bytes.now ≡ 0 = search rules in
+    sym (blocks_none_taken c.args.io.now.space) ∙ ap (λ (n : ℕ). without_blocks n c.args.io.now.space) (sym (ap (blocks_for c.args.level) none ∙ blocks_none c.args.level))
+
+pub returns-then-level-eq0-clause-after : goal.returns-then-level-eq0-clause-after
+returns-then-level-eq0-clause-after g t c =
+    on_ok_weaker c.write_leaf.result (λ after. one_block (blocks_for c.args.level (length c.args.bytes.now)) _ _ after (blocks_bottom c.args.level (length c.args.bytes.now) (omega arith) (search rules))) c.write_leaf.ensures.after
+
+pub loop-k-init : goal.loop-k-init
+loop-k-init g t c = record {
+  children = λ j none. absurd (omega arith);
+  works = search rules;
+  after = sym (blocks_none_taken c.args.io.now.space) ∙ ap (λ (n : ℕ). without_blocks n c.args.io.now.space) (sym (before_none (c.args.level - 1) (length c.args.bytes.now)));
+  calls = omega arith;
+  same = refl;
+}
+
+pub returns-clause-after : goal.returns-clause-after
+returns-clause-after g t c =
+    let whole : c.loop-k.k ≡ 128 = omega arith in
+    let first : blocks_before (c.args.level - 1) (length c.args.bytes.now) c.loop-k.k ≡ blocks_before (c.args.level - 1) (length c.args.bytes.now) 128 = ap (blocks_before (c.args.level - 1) (length c.args.bytes.now)) whole in
+    let all = blocks_over c.args.level (length c.args.bytes.now) (omega arith) (search rules) in
+    on_ok_weaker c.save_over.result (λ after. blocks_last _ (blocks_for c.args.level (length c.args.bytes.now)) _ _ _ c.loop-k.invariant.after after (omega (arith, all, first))) c.save_over.ensures.after

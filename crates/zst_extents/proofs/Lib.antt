@@ -1,0 +1,4 @@
+pub mod Spelled
+pub mod FewerSectors
+pub mod Stored
+pub mod TakenWorks

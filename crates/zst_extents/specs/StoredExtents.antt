@@ -1,0 +1,24 @@
+-- The free extents of a pool, as they stand in the leaves of a tree: 512 in each.
+use Rattle.std.specs.Prelude.{◌≡◌, ℕ, zero, suc, ◌+◌, ◌*◌, ◌/◌, ◌<◌, List, [], ◌∷◌, ◌++◌, length}
+use Rattle.zst_bytes.specs.Words.{word}
+use Rattle.zst_space.specs.declared.space.Extent.{Extent}
+use Rattle.zst_block.specs.Ptr.{hole_of}
+use Rattle.zst_block.specs.declared.ptr.Ptr.{Ptr}
+use Rattle.zst_tree.specs.Indices.{Blocks}
+use Rattle.zst_leaves.specs.Leaves.{HasLeaves, leaves_for}
+
+-- each extent as two words: its first sector, and how many sectors it has
+unfoldable pub extent_bytes : List Extent → List ℕ
+extent_bytes [] = []
+extent_bytes (extent ∷ extents) = word extent.first ++ (word extent.count ++ extent_bytes extents)
+
+-- so many extents stand in the leaves of a tree; where there are none, there is a hole
+pub record HasExtents (has : Blocks) (levels : ℕ) (root : Ptr) (count : ℕ) (extents : List Extent) : Type 0 where
+  pub count_is : length extents ≡ count
+  pub none : count ≡ 0 → (levels ≡ 0) × (root ≡ hole_of 0)
+  pub leaves : 0 < count → HasLeaves has levels root (extent_bytes extents)
+
+-- so many blocks so many extents take at most
+abbrev pub extent_blocks : ℕ → ℕ
+extent_blocks zero = 0
+extent_blocks (suc count) = leaves_for (16 * suc count) + leaves_for (16 * suc count) / 127 + 3

@@ -1,0 +1,105 @@
+// The extents that are left once they stand in leaves are written.
+ghost use Rattle.std.specs.Prelude.{◌≡◌, ◌+◌, ◌*◌, ◌/◌, ◌^◌, ◌<◌, ℕ, IfErr, IfOk, OnOk, length};
+ghost use Rattle.zst_space.specs.FreeSectors.{IsFree, IsSpaceFrom};
+ghost use Rattle.zst_space.specs.TakenExtents.{without_blocks};
+ghost use Rattle.zst_block.specs.Blocks.{FitsDisk, Has};
+ghost use Rattle.zst_block.specs.IoCalls.{IsFull, TakesAtMost, Works};
+ghost use Rattle.zst_leaves.specs.Leaves.{Numbered, TellsNone, stop_of_leaves};
+ghost use Rattle.zst_extents.specs.StoredExtents.{HasExtents, extent_blocks};
+
+use crate::spelling::spell;
+use std::alloc::Global;
+use zst_block::{BlockFault, Io, Ptr};
+use zst_leaves::{LeavesFault, write_leaves};
+use zst_outside::Disk;
+use zst_space::{Space, SpaceFault};
+
+/// Where free extents stand.
+#[derive(Clone, Copy, Debug, PartialEq, Eq)]
+pub struct StoredExtents {
+    /// How many levels of nodes stand above the leaves.
+    pub levels: u8,
+    /// The root of their tree.
+    pub root: Ptr,
+    /// How many they are.
+    pub count: u64,
+}
+
+// So many blocks so many extents take at most.
+fn blocks_for(count: usize) -> u64
+    requires { count < 2 ^ 59 }
+    ensures { result ≡ extent_blocks count }
+{
+    if count == 0 {
+        return 0;
+    }
+    let leaves = (16 * count as u64 + 8191) / 8192;
+    leaves + leaves / 127 + 3
+}
+
+// Takes so many blocks of a tree in turn.
+fn take_blocks(space: &mut Space, blocks: u64) -> Result<(), SpaceFault>
+    requires { IsSpaceFrom 8 space.old }
+    ensures after { OnOk result (space.new ≡ without_blocks blocks space.old) }
+    ensures takes { TakesAtMost (16 * blocks) space.old space.new }
+    ensures fewer { (sector : ℕ) → IsFree space.new sector → IsFree space.old sector }
+    ensures full { IfErr result (λ full. IsFull (16 * blocks) 16 space.old space.new full.need full.largest) }
+    ensures kept { IsSpaceFrom 8 space.new }
+{
+    for k in 0..blocks {
+        match space.take(16) {
+            Ok(_) => {}
+            Err(full) => return Err(full),
+        }
+    }
+    Ok(())
+}
+
+/// Writes the free extents that are left once they are written themselves, and leaves them free.
+///
+/// Their blocks are taken in turn, as many as the extents before may need. One of these that isn't
+/// written is neither free nor reached.
+pub fn write_extents<D: Disk>(
+    io: &mut Io<'_, D>,
+    alloc: Global,
+    number: u64,
+) -> Result<StoredExtents, LeavesFault>
+    requires fits { FitsDisk (D.state io.old.disk.now).size io.old.space }
+    requires few { length io.old.space.free < 2 ^ 30 }
+
+    // What stands there afterwards, by pointers with the number, are the extents that are left once so
+    // many blocks were taken in turn.
+    ensures there { IfOk result (λ stored. HasExtents (Numbered number (Has (D.state io.new.disk.now).seen io.new.space)) stored.levels stored.root stored.count io.new.space.free) }
+    ensures after { OnOk result (io.new.space ≡ without_blocks (extent_blocks (length io.old.space.free)) io.old.space) }
+    // Free sectors alone are written: those of these blocks.
+    ensures works { Works (16 * extent_blocks (length io.old.space.free)) 16 (D.state io.old.disk.now) io.old.space io.old.failed (D.state io.new.disk.now) io.new.space io.new.failed (stop_of_leaves result) }
+    ensures never_damaged { TellsNone result }
+    ensures same { io.new.disk.ghost_name ≡ io.old.disk.ghost_name }
+{
+    let blocks = blocks_for(io.space.extents().len());
+    let mut left = io.space.copy(alloc)?;
+    match take_blocks(&mut left, blocks) {
+        Ok(()) => {}
+        Err(full) => {
+            io.space = left;
+            return Err(LeavesFault::Block(BlockFault::from(full)));
+        }
+    }
+    let bytes = spell(alloc, left.extents())?;
+    let count = left.extents().len() as u64;
+    if bytes.is_empty() {
+        io.space = left;
+        return Ok(StoredExtents {
+            levels: 0,
+            root: Ptr::hole(0),
+            count,
+        });
+    }
+    let tree = write_leaves(io, &bytes, number)?;
+    io.space = left;
+    Ok(StoredExtents {
+        levels: tree.levels,
+        root: tree.root,
+        count,
+    })
+}

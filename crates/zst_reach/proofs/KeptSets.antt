@@ -1,0 +1,211 @@
+-- What a set holds it holds over all free sectors that it doesn't reach.
+use Rattle.std.specs.Prelude.{Option, Some, None}
+use Rattle.std.proofs.Common.{◌≡◌, inl, inr, ℕ, zero, suc, ◌+◌, ◌-◌, ◌*◌, ◌/◌, ◌^◌, ◌<◌, ◌≤◌, Bool, true, false, List, refl, sym, ◌∙◌, ap, subst, arith, if◌then◌else◌}
+use Rattle.std.proofs.lemmas.Bool.{cases_lt, false≢true}
+use Rattle.std.proofs.lemmas.Nat.{div-add-mod', mod_below}
+use Rattle.zst_space.specs.FreeSectors.{FreeSectors, IsFree}
+use Rattle.zst_block.specs.Blocks.{Has, IsBlock}
+use Rattle.zst_block.specs.Ptr.{is_flat, is_lawful}
+use Rattle.zst_block.specs.declared.ptr.Ptr.{Ptr}
+use Rattle.zst_dnode.specs.declared.dnode.Dnode.{Dnode}
+use Rattle.zst_dnode.specs.declared.slot.Slot.{Slot}
+use Rattle.zst_dnode.specs.declared.slot.Slot.TheVariants.{Absent, There}
+use Rattle.zst_model.specs.states.State.{Block, Hole, Redacted, Data, Object, index_bound}
+use Rattle.zst_model.specs.states.DatedState.{DatedState}
+use Rattle.zst_tree.specs.Damage.{HangsBelow}
+use Rattle.zst_tree.specs.Indices.{Map, Subtree, TreeIs, child, span}
+use Rattle.zst_tree.specs.declared.tree.Tree.{Tree}
+use Rattle.zst_tree.specs.declared.tree.ObjSet.{ObjSet}
+use Rattle.zst_tree.proofs.Span.{span-pos, span-suc, span_zero}
+use Rattle.zst_tree.proofs.SubtreeCases.{flat_kind, node_flat}
+use Rattle.zst_objset.specs.Damage.{HasSlot}
+use Rattle.zst_objset.specs.Dnodes.{BlockIs, ObjectIs, SlotIs, SpillIs, tree_of}
+use Rattle.zst_objset.specs.Sets.{LeafIs, SetHolds}
+use Rattle.zst_objset.specs.TightSets.{SetIsTight}
+use Rattle.zst_objset.proofs.TightLaws.{SetIsTight-of, TreeIs-lawful, no_block}
+use Rattle.zst_reach.specs.Reached.{IsOf, ReachesBlock, ReachesSector}
+use Rattle.zst_reach.specs.ReachedSets.{ReachesInDnode, ReachesInSet}
+use Rattle.zst_reach.proofs.ReachedLaws.{reach_child, reach_here}
+
+small_index : (i : ℕ) → i < index_bound → i < 2 ^ 44
+unfolding index_bound
+small_index i less = let bound : index_bound ≡ 2 ^ 43 = refl in omega (arith, less, bound)
+
+-- the child below which an index stands
+record Child (width base index : ℕ) : Type 0 where
+  pub k : ℕ
+  pub less : k < 128
+  pub low : base + k * width ≤ index
+  pub high : index < base + k * width + width
+
+child_of : (width base index : ℕ) → 0 < width → base ≤ index → index < base + 128 * width → Child width base index
+child_of width base index pos from under =
+    let offset = index - base in
+    let parts = div-add-mod' offset width in
+    let rest = mod_below offset width pos in
+    let few : offset < 128 * width = omega (arith, from, under) in
+    record {
+      k = offset / width;
+      less = grind (arith, parts, few, pos);
+      low = omega (arith, parts, from);
+      high = omega (arith, parts, rest, from);
+    }
+
+module _ (image : List ℕ) (space more : FreeSectors) where
+  -- none of the sectors that are reached so is free
+  abbrev NoneFree : (ℕ → Type 0) → Type 0
+  NoneFree reached = (sector : ℕ) → reached sector → IsFree more sector → ⊥
+
+  -- a block is there of whose sectors none is free
+  pub Has-kept : (ptr : Ptr) (bytes : List ℕ) → Has image space ptr bytes → ((sector : ℕ) → IsOf ptr sector → IsFree more sector → ⊥) → Has image more ptr bytes
+  Has-kept ptr bytes has none = record {
+    block = has.block;
+    behind = has.behind;
+    taken = λ byte starts ends free. none (byte / 512) (omega (arith, starts), omega (arith, ends)) free;
+  }
+
+  abbrev BelowNone : ℕ → Ptr → Type 0
+  BelowNone level ptr = NoneFree (ReachesSector (IsBlock image) level ptr)
+
+  pub Subtree-kept : (level : ℕ) (ptr : Ptr) (base : ℕ) (map : Map) → Subtree (Has image space) level ptr base map → ((sector : ℕ) → ReachesSector (IsBlock image) level ptr sector → IsFree more sector → ⊥) → Subtree (Has image more) level ptr base map
+  unfolding Subtree
+  Subtree-kept zero ptr base map is none = is
+  Subtree-kept (suc level) ptr base map (inl flat) none = inl flat
+  Subtree-kept (suc level) ptr base map (inr (bytes, node, below)) none =
+      let inner = node_flat (Has image space) (suc level) ptr bytes node in
+      let same : suc level - 1 ≡ level = omega arith in
+      inr (
+        bytes,
+        record { there = Has-kept ptr bytes node.there (λ sector is. none sector (reach_here (IsBlock image) (suc level) ptr sector inner is)); pointers = node.pointers; level_is = node.level_is; kind_is = node.kind_is; number_is = node.number_is },
+        λ k less. Subtree-kept level (child bytes k) (base + k * span level) map (below k less)
+            (λ sector reached. none sector (reach_child (IsBlock image) (suc level) ptr bytes k sector (omega arith) inner node.there.block less (rw same reached))),
+      )
+
+  pub TreeIs-kept : (tree : Tree) (map : Map) → TreeIs (Has image space) tree map → ((sector : ℕ) → ReachesSector (IsBlock image) tree.levels tree.root sector → IsFree more sector → ⊥) → TreeIs (Has image more) tree map
+  TreeIs-kept tree map is none = record {
+    whole = is.whole;
+    stands = record { below = Subtree-kept tree.levels tree.root 0 is.whole is.stands.below none; past = is.stands.past };
+    agrees = is.agrees;
+  }
+
+  -- the leaf of an index, where it isn't flat, is reached, and hangs below
+  record Leaf (level : ℕ) (ptr leaf : Ptr) : Type 0 where
+    pub reached : ReachesBlock (IsBlock image) level ptr leaf
+    pub hangs : HangsBelow (IsBlock image) level ptr leaf
+
+  leaf_reached : (level : ℕ) (ptr : Ptr) (base : ℕ) (map : Map) (index : ℕ) → Subtree (Has image space) level ptr base map → base ≤ index → index < base + span level → is_flat (map index) ≡ false → Leaf level ptr (map index)
+  unfolding Subtree ReachesBlock HangsBelow
+  leaf_reached zero ptr base map index is from under some =
+      let here : index ≡ base = omega (arith, from, under, span_zero) in
+      let same : map index ≡ ptr = ap map here ∙ is.1 in
+      record { reached = (subst (λ (p : Ptr). is_flat p ≡ false) same some, same); hangs = same }
+  leaf_reached (suc level) ptr base map index (inl flat) from under some =
+      absurd (false≢true (sym some ∙ ap is_flat (flat.2.is index from under) ∙ flat.1))
+  leaf_reached (suc level) ptr base map index (inr (bytes, node, below)) from under some =
+      let inner = node_flat (Has image space) (suc level) ptr bytes node in
+      let at = child_of (span level) base index (span-pos level) from (rw (span-suc level) at under) in
+      let k = at.k in
+      let less = at.less in
+      let low = at.low in
+      let high = at.high in
+      let lower = leaf_reached level (child bytes k) (base + k * span level) map index (below k less) low high some in
+      record { reached = (inner, inr (bytes, node.there.block, k, less, lower.reached)); hangs = inr (inner, bytes, node.there.block, k, less, lower.hangs) }
+
+  -- in a tree
+  tree_leaf : (tree : Tree) (map : Map) (index : ℕ) → TreeIs (Has image space) tree map → index < 2 ^ 44 → is_flat (map index) ≡ false → Leaf tree.levels tree.root (map index)
+  tree_leaf tree map index is small some = elim (cases_lt index (span tree.levels)) [
+    | inl under ↦ rw (is.agrees index small) (leaf_reached tree.levels tree.root 0 is.whole index is.stands.below (omega arith) (omega (arith, under)) (subst (λ (p : Ptr). is_flat p ≡ false) (is.agrees index small) some))
+    | inr past ↦ absurd (false≢true (sym some ∙ ap is_flat (is.agrees index small ∙ is.stands.past index past)))
+  ]
+
+  kind_one : (ptr : Ptr) → ptr.kind ≡ 1 → is_flat ptr ≡ false
+  kind_one ptr is = rw is refl
+
+  block_kept : (tree : Tree) (map : Map) (index : ℕ) (block : Block) → TreeIs (Has image space) tree map → index < 2 ^ 44 → ((sector : ℕ) → ReachesSector (IsBlock image) tree.levels tree.root sector → IsFree more sector → ⊥)
+      → BlockIs (Has image space) (map index) block → BlockIs (Has image more) (map index) block
+  block_kept tree map index Hole is small none block = block
+  block_kept tree map index Redacted is small none block = block
+  block_kept tree map index (Data bytes) is small none block =
+      let leaf = tree_leaf tree map index is small (kind_one (map index) block.0) in
+      (block.0, Has-kept (map index) bytes block.1 (λ sector of. none sector (record { found = map index; reached = leaf.reached; is_of = of })))
+
+  spill_kept : (ptr : Ptr) (spill : Option (List ℕ)) → ((sector : ℕ) → ReachesSector (IsBlock image) 0 ptr sector → IsFree more sector → ⊥) → SpillIs (Has image space) ptr spill → SpillIs (Has image more) ptr spill
+  spill_kept ptr None none is = is
+  spill_kept ptr (Some bytes) none is = (is.0, Has-kept ptr bytes is.1 (λ sector of. none sector (reach_here (IsBlock image) 0 ptr sector (kind_one ptr is.0) of)))
+
+  object_kept : (dnode : Dnode) (object : Object) (date : ℕ) (dates : ℕ → ℕ) (map : Map) → ((sector : ℕ) → ReachesInDnode (IsBlock image) dnode sector → IsFree more sector → ⊥) → ObjectIs (Has image space) dnode object date dates map → ObjectIs (Has image more) dnode object date dates map
+  object_kept dnode object date dates map none is = record {
+    type_is = is.type_is;
+    bonus_type_is = is.bonus_type_is;
+    size_is = is.size_is;
+    bonus_is = is.bonus_is;
+    date_is = is.date_is;
+    end_is = is.end_is;
+    spill_is = spill_kept dnode.spill object.attr.spill (λ sector reached. none sector (inr reached)) is.spill_is;
+    tree = TreeIs-kept (tree_of dnode) map is.tree (λ sector reached. none sector (inl reached));
+    blocks = λ i less. block_kept (tree_of dnode) map i (object.blocks i) is.tree (small_index i less) (λ sector reached. none sector (inl reached)) (is.blocks i less);
+    index_dates = is.index_dates;
+  }
+
+  slot_kept : (snap : DatedState) (k : ℕ) (slot : Slot) → ((dnode : Dnode) → slot ≡ There dnode → (sector : ℕ) → ReachesInDnode (IsBlock image) dnode sector → IsFree more sector → ⊥) → SlotIs (Has image space) snap k slot → SlotIs (Has image more) snap k slot
+  slot_kept snap k (Absent date) none is = is
+  slot_kept snap k (There dnode) none is = record { object = is.object; there = is.there; map = is.map; is = object_kept dnode is.object (snap.number_date k) (snap.index_date k) is.map (none dnode refl) is.is }
+
+  leaf_flat : (ptr : Ptr) (there : Bool) → ptr.kind ≡ (if there then 3 else 4) → is_flat ptr ≡ false
+  leaf_flat ptr true is = flat_kind ptr (inl is)
+  leaf_flat ptr false is = flat_kind ptr (inr is)
+
+  leaf_kept : (set : ObjSet) (snap : DatedState) (j : ℕ) (map : Map) → j < 2 ^ 44 → TreeIs (Has image space) set.tree map → ((sector : ℕ) → ReachesInSet (IsBlock image) set sector → IsFree more sector → ⊥) → LeafIs (Has image space) snap j (map j) → LeafIs (Has image more) snap j (map j)
+  leaf_kept set snap j map small tree none (inl hole) = inl hole
+  leaf_kept set snap j map small tree none (inr leaf) =
+      let some = leaf_flat (map j) _ leaf.names.kind in
+      let at = tree_leaf set.tree map j tree small some in
+      inr (record {
+        bytes = leaf.bytes;
+        slots = leaf.slots;
+        names = record {
+          there = Has-kept (map j) leaf.bytes leaf.names.there (λ sector of. none sector (inl (record { found = map j; reached = at.reached; is_of = of })));
+          kind = leaf.names.kind;
+          level = leaf.names.level;
+          number = leaf.names.number;
+          spells = leaf.names.spells;
+        };
+        slots_are = record {
+          numbers = λ s less number. slot_kept snap (16 * j + s) (leaf.slots s)
+              (λ dnode is sector reached. none sector (inr (record {
+                leaf = map j;
+                hangs = at.hangs;
+                some = some;
+                bytes = leaf.bytes;
+                there = leaf.names.there.block;
+                place = s;
+                under = less;
+                dnode = dnode;
+                slot = subst (λ (slot : Slot). HasSlot leaf.bytes s slot) is (record { fits = leaf.names.spells.fits s less; spelled = leaf.names.spells.spelled s less });
+                reached = reached;
+              }))) (leaf.slots_are.numbers s less number);
+          no_number = leaf.slots_are.no_number;
+        };
+      })
+
+  pub SetHolds-kept : (set : ObjSet) (snap : DatedState) → ((sector : ℕ) → ReachesInSet (IsBlock image) set sector → IsFree more sector → ⊥) → SetHolds (Has image space) set snap → SetHolds (Has image more) set snap
+  SetHolds-kept set snap none holds = record {
+    lawful = holds.lawful;
+    bounded = holds.bounded;
+    levels = holds.levels;
+    map = holds.map;
+    tree = TreeIs-kept set.tree holds.map holds.tree (λ sector reached. none sector (inl reached));
+    leaves = λ j less. leaf_kept set snap j holds.map less holds.tree none (holds.leaves j less);
+  }
+
+  -- and so it is with a tight set
+  pub SetIsTight-kept : (set : ObjSet) (snap : DatedState) → ((sector : ℕ) → ReachesInSet (IsBlock image) set sector → IsFree more sector → ⊥) → SetIsTight (Has image space) set snap → SetIsTight (Has image more) set snap
+  SetIsTight-kept set snap none tight =
+      let holds = tight.holds in
+      SetIsTight-of image more set snap holds.map (SetHolds-kept set snap none holds) (TreeIs-kept set.tree holds.map holds.tree (λ sector reached. none sector (inl reached)))
+      (λ j less bytes held there spells s small. tight.tight j less bytes held (there_before j less (holds.leaves j less) (TreeIs-lawful (Has image space) set.tree holds.map holds.tree j less) bytes there) spells s small)
+    where
+      there_before : (j : ℕ) → j < 2 ^ 44 → LeafIs (Has image space) snap j (tight.holds.map j) → is_lawful (tight.holds.map j) ≡ true → (bytes : List ℕ) → Has image more (tight.holds.map j) bytes → Has image space (tight.holds.map j) bytes
+      there_before j less (inl hole) lawful bytes there = absurd (no_block image more (tight.holds.map j) bytes hole.kind lawful there)
+      there_before j less (inr leaf) lawful bytes there =
+          subst (λ (b : List ℕ). Has image space (tight.holds.map j) b) (sym leaf.names.there.block.bytes_are ∙ there.block.bytes_are) leaf.names.there

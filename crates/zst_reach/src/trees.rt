@@ -1,0 +1,111 @@
+// A tree is walked, beside one that was walked before.
+ghost use Rattle.std.specs.Prelude.{◌≡◌, ◌↔◌, ◌⊎◌, ◌-◌, ◌<◌, ◌≤◌, ℕ, List, false, IfOk, IsTrue, OnOk, length};
+ghost use Rattle.zst_block.specs.Blocks.{FitsDisk, Has, IsBlock};
+ghost use Rattle.zst_block.specs.IoCalls.{Looks, stop_of};
+ghost use Rattle.zst_block.specs.Ptr.{is_flat};
+ghost use Rattle.zst_marks.specs.Marks.{HasRoomFor, IsMarked, MarksMore};
+ghost use Rattle.zst_tree.specs.Damage.{IsSeen, NamesDamage, NamesNode};
+ghost use Rattle.zst_tree.specs.Indices.{Delivers, Map, Subtree};
+ghost use Rattle.zst_reach.specs.Reached.{AreMarked, IsBeside, ReachesSector};
+
+use crate::blocks::mark_block;
+use std::mem;
+use zst_block::{BlockFault, Io, Node, Ptr};
+use zst_marks::Marks;
+use zst_outside::Disk;
+use zst_tree::{child_at, load_node};
+
+// Reads the node of a tree that was walked before, where it stands at this level. What can't be read
+// there is passed over: it is told where it is walked.
+fn load_beside<D: Disk>(
+    io: &mut Io<'_, D>,
+    level: u8,
+    known_level: u8,
+    ptr: Ptr,
+) -> Result<Option<Node>, BlockFault>
+    requires fits { FitsDisk (D.state io.old.disk.now).size io.old.space }
+    ensures beside { (D.state io.new.disk.now).honest → IfOk result (IsBeside (D.state io.old.disk.now).seen level known_level ptr) }
+    ensures there { Delivers (λ done. Unit {0}) result }
+    ensures looks { Looks (D.state io.old.disk.now) io.old.space io.old.failed (D.state io.new.disk.now) io.new.space io.new.failed (stop_of result) }
+    ensures kept_fit { FitsDisk (D.state io.new.disk.now).size io.new.space }
+    ensures same { io.new.disk.ghost_name ≡ io.old.disk.ghost_name }
+{
+    if known_level != level || ptr.is_flat() {
+        return Ok(None);
+    }
+    match load_node(io, level, ptr) {
+        Ok(()) => Ok(Some(mem::replace(&mut io.node, Node::new()))),
+        Err(BlockFault::DiskFault) => Err(BlockFault::DiskFault),
+        Err(_) => Ok(None),
+    }
+}
+
+// What stands in the place of a child in a tree that was walked before, and at which level.
+fn child_beside(
+    beside: &Option<Node>,
+    level: u8,
+    known_level: u8,
+    known: Ptr,
+    k: usize,
+) -> (u8, Ptr)
+    requires level { 0 < level }
+    requires child { k < 128 }
+    ensures marked { (image marks : List ℕ) (end : ℕ) → IsBeside image level known_level known beside.now → AreMarked image end marks known_level known → AreMarked image end marks result.0 result.1 }
+{
+    if let Some(node) = beside {
+        return (level - 1, child_at(node, k));
+    }
+    if known_level < level && k == 0 {
+        return (known_level, known);
+    }
+    (0, Ptr::hole(0))
+}
+
+/// Marks the sectors of all blocks that are reached below a pointer at a level, before an end. What a
+/// tree that was walked before has in the same place is passed by.
+pub fn mark_below<D: Disk>(
+    io: &mut Io<'_, D>,
+    marks: &mut Marks,
+    end: u64,
+    level: u8,
+    ptr: Ptr,
+    known_level: u8,
+    known: Ptr,
+) -> Result<(), BlockFault>
+    requires room { HasRoomFor marks.old end }
+    requires fits { FitsDisk (D.state io.old.disk.now).size io.old.space }
+
+    // Where all below the known one was marked, all below this one is. Nothing else is marked than what
+    // is reached, and what was marked stays so.
+    ensures all { (D.state io.new.disk.now).honest → AreMarked (D.state io.old.disk.now).seen end marks.old known_level known → OnOk result (AreMarked (D.state io.old.disk.now).seen end marks.new level ptr) }
+    ensures only { (D.state io.new.disk.now).honest → (sector : ℕ) → IsMarked marks.new sector → IsMarked marks.old sector ⊎ ReachesSector (IsBlock (D.state io.old.disk.now).seen) level ptr sector }
+    ensures more { MarksMore marks.old marks.new }
+
+    // A tree that is there is walked, unless the disk fails, and what is damaged is a node of the tree.
+    ensures there { (base : ℕ) (map : Map) → (D.state io.new.disk.now).honest → Subtree (Has (D.state io.old.disk.now).seen io.old.space) level ptr base map → Delivers (λ done. Unit {0}) result }
+    ensures damaged { (D.state io.new.disk.now).honest → NamesDamage (IsSeen (D.state io.old.disk.now).seen) (D.state io.old.disk.now).size NamesNode level ptr result }
+
+    // What is shared isn't read again.
+    ensures shared { known_level ≡ level → known ≡ ptr → io.new ≡ io.old }
+    ensures looks { Looks (D.state io.old.disk.now) io.old.space io.old.failed (D.state io.new.disk.now) io.new.space io.new.failed (stop_of result) }
+    ensures same { io.new.disk.ghost_name ≡ io.old.disk.ghost_name }
+{
+    if ptr.is_flat() {
+        return Ok(());
+    }
+    if known_level == level && known == ptr {
+        return Ok(());
+    }
+    mark_block(marks, end, &ptr);
+    if level == 0 {
+        return Ok(());
+    }
+    load_node(io, level, ptr)?;
+    let node = mem::replace(&mut io.node, Node::new());
+    let beside = load_beside(io, level, known_level, known)?;
+    for k in 0..128 {
+        let (lower, under) = child_beside(&beside, level, known_level, known, k);
+        mark_below(io, marks, end, level - 1, child_at(&node, k), lower, under)?;
+    }
+    Ok(())
+}
