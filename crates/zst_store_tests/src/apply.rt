@@ -1,5 +1,6 @@
 //! Records applied to small sets: what each does, and what it is refused for.
 mod heads;
+mod runs;
 mod sets;
 
 use crate::apply::heads::{end, free, free_objects, put, redact, spill, write};

@@ -11,6 +11,10 @@ mod apply;
 #[cfg(test)]
 mod costs;
 #[cfg(test)]
+mod extents;
+#[cfg(test)]
 mod list;
+#[cfg(test)]
+mod reach;
 #[cfg(test)]
 mod traverse;

@@ -11,6 +11,8 @@ mod dnode;
 #[cfg(test)]
 mod fletcher;
 #[cfg(test)]
+mod marks;
+#[cfg(test)]
 mod model;
 #[cfg(test)]
 mod space;
