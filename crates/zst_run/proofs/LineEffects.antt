@@ -6,11 +6,12 @@ use Rattle.zst_line.specs.declared.line.Line.{Line}
 use Rattle.zst_line.specs.declared.line.Line.TheVariants.{Dump, Create, Step, Redact, Send, Resume, Receive, Token, Check, Gen, Reclaim, Replay}
 use Rattle.zst_run.specs.Devices.{Devices}
 use Rattle.zst_plan.specs.declared.receive.RecvAsk.{RecvAsk}
+use Rattle.zst_script.specs.Asks.{ask_of, receipt_of}
 use Rattle.zst_run.specs.LineEffects.{DoesLine, asked, told_of, wanted}
-use Rattle.zst_run.specs.Receives.{Receives, receipt_of}
+use Rattle.zst_run.specs.Receives.{Receives}
 use Rattle.zst_run.specs.declared.send.SendRequest.{SendRequest}
 use Rattle.zst_run.specs.declared.send.SendRequest.TheVariants.{Named, Rest}
-use Rattle.zst_run.specs.Sends.{Sends, ask_of}
+use Rattle.zst_run.specs.Sends.{Sends}
 use Rattle.zst_run.specs.Tokens.{Tokens}
 
 pub does_send : {D : Type 0} → (state : D → DiskState) (now : ℕ) (line : Line) (ask : SendRequest) (old new : Devices D) (result : Result (Unit {0}) Refusal) → asked line ≡ Some ask

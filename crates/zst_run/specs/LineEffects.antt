@@ -11,13 +11,14 @@ use Rattle.zst_line.specs.declared.line.Line.{Line}
 use Rattle.zst_line.specs.declared.line.Line.TheVariants.{Dump, Create, Step, Send, Resume, Receive, Token}
 use Rattle.zst_line.specs.declared.line.LineFault.{LineFault}
 use Rattle.zst_plan.specs.declared.receive.RecvAsk.{RecvAsk}
+use Rattle.zst_script.specs.Asks.{ask_of, receipt_of}
 use Rattle.zst_run.specs.Commands.{Creates, Steps}
 use Rattle.zst_run.specs.Devices.{Devices}
 use Rattle.zst_run.specs.Dumps.{Dumps}
-use Rattle.zst_run.specs.Receives.{IsTarget, Receives, receipt_of}
+use Rattle.zst_run.specs.Receives.{IsTarget, Receives}
 use Rattle.zst_run.specs.declared.send.SendRequest.{SendRequest}
 use Rattle.zst_run.specs.declared.send.SendRequest.TheVariants.{Named, Rest}
-use Rattle.zst_run.specs.Sends.{IsSource, Sends, ask_of}
+use Rattle.zst_run.specs.Sends.{IsSource, Sends}
 use Rattle.zst_run.specs.Tokens.{Tokens}
 
 -- a line whose values are in their ranges

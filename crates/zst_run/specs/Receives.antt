@@ -1,5 +1,5 @@
 -- What a receive reads, what it leaves of an image, and why it ends.
-use Rattle.std.specs.Prelude.{ℕ, ◌+◌, ◌-◌, ◌≡◌, ◌⊎◌, ◌<◌, ◌≤◌, Bool, IsTrue, IfErr, List, [], ◌∷◌, ◌++◌, length, take, codes, decimal, Option, Some, None, Result, Ok, Err}
+use Rattle.std.specs.Prelude.{ℕ, ◌+◌, ◌-◌, ◌≡◌, ◌⊎◌, ◌<◌, ◌≤◌, Bool, IsTrue, IfErr, List, [], ◌∷◌, ◌++◌, length, take, codes, decimal, None, Result, Ok, Err}
 use Rattle.std.specs.List.{concat}
 use Rattle.zst_outside.specs.Causes.{Rose}
 use Rattle.zst_outside.specs.Images.{DiskState, Leaves, OnlyReads}
@@ -8,7 +8,6 @@ use Rattle.zst_space.specs.FreeSectors.{FreeSectors}
 use Rattle.zst_block.specs.Blocks.{Has, KeepsBlocks, SparesTaken}
 use Rattle.zst_uber.specs.Slots.{latest}
 use Rattle.zst_uber.specs.declared.uber.Uber.{Uber}
-use Rattle.zst_names.specs.Names.{dataset_of}
 use Rattle.zst_model.specs.declared.refusals.faults.Quantity.TheVariants.{Stream}
 use Rattle.zst_model.specs.declared.refusals.subjects.Name.{Name}
 use Rattle.zst_model.specs.declared.refusals.subjects.Name.TheVariants as names
@@ -50,22 +49,6 @@ use Rattle.zst_run.specs.Replies.{Replied}
 abbrev pub IsTarget : Name → Type 0
 IsTarget (names.Bookmark name) = ⊥
 IsTarget name = Unit {0}
-
--- the dataset that the stream comes into
-abbrev pub target_of : Name → List ℕ
-target_of (names.Snapshot name) = dataset_of 64 name
-target_of (names.Dataset name) = name
-target_of (names.Bookmark name) = name
-
--- the snapshot's name, where one is asked for
-abbrev pub snapshot_of : Name → Option (List ℕ)
-snapshot_of (names.Snapshot name) = Some name
-snapshot_of (names.Dataset name) = None
-snapshot_of (names.Bookmark name) = None
-
--- what the words of a line ask for
-abbrev pub receipt_of : (keeps forces : Bool) → Option (List ℕ) → Name → RecvAsk
-receipt_of keeps forces origin target = record { target = target_of target; snap = snapshot_of target; keep = keeps; force = forces; origin = origin }
 
 -- ---- the pieces that are read
 

@@ -14,9 +14,6 @@ use Rattle.zst_model.specs.declared.refusals.plan_fault.PlanFault.{PlanFault}
 use Rattle.zst_model.specs.declared.refusals.plan_fault.PlanFault.TheVariants as plans
 use Rattle.zst_model.specs.declared.refusals.refusal.Refusal.{Refusal}
 use Rattle.zst_model.specs.declared.refusals.refusal.Refusal.TheVariants as refusals
-use Rattle.zst_model.specs.declared.sends.ask.FromName.{FromName}
-use Rattle.zst_model.specs.declared.sends.ask.FromName.TheVariants.{Snap, Book}
-use Rattle.zst_model.specs.declared.sends.ask.SendAsk.{SendAsk}
 use Rattle.zst_model.specs.declared.sends.header.Point.{Point}
 use Rattle.zst_model.specs.pools.Pool.{Pool}
 use Rattle.zst_model.specs.refusals.Refusal.{refusal_of}
@@ -49,17 +46,6 @@ use Rattle.zst_run.specs.Commands.{HasVersion, IsPoolRefusal, Opens}
 abbrev pub IsSource : Name → Type 0
 IsSource (names.Dataset name) = ⊥
 IsSource name = Unit {0}
-
--- what an increment is asked to be sent from
-abbrev pub source_of : Option Name → Option FromName
-source_of None = None
-source_of (Some (names.Snapshot name)) = Some (Snap name)
-source_of (Some (names.Bookmark name)) = Some (Book name)
-source_of (Some (names.Dataset name)) = None
-
--- what the names of a line ask for
-abbrev pub ask_of : Option Name → Option (List ℕ) → List ℕ → SendAsk
-ask_of from redacts snapshot = record { snap = snapshot; from = source_of from; redact = redacts }
 
 -- what a token asks for: E19 of one of a stream with large blocks comes before all look-ups
 abbrev pub rest_of : Token → Pool → Result Sent PlanFault

@@ -17,7 +17,8 @@ ghost use Rattle.zst_recv.specs.Faults.{stream_limit};
 ghost use Rattle.zst_recv.specs.ReceiveSteps.{Stage, left_by};
 ghost use Rattle.zst_recv.specs.Stages.{Receives as HasTaken, RecvFits, fed_of, is_live, received_by};
 ghost use Rattle.zst_dir.specs.Rows.{Rows};
-ghost use Rattle.zst_run.specs.Receives.{IsDamagedReceive, IsTarget, Receives, Receiving, SaysOfPlan, piece_size, receipt_of, snapshot_of, target_of};
+ghost use Rattle.zst_script.specs.Asks.{receipt_of, snapshot_of, target_of};
+ghost use Rattle.zst_run.specs.Receives.{IsDamagedReceive, IsTarget, Receives, Receiving, SaysOfPlan, piece_size};
 ghost use Rattle.zst_run.specs.Replies.{reply_text};
 ghost use Rattle.zst_run.specs.ReceiveTurns.{Fed, Fills, IsEnd, IsReady, PlansOn, TurnLeaves, TurnPlans, Turns, WaitsForMore, cut_refusal, line_of, told, turn_behind, HasHanded};
 
