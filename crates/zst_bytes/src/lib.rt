@@ -13,4 +13,3 @@ pub use fields::{le8, le32, le64, put_bytes, put8, put32, put64};
 pub use padding::pad8;
 pub use text::decimal;
 pub use words::{fill_up, push_text, push_word, push_words};
-

@@ -7,4 +7,3 @@ mod part;
 
 pub use counts::Counts;
 pub use line::{line_of, summary};
-

@@ -10,4 +10,3 @@ mod rows;
 pub use fault::ListFault;
 pub use objects::list_objects;
 pub use rows::list_rows;
-

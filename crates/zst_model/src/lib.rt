@@ -30,4 +30,3 @@ pub use sends::points::point_after;
 pub use states::attr::{Attr, ObjectHead};
 pub use states::cell::{Cell, Run};
 pub use states::item::{Change, Item};
-

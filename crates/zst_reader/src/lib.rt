@@ -15,4 +15,3 @@ pub const CAPACITY: usize = 393_216;
 
 /// The most bytes that a stream may have.
 pub const STREAM_LIMIT: u64 = 1 << 62;
-

@@ -41,4 +41,3 @@ pub const LONGEST_PAYLOAD: usize = 131_072;
 
 /// The bytes of BEGIN's longest payload: two full sets of guids.
 pub const LONGEST_BEGIN_PAYLOAD: usize = 296;
-

@@ -4,4 +4,3 @@
 mod space;
 
 pub use space::{Extent, Space, SpaceFault};
-
