@@ -39,10 +39,10 @@ fn what_a_refused_write_took_is_free_again(rt: HostRuntime) -> Result<(), TestRe
     steps_on(alloc, &mut disk, &lines)?;
     let kept = PoolState::open(alloc, &mut disk)?;
     let mut pool = Pool::new(alloc, &mut disk, kept);
-    for _ in 0..2u64 {
-        let write = command_of(alloc, "write here tank/a 1 2 01")?;
-        let answer = pool.step(alloc, NOW, write);
-        assert!(rt; is_full(&answer));
-    }
+    let line = "write here tank/a 1 2 01";
+    let first = pool.step(alloc, NOW, command_of(alloc, line)?);
+    assert!(rt; is_full(&first));
+    let second = pool.step(alloc, NOW, command_of(alloc, line)?);
+    assert!(rt; is_full(&second));
     Ok(())
 }

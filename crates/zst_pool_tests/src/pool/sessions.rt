@@ -1,6 +1,6 @@
 // A receive that isn't kept, beside commands on the pool that stays open.
-ghost use Rattle.std.specs.Prelude.{◌≡◌, IfOk, None};
-ghost use Rattle.zst_dir.specs.Rows.{IsPartialRow};
+ghost use Rattle.std.specs.Prelude.{◌≡◌, IfOk, None, OnOk};
+ghost use Rattle.zst_dir.specs.Rows.{HasSnapshot, IsPartialRow};
 ghost use Rattle.zst_model.specs.pools.Pool.{IsStated};
 
 use crate::pools::{NOW, check_line, command_of, rows_of, with_lines};
@@ -8,7 +8,7 @@ use crate::refusals::TestRefusal;
 use std::process::Abort;
 use zst_dir::{Dir, Partial};
 use zst_image::PoolState;
-use zst_model::{GuidSet, Header, NameText, PlanFault, Point};
+use zst_model::{GuidSet, Header, NameText, PlanFault, Point, Refusal};
 use zst_names::{DatasetName, SnapName};
 use zst_pool::Pool;
 use zst_tree::ObjSet;
@@ -54,6 +54,16 @@ fn begun(text: &str) -> Result<Partial, TestRefusal>
     })
 }
 
+// Refuses a name that a snapshot has.
+fn check_new(dir: &Dir, name: &SnapName) -> Result<(), TestRefusal>
+    ensures absent { OnOk result (HasSnapshot dir.now name.now → ⊥) }
+{
+    if dir.snapshot(name).is_some() {
+        return Err(TestRefusal(Refusal::Failed));
+    }
+    Ok(())
+}
+
 // Checks how many datasets and partial states a directory has.
 fn check_counts(rt: &impl Abort, dir: &Dir, datasets: usize, partials: usize) {
     assert_eq!(rt; dir.datasets().len(), datasets);
@@ -67,8 +77,7 @@ fn a_session_that_is_not_kept_runs_beside_commands(rt: HostRuntime) -> Result<()
     let kept = PoolState::open(alloc, &mut disk)?;
     let mut pool = Pool::new(alloc, &mut disk, kept);
     let partial = begun("tank/b@t")?;
-    let name = partial.snapshot_name();
-    assert!(rt; pool.kept.dir.snapshot(&name).is_none());
+    check_new(&pool.kept.dir, &partial.snapshot_name())?;
     assert_eq!(rt; pool.put_partial(alloc, partial, false)?, 3);
     check_counts(&rt, &pool.kept.dir, 1, 1);
 
