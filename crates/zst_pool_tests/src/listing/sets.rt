@@ -7,6 +7,7 @@ use std::alloc::{AllocError, Global};
 use zst_block::Io;
 use zst_listing::{ListFault, list_objects};
 use zst_model::{ObjectHead, Reply};
+use zst_objset::Objects;
 use zst_outside::{Disk, SureDisk};
 use zst_space::Space;
 use zst_tree::ObjSet;
