@@ -2,6 +2,7 @@ use Rattle.std.proofs.Common.{◌∙◌, sym, ap, is_some}
 use Rattle.zst_pool.proofs.CheckLemmas.{no_snapshot}
 use Rattle.zst_pool_tests.proofs.pool.sessions.check_new.Goals as goal
 
-pub returns-clause-absent : goal.returns-clause-absent
-returns-clause-absent c =
-    no_snapshot c.args.dir.now c.args.name.now (ap is_some (sym c.snapshot.ensures) ∙ sym c.is_some.ensures ∙ c.if-is_some.false)
+pub returns : goal.returns
+returns c = record {
+  absent = no_snapshot c.args.dir.now c.args.name.now (ap is_some (sym c.snapshot.ensures) ∙ sym c.is_some.ensures ∙ c.if-is_some.false);
+}
