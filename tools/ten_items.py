@@ -1,7 +1,7 @@
 #!/usr/bin/env python3
 """Writes a stream of ten items, and the text of its dump, to the two files that are named.
 
-It shares nothing with the crates: the tests of zst take the text, with its sums, from here.
+It shares nothing with the crates: the tests of zst_stream_tests take the text, with its sums, from here.
 use: ten_items.py STREAM TEXT
 """
 import struct
