@@ -1,5 +1,5 @@
 //! The free extents that a commit writes.
-ghost use Rattle.std.specs.Prelude.{◌≡◌, IfOk};
+ghost use Rattle.std.specs.Prelude.{◌≡◌, IfOk, length};
 ghost use Rattle.zst_block.specs.Blocks.{FitsDisk};
 
 use crate::zeros;
@@ -15,6 +15,7 @@ fn in_pieces<'d>(alloc: Global, disk: &'d mut SureDisk) -> Result<Io<'d, SureDis
     requires { (⟦<SureDisk as Disk>⟧.state disk.old).size ≡ 16777216 }
     ensures same { IfOk result (λ io. io.disk.ghost_name ≡ disk.entry.ghost_name) }
     ensures fits { IfOk result (λ io. FitsDisk (⟦<SureDisk as Disk>⟧.state io.disk.now).size io.space) }
+    ensures few { IfOk result (λ io. length io.space.free ≡ 2) }
 {
     let free = vec![in alloc;
         Extent {

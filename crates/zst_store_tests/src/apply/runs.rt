@@ -10,6 +10,7 @@ use zst_tree::ObjSet;
 // Blocks 126 and 127 are the last below one node, and block 127 was there. The run takes a sector
 // for each of the two, and 16 for the node above them and for the leaf of dnodes.
 #[test]
+#[tactic(auto, unfolding(zst_model::specs::states::State::is_block_size, zst_model::specs::states::State::largest_block, zst_model::specs::states::State::is_odd_size))]
 fn a_run_is_read_as_its_blocks(rt: HostRuntime) -> Result<(), AllocError> {
     let mut disk = zeros(rt.alloc())?;
     let mut io = all_free(rt.alloc(), &mut disk)?;
