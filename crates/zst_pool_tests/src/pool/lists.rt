@@ -47,16 +47,22 @@ fn with_list(name: BookName, tree: &Tree) -> Bookmark
 }
 
 #[test]
-fn lists_are_told_where_something_is_redacted(rt: HostRuntime) -> Result<(), TestRefusal> {
+fn a_plain_bookmark_has_no_list(rt: HostRuntime) -> Result<(), TestRefusal> {
     let alloc = rt.alloc();
     let mut disk = with_lines(alloc, &SMALL)?;
     step_on(alloc, &mut disk, "bookmark here tank/a@s tank/a#k")?;
     let kept = PoolState::open(alloc, &mut disk)?;
-    for row in kept.dir.bookmarks() {
-        assert_eq!(rt; (row.guid, row.number, row.time), (0x1_0000_0001, 5, NOW));
-    }
     let mut pool = Pool::new(alloc, &mut disk, kept);
     assert!(rt; pool.list_of(alloc, &bookmark("tank/a#k")?)?.is_none());
+    Ok(())
+}
+
+#[test]
+fn a_bookmark_that_is_not_there_is_told(rt: HostRuntime) -> Result<(), TestRefusal> {
+    let alloc = rt.alloc();
+    let mut disk = with_lines(alloc, &SMALL)?;
+    let kept = PoolState::open(alloc, &mut disk)?;
+    let mut pool = Pool::new(alloc, &mut disk, kept);
     match pool.list_of(alloc, &bookmark("tank/a#z")?) {
         Ok(_) => panic!(rt; "there is no such bookmark"),
         Err(fault) => assert_eq!(rt;
@@ -64,7 +70,12 @@ fn lists_are_told_where_something_is_redacted(rt: HostRuntime) -> Result<(), Tes
             "no such tank/a#z"
         ),
     }
+    Ok(())
+}
 
+#[test]
+fn a_list_is_told_where_something_is_redacted(rt: HostRuntime) -> Result<(), TestRefusal> {
+    let alloc = rt.alloc();
     let mut disk = with_lines(alloc, &SMALL)?;
     let kept = PoolState::open(alloc, &mut disk)?;
     let mut pool = Pool::new(alloc, &mut disk, kept);
