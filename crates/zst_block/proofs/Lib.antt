@@ -1,3 +1,4 @@
+pub mod Cached
 pub mod WrittenBlocks
 pub mod BlocksLaws
 pub mod PtrLaws

@@ -25,3 +25,10 @@ GivesBlock bytes read (Ok done) = read ≡ bytes
 GivesBlock bytes read (Err (Damaged sector stated found)) = ⊥
 GivesBlock bytes read (Err (Full need largest)) = ⊥
 GivesBlock bytes read (Err DiskFault) = Unit {0}
+
+-- what comes of comparing the sum of a block's bytes with the one that its pointer states
+abbrev pub Compares : Ptr → List ℕ → Result (Unit {0}) BlockFault → Type 0
+Compares ptr bytes (Ok done) = weight_sum bytes ≡ ptr.sum
+Compares ptr bytes (Err (Damaged sector stated found)) = (sector ≡ ptr.sector) × (stated ≡ parts_of ptr.sum) × (found ≡ parts_of (weight_sum bytes)) × (weight_sum bytes ≢ ptr.sum)
+Compares ptr bytes (Err (Full need largest)) = ⊥
+Compares ptr bytes (Err DiskFault) = ⊥

@@ -1,17 +1,20 @@
-ghost use Rattle.std.specs.Prelude.{◌≡◌, ◌↔◌, ◌+◌, ◌*◌, ◌/◌, ◌%◌, ◌^◌, ◌<◌, ◌≤◌, ◌||◌, ◌⊎◌, List, ℕ, false, length, IsTrue, OnOk, IfOk};
-ghost use Rattle.zst_fletcher.specs.WeightSum.{weight_sum, parts_of};
-ghost use Rattle.zst_outside.specs.Images.{OnlyReads, DiskState};
+ghost use Rattle.std.specs.Prelude.{◌≡◌, ◌↔◌, ◌+◌, ◌*◌, ◌/◌, ◌%◌, ◌^◌, ◌<◌, ◌≤◌, ◌||◌, ◌⊎◌, List, ℕ, false, length, IsTrue, OnOk, IfOk, IsErr, Contains, [], Ok};
+ghost use Rattle.zst_fletcher.specs.WeightSum.{weight_sum, parts_of, IsWhole};
+ghost use Rattle.zst_outside.specs.Images.{OnlyReads, DiskState, WritesIn};
+ghost use Rattle.zst_outside.specs.Ranges.{bytes_at};
 ghost use Rattle.zst_space.specs.FreeSectors.{room, largest_of};
 ghost use Rattle.zst_space.specs.TakenExtents.{Takes, place_of, without};
+ghost use Rattle.zst_block.specs.declared.ptr.Ptr.{Ptr as PlainPtr};
 ghost use Rattle.zst_block.specs.Faults.{HasDiskCause, is_disk_fault};
 ghost use Rattle.zst_block.specs.Blocks.{Has, IsBlock, IsPlaced, FitsDisk, FillsFree, KeepsBlocks, Follows};
-ghost use Rattle.zst_block.specs.ReadAnswers.{ReadAnswers, GivesBlock};
+ghost use Rattle.zst_block.specs.ReadAnswers.{ReadAnswers, GivesBlock, Compares};
 ghost use Rattle.zst_block.specs.IoCalls.{Looks, Works, TellsDamage, stop_of};
 
+use crate::cache::Cache;
 use crate::fault::BlockFault;
 use crate::node::Node;
 use crate::ptr::Ptr;
-use std::alloc::{AllocError, Global};
+use std::alloc::Global;
 use zst_fletcher::{Sum, sum_of};
 use zst_outside::{Disk, Fault};
 use zst_space::Space;
@@ -27,22 +30,28 @@ pub struct Io<'d, D: Disk> {
     pub failed: bool,
     /// The block of a tree that was loaded, or is to be saved.
     pub node: Node,
+    // Blocks of trees that were read or saved. Each is what a read of its sectors gives.
+    cache: Cache,
+    ghost told: { (D.state disk.now).honest → (sector : ℕ) (bytes : List ℕ) → Contains cache (sector, bytes) → bytes_at (D.state disk.now).seen (512 * sector) 8192 ≡ bytes },
+    // None stands in sectors 0 to 7, which a commit writes.
+    ghost behind: { (sector : ℕ) (bytes : List ℕ) → Contains cache (sector, bytes) → 8 ≤ sector },
 }
 
 impl<'d, D: Disk> Io<'d, D> {
-    /// A disk that hasn't failed, with its free sectors.
-    pub fn new(_alloc: Global, disk: &'d mut D, space: Space) -> Result<Io<'d, D>, AllocError>
-        ensures same { IfOk result (λ io. io.disk.ghost_name ≡ disk.entry.ghost_name) }
-        ensures disk { IfOk result (λ io. io.disk.now ≡ disk.old) }
-        ensures space { IfOk result (λ io. io.space ≡ space) }
-        ensures failed { IfOk result (λ io. io.failed ≡ false) }
+    /// A disk that hasn't failed, with its free sectors. No block of it is kept yet.
+    pub fn new(alloc: Global, disk: &'d mut D, space: Space) -> Io<'d, D>
+        ensures same { result.disk.ghost_name ≡ disk.entry.ghost_name }
+        ensures disk { result.disk.now ≡ disk.old }
+        ensures space { result.space ≡ space }
+        ensures failed { result.failed ≡ false }
     {
-        Ok(Io {
+        Io {
             disk,
             space,
             failed: false,
             node: Node::new(),
-        })
+            cache: Cache::new(alloc),
+        }
     }
 
     /// Gives the disk back.
@@ -110,9 +119,24 @@ pub fn load<D: Disk>(io: &mut Io<'_, D>, ptr: Ptr) -> Result<(), BlockFault>
     if ptr.length != 8192 {
         return Err(BlockFault::of_layout(&ptr));
     }
+    if is_kept(&mut io.cache, io.disk.bytes(), &ptr, &mut io.node) {
+        return compare(&ptr, io.node.as_slice());
+    }
     let outcome = io.node.read(io.disk, &ptr);
     mark(&mut io.failed, &outcome);
+    if outcome == Ok(()) && 8 <= ptr.sector {
+        io.cache.keep(ptr.sector, &io.node);
+    }
     outcome
+}
+
+// Whether the block that a pointer names in a disk of so many bytes is kept, and is then given.
+fn is_kept(cache: &mut Cache, size: u64, ptr: &Ptr, into: &mut Node) -> bool
+    ensures placed { IsTrue result → IsPlaced size ptr.now }
+    ensures given { IsTrue result → Contains cache.old (ptr.now.sector, into.new) }
+    ensures kept { (sector : ℕ) (bytes : List ℕ) → Contains cache.new (sector, bytes) → Contains cache.old (sector, bytes) }
+{
+    is_placed(size, ptr) && cache.give(ptr.sector, into)
 }
 
 // Marks a disk that fails.
@@ -143,7 +167,15 @@ pub(crate) fn read_block<D: Disk>(
         return Err(damaged(ptr, ptr.sum));
     }
     disk.read(512 * ptr.sector, into)?;
-    let found = sum_of(into);
+    compare(ptr, into)
+}
+
+// Compares the sum of a block's bytes with the one that its pointer states.
+fn compare(ptr: &Ptr, bytes: &[u8]) -> Result<(), BlockFault>
+    requires { IsWhole bytes.now }
+    ensures { Compares ptr.now bytes.now result }
+{
+    let found = sum_of(bytes);
     if found == ptr.sum {
         Ok(())
     } else {
@@ -210,7 +242,9 @@ pub fn write<D: Disk>(
     ensures node { io.new.node ≡ io.old.node }
     ensures same { io.new.disk.ghost_name ≡ io.old.disk.ghost_name }
 {
-    write_block(io.disk, &mut io.space, &mut io.failed, bytes, level, number)
+    let outcome = write_block(io.disk, &mut io.space, &mut io.failed, bytes, level, number);
+    forget_written(&mut io.cache, &outcome);
+    outcome
 }
 
 /// Writes the node into free sectors as a block of a tree, and gives the pointer that names it,
@@ -233,14 +267,38 @@ pub fn save<D: Disk>(io: &mut Io<'_, D>, level: u8, number: u64) -> Result<Ptr, 
     ensures node { io.new.node ≡ io.old.node }
     ensures same { io.new.disk.ghost_name ≡ io.old.disk.ghost_name }
 {
-    write_block(
+    let outcome = write_block(
         io.disk,
         &mut io.space,
         &mut io.failed,
         io.node.as_slice(),
         level,
         number,
-    )
+    );
+    forget_written(&mut io.cache, &outcome);
+    keep_saved(&mut io.cache, &outcome, &io.node);
+    outcome
+}
+
+// Forgets what is kept of the sectors of a block that was written, and all where none was.
+fn forget_written(cache: &mut Cache, outcome: &Result<Ptr, BlockFault>)
+    ensures kept { (sector : ℕ) (bytes : List ℕ) → Contains cache.new (sector, bytes) → Contains cache.old (sector, bytes) }
+    ensures apart { (sector : ℕ) (bytes : List ℕ) → Contains cache.new (sector, bytes) → IfOk outcome.now (λ ptr. (sector + 16 ≤ ptr.sector) ⊎ (ptr.sector + ptr.length / 512 ≤ sector)) }
+    ensures none { IsErr outcome.now → cache.new ≡ [] }
+{
+    match outcome {
+        Ok(ptr) => cache.forget(ptr.sector, u64::from(ptr.length) / 512),
+        Err(_) => cache.clear(),
+    }
+}
+
+// Keeps a node that was saved.
+fn keep_saved(cache: &mut Cache, outcome: &Result<Ptr, BlockFault>, node: &Node)
+    ensures { (sector : ℕ) (bytes : List ℕ) → Contains cache.new (sector, bytes) → Contains cache.old (sector, bytes) ⊎ ((ptr : PlainPtr) × (outcome.now ≡ Ok ptr) × (sector ≡ ptr.sector) × (bytes ≡ node.now)) }
+{
+    if let Ok(ptr) = outcome {
+        cache.keep(ptr.sector, node);
+    }
 }
 
 // Writes a block for a write or a save, and marks a disk that fails.
@@ -268,6 +326,7 @@ fn write_block<D: Disk>(
     ensures after { length bytes.now / 512 ≤ largest_of space.old → space.new ≡ without space.old (length bytes.now / 512) }
     ensures taken { OnOk result (space.new ≡ without space.old (length bytes.now / 512)) }
     ensures room { room space.old ≤ room space.new + length bytes.now / 512 }
+    ensures writes { IfOk result (λ ptr. WritesIn (512 * ptr.sector) ptr.length (D.state disk.old) (D.state disk.new)) }
     ensures kept_fit { FitsDisk (D.state disk.new).size space.new }
 
     // It is full where no free extent is long enough, and then nothing is done.

@@ -1,6 +1,7 @@
 //! Blocks with their sums in the sectors of a pool, and the pointers that name them.
 #![tactic(auto)]
 
+mod cache;
 mod fault;
 mod io;
 mod node;

@@ -1,4 +1,4 @@
-use Rattle.std.proofs.Common.{arith, rules}
+use Rattle.std.proofs.Common.{◌∙◌, ◌*◌, arith, rules}
 use Rattle.zst_space.proofs.FreeSectorsLaws.{Rise-end}
 use Rattle.zst_uber.proofs.Stages.{keeps_blocks}
 use Rattle.zst_uber.proofs.commits.commit_event.Goals as goal
@@ -97,3 +97,24 @@ returns-else-is_err-clause-kept_fit g c = search rules
 
 pub returns-else-is_err-clause-same : goal.returns-else-is_err-clause-same
 returns-else-is_err-clause-same g c = search rules
+
+-- what is kept stands behind sectors 0 to 7, which alone are written
+pub invariant_of-io : goal.invariant_of-io
+invariant_of-io g c =
+    let writes = c.commit-outcome.ensures.writes in
+    record {
+      told = λ honest sector bytes is.
+          let behind = c.args.io.now.behind sector bytes is in
+          writes.seen.above (512 * sector) 8192 (omega (arith, behind)) ∙ c.args.io.now.told (writes.honest honest) sector bytes is;
+      behind = c.args.io.now.behind;
+    }
+
+pub invariant_of-io-else-is_err : goal.invariant_of-io-else-is_err
+invariant_of-io-else-is_err g c =
+    let writes = c.commit-outcome.ensures.writes in
+    record {
+      told = λ honest sector bytes is.
+          let behind = c.args.io.now.behind sector bytes is in
+          writes.seen.above (512 * sector) 8192 (omega (arith, behind)) ∙ c.args.io.now.told (writes.honest honest) sector bytes is;
+      behind = c.args.io.now.behind;
+    }

@@ -1,0 +1,140 @@
+ghost use Rattle.std.specs.Prelude.{◌≡◌, ◌⊎◌, ◌+◌, ◌^◌, ◌<◌, ◌≤◌, ℕ, List, Contains, IsTrue, false};
+
+use crate::node::Node;
+use lru::LruCache;
+use std::alloc::Global;
+use std::marker::Model;
+use std::num::NonZeroUsize;
+
+// How many blocks are kept at most: half a megabyte, 64 * 8,192 bytes. A path through a tree has at
+// most 15 nodes, so the paths of an object set and of an object in it stay beside those of another.
+const MOST: usize = 64;
+
+/// Blocks of 8,192 bytes that were read or saved, by their first sectors. A clause sees the pairs,
+/// the most recently used first.
+#[derive(Drop)]
+pub struct Cache {
+    // None where no memory was left: nothing is kept then.
+    blocks: Option<LruCache<u64, Node>>,
+}
+
+impl Model for Cache {
+    ghost use Rattle.std.specs.Prelude.{ℕ, List, []};
+    ghost use Rattle.std.specs.Option.{option_map_or};
+
+    ghost Value = { List (ℕ × List ℕ) };
+
+    ghost view = { λ cache. option_map_or (λ blocks. blocks.entries) cache.blocks [] };
+}
+
+impl Cache {
+    ghost use Rattle.std.specs.Prelude.{◌≡◌, ◌⊎◌, ◌+◌, ◌^◌, ◌<◌, ◌≤◌, ℕ, List, [], Contains, IsTrue, false};
+
+    /// No block, and room for `MOST`, or for none where no memory is left.
+    pub(crate) fn new(alloc: Global) -> Cache
+        ensures { result ≡ [] }
+    {
+        let room = NonZeroUsize::new(MOST).unwrap();
+        Cache {
+            blocks: LruCache::new(alloc, room).ok(),
+        }
+    }
+
+    /// Gives the block that is kept of a sector, which is then the last to be forgotten.
+    pub(crate) fn give(&mut self, sector: u64, into: &mut Node) -> bool
+        ensures given { IsTrue result → Contains self.old (sector, into.new) }
+        ensures kept { (first : ℕ) (bytes : List ℕ) → Contains self.new (first, bytes) → Contains self.old (first, bytes) }
+    {
+        let Some(blocks) = &mut self.blocks else {
+            return false;
+        };
+        give_from(blocks, sector, into)
+    }
+
+    /// Keeps a block, unless no memory is left.
+    pub(crate) fn keep(&mut self, sector: u64, node: &Node)
+        ensures { (first : ℕ) (bytes : List ℕ) → Contains self.new (first, bytes) → ((first ≡ sector) × (bytes ≡ node.now)) ⊎ Contains self.old (first, bytes) }
+    {
+        if let Some(blocks) = &mut self.blocks {
+            keep_in(blocks, sector, node);
+        }
+    }
+
+    /// Forgets each block that meets these sectors in a row: all blocks, where there is one.
+    pub(crate) fn forget(&mut self, first: u64, count: u64)
+        ensures kept { (sector : ℕ) (bytes : List ℕ) → Contains self.new (sector, bytes) → Contains self.old (sector, bytes) }
+        ensures apart { (sector : ℕ) (bytes : List ℕ) → Contains self.new (sector, bytes) → (sector + 16 ≤ first) ⊎ (first + count ≤ sector) }
+    {
+        if self.meets(first, count) {
+            self.clear();
+        }
+    }
+
+    // Whether a block that is kept meets these sectors.
+    fn meets(&self, first: u64, count: u64) -> bool
+        ensures { result ≡ false → (sector : ℕ) (bytes : List ℕ) → Contains self.now (sector, bytes) → (sector + 16 ≤ first) ⊎ (first + count ≤ sector) }
+    {
+        match &self.blocks {
+            Some(blocks) => meets_in(blocks, first, count),
+            None => false,
+        }
+    }
+
+    /// Forgets all blocks.
+    pub(crate) fn clear(&mut self)
+        ensures { self.new ≡ [] }
+    {
+        if let Some(blocks) = &mut self.blocks {
+            blocks.clear();
+        }
+    }
+}
+
+// Gives the block of a sector from those that are kept.
+fn give_from(blocks: &mut LruCache<u64, Node>, sector: u64, into: &mut Node) -> bool
+    ensures given { IsTrue result → Contains blocks.old.entries (sector, into.new) }
+    ensures kept { (first : ℕ) (bytes : List ℕ) → Contains blocks.new.entries (first, bytes) → Contains blocks.old.entries (first, bytes) }
+{
+    match blocks.get(&sector) {
+        Some(node) => {
+            into.put_bytes(0, node.as_slice());
+            true
+        }
+        None => false,
+    }
+}
+
+// Keeps a copy of a block, unless no memory is left.
+fn keep_in(blocks: &mut LruCache<u64, Node>, sector: u64, node: &Node)
+    ensures { (first : ℕ) (bytes : List ℕ) → Contains blocks.new.entries (first, bytes) → ((first ≡ sector) × (bytes ≡ node.now)) ⊎ Contains blocks.old.entries (first, bytes) }
+{
+    let mut copy = Node::new();
+    copy.put_bytes(0, node.as_slice());
+    match blocks.put(sector, copy) {
+        Ok(_) => {}
+        Err(_) => {}
+    }
+}
+
+// Whether one of the blocks that are kept meets these sectors.
+fn meets_in(blocks: &LruCache<u64, Node>, first: u64, count: u64) -> bool
+    ensures { result ≡ false → (sector : ℕ) (bytes : List ℕ) → Contains blocks.now.entries (sector, bytes) → (sector + 16 ≤ first) ⊎ (first + count ≤ sector) }
+{
+    for (sector, _) in blocks.iter() {
+        if !is_apart(*sector, first, count) {
+            return true;
+        }
+    }
+    false
+}
+
+// Whether the 16 sectors of a block from this one on meet none of these in a row.
+fn is_apart(sector: u64, first: u64, count: u64) -> bool
+    ensures { IsTrue result → (sector + 16 ≤ first) ⊎ (first + count ≤ sector) }
+{
+    if sector < first {
+        16 <= first - sector
+    } else {
+        count <= sector - first
+    }
+}
