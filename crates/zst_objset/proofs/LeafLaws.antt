@@ -18,8 +18,8 @@ use Rattle.zst_model.specs.states.State.{is_number, number_bound}
 use Rattle.zst_model.specs.states.DatedState.{DatedState}
 use Rattle.zst_tree.specs.Indices.{Blocks}
 use Rattle.zst_dnode.specs.declared.dnode.Dnode.{Dnode}
-use Rattle.zst_objset.specs.Dnodes.{DnodeIs, IsThere, SlotIs}
-use Rattle.zst_objset.specs.Sets.{any_there, HasSlots, IsHole, IsLeaf, LeafIs, Spells}
+use Rattle.zst_objset.specs.Dnodes.{DnodeIs, IsThere, SlotIn, SlotIs}
+use Rattle.zst_objset.specs.Sets.{any_there, HasSlots, HasSlotsIn, IsHole, IsLeaf, IsLeafIn, LeafIn, LeafIs, Spells}
 use Rattle.zst_objset.proofs.OneState.{hole_kind}
 
 -- what is so over what a read gives and what is free is so after a call that only reads, and was so before it
@@ -41,9 +41,19 @@ pub leaf_of : (has : Blocks) (snap : DatedState) (j : ℕ) (ptr : Ptr) → LeafI
 leaf_of has snap j ptr (inl hole) isnt = absurd (isnt hole.kind)
 leaf_of has snap j ptr (inr leaf) isnt = leaf
 
+pub hole_in : (has : Blocks) (reads : ℕ → ℕ → Blocks) (snap : DatedState) (j : ℕ) (ptr : Ptr) → LeafIn has reads snap j ptr → ptr.kind ≡ 0 → IsHole snap j ptr
+hole_in has reads snap j ptr (inl hole) is = hole
+hole_in has reads snap j ptr (inr leaf) is = absurd (hole_kind ptr.kind (any_there leaf.slots 16) is leaf.names.kind)
+
 pub hole_of_leaf : (has : Blocks) (snap : DatedState) (j : ℕ) (ptr : Ptr) → LeafIs has snap j ptr → ptr.kind ≡ 0 → IsHole snap j ptr
-hole_of_leaf has snap j ptr (inl hole) is = hole
-hole_of_leaf has snap j ptr (inr leaf) is = absurd (hole_kind ptr.kind (any_there leaf.slots 16) is leaf.names.kind)
+hole_of_leaf has snap j ptr is kind = hole_in has (λ k i. has) snap j ptr is kind
+
+pub leaf_in : (has : Blocks) (reads : ℕ → ℕ → Blocks) (snap : DatedState) (j : ℕ) (ptr : Ptr) → LeafIn has reads snap j ptr → (ptr.kind ≡ 0 → ⊥) → IsLeafIn has reads snap j ptr
+leaf_in has reads snap j ptr (inl hole) isnt = absurd (isnt hole.kind)
+leaf_in has reads snap j ptr (inr leaf) isnt = leaf
+
+pub slots_loaded : (has : Blocks) (reads : ℕ → ℕ → Blocks) (snap : DatedState) (j : ℕ) (ptr : Ptr) (leaf : IsLeafIn has reads snap j ptr) (bytes : List ℕ) → bytes ≡ leaf.bytes → HasSlotsIn has reads snap j bytes
+slots_loaded has reads snap j ptr leaf bytes same = record { slots = leaf.slots; spells = subst (λ (b : List ℕ). Spells b leaf.slots) (sym same) leaf.names.spells; slots_are = leaf.slots_are }
 
 -- the slots of a leaf that is loaded
 pub HasSlots-loaded : (has : Blocks) (snap : DatedState) (j : ℕ) (ptr : Ptr) (leaf : IsLeaf has snap j ptr) (bytes : List ℕ) → bytes ≡ leaf.bytes → HasSlots has snap j bytes
@@ -54,33 +64,37 @@ unfolding number_bound
 number_there j s some less small test = grind (arith, nat_tests)
 
 -- sixteen absent slots, where none of the numbers is 0
-pub HasSlots-absent : (has : Blocks) (snap : DatedState) (j : ℕ) (ptr : Ptr) (bytes : List ℕ) → 0 < j → j < 2 ^ 44 → ptr.number < 2 ^ 64 → ptr.kind ≡ 0 → length bytes ≡ 8192
-    → ((s : ℕ) → 0 ≤ s → s < 16 → bytes_at bytes (512 * s) 512 ≡ slot_bytes (Absent ptr.number)) → LeafIs has snap j ptr → HasSlots has snap j bytes
-HasSlots-absent has snap j ptr bytes some less fits kind long put is = record {
+pub slots_absent : (has : Blocks) (reads : ℕ → ℕ → Blocks) (snap : DatedState) (j : ℕ) (ptr : Ptr) (bytes : List ℕ) → 0 < j → j < 2 ^ 44 → ptr.number < 2 ^ 64 → ptr.kind ≡ 0 → length bytes ≡ 8192
+    → ((s : ℕ) → 0 ≤ s → s < 16 → bytes_at bytes (512 * s) 512 ≡ slot_bytes (Absent ptr.number)) → LeafIn has reads snap j ptr → HasSlotsIn has reads snap j bytes
+slots_absent has reads snap j ptr bytes some less fits kind long put is = record {
   slots = λ s. Absent ptr.number;
   spells = record { long = long; fits = λ s small. fits; spelled = λ s small. put s (omega arith) small };
-  slots_are = record { numbers = λ s small number. (hole_of_leaf has snap j ptr is kind).absent s small number; no_number = λ s small test. absurd (number_there j s some less small test) };
+  slots_are = record { numbers = λ s small number. (hole_in has reads snap j ptr is kind).absent s small number; no_number = λ s small test. absurd (number_there j s some less small test) };
 }
+
+pub HasSlots-absent : (has : Blocks) (snap : DatedState) (j : ℕ) (ptr : Ptr) (bytes : List ℕ) → 0 < j → j < 2 ^ 44 → ptr.number < 2 ^ 64 → ptr.kind ≡ 0 → length bytes ≡ 8192
+    → ((s : ℕ) → 0 ≤ s → s < 16 → bytes_at bytes (512 * s) 512 ≡ slot_bytes (Absent ptr.number)) → LeafIs has snap j ptr → HasSlots has snap j bytes
+HasSlots-absent has snap j ptr bytes some less fits kind long put is = slots_absent has (λ k i. has) snap j ptr bytes some less fits kind long put is
 
 -- the slots of the first leaf
 abbrev pub first_slots : ℕ → ℕ → Slot
 first_slots date zero = Absent 0
 first_slots date (suc s) = Absent date
 
-module _ (has : Blocks) (snap : DatedState) (ptr : Ptr) (bytes mid : List ℕ) (fits : ptr.number < 2 ^ 64) where
-  fits_first : (s : ℕ) → SlotFits (first_slots ptr.number s)
-  fits_first zero = omega arith
-  fits_first (suc s) = fits
+module _ (has : Blocks) (reads : ℕ → ℕ → Blocks) (snap : DatedState) (ptr : Ptr) (bytes mid : List ℕ) (fits : ptr.number < 2 ^ 64) where
+  fits_in : (s : ℕ) → SlotFits (first_slots ptr.number s)
+  fits_in zero = omega arith
+  fits_in (suc s) = fits
 
-  pub HasSlots-first : ptr.kind ≡ 0 → length bytes ≡ 8192
+  pub slots_first : ptr.kind ≡ 0 → length bytes ≡ 8192
       → ((s : ℕ) → 0 ≤ s → s < 16 → bytes_at mid (512 * s) 512 ≡ slot_bytes (Absent ptr.number))
       → ((s : ℕ) → 0 ≤ s → s < 1 → bytes_at bytes (512 * s) 512 ≡ slot_bytes (Absent 0))
       → ((s : ℕ) → s < 16 → (s < 0) ⊎ (1 ≤ s) → bytes_at bytes (512 * s) 512 ≡ bytes_at mid (512 * s) 512)
-      → LeafIs has snap 0 ptr → HasSlots has snap 0 bytes
+      → LeafIn has reads snap 0 ptr → HasSlotsIn has reads snap 0 bytes
   unfolding number_bound
-  HasSlots-first kind long put here kept is = record {
+  slots_first kind long put here kept is = record {
     slots = first_slots ptr.number;
-    spells = record { long = long; fits = λ s small. fits_first s; spelled = spelled };
+    spells = record { long = long; fits = λ s small. fits_in s; spelled = spelled };
     slots_are = record { numbers = numbers; no_number = no_number };
   }
     where
@@ -88,13 +102,21 @@ module _ (has : Blocks) (snap : DatedState) (ptr : Ptr) (bytes mid : List ℕ) (
       spelled zero small = here 0 (omega arith) (omega arith)
       spelled (suc s) small = kept (suc s) small (inr (omega arith)) ∙ put (suc s) (omega arith) small
 
-      numbers : (s : ℕ) → s < 16 → is_number (16 * 0 + s) ≡ true → SlotIs has snap (16 * 0 + s) (first_slots ptr.number s)
+      numbers : (s : ℕ) → s < 16 → is_number (16 * 0 + s) ≡ true → SlotIn has reads snap (16 * 0 + s) (first_slots ptr.number s)
       numbers zero small number = absurd (false≢true number)
-      numbers (suc s) small number = (hole_of_leaf has snap 0 ptr is kind).absent (suc s) small number
+      numbers (suc s) small number = (hole_in has reads snap 0 ptr is kind).absent (suc s) small number
 
       no_number : (s : ℕ) → s < 16 → is_number (16 * 0 + s) ≡ false → first_slots ptr.number s ≡ Absent 0
       no_number zero small test = refl
       no_number (suc s) small test = absurd (grind (arith, nat_tests))
+
+module _ (has : Blocks) (snap : DatedState) (ptr : Ptr) (bytes mid : List ℕ) (fits : ptr.number < 2 ^ 64) where
+  pub HasSlots-first : ptr.kind ≡ 0 → length bytes ≡ 8192
+      → ((s : ℕ) → 0 ≤ s → s < 16 → bytes_at mid (512 * s) 512 ≡ slot_bytes (Absent ptr.number))
+      → ((s : ℕ) → 0 ≤ s → s < 1 → bytes_at bytes (512 * s) 512 ≡ slot_bytes (Absent 0))
+      → ((s : ℕ) → s < 16 → (s < 0) ⊎ (1 ≤ s) → bytes_at bytes (512 * s) 512 ≡ bytes_at mid (512 * s) 512)
+      → LeafIs has snap 0 ptr → HasSlots has snap 0 bytes
+  HasSlots-first kind long put here kept is = slots_first has (λ k i. has) snap ptr bytes mid fits kind long put here kept is
 
 pub is_number_at : (k : ℕ) → 0 < k → k < 2 ^ 48 → is_number k ≡ true
 unfolding number_bound

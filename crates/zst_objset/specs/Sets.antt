@@ -6,10 +6,11 @@ use Rattle.zst_dnode.specs.Slot.{slot_bytes, SlotFits}
 use Rattle.zst_dnode.specs.declared.slot.Slot.{Slot}
 use Rattle.zst_dnode.specs.declared.slot.Slot.TheVariants.{Absent, There}
 use Rattle.zst_model.specs.states.State.{IsState, is_number, index_bound}
+use Rattle.zst_model.specs.sends.Inclusion.{Pairs}
 use Rattle.zst_model.specs.states.DatedState.{DatedState}
 use Rattle.zst_tree.specs.Indices.{Blocks, Map, TreeIs}
 use Rattle.zst_tree.specs.declared.tree.ObjSet.{ObjSet}
-use Rattle.zst_objset.specs.Dnodes.{IsAbsent, SlotIs}
+use Rattle.zst_objset.specs.Dnodes.{IsAbsent, SlotIn, outside}
 
 -- the latest date that a slot tells: its number's, or one of its indices'
 abbrev pub date_in : Slot → ℕ
@@ -37,9 +38,12 @@ pub record Spells (bytes : List ℕ) (slots : ℕ → Slot) : Type 0 where
   pub spelled : (s : ℕ) → s < 16 → bytes_at bytes (512 * s) 512 ≡ slot_bytes (slots s)
 
 -- sixteen slots are those of the leaf of this index; no object has the number 0, whose slot stays as it began
-pub record AreSlots (has : Blocks) (snap : DatedState) (j : ℕ) (slots : ℕ → Slot) : Type 0 where
-  pub numbers : (s : ℕ) → s < 16 → is_number (16 * j + s) ≡ true → SlotIs has snap (16 * j + s) (slots s)
+pub record AreSlotsIn (has : Blocks) (reads : ℕ → ℕ → Blocks) (snap : DatedState) (j : ℕ) (slots : ℕ → Slot) : Type 0 where
+  pub numbers : (s : ℕ) → s < 16 → is_number (16 * j + s) ≡ true → SlotIn has reads snap (16 * j + s) (slots s)
   pub no_number : (s : ℕ) → s < 16 → is_number (16 * j + s) ≡ false → slots s ≡ Absent 0
+
+abbrev pub AreSlots : Blocks → DatedState → ℕ → (ℕ → Slot) → Type 0
+AreSlots has snap j slots = AreSlotsIn has (λ k i. has) snap j slots
 
 -- the pointer of a leaf names its slots: its kind says whether there is an object, and its number is the latest date that they tell
 pub record NamesSlots (has : Blocks) (ptr : Ptr) (bytes : List ℕ) (slots : ℕ → Slot) : Type 0 where
@@ -50,11 +54,14 @@ pub record NamesSlots (has : Blocks) (ptr : Ptr) (bytes : List ℕ) (slots : ℕ
   pub spells : Spells bytes slots
 
 -- a leaf: its pointer names sixteen slots, which are those of its index
-pub record IsLeaf (has : Blocks) (snap : DatedState) (j : ℕ) (ptr : Ptr) : Type 0 where
+pub record IsLeafIn (has : Blocks) (reads : ℕ → ℕ → Blocks) (snap : DatedState) (j : ℕ) (ptr : Ptr) : Type 0 where
   pub bytes : List ℕ
   pub slots : ℕ → Slot
   pub names : NamesSlots has ptr bytes slots
-  pub slots_are : AreSlots has snap j slots
+  pub slots_are : AreSlotsIn has reads snap j slots
+
+abbrev pub IsLeaf : Blocks → DatedState → ℕ → Ptr → Type 0
+IsLeaf has snap j ptr = IsLeafIn has (λ k i. has) snap j ptr
 
 -- a hole in place of a leaf: its sixteen numbers are absent since its date
 pub record IsHole (snap : DatedState) (j : ℕ) (ptr : Ptr) : Type 0 where
@@ -62,8 +69,11 @@ pub record IsHole (snap : DatedState) (j : ℕ) (ptr : Ptr) : Type 0 where
   pub absent : (s : ℕ) → s < 16 → is_number (16 * j + s) ≡ true → IsAbsent snap (16 * j + s) ptr.number
 
 -- what a pointer in the tree of a set says of sixteen numbers
+abbrev pub LeafIn : Blocks → (ℕ → ℕ → Blocks) → DatedState → ℕ → Ptr → Type 0
+LeafIn has reads snap j ptr = IsHole snap j ptr ⊎ IsLeafIn has reads snap j ptr
+
 abbrev pub LeafIs : Blocks → DatedState → ℕ → Ptr → Type 0
-LeafIs has snap j ptr = IsHole snap j ptr ⊎ IsLeaf has snap j ptr
+LeafIs has snap j ptr = LeafIn has (λ k i. has) snap j ptr
 
 -- what isn't a number or an index has the date 0
 pub record IsBounded (snap : DatedState) : Type 0 where
@@ -72,16 +82,26 @@ pub record IsBounded (snap : DatedState) : Type 0 where
   pub no_index : (k i : ℕ) → index_bound ≤ i → snap.index_date k i ≡ 0
 
 -- the set holds this dated state
-pub record SetHolds (has : Blocks) (set : ObjSet) (snap : DatedState) : Type 0 where
+pub record SetIn (has : Blocks) (reads : ℕ → ℕ → Blocks) (set : ObjSet) (snap : DatedState) : Type 0 where
   pub lawful : IsState snap.state
   pub bounded : IsBounded snap
   pub levels : set.tree.levels ≤ 7
   pub map : Map
   pub tree : TreeIs has set.tree map
-  pub leaves : (j : ℕ) → j < 2 ^ 44 → LeafIs has snap j (map j)
+  pub leaves : (j : ℕ) → j < 2 ^ 44 → LeafIn has reads snap j (map j)
+
+abbrev pub SetHolds : Blocks → ObjSet → DatedState → Type 0
+SetHolds has set snap = SetIn has (λ k i. has) set snap
+
+-- the set holds this dated state but for the bytes of these pairs, whose blocks may be damaged
+abbrev pub SetHoldsBut : Blocks → Pairs → ObjSet → DatedState → Type 0
+SetHoldsBut has pairs set snap = SetIn has (outside pairs has) set snap
 
 -- these bytes have the sixteen slots of the leaf of this index
-pub record HasSlots (has : Blocks) (snap : DatedState) (j : ℕ) (bytes : List ℕ) : Type 0 where
+pub record HasSlotsIn (has : Blocks) (reads : ℕ → ℕ → Blocks) (snap : DatedState) (j : ℕ) (bytes : List ℕ) : Type 0 where
   pub slots : ℕ → Slot
   pub spells : Spells bytes slots
-  pub slots_are : AreSlots has snap j slots
+  pub slots_are : AreSlotsIn has reads snap j slots
+
+abbrev pub HasSlots : Blocks → DatedState → ℕ → List ℕ → Type 0
+HasSlots has snap j bytes = HasSlotsIn has (λ k i. has) snap j bytes

@@ -10,7 +10,7 @@ use Rattle.zst_model.specs.states.State.{index_bound}
 use Rattle.zst_tree.specs.Indices.{Blocks}
 use Rattle.zst_tree.specs.declared.tree.ObjSet.{ObjSet}
 use Rattle.zst_objset.specs.SlotPuts.{date_to, dates_to}
-use Rattle.zst_objset.specs.Sets.{date_in, SetHolds, Spells}
+use Rattle.zst_objset.specs.Sets.{date_in, SetIn, Spells}
 
 -- the latest date that a slot tells is no later than its number's date, or than the date of one of its indices. A tree's pointers also stand for indices past 2^43, whose dates no state has
 abbrev pub IsTightSlot : DatedState → ℕ → Slot → Type 0
@@ -21,9 +21,12 @@ abbrev pub IsTightLeaf : Blocks → DatedState → ℕ → Ptr → Type 0
 IsTightLeaf has snap j ptr = (bytes : List ℕ) (held : ℕ → Slot) → has ptr bytes → Spells bytes held → (s : ℕ) → s < 16 → IsTightSlot snap (16 * j + s) (held s)
 
 -- the set holds this dated state, and so it is with each of its leaves
-pub record SetIsTight (has : Blocks) (set : ObjSet) (snap : DatedState) : Type 0 where
-  pub holds : SetHolds has set snap
+pub record SetIsTightIn (has : Blocks) (reads : ℕ → ℕ → Blocks) (set : ObjSet) (snap : DatedState) : Type 0 where
+  pub holds : SetIn has reads set snap
   pub tight : (j : ℕ) → j < 2 ^ 44 → IsTightLeaf has snap j (holds.map j)
+
+abbrev pub SetIsTight : Blocks → ObjSet → DatedState → Type 0
+SetIsTight has set snap = SetIsTightIn has (λ k i. has) set snap
 
 -- so it is with each slot that the block of a leaf spells
 abbrev pub AreTight : DatedState → ℕ → List ℕ → Type 0

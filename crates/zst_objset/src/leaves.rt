@@ -8,7 +8,9 @@ ghost use Rattle.zst_model.specs.states.DatedState.{DatedState};
 ghost use Rattle.zst_tree.specs.Damage.{HangsIn, IsSeen, MayHave};
 ghost use Rattle.zst_tree.specs.Indices.{Delivers};
 ghost use Rattle.zst_objset.specs.Damage.{HasAllSlots, IfDamaged, IsDamagedLeaf, IsDamagedSet, IsLoaded, TellsLacking};
-ghost use Rattle.zst_objset.specs.Sets.{HasSlots, LeafIs, NamesSlots, SetHolds, Spells};
+ghost use Rattle.zst_objset.specs.Sets.{HasSlots, HasSlotsIn, LeafIn, LeafIs, NamesSlots, SetHolds, Spells};
+ghost use Rattle.zst_objset.specs.Dnodes.{outside};
+ghost use Rattle.zst_model.specs.sends.Inclusion.{Pairs};
 ghost use Rattle.zst_objset.specs.TightSets.{AreTight, SetIsTight};
 
 use crate::slots::{put_slots, summed_up};
@@ -25,6 +27,9 @@ pub fn load_slots<D: Disk>(io: &mut Io<'_, D>, ptr: Ptr, leaf: u64) -> Result<()
     requires fits { FitsDisk (D.state io.old.disk.now).size io.old.space }
     ensures slots { (snap : DatedState) → (D.state io.new.disk.now).honest → LeafIs (Has (D.state io.old.disk.now).seen io.old.space) snap leaf ptr
         → Delivers (λ done. HasSlots (Has (D.state io.old.disk.now).seen io.old.space) snap leaf io.new.node) result }
+    // So it is where the blocks of some pairs aren't read.
+    ensures slots_in { (snap : DatedState) (pairs : Pairs) → (D.state io.new.disk.now).honest → LeafIn (Has (D.state io.old.disk.now).seen io.old.space) (outside pairs (Has (D.state io.old.disk.now).seen io.old.space)) snap leaf ptr
+        → Delivers (λ done. HasSlotsIn (Has (D.state io.old.disk.now).seen io.old.space) (outside pairs (Has (D.state io.old.disk.now).seen io.old.space)) snap leaf io.new.node) result }
     ensures loaded { (D.state io.new.disk.now).honest → OnOk result (IsLoaded (IsSeen (D.state io.old.disk.now).seen) ptr io.new.node) }
     ensures damaged { (D.state io.new.disk.now).honest → IfDamaged result (IsDamagedLeaf (IsSeen (D.state io.old.disk.now).seen) (D.state io.old.disk.now).size ptr) }
     ensures looks { Looks (D.state io.old.disk.now) io.old.space io.old.failed (D.state io.new.disk.now) io.new.space io.new.failed (stop_of result) }

@@ -1,9 +1,10 @@
 use Rattle.zst_block.proofs.IoCallLemmas.{Looks-none}
 use Rattle.std.proofs.Common.{refl, ◌≡◌, inl, arith, subst, sym, ℕ}
 use Rattle.zst_block.specs.Blocks.{Has}
-use Rattle.zst_objset.specs.Sets.{HasSlots, LeafIs}
+use Rattle.zst_objset.specs.Dnodes.{outside}
+use Rattle.zst_objset.specs.Sets.{HasSlots, HasSlotsIn, LeafIn, LeafIs}
 use Rattle.zst_objset.proofs.DamageLaws.{AreAbsent-all, AreAbsent-first}
-use Rattle.zst_objset.proofs.LeafLaws.{HasSlots-absent, HasSlots-first}
+use Rattle.zst_objset.proofs.LeafLaws.{HasSlots-absent, HasSlots-first, slots_absent, slots_first}
 use Rattle.zst_objset.proofs.LeafLaws.{same_calls}
 use Rattle.zst_objset.proofs.leaves.load_slots.Goals as goal
 
@@ -75,3 +76,17 @@ returns-else-leaf-eq0-clause-calls g c = same_calls _
 
 pub load-requires : goal.load-requires
 load-requires g c = record { fits = c.requires.fits }
+
+pub returns-then-leaf-eq0-clause-slots_in : goal.returns-then-leaf-eq0-clause-slots_in
+returns-then-leaf-eq0-clause-slots_in g c = λ snap pairs honest is.
+    let has = Has (g.D.Disk.state c.args.io.now.disk.now).seen c.args.io.now.space in
+    let all = c.put_slots.ensures in
+    let first = c.put_slots-then-leaf-eq0.ensures in
+    let zero_is : c.args.leaf ≡ 0 = omega arith in
+    subst (λ (j : ℕ). HasSlotsIn has (outside pairs has) snap j c.put_slots-then-leaf-eq0.new.node) (sym zero_is)
+    (slots_first has (outside pairs has) snap c.args.ptr c.put_slots-then-leaf-eq0.new.node c.put_slots.new.node all.fits (omega arith) (first.long (omega arith)) all.put first.put first.kept (subst (λ (j : ℕ). LeafIn has (outside pairs has) snap j c.args.ptr) zero_is is))
+
+pub returns-else-leaf-eq0-clause-slots_in : goal.returns-else-leaf-eq0-clause-slots_in
+returns-else-leaf-eq0-clause-slots_in g c = λ snap pairs honest is.
+    let there = c.put_slots.ensures in
+    slots_absent _ _ snap c.args.leaf c.args.ptr c.put_slots.new.node (omega arith) (omega arith) there.fits (omega arith) (there.long (omega arith)) there.put is
