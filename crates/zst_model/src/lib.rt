@@ -26,7 +26,7 @@ pub use refusals::subjects::{AbsentSubject, Holder, Name, PresentSubject, Resume
 pub use refusals::text::{Text, guid_text};
 pub use sends::ask::{FromName, SendAsk};
 pub use sends::header::{Header, Point};
-pub use sends::points::point_after;
+pub use sends::points::{point_after, stated_point};
 pub use states::attr::{Attr, ObjectHead};
 pub use states::cell::{Cell, Run};
 pub use states::item::{Change, Item};

@@ -10,6 +10,7 @@ use Rattle.zst_model.specs.declared.refusals.stream_fault.StreamFault.{StreamFau
 use Rattle.zst_model.specs.declared.refusals.stream_fault.StreamFault.TheVariants.{Grammar, Unsupported}
 use Rattle.zst_model.specs.fields.Guids.{is_rising, IsGuidSet}
 use Rattle.zst_model.specs.sends.Features.{redacts, resuming}
+pub use Rattle.zst_model.specs.sends.Points.{stated_point}
 use Rattle.zst_model.specs.states.State.{number_bound}
 use Rattle.zst_record.specs.Formats.{record_len}
 use Rattle.zst_record.specs.Decoding.{needs_payload}
@@ -20,12 +21,7 @@ use Rattle.zst_record.specs.Decoding.{needs_payload}
 abbrev pub payload_magic : List ℕ
 payload_magic = codes "ZSTBEG01"
 
--- the point that is stated: zeros where the stream isn't resumed
-abbrev pub stated_point : Option Point → Point
-stated_point None = record { object = 0; offset = 0 }
-stated_point (Some point) = point
-
--- the numbers behind the magic: the resume point, the counts of both sets of guids, and the guids
+-- the numbers behind the magic: the point at which the stream begins, the counts of both sets of guids, and the guids
 abbrev pub payload_fields : Header → List ℕ
 payload_fields header =
     (stated_point header.resume).object ∷ (stated_point header.resume).offset

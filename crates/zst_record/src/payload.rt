@@ -2,7 +2,7 @@
 ghost use Rattle.std.specs.Prelude.{◌≡◌, ◌+◌, ◌*◌, ◌/◌, ◌≤◌, ◌++◌, ◌&&◌, Err, length, drop, flat_map, IsTrue};
 ghost use Rattle.zst_bytes.specs.Bytes.{written};
 ghost use Rattle.zst_bytes.specs.Words.{word};
-ghost use Rattle.zst_record.specs.Payload.{begin_payload, behind_magic, content_of, foreign, goes_with_redacted, goes_with_resuming, goes_with_source, has_magic, has_payload, numbers_in, opened, said_beside, stated_point, wrong};
+ghost use Rattle.zst_record.specs.Payload.{begin_payload, behind_magic, content_of, foreign, goes_with_redacted, goes_with_resuming, goes_with_source, has_magic, has_payload, numbers_in, opened, said_beside, wrong};
 
 use crate::decoding::wants_payload;
 use crate::{LONGEST_BEGIN_PAYLOAD, RECORD_LEN};
@@ -10,7 +10,7 @@ use arrayvec::ArrayVec;
 use zst_bytes::{le64, put_bytes, put64};
 use zst_model::features::{REDACTED, RESUMING};
 use zst_model::limits::NUMBER_BOUND;
-use zst_model::{Flaw, GuidSet, Header, Lack, Point, StreamFault};
+use zst_model::{Flaw, GuidSet, Header, Lack, Point, StreamFault, stated_point};
 
 /// What a payload of this project begins with.
 const MAGIC: &[u8; 8] = b"ZSTBEG01";
@@ -163,19 +163,6 @@ fn has_payload(header: &Header) -> bool
     wants_payload(header.features) || !header.from_redact.as_slice().is_empty()
 }
 
-/// The resume point that a payload states.
-fn stated_point(header: &Header) -> Point
-    ensures { result ≡ stated_point header.now.resume }
-{
-    match header.resume {
-        Some(point) => point,
-        None => Point {
-            object: 0,
-            offset: 0,
-        },
-    }
-}
-
 /// Writes numbers from a place on, each in 8 bytes, and tells where they end.
 fn put_words(into: &mut [u8], at: usize, numbers: &[u64]) -> usize
     requires { at + 8 * length numbers.now ≤ length into.old }
@@ -200,7 +187,7 @@ pub fn put_begin_payload(header: &Header, into: &mut [u8; LONGEST_BEGIN_PAYLOAD]
     if !has_payload(header) {
         return 0;
     }
-    let point = stated_point(header);
+    let point = stated_point(header.resume);
     let redact = header.redact.as_slice();
     let from_redact = header.from_redact.as_slice();
     let fields = [

@@ -1,10 +1,16 @@
--- Where a receiver stands.
-use Rattle.std.specs.Prelude.{◌+◌, min, List, [], ◌∷◌, length, if◌then◌else◌, ◌==◌}
+-- Where a stream begins, and where its receiver stands.
+use Rattle.std.specs.Prelude.{◌+◌, min, List, [], ◌∷◌, length, Option, None, Some, if◌then◌else◌, ◌==◌}
 use Rattle.zst_model.specs.declared.sends.header.Point.{Point}
 use Rattle.zst_model.specs.declared.states.item.Change.TheVariants.{Put, Spill, FreeFrom, Free, Redact, Write}
 use Rattle.zst_model.specs.declared.states.item.Item.{Item}
 use Rattle.zst_model.specs.declared.states.item.Item.TheVariants.{FreeObjects, At}
+use Rattle.zst_model.specs.sends.Items.{origin}
 use Rattle.zst_model.specs.states.State.{number_bound}
+
+-- the point at which a stream begins: the stated one, and else the origin
+abbrev pub stated_point : Option Point → Point
+stated_point None = origin
+stated_point (Some point) = point
 
 -- the point after an item: past its range; OBJECT moves only into another object, and FREEOBJECTS is cut at 2^48
 abbrev pub point_after : Point → Item → Point

@@ -8,6 +8,14 @@ pub struct Point {
     pub offset: u64,
 }
 
+impl Point {
+    /// Before each object: where a stream that isn't resumed begins.
+    pub const ORIGIN: Point = Point {
+        object: 0,
+        offset: 0,
+    };
+}
+
 /// What BEGIN says of a stream (`drr_begin` of zfs_ioctl.h, with the payload of this project).
 #[derive(Drop)]
 pub struct Header {

@@ -1,11 +1,18 @@
 ghost use Rattle.std.specs.Prelude.{◌≡◌};
 ghost use Rattle.zst_model.specs.sends.ItemRanges.{HasPlace, ChangeHasPlace};
 ghost use Rattle.zst_model.specs.declared.states.item.Item.TheVariants.{At};
-ghost use Rattle.zst_model.specs.sends.Points.{point_after};
+ghost use Rattle.zst_model.specs.sends.Points.{point_after, stated_point};
 
 use crate::limits::NUMBER_BOUND;
 use crate::sends::header::Point;
 use crate::states::item::{Change, Item};
+
+/// Where a stream begins: at the origin, where it states no point.
+pub fn stated_point(stated: Option<Point>) -> Point
+    ensures { result ≡ stated_point stated }
+{
+    stated.unwrap_or(Point::ORIGIN)
+}
 
 /// Where a receiver stands after an item: past its range, whose end is a number of 64 bits.
 #[tactic(auto, unfolding(crate::specs::states::State::number_bound))]
