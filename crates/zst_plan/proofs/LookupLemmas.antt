@@ -1,12 +1,13 @@
 -- What a look-up in the directory finds, and what is found in the pool.
-use Rattle.std.proofs.Common.{◌≡◌, ℕ, Bool, false, List, [], ◌∷◌, get_or, Option, Some, None, is_some, Ok, refl, sym, ap, ◌∙◌, subst}
+use Rattle.std.proofs.Common.{◌≡◌, ℕ, Bool, false, List, [], ◌∷◌, get_or, Option, Some, None, is_some, option_map, Result, Ok, Err, refl, sym, ap, ◌∙◌, subst}
 use Rattle.std.specs.List.{find, position}
 use Rattle.std.proofs.lemmas.List.{get_or_default}
 use Rattle.std.proofs.lemmas.List.Quantifiers.{position-Some}
 use Rattle.zst_dir.specs.RowNames.{Match}
 use Rattle.zst_dir.proofs.Matches.{find-Match, is_some-position, list_any-Match, Match-alike}
 use Rattle.std.specs.Borrow.{Bor}
-use Rattle.std.specs.Option.{ok_or}
+use Rattle.std.specs.Option.{IsSomeAnd, MatchOption, ok_or, option_map_or}
+use Rattle.std.specs.Result.{IsErrAnd}
 use Rattle.std.specs.Str.{bytes_eq}
 use Rattle.zst_dir.specs.RowNames.{AreNamed, NamesBookmark, NamesDataset, NamesSnapshot}
 use Rattle.zst_dir.specs.Rows.{Rows}
@@ -66,6 +67,48 @@ answers_alike Is None None fault alike = refl
 answers_alike Is None (Some y) fault alike = absurd alike
 answers_alike Is (Some x) None fault alike = absurd alike
 answers_alike Is (Some x) (Some y) fault alike = alike
+
+-- or with a fault that is made where nothing is found
+pub found_or : {A B E : Type 0} (Is : A → B → Type 0) (found : Option A) (other : Option B) (fault : E) (result : Result A E) {Made : E → Type 0} → ((made : E) → Made made → made ≡ fault)
+    → MatchOption found (IsErrAnd result Made) (λ x. result ≡ Ok x) → FindAlike Is found other → AnswerAlike Is result (ok_or other fault)
+found_or Is None None fault (Ok x) is cases alike = absurd cases
+found_or Is None None fault (Err made) is cases alike = is made cases
+found_or Is None (Some y) fault result is cases alike = absurd alike
+found_or Is (Some x) None fault result is cases alike = absurd alike
+found_or {A = A} {E = E} Is (Some x) (Some y) fault result is cases alike = subst (λ (r : Result A E). AnswerAlike Is r (Ok y)) (sym cases) alike
+
+pub answers_by : {A B E : Type 0} (Is : A → B → Type 0) (found : Option A) (other : Option B) (made fault : E) (result : Result A E) → result ≡ ok_or found made → made ≡ fault
+    → FindAlike Is found other → AnswerAlike Is result (ok_or other fault)
+answers_by {A = A} {E = E} Is found other made fault result is same alike =
+    subst (λ (r : Result A E). AnswerAlike Is r (ok_or other fault)) (sym (is ∙ ap (λ (e : E). ok_or found e) same)) (answers_alike Is found other fault alike)
+
+-- what was found, as one that there may be
+pub wrapped : {A B : Type 0} (Is : A → B → Type 0) (found : Option A) (wraps : Option (Option A)) (other : Option B) {At : A → Option A → Type 0} → ((x : A) (w : Option A) → At x w → w ≡ Some x)
+    → MatchOption found (wraps ≡ None) (λ x. IsSomeAnd wraps (At x)) → FindAlike Is found other → FindAlike (FindAlike Is) wraps (option_map Some other)
+wrapped Is None None None is cases alike = tt
+wrapped Is None (Some w) other is cases alike = absurd (cc)
+wrapped Is None None (Some y) is cases alike = absurd alike
+wrapped Is (Some x) None other is cases alike = absurd cases
+wrapped Is (Some x) (Some w) None is cases alike = absurd alike
+wrapped {A = A} Is (Some x) (Some w) (Some y) is cases alike = subst (λ (o : Option A). FindAlike Is o (Some y)) (sym (is x w cases)) alike
+
+-- a value of what was found, or another
+pub value_found : {A B V : Type 0} (Is : A → B → Type 0) (found : Option A) (other : Option B) (value : B → V) (none result : V) {At : A → Type 0} {Else : Type 0} → ((x : A) (y : B) → At x → Is x y → result ≡ value y)
+    → (Else → result ≡ none) → MatchOption found Else At → FindAlike Is found other → result ≡ option_map_or value other none
+value_found Is None None value none result is otherwise cases alike = otherwise cases
+value_found Is None (Some y) value none result is otherwise cases alike = absurd alike
+value_found Is (Some x) None value none result is otherwise cases alike = absurd alike
+value_found Is (Some x) (Some y) value none result is otherwise cases alike = is x y cases alike
+
+-- the rows at the places that were found
+pub rows_found : {A B : Type 0} (Is : ℕ → B → Type 0) (Found : A → B → Type 0) (place : Option ℕ) (row : Option A) (other : Option B) {At : ℕ → A → Type 0}
+    → ((p : ℕ) (x : A) (y : B) → At p x → Is p y → Found x y) → MatchOption place (row ≡ None) (λ p. IsSomeAnd row (At p)) → FindAlike Is place other → FindAlike Found row other
+rows_found Is Found None None None names cases alike = tt
+rows_found Is Found None (Some x) other names cases alike = absurd (cc)
+rows_found Is Found None None (Some y) names cases alike = absurd alike
+rows_found Is Found (Some p) None other names cases alike = absurd cases
+rows_found Is Found (Some p) (Some x) None names cases alike = absurd alike
+rows_found Is Found (Some p) (Some x) (Some y) names cases alike = names p x y cases alike
 
 module _ (rows : Rows) (pool : Pool) (are : AreNamed rows pool) where
   -- what the directory's look-ups find

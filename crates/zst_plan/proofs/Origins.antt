@@ -1,7 +1,8 @@
 -- The origin that the directory's rows tell is the one that the pool has.
 use Rattle.std.proofs.Common.{◌≡◌, ◌<◌, ◌≤◌, Bool, true, false, if◌then◌else◌, nat_lt, List, ℕ, Option, Some, None, sym, ◌∙◌, subst, arith}
 use Rattle.std.specs.Borrow.{Bor}
-use Rattle.std.specs.Option.{option_and_then}
+use Rattle.std.specs.Bool.{then_some}
+use Rattle.std.specs.Option.{MatchOption, option_and_then}
 use Rattle.std.proofs.lemmas.Bool.Decides.{nat_tests}
 use Rattle.zst_dir.specs.RowNames.{NamesSnapshot}
 use Rattle.zst_dir.specs.declared.rows.Dataset.{Dataset}
@@ -49,9 +50,9 @@ module _ (pool : Pool) (later : plain.Snapshot) where
       go None alike = tt
       go (Some s) alike = absurd alike
 
-  module _ (own : Snapshot) (is : NamesSnapshot own later) (row : Bor Snapshot) where
-    pub is_below : FindAlike FoundSnapshot (Some row) (origin_of pool later) → row.now.number < own.number → FindAlike FoundSnapshot (Some row) (earlier_origin pool later)
-    is_below alike less = go (origin_of pool later) alike
+  module _ (own : Snapshot) (is : NamesSnapshot own later) where
+    pub is_below : (row : Bor Snapshot) → FindAlike FoundSnapshot (Some row) (origin_of pool later) → row.now.number < own.number → FindAlike FoundSnapshot (Some row) (earlier_origin pool later)
+    is_below row alike less = go (origin_of pool later) alike
       where
         go : (o : Option plain.Snapshot) → FindAlike FoundSnapshot (Some row) o → FindAlike FoundSnapshot (Some row) (below later o)
         go None alike = absurd alike
@@ -59,11 +60,21 @@ module _ (pool : Pool) (later : plain.Snapshot) where
             let below_it : nat_lt s.number later.number ≡ true = grind (less, names.number, is.number, arith, nat_tests) in
             subst (λ (b : Bool). FindAlike FoundSnapshot (Some row) (if b then Some s else None)) (sym below_it) names
 
-    pub not_below : FindAlike FoundSnapshot (Some row) (origin_of pool later) → own.number ≤ row.now.number → FindAlike FoundSnapshot None (earlier_origin pool later)
-    not_below alike most = go (origin_of pool later) alike
+    pub not_below : (row : Bor Snapshot) → FindAlike FoundSnapshot (Some row) (origin_of pool later) → own.number ≤ row.now.number → FindAlike FoundSnapshot None (earlier_origin pool later)
+    not_below row alike most = go (origin_of pool later) alike
       where
         go : (o : Option plain.Snapshot) → FindAlike FoundSnapshot (Some row) o → FindAlike FoundSnapshot None (below later o)
         go None alike = absurd alike
         go (Some s) names =
             let past_it : nat_lt s.number later.number ≡ false = grind (most, names.number, is.number, nat_tests, arith) in
             subst (λ (b : Bool). FindAlike FoundSnapshot None (if b then Some s else None)) (sym past_it) tt
+
+    -- so the one that was found, where it passes the test of its number
+    pub earlier_found : (found result : Option (Bor Snapshot)) {Holds : Bor Snapshot → Bool → Type 0} → ((row : Bor Snapshot) (b : Bool) → Holds row b → b ≡ nat_lt row.now.number own.number)
+        → MatchOption found (result ≡ None) (λ row. (b : Bool) × Holds row b × (result ≡ then_some b row)) → FindAlike FoundSnapshot found (origin_of pool later) → FindAlike FoundSnapshot result (earlier_origin pool later)
+    earlier_found None result test cases alike = rw cases (none_earlier alike)
+    earlier_found (Some row) result test cases alike = go cases.0 (test row cases.0 cases.1) cases.2
+      where
+        go : (b : Bool) → b ≡ nat_lt row.now.number own.number → result ≡ then_some b row → FindAlike FoundSnapshot result (earlier_origin pool later)
+        go true less made = rw made (is_below row alike (grind (arith, nat_tests)))
+        go false most made = rw made (not_below row alike (grind (arith, nat_tests)))

@@ -1,9 +1,10 @@
 -- What stands behind the first mark of a text.
-use Rattle.std.proofs.Common.{◌≡◌, ℕ, ◌+◌, ◌<◌, ◌≤◌, ◌==◌, Bool, true, false, cond, nat_lt, Some, None, List, length, drop, refl, sym, ap, ◌∙◌, arith}
+use Rattle.std.proofs.Common.{◌≡◌, ℕ, ◌+◌, ◌<◌, ◌≤◌, ◌==◌, Bool, true, false, cond, nat_lt, Option, Some, None, List, length, drop, refl, sym, ap, ◌∙◌, arith}
 use Rattle.std.proofs.lemmas.Bool.Decides.{nat_tests}
 use Rattle.std.proofs.lemmas.List.Sums.{prefix_len-le-length}
 use Rattle.std.proofs.lemmas.List.{drop_all}
 use Rattle.std.specs.List.{position, position_or_len}
+use Rattle.std.specs.Option.{MatchOption}
 use Rattle.zst_names.specs.Names.{component_of}
 use Rattle.zst_plan.specs.RecvPlan.{behind_mark}
 
@@ -38,3 +39,9 @@ module _ (name : List ℕ) where
   behind_none is =
       let there = none_inside is in
       (omega (arith, there), drop_all (length name) name (omega arith) ∙ sym (drop_all (at + 1) name (omega (arith, there))))
+
+  -- so a place that was found or the length, whichever there is
+  pub behind : (found : Option ℕ) (result : ℕ) {At : ℕ → Type 0} → ((place : ℕ) → At place → result ≡ place + 1) → found ≡ position (λ b. b == 64) name → MatchOption found (result ≡ length name) At
+      → (result ≡ behind_mark name) × (result ≤ length name) × (drop result name ≡ component_of 64 name)
+  behind None result at is cases = let none = behind_none (sym is) in rw cases (none.0, omega arith, none.1)
+  behind (Some place) result at is cases = rw (at place cases) (behind_found place (sym is))

@@ -19,7 +19,7 @@ use Rattle.zst_model.specs.pools.Step.{count_datasets}
 use Rattle.zst_model.specs.sends.Features.{redacts, resuming}
 use Rattle.zst_model.specs.sends.Headers.{free_records}
 use Rattle.zst_model.specs.sends.Inclusion.{any_below}
-use Rattle.zst_model.specs.sends.Items.{origin}
+use Rattle.zst_model.specs.sends.Points.{stated_point}
 use Rattle.zst_model.specs.sends.SendPlan.{find_snapshot, has_guids, kind_of}
 use Rattle.zst_model.specs.states.AppliedItems.{unless, ◌>>=◌}
 use Rattle.zst_model.specs.states.DatedState.{DatedState}
@@ -71,10 +71,6 @@ snapshot_name target component = target ++ 64 ∷ component
 abbrev pub is_resumed : Header → Bool
 is_resumed header = not (bit_and header.features resuming == 0)
 
--- the point that it states; one that doesn't begins at the origin
-abbrev pub stated_point : Header → Point
-stated_point header = option_map_or (λ point. point) header.resume origin
-
 -- whether two points are one
 abbrev pub is_point : Point → Point → Bool
 is_point one other = one.object == other.object && one.offset == other.offset
@@ -83,13 +79,13 @@ is_point one other = one.object == other.object && one.offset == other.offset
 abbrev pub goes_on : Partial → Header → Bool
 goes_on partial header =
     (partial.header.to == header.to && partial.header.from == header.from)
-    && (is_point partial.point (stated_point header)
+    && (is_point partial.point (stated_point header.resume)
     && (bytes_eq partial.header.redact header.redact && bytes_eq partial.header.from_redact header.from_redact))
 
 -- E15: what the pool keeps, and what the stream states
 abbrev pub wrong_resume : Partial → Header → PlanFault
 wrong_resume partial header =
-    plans.WrongResume (record { guid = partial.header.to; point = partial.point }) (record { guid = header.to; point = stated_point header })
+    plans.WrongResume (record { guid = partial.header.to; point = partial.point }) (record { guid = header.to; point = stated_point header.resume })
 
 -- a target with a partial state: E13, E15
 abbrev pub resumed_plan : Header → Partial → Result RecvPlan PlanFault

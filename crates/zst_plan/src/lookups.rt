@@ -20,10 +20,9 @@ pub fn find_snapshot(dir: &Dir, name: &SnapName) -> Result<usize, PlanFault>
     ensures found { (pool : Pool) → AreNamed dir.now pool → AnswerAlike (StandsAt dir.now.snapshots pool.snapshots) result (find_snapshot name.now pool) }
     ensures named { IfOk result (λ place. position (λ snapshot. bytes_eq snapshot.name name.now) dir.now.snapshots ≡ Some place) }
 {
-    match dir.snapshot(name) {
-        Some(place) => Ok(place),
-        None => Err(PlanFault::NoSuch(AbsentSubject::Named(Name::Snapshot(name.duplicate())))),
-    }
+    dir.snapshot(name).ok_or_else(|| {
+        PlanFault::NoSuch(AbsentSubject::Named(Name::Snapshot(name.duplicate())))
+    })
 }
 
 /// The place of the bookmark of this name: E3 where there is none.
@@ -31,10 +30,9 @@ pub fn find_bookmark(dir: &Dir, name: &BookName) -> Result<usize, PlanFault>
     ensures inside { IfOk result (λ place. place < length dir.now.bookmarks) }
     ensures found { (pool : Pool) → AreNamed dir.now pool → AnswerAlike (StandsAt dir.now.bookmarks pool.bookmarks) result (find_bookmark name.now pool) }
 {
-    match dir.bookmark(name) {
-        Some(place) => Ok(place),
-        None => Err(PlanFault::NoSuch(AbsentSubject::Named(Name::Bookmark(name.duplicate())))),
-    }
+    dir.bookmark(name).ok_or_else(|| {
+        PlanFault::NoSuch(AbsentSubject::Named(Name::Bookmark(name.duplicate())))
+    })
 }
 
 // The row of this name: E3 where there is none.
@@ -64,10 +62,7 @@ pub fn find_source<'a>(
     ensures inside { IfOk result (λ source. IfSome source (IsInRows dir.now)) }
     ensures found { (pool : Pool) → AreNamed dir.now pool → AnswerAlike (FindAlike (IsSource dir.now pool)) result (find_source from.now pool) }
 {
-    match from {
-        None => Ok(None),
-        Some(from) => Ok(Some(find_named(dir, from)?)),
-    }
+    from.as_ref().map(|from| find_named(dir, from)).transpose()
 }
 
 /// The place of the bookmark of `--redact`: E3 where it isn't there.
@@ -75,10 +70,10 @@ pub fn find_redaction(dir: &Dir, redact: &Option<BookName>) -> Result<Option<usi
     ensures inside { IfOk result (λ place. IfSome place (λ p. p < length dir.now.bookmarks)) }
     ensures found { (pool : Pool) → AreNamed dir.now pool → AnswerAlike (FindAlike (StandsAt dir.now.bookmarks pool.bookmarks)) result (find_redaction redact.now pool) }
 {
-    match redact {
-        None => Ok(None),
-        Some(name) => Ok(Some(find_bookmark(dir, name)?)),
-    }
+    redact
+        .as_ref()
+        .map(|name| find_bookmark(dir, name))
+        .transpose()
 }
 
 /// The dataset that a snapshot is of.
@@ -86,20 +81,15 @@ pub fn dataset_of<'a>(dir: &'a Dir, snapshot: &Snapshot) -> Option<&'a Dataset>
     ensures { (pool : Pool) (later : plain.Snapshot) → AreNamed dir.now pool → NamesSnapshot snapshot.now later
         → FindAlike FoundDataset result (dataset_named (dataset_of_snapshot later) pool) }
 {
-    match dir.dataset(&snapshot.name.dataset()) {
-        Some(place) => Some(&dir.datasets()[place]),
-        None => None,
-    }
+    dir.dataset(&snapshot.name.dataset())
+        .map(|place| &dir.datasets()[place])
 }
 
 /// The snapshot of this name.
 pub fn snapshot_named<'a>(dir: &'a Dir, name: &SnapName) -> Option<&'a Snapshot>
     ensures { (pool : Pool) → AreNamed dir.now pool → FindAlike FoundSnapshot result (snapshot_named name.now pool) }
 {
-    match dir.snapshot(name) {
-        Some(place) => Some(&dir.snapshots()[place]),
-        None => None,
-    }
+    dir.snapshot(name).map(|place| &dir.snapshots()[place])
 }
 
 /// The bookmark at this place, where there is a place.
@@ -108,8 +98,5 @@ pub fn bookmark_at(dir: &Dir, place: Option<usize>) -> Option<&Bookmark>
     ensures { (pool : Pool) (bookmark : Option plain.Bookmark) → AreNamed dir.now pool → FindAlike (StandsAt dir.now.bookmarks pool.bookmarks) place bookmark
         → FindAlike FoundBookmark result bookmark }
 {
-    match place {
-        Some(place) => Some(&dir.bookmarks()[place]),
-        None => None,
-    }
+    place.map(|place| &dir.bookmarks()[place])
 }

@@ -16,13 +16,9 @@ use zst_dir::{Dir, Snapshot};
 fn origin_of<'a>(dir: &'a Dir, snapshot: &Snapshot) -> Option<&'a Snapshot>
     ensures { (pool : Pool) (later : Plain) → AreNamed dir.now pool → NamesSnapshot snapshot.now later → FindAlike FoundSnapshot result (origin_of pool later) }
 {
-    match dataset_of(dir, snapshot) {
-        None => None,
-        Some(dataset) => match &dataset.origin {
-            None => None,
-            Some(name) => snapshot_named(dir, name),
-        },
-    }
+    let dataset = dataset_of(dir, snapshot)?;
+    let name = dataset.origin.as_ref()?;
+    snapshot_named(dir, name)
 }
 
 // It, where its number is below the snapshot's.
@@ -30,10 +26,7 @@ fn earlier_origin<'a>(dir: &'a Dir, snapshot: &Snapshot) -> Option<&'a Snapshot>
     ensures below { IfSome result (λ origin. origin.now.number < snapshot.now.number) }
     ensures found { (pool : Pool) (later : Plain) → AreNamed dir.now pool → NamesSnapshot snapshot.now later → FindAlike FoundSnapshot result (earlier_origin pool later) }
 {
-    match origin_of(dir, snapshot) {
-        Some(origin) if origin.number < snapshot.number => Some(origin),
-        _ => None,
-    }
+    origin_of(dir, snapshot).filter(|origin| origin.number < snapshot.number)
 }
 
 /// Whether the source stands before the snapshot. The numbers of origins fall, so that it ends on

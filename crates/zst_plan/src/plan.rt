@@ -53,10 +53,7 @@ pub fn flags_of(snapshot: &Snapshot, source: &Option<Source<'_>>) -> u32
 pub fn kind_of(dir: &Dir, snapshot: &Snapshot) -> u32
     ensures { (pool : Pool) (to : PlainSnapshot) → AreNamed dir.now pool → NamesSnapshot snapshot.now to → result ≡ kind_of pool to }
 {
-    match dataset_of(dir, snapshot) {
-        Some(dataset) => dataset.kind,
-        None => 0,
-    }
+    dataset_of(dir, snapshot).map_or(0, |dataset| dataset.kind)
 }
 
 // The redaction guids of the bookmark at this place.
@@ -65,10 +62,7 @@ fn guids_at(dir: &Dir, place: Option<usize>) -> GuidSet
     ensures { (pool : Pool) (bookmark : Option PlainBookmark) → AreNamed dir.now pool → FindAlike (StandsAt dir.now.bookmarks pool.bookmarks) place bookmark
         → result ≡ redaction_guids bookmark }
 {
-    match bookmark_at(dir, place) {
-        Some(bookmark) => bookmark.redact.duplicate(),
-        None => GuidSet::empty(),
-    }
+    bookmark_at(dir, place).map_or_else(GuidSet::empty, |bookmark| bookmark.redact.duplicate())
 }
 
 // The features of BEGIN: REDACTED where there is a bookmark of `--redact`.

@@ -32,10 +32,7 @@ fn find_to(dir: &Dir, token: &Token) -> Result<usize, PlanFault>
     ensures found { (pool : Pool) → AreNamed dir.now pool → AnswerAlike (StandsAt dir.now.snapshots pool.snapshots) result (find_to token.now pool) }
     ensures to { IfOk result (λ place. position (λ snapshot. snapshot.guid == token.now.to) dir.now.snapshots ≡ Some place) }
 {
-    match dir.by_guid(token.to) {
-        Some(place) => Ok(place),
-        None => Err(no_guid(token.to)),
-    }
+    dir.by_guid(token.to).ok_or(no_guid(token.to))
 }
 
 // Whether the source has the token's from guid and from-redaction guids and stands before the snapshot.
@@ -86,10 +83,7 @@ fn first_from<'a>(dir: &'a Dir, token: &Token, to: &Snapshot) -> Option<Source<'
     ensures found { (pool : Pool) (later : PlainSnapshot) → AreNamed dir.now pool → NamesSnapshot to.now later
         → FindAlike (IsSource dir.now pool) result (first_from token.now pool later) }
 {
-    match first_snapshot(dir, token, to) {
-        Some(source) => Some(source),
-        None => first_bookmark(dir, token, to),
-    }
+    first_snapshot(dir, token, to).or_else(|| first_bookmark(dir, token, to))
 }
 
 // What the send is from; where the from guid is 0 it is from nothing.
@@ -105,10 +99,9 @@ fn find_from<'a>(
     if token.from == 0 {
         return Ok(None);
     }
-    match first_from(dir, token, to) {
-        Some(source) => Ok(Some(source)),
-        None => Err(no_guid(token.from)),
-    }
+    first_from(dir, token, to)
+        .map(Some)
+        .ok_or(no_guid(token.from))
 }
 
 // The place of the first bookmark with the token's to guid and redaction guids.
@@ -128,10 +121,7 @@ fn find_marked(dir: &Dir, token: &Token) -> Result<Option<usize>, PlanFault>
     if !has_guids(&token.redact) {
         return Ok(None);
     }
-    match first_marked(dir, token) {
-        Some(place) => Ok(Some(place)),
-        None => Err(no_guid(token.to)),
-    }
+    first_marked(dir, token).map(Some).ok_or(no_guid(token.to))
 }
 
 /// What a send from a token is to give: the places of what the token names, or the first refusal

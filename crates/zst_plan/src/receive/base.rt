@@ -84,13 +84,10 @@ fn find_latest(dir: &Dir, name: &DatasetName, header: &Header) -> Result<usize, 
     ensures inside { IfOk result (λ place. place < length dir.now.snapshots) }
     ensures found { (pool : Pool) → AreNamed dir.now pool → AnswerAlike (StandsAt dir.now.snapshots pool.snapshots) result (plain.find_latest name.now header.now pool) }
 {
-    match latest_of(dir, name) {
-        Some(place) => Ok(place),
-        None => Err(PlanFault::NotLatest {
-            have: 0,
-            want: header.from,
-        }),
-    }
+    latest_of(dir, name).ok_or(PlanFault::NotLatest {
+        have: 0,
+        want: header.from,
+    })
 }
 
 // The latest date that a set tells.

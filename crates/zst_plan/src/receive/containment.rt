@@ -17,7 +17,7 @@ use zst_model::{GuidSet, Header, PlanFault};
 fn is_among(guids: &[u64], guid: u64) -> bool
     ensures { result ≡ is_among guids.now guid }
 {
-    guids.iter().any(|other| *other == guid)
+    guids.contains(&guid)
 }
 
 fn are_among(guids: &[u64], stated: &[u64]) -> bool
@@ -50,20 +50,14 @@ fn is_contained(guids: &[u64], header: &Header) -> bool
 fn find_outside(guids: &[u64], stated: &[u64]) -> Option<u64>
     ensures { result ≡ option_map (λ guid. guid) (find (λ guid. not (is_among guids.now guid)) stated.now) }
 {
-    stated
-        .iter()
-        .find(|guid| !is_among(guids, **guid))
-        .map(|guid| *guid)
+    stated.iter().find(|guid| !is_among(guids, **guid)).copied()
 }
 
 // It, or another where all are.
 fn first_outside(guids: &[u64], stated: &[u64], other: u64) -> u64
     ensures { result ≡ first_outside guids.now stated.now other }
 {
-    match find_outside(guids, stated) {
-        Some(guid) => guid,
-        None => other,
-    }
+    find_outside(guids, stated).unwrap_or(other)
 }
 
 // The guid that isn't contained.
@@ -82,10 +76,8 @@ fn redacted_for(dir: &Dir, base: &Base) -> GuidSet
     requires { IsBaseInside dir.now base.now }
     ensures { (pool : Pool) (other : plain.Base) → AreNamed dir.now pool → IsBaseOf dir.now pool base.now other → result ≡ redacted_for other.snapshot }
 {
-    match base.snapshot {
-        Some(place) => dir.snapshots()[place].redact.duplicate(),
-        None => GuidSet::empty(),
-    }
+    let from = base.snapshot.map(|place| &dir.snapshots()[place]);
+    from.map_or_else(GuidSet::empty, |snapshot| snapshot.redact.duplicate())
 }
 
 /// E12 where the stream isn't contained in the base.

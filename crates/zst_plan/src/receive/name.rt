@@ -23,10 +23,7 @@ fn behind_mark(name: &[u8]) -> usize
     ensures inside { result ≤ length name.now }
     ensures component { drop result name.now ≡ component_of 64 name.now }
 {
-    match mark_at(name) {
-        Some(place) => place + 1,
-        None => name.len(),
-    }
+    mark_at(name).map_or(name.len(), |place| place + 1)
 }
 
 // What stands behind the first `@`.

@@ -3,12 +3,12 @@ ghost use Rattle.std.specs.Prelude.{◌≡◌, Ok, Result};
 ghost use Rattle.zst_dir.specs.RowNames.{NamesPartial};
 ghost use Rattle.zst_model.specs.pools.Pool.{Partial as PlainPartial};
 ghost use Rattle.zst_plan.specs.Places.{Judges};
-ghost use Rattle.zst_plan.specs.RecvPlan.{RecvPlan, Resumes, goes_on, if_plain, is_point, is_resumed, resumed_plan, stated_point, wrong_resume};
+ghost use Rattle.zst_plan.specs.RecvPlan.{RecvPlan, Resumes, goes_on, if_plain, is_resumed, resumed_plan, wrong_resume};
 ghost use Rattle.zst_model.specs.declared.refusals.plan_fault.PlanFault.{PlanFault as Fault};
 
 use zst_dir::Partial;
 use zst_model::features::RESUMING;
-use zst_model::{Header, PlanFault, Point, ResumePlace};
+use zst_model::{Header, PlanFault, ResumePlace, stated_point};
 use zst_names::DatasetName;
 
 // Whether a stream was asked for by a token.
@@ -19,25 +19,6 @@ fn is_resumed(header: &Header) -> bool
     header.features & RESUMING != 0
 }
 
-// The point that a stream states; one that doesn't begins at the origin.
-fn stated_point(header: &Header) -> Point
-    ensures { result ≡ stated_point header.now }
-{
-    match header.resume {
-        Some(point) => point,
-        None => Point {
-            object: 0,
-            offset: 0,
-        },
-    }
-}
-
-fn is_point(one: Point, other: Point) -> bool
-    ensures { result ≡ is_point one other }
-{
-    one.object == other.object && one.offset == other.offset
-}
-
 // Whether a stream goes on where a partial state stands.
 fn goes_on(partial: &Partial, header: &Header) -> bool
     ensures { (kept : PlainPartial) → NamesPartial partial.now kept → result ≡ goes_on kept header.now }
@@ -45,7 +26,7 @@ fn goes_on(partial: &Partial, header: &Header) -> bool
     let kept = &partial.header;
     kept.to == header.to
         && kept.from == header.from
-        && is_point(partial.point, stated_point(header))
+        && partial.point == stated_point(header.resume)
         && kept.redact.as_slice() == header.redact.as_slice()
         && kept.from_redact.as_slice() == header.from_redact.as_slice()
 }
@@ -61,7 +42,7 @@ fn wrong_resume(partial: &Partial, header: &Header) -> PlanFault
         },
         want: ResumePlace {
             guid: header.to,
-            point: stated_point(header),
+            point: stated_point(header.resume),
         },
     }
 }

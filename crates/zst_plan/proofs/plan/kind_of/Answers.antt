@@ -1,14 +1,10 @@
-use Rattle.std.proofs.Common.{refl, sym}
+use Rattle.std.proofs.Common.{rules, ◌≡◌, ◌∙◌, sym}
 use Rattle.zst_model.specs.pools.Pool.{dataset_named, dataset_of_snapshot}
 use Rattle.zst_plan.specs.Sources.{FoundDataset}
-use Rattle.zst_plan.proofs.LookupLemmas.{none_alike, some_alike}
+use Rattle.zst_plan.proofs.LookupLemmas.{value_found}
 use Rattle.zst_plan.proofs.plan.kind_of.Goals as goal
 
-pub returns-in-Some : goal.returns-in-Some
-returns-in-Some c = λ pool to are names.
-    let found = some_alike FoundDataset c.in-Some.dataset (dataset_named (dataset_of_snapshot to) pool) (c.in-Some.ensures pool to are names) in
-    rw found.1 (sym found.2.kind)
-
-pub returns-in-None : goal.returns-in-None
-returns-in-None c = λ pool to are names.
-    rw (none_alike FoundDataset (dataset_named (dataset_of_snapshot to) pool) (c.in-None.ensures pool to are names)) refl
+pub returns : goal.returns
+returns c = λ pool to are names.
+    value_found FoundDataset c.dataset_of.result (dataset_named (dataset_of_snapshot to) pool) (λ dataset. dataset.kind) 0 c.map_or.result
+    (λ row dataset made is. let is_its : c.map_or.result ≡ row.now.kind = search rules in is_its ∙ sym is.kind) (λ none. none) c.map_or.ensures (c.dataset_of.ensures pool to are names)

@@ -1,15 +1,13 @@
-use Rattle.std.proofs.Common.{◌∙◌, ℕ, List, Option, get_or, sym, ap, subst}
-use Rattle.zst_dir.specs.declared.rows.Snapshot.{Snapshot}
-use Rattle.zst_plan.specs.Places.{FindAlike, StandsAt}
-use Rattle.zst_plan.specs.RecvPlan.{redacted_for}
-use Rattle.zst_plan.proofs.LookupLemmas.{row_names, some_alike}
+use Rattle.std.proofs.Common.{rules, ◌≡◌, ◌∙◌, [], Some, sym}
+use Rattle.zst_plan.specs.Places.{StandsAt}
+use Rattle.zst_plan.specs.Sources.{FoundSnapshot}
+use Rattle.zst_plan.proofs.LookupLemmas.{rows_found, snapshot_row, value_found}
 use Rattle.zst_plan.proofs.receive.containment.redacted_for.Goals as goal
 
-pub returns-in-Some : goal.returns-in-Some
-returns-in-Some c = λ pool other are is.
+pub returns : goal.returns
+returns c = λ pool other are is.
     let rows = c.args.dir.now in
-    let place = c.in-Some.place in
-    let row = c.index-snapshots-place.result in
-    let found = some_alike (StandsAt rows.snapshots pool.snapshots) place other.snapshot (subst (λ (o : Option ℕ). FindAlike (StandsAt rows.snapshots pool.snapshots) o other.snapshot) c.in-Some.is is.0) in
-    let names = row_names rows pool are place row found.0 found.2 (c.index-snapshots-place.is ∙ ap (λ (xs : List Snapshot). get_or xs place row) c.snapshots.ensures) in
-    c.duplicate.ensures ∙ ap (λ (s : Snapshot). s.redact) (sym c.index-snapshots-place.is) ∙ sym names.redact ∙ ap (λ o. redacted_for o) (sym found.1)
+    let alike = rows_found (StandsAt rows.snapshots pool.snapshots) FoundSnapshot c.args.base.now.snapshot c.map-from.result other.snapshot
+    (λ place row snapshot at is. snapshot_row rows pool are place row (Some snapshot) (search rules) is) c.map-from.ensures.cases is.0 in
+    value_found FoundSnapshot c.map-from.result other.snapshot (λ snapshot. snapshot.redact) [] c.map_or_else.result
+    (λ row snapshot made names. let is_its : c.map_or_else.result ≡ row.now.redact = search rules in is_its ∙ sym names.redact) (λ none. search rules) c.map_or_else.ensures alike
