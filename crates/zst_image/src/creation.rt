@@ -14,7 +14,7 @@ use crate::commits::commit_dir;
 use crate::create_fault::CreateFault;
 use crate::pool_state::PoolState;
 use std::alloc::Global;
-use zst_block::{Io, Node, Ptr};
+use zst_block::{Io, Ptr};
 use zst_dir::Dir;
 use zst_outside::Disk;
 use zst_space::Space;
@@ -49,12 +49,7 @@ impl PoolState {
             return Err(CreateFault::TooSmall { sectors });
         }
         let space = Space::new(8, sectors, Vec::new(alloc));
-        let mut io = Io {
-            disk,
-            space,
-            failed: false,
-            node: Node::new(),
-        };
+        let mut io = Io::new(alloc, disk, space);
         let made = commit_dir(&mut io, alloc, &unborn(sectors, id), 0, Dir::new(alloc));
         // Only of a disk that was given back is it known what stands on it.
         io.into_disk();

@@ -15,7 +15,7 @@ ghost use Rattle.zst_image.specs.Reads.{HasDir, ReadsAs, Rests, free_by};
 use crate::open_fault::OpenFault;
 use crate::pool_state::PoolState;
 use std::alloc::Global;
-use zst_block::{BlockFault, Io, Node};
+use zst_block::{BlockFault, Io};
 use zst_dir::Dir;
 use zst_leaves::{LeavesFault, read_leaves};
 use zst_outside::Disk;
@@ -103,12 +103,7 @@ fn read_bytes<D: Disk>(alloc: Global, disk: &mut D, body: &Uber) -> Result<Vec<u
     ensures cause { HasDiskCause OpenFault.DiskFault (D.state disk.old).faults (D.state disk.new).faults result }
 {
     let space = Space::new(body.end, body.sectors, Vec::new(alloc));
-    let mut io = Io {
-        disk,
-        space,
-        failed: false,
-        node: Node::new(),
-    };
+    let mut io = Io::new(alloc, disk, space);
     let levels = body.dir_levels as u8;
     let read = read_leaves(&mut io, alloc, levels, body.dir_root, body.dir_bytes);
     io.into_disk();

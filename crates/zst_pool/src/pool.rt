@@ -22,7 +22,7 @@ use crate::heads::{free_objects, punch, put_object, write_block};
 use crate::lineage_commands::{destroy, make_bookmark, make_clone, roll_back};
 use crate::queries::tell;
 use std::alloc::{AllocError, Global};
-use zst_block::{Io, Node};
+use zst_block::Io;
 use zst_image::PoolState;
 use zst_laws::steps_keep_sound;
 use zst_model::{Bytes, Command, Reply};
@@ -49,12 +49,7 @@ impl<'d, D: Disk> Pool<'d, D> {
         ensures failed { result.io.failed ≡ false }
     {
         let space = Space::new(kept.body.end, kept.body.sectors, Vec::new(alloc));
-        let io = Io {
-            disk,
-            space,
-            failed: false,
-            node: Node::new(),
-        };
+        let io = Io::new(alloc, disk, space);
         Pool { io, kept }
     }
 
