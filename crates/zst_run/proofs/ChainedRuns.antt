@@ -15,7 +15,7 @@ use Rattle.zst_model.specs.states.AppliedItems.{unless, ◌>>=◌}
 use Rattle.zst_model.specs.states.State.{number_bound}
 use Rattle.zst_plan.specs.ResumePlan.{resumed_send}
 use Rattle.zst_plan.specs.declared.receive.RecvAsk.{RecvAsk}
-use Rattle.zst_send.specs.Openings.{built, is_plain}
+use Rattle.zst_send.specs.Openings.{built, is_plain, rest_of}
 use Rattle.zst_send.specs.Sends.{begun_text}
 use Rattle.zst_recv.specs.Feeds.{receives}
 use Rattle.zst_recv.specs.ReceiveSteps.{pool_of}
@@ -28,7 +28,6 @@ use Rattle.zst_replication.specs.Replicas.{AreOfStream}
 use Rattle.zst_replication.specs.Resumption.{Begun, Chain, GivesRest, GoneOn, RestIsReceived, ResumedStopsAreProgress}
 use Rattle.zst_replication.specs.Resumption as resumption
 use Rattle.zst_run.specs.Replication.{ChainsComplete, IsReadOf, IsRestReceiver, IsRestSender, RestsAreProgress, RunsAreChained, SentRestStands}
-use Rattle.zst_run.specs.Sends.{rest_of}
 use Rattle.zst_run.specs.declared.send.SendRequest.TheVariants.{Rest}
 use Rattle.zst_run.proofs.PipedRuns.{Fits, KeepsWhole, each_image, first_of_stream, into_is, matches, pieces_read, planned_of, received_so, sendable, text_sent, whole}
 

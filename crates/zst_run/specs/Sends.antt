@@ -6,19 +6,16 @@ use Rattle.zst_outside.specs.Printing.{Printed, Wrote}
 use Rattle.zst_outside.specs.States.{SinkState, HandedOn}
 use Rattle.zst_uber.specs.Slots.{latest}
 use Rattle.zst_uber.specs.declared.uber.Uber.{Uber}
-use Rattle.zst_model.specs.declared.refusals.faults.Lack.TheVariants as lacks
 use Rattle.zst_model.specs.declared.refusals.faults.Quantity.TheVariants.{Stream}
 use Rattle.zst_model.specs.declared.refusals.subjects.Name.{Name}
 use Rattle.zst_model.specs.declared.refusals.subjects.Name.TheVariants as names
 use Rattle.zst_model.specs.declared.refusals.plan_fault.PlanFault.{PlanFault}
-use Rattle.zst_model.specs.declared.refusals.plan_fault.PlanFault.TheVariants as plans
 use Rattle.zst_model.specs.declared.refusals.refusal.Refusal.{Refusal}
 use Rattle.zst_model.specs.declared.refusals.refusal.Refusal.TheVariants as refusals
 use Rattle.zst_model.specs.declared.sends.header.Point.{Point}
 use Rattle.zst_model.specs.pools.Pool.{Pool}
 use Rattle.zst_model.specs.refusals.Refusal.{refusal_of}
 use Rattle.zst_model.specs.sends.Headers.{Sent, sent_view}
-use Rattle.zst_model.specs.states.AppliedItems.{unless, ◌>>=◌}
 use Rattle.zst_tree.specs.Damage.{IsSeen}
 use Rattle.zst_tree.specs.declared.tree.ObjSet.{ObjSet}
 use Rattle.zst_objset.specs.Damage.{DamageFact}
@@ -27,13 +24,12 @@ use Rattle.zst_image.specs.Faults.{open_refusal}
 use Rattle.zst_image.specs.OpenAnswers.{TellsBody, TellsDir}
 use Rattle.zst_image.specs.Reads.{IsNamedBy, Reads, kept_rows}
 use Rattle.zst_image.specs.declared.open_fault.OpenFault.{OpenFault}
-use Rattle.zst_plan.specs.ResumePlan.{resumed_send}
 use Rattle.zst_pool.specs.Lookups.{set_named}
 use Rattle.zst_pool.specs.Faults.{pool_refusal}
 use Rattle.zst_pool.specs.declared.fault.PoolFault.{PoolFault}
 use Rattle.zst_reader.specs.InputReads.{stream_limit}
 use Rattle.zst_send.specs.Damage.{IsDamagedSend}
-use Rattle.zst_send.specs.Openings.{built, opening, set_with}
+use Rattle.zst_send.specs.Openings.{opening, set_with, to_resume}
 use Rattle.zst_send.specs.Sends.{begun_text}
 use Rattle.zst_token.specs.declared.token.Token.{Token}
 use Rattle.zst_run.specs.declared.send.SendRequest.{SendRequest}
@@ -47,14 +43,10 @@ abbrev pub IsSource : Name → Type 0
 IsSource (names.Dataset name) = ⊥
 IsSource name = Unit {0}
 
--- what a token asks for: E19 of one of a stream with large blocks comes before all look-ups
-abbrev pub rest_of : Token → Pool → Result Sent PlanFault
-rest_of token pool = unless token.large (plans.Unsupported lacks.LargeBlocks) (resumed_send token pool)
-
 -- what is to be sent, or why it can't: the refusals of its plan, and then that it isn't built
 abbrev pub to_send : SendRequest → Pool → Result Sent PlanFault
 to_send (Named ask) pool = opening ask pool
-to_send (Rest token) pool = rest_of token pool >>= built
+to_send (Rest token) pool = to_resume token pool
 
 -- the point that a send begins at: a token's, and none of a send from the beginning
 abbrev pub start_of : SendRequest → Option Point

@@ -16,11 +16,11 @@ ghost use Rattle.zst_plan.specs.Plans.{IsInside, IsPlanOf};
 ghost use Rattle.zst_reader.specs.InputReads.{stream_limit};
 ghost use Rattle.zst_send.specs.Damage.{IsDamagedSend};
 ghost use Rattle.zst_send.specs.KnownPointers.{IsAmong, Knows};
-ghost use Rattle.zst_send.specs.Openings.{opening};
+ghost use Rattle.zst_send.specs.Openings.{opening, rest_of};
 ghost use Rattle.zst_send.specs.Sends.{SendFits, sent_set};
 ghost use Rattle.zst_script.specs.Asks.{ask_of, source_of};
 ghost use Rattle.zst_run.specs.declared.send.SendRequest.TheVariants.{Named, Rest};
-ghost use Rattle.zst_run.specs.Sends.{HasSet, IsSendRefusal, IsSource, OfAsked, OfGiving, Sends, SendsBy, SentAlike, TellsOf, rest_of, send_damage, start_of, to_send};
+ghost use Rattle.zst_run.specs.Sends.{HasSet, IsSendRefusal, IsSource, OfAsked, OfGiving, Sends, SendsBy, SentAlike, TellsOf, send_damage, start_of, to_send};
 ghost use Rattle.zst_run.specs.SendPieces.{Advances, IfUnplanned, IsOpenRefusal, OpensBy, Passed, PlansOpen, Sending, WritesPiece};
 
 use crate::reply::hand_on;

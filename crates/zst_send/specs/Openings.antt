@@ -11,8 +11,10 @@ use Rattle.zst_model.specs.pools.Pool.{Pool}
 use Rattle.zst_model.specs.sends.Headers.{Sent, source_guids}
 use Rattle.zst_model.specs.sends.SendPlan.{has_guids, send_plan}
 use Rattle.zst_model.specs.states.AppliedItems.{unless, ◌>>=◌}
+use Rattle.zst_plan.specs.ResumePlan.{resumed_send}
 use Rattle.zst_pool.specs.declared.fault.PoolFault.{PoolFault}
 use Rattle.zst_pool.specs.declared.fault.PoolFault.TheVariants.{Plan, CannotApply, Redacted, Full, Damaged, DiskFault, Failed, OutOfMemory}
+use Rattle.zst_token.specs.declared.token.Token.{Token}
 use Rattle.zst_tree.specs.Indices.{Blocks}
 use Rattle.zst_tree.specs.declared.tree.ObjSet.{ObjSet}
 use Rattle.zst_send.specs.Sends.{Sends, SendsFrom, begun_text, sent_text}
@@ -29,6 +31,14 @@ built sent = unless (not (is_plain sent)) (plans.Unsupported lacks.NotBuilt) (Ok
 -- what a send is to give, or why it can't: the refusals of its plan, and then that it isn't built
 abbrev pub opening : SendAsk → Pool → Result Sent PlanFault
 opening ask pool = send_plan ask pool >>= built
+
+-- what a token asks for: E19 of one of a stream with large blocks comes before all look-ups
+abbrev pub rest_of : Token → Pool → Result Sent PlanFault
+rest_of token pool = unless token.large (plans.Unsupported lacks.LargeBlocks) (resumed_send token pool)
+
+-- what is to be sent of what a token asks for, or why it can't
+abbrev pub to_resume : Token → Pool → Result Sent PlanFault
+to_resume token pool = rest_of token pool >>= built
 
 -- a send is opened by its plan, and has given nothing; its refusals are the plan's, unless no memory was left
 abbrev pub Opens : Blocks → SendAsk → Pool → Result Send PoolFault → Type 0

@@ -25,11 +25,11 @@ use Rattle.zst_script.specs.declared.event.Event.{Event}
 use Rattle.zst_script.specs.declared.event.Event.TheVariants as events
 use Rattle.zst_script.specs.declared.event.Side.{Side}
 use Rattle.zst_script.specs.declared.event.Side.TheVariants.{Here, There}
-use Rattle.zst_send.specs.Openings.{opening}
+use Rattle.zst_send.specs.Openings.{opening, to_resume}
 use Rattle.zst_record.specs.Heads.{Covered}
 use Rattle.zst_stream.specs.Reading.{reading}
 use Rattle.zst_token.specs.declared.token.Token.{Token}
-use Rattle.zst_sessions.specs.Moves.{Moved, answers, number_line, cut_off, ended, fed_to, feeding, if_new_receive, in_the_way, most_receives, most_sends, moved, no_session, on_receive, on_send, opened_send, pumped, refuses, resumed, stepped_to, to_resume, told_by}
+use Rattle.zst_sessions.specs.Moves.{Moved, answers, number_line, cut_off, ended, fed_to, feeding, if_new_receive, in_the_way, most_receives, most_sends, moved, no_session, on_receive, on_send, opened_send, pumped, refuses, resumed, stepped_to, told_by}
 use Rattle.zst_sessions.specs.Numbers.{NumbersRise, SamePartials, TokensAreOwn}
 use Rattle.zst_sessions.specs.Replay.{DiskFails, Fails, AsDefined, FindsNoRoom, FindsNoMemory, LosesDisk, given_up, given_up_pump}
 use Rattle.zst_sessions.specs.World.{OpenPool, OpenSend, OpenReceive, World, at_side, other_side, put_side, with_running, held_at, is_used, send_with, receive_with, put_send, gone_on, next_piece}

@@ -16,11 +16,11 @@ use Rattle.zst_script.specs.declared.event.Event.{Event}
 use Rattle.zst_script.specs.declared.event.Event.TheVariants as events
 use Rattle.zst_script.specs.declared.event.Side.{Side}
 use Rattle.zst_script.specs.declared.event.Side.TheVariants.{Here, There}
-use Rattle.zst_send.specs.Openings.{opening}
+use Rattle.zst_send.specs.Openings.{opening, to_resume}
 use Rattle.zst_send.specs.Sends.{SameViewsSameRest, begun_text}
 use Rattle.zst_token.specs.declared.token.Token.{Token}
 use Rattle.zst_sessions.specs.World.{OpenPool, OpenSend, OpenReceive, World, at_side, other_side, is_side, put_side, send_with, receive_with, is_used, held_at, put_send, next_piece, gone_on}
-use Rattle.zst_sessions.specs.Moves.{Moved, ended, fed_on, fed_to, if_new_receive, if_new_send, in_the_way, no_session, on_receive, on_send, most_receives, most_sends, moved, opened_send, pumped, refuses, resumed, stepped_to, to_resume, told_by}
+use Rattle.zst_sessions.specs.Moves.{Moved, ended, fed_on, fed_to, if_new_receive, if_new_send, in_the_way, no_session, on_receive, on_send, most_receives, most_sends, moved, opened_send, pumped, refuses, resumed, stepped_to, told_by}
 use Rattle.zst_sessions.specs.Replay.{DiskFails, Fails, AsDefined, FindsNoRoom, FindsNoMemory, LosesDisk, given_up, given_up_pump}
 use Rattle.zst_sessions.specs.OwnSends.{Closes, PiecesAreAlike, PiecesAreOwn, SendsStay, asked_of}
 use Rattle.zst_sessions.proofs.FoundSessions.{found_front, found_left, found_other, found_put, some_parts}

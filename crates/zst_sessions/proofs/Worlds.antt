@@ -23,10 +23,10 @@ use Rattle.zst_script.specs.declared.event.Event.{Event}
 use Rattle.zst_script.specs.declared.event.Event.TheVariants as events
 use Rattle.zst_script.specs.declared.event.Side.{Side}
 use Rattle.zst_script.specs.declared.event.Side.TheVariants.{Here, There}
-use Rattle.zst_send.specs.Openings.{opening}
+use Rattle.zst_send.specs.Openings.{opening, to_resume}
 use Rattle.zst_token.specs.declared.token.Token.{Token}
 use Rattle.zst_sessions.specs.World.{OpenPool, OpenSend, OpenReceive, World, at_side, other_side, is_side, put_side, claim_of, hold_of, sends_on, receives_on, held_at, is_used, send_with, receive_with, put_send, moved_to, next_piece, gone_on}
-use Rattle.zst_sessions.specs.Moves.{Moved, cut_off, ended, fed_to, feeding, if_new_receive, if_works, in_the_way, most_receives, most_sends, moved, no_session, on_receive, on_send, opened_send, pumped, refuses, resumed, stepped_to, to_resume, told_by}
+use Rattle.zst_sessions.specs.Moves.{Moved, cut_off, ended, fed_to, feeding, if_new_receive, if_works, in_the_way, most_receives, most_sends, moved, no_session, on_receive, on_send, opened_send, pumped, refuses, resumed, stepped_to, told_by}
 use Rattle.zst_sessions.specs.Replay.{DiskFails, Fails, AsDefined, FindsNoRoom, FindsNoMemory, LosesDisk, given_up, given_up_pump}
 use Rattle.zst_sessions.specs.Lawfulness.{ClaimedStays, EndsLeaveOthers, FeedsLeaveOthers, FeedsStand, IsEnded, IsStanding, IsWorld, MovesKeepWorlds}
 use Rattle.zst_sessions.proofs.FoundSessions.{placed}

@@ -1,7 +1,6 @@
 -- What one event of a script answers, and what it leaves of the world: where several refusals could come, the outermost test comes first.
 use Rattle.std.specs.Prelude.{ℕ, ◌+◌, ◌++◌, false, not, nat_lt, List, [], ◌∷◌, length, filter, codes, Option, Some, None, Result, Ok, Err, if◌then◌else◌}
 use Rattle.std.specs.Option.{option_map_or}
-use Rattle.zst_model.specs.declared.refusals.faults.Lack.TheVariants as lacks
 use Rattle.zst_model.specs.declared.refusals.faults.Quantity.TheVariants as quantities
 use Rattle.zst_model.specs.declared.refusals.plan_fault.PlanFault.{PlanFault}
 use Rattle.zst_model.specs.declared.refusals.plan_fault.PlanFault.TheVariants as plans
@@ -18,8 +17,6 @@ use Rattle.zst_model.specs.pools.Step.{Stepped, stepped}
 use Rattle.zst_model.specs.refusals.Refusal.{refusal_of}
 use Rattle.zst_model.specs.refusals.Texts.{guid_text}
 use Rattle.zst_model.specs.sends.Headers.{Sent}
-use Rattle.zst_model.specs.states.AppliedItems.{unless, ◌>>=◌}
-use Rattle.zst_plan.specs.ResumePlan.{resumed_send}
 use Rattle.zst_plan.specs.declared.receive.RecvAsk.{RecvAsk}
 use Rattle.zst_recv.specs.Answers.{applied_of, point_at}
 use Rattle.zst_recv.specs.Faults.{stream_limit}
@@ -29,7 +26,7 @@ use Rattle.zst_recv.specs.Tokens.{token_told}
 use Rattle.zst_script.specs.declared.event.Event.{Event}
 use Rattle.zst_script.specs.declared.event.Event.TheVariants as events
 use Rattle.zst_script.specs.declared.event.Side.{Side}
-use Rattle.zst_send.specs.Openings.{built, opening}
+use Rattle.zst_send.specs.Openings.{opening, to_resume}
 use Rattle.zst_token.specs.Spelling.{token_text}
 use Rattle.zst_token.specs.declared.token.Token.{Token}
 use Rattle.zst_sessions.specs.World.{OpenSend, OpenReceive, World, at_side, other_side, is_side, put_side, with_running, send_with, receive_with, is_used, held_at, with_send, put_send, without_send, with_receive, put_receive, without_receive, next_piece, gone_on}
@@ -99,10 +96,6 @@ opened_send side id start world (Err fault) = refuses (refusal_of fault) world
 opened_send side id start world (Ok sent) =
     if_new_send id world
     (answers (number_line side world) (with_send (record { id = id; side = side; sent = sent; start = start; given = 0 }) world))
-
--- what a token asks for: E19 of large blocks, the refusals of its plan, and E19 of what isn't built
-abbrev pub to_resume : Token → Pool → Result Sent PlanFault
-to_resume token pool = unless token.large (plans.Unsupported lacks.LargeBlocks) (resumed_send token pool) >>= built
 
 -- a send by the token that the other pool tells: E14 comes before
 abbrev pub resumed : Side → ℕ → World → Result Token PlanFault → Moved

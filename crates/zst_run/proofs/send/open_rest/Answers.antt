@@ -3,7 +3,7 @@ use Rattle.std.proofs.lemmas.Result.{err_from_is_err_and}
 use Rattle.zst_block.specs.Blocks.{Has}
 use Rattle.zst_plan.specs.Plans.{IsPlanOf}
 use Rattle.zst_pool.proofs.NamedPools.{rows_named}
-use Rattle.zst_run.specs.Sends.{rest_of}
+use Rattle.zst_send.specs.Openings.{rest_of}
 use Rattle.zst_run.proofs.RestLemmas.{plan_is, refusal_is, then_built, then_refused}
 use Rattle.zst_run.proofs.send.open_rest.Goals as goal
 
