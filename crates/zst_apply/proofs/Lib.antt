@@ -6,4 +6,5 @@ pub mod ByteRanges
 pub mod ReceivedRecords
 pub mod RecordCosts
 pub mod SetFaults
+pub mod SetChanges
 pub mod RunLaws

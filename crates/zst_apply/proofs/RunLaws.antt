@@ -154,10 +154,3 @@ applies_both Holds definition other now is same (Err (faults.Block blocks.DiskFa
 
 pub so_many : (number k size i count : ℕ) (records : List (ℕ × ℕ)) (bytes : List ℕ) (snap now : DatedState) → length records ≡ count → blocks_written number k size (length records) i bytes snap ≡ Ok now → blocks_written number k size count i bytes snap ≡ Ok now
 so_many number k size i count records bytes snap now long is = subst (λ (n : ℕ). blocks_written number k size n i bytes snap ≡ Ok now) long is
-
-pub no_limit : (result : Result (Unit {0}) ObjFault) → IfErr result NotLimit → IfErr result LimitOfIndex
-no_limit (Ok done) is = tt
-no_limit (Err (faults.CannotApply fault)) is = tt
-no_limit (Err (faults.Redacted object block)) is = tt
-no_limit (Err (faults.Limit which limit)) is = absurd is
-no_limit (Err (faults.Block fault)) is = tt

@@ -2,4 +2,6 @@ pub mod AppliedRecords
 pub mod Checks
 pub mod Costs
 pub mod Damage
+pub mod Changed
+pub mod RangeChanges
 pub mod AppliedRuns

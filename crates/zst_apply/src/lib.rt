@@ -4,7 +4,6 @@
 mod blocks;
 mod checks;
 mod cut_ranges;
-mod objects;
 mod record_table;
 mod runs;
 

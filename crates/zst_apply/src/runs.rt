@@ -1,18 +1,14 @@
 //! WRITE records of neighbouring blocks of an object, applied at once.
-ghost use Rattle.std.specs.Prelude.{◌≡◌, ◌+◌, ◌*◌, ◌/◌, ◌%◌, ◌^◌, ◌<◌, ◌≤◌, ℕ, List, Some, IfErr, OnErr, length, true, false};
-ghost use Rattle.zst_block.specs.Blocks.{FitsDisk, Has, SparesTaken};
-ghost use Rattle.zst_block.specs.IoCalls.{Works};
+ghost use Rattle.std.specs.Prelude.{◌≡◌, ◌+◌, ◌*◌, ◌/◌, ◌%◌, ◌^◌, ◌<◌, ◌≤◌, ℕ, List, Some, length, true, false};
+ghost use Rattle.zst_block.specs.Blocks.{FitsDisk, Has};
+ghost use Rattle.zst_model.specs.pools.Soundness.{DatedUpTo};
 ghost use Rattle.zst_model.specs.states.DatedState.{DatedState};
 ghost use Rattle.zst_model.specs.states.State.{Object, is_block_size, is_odd_size};
-ghost use Rattle.zst_objset.specs.Answers.{NotRedacted, stop_of};
 ghost use Rattle.zst_objset.specs.Sets.{SetHolds};
-ghost use Rattle.zst_apply.specs.AppliedRecords.{Applies, LimitOfIndex};
-ghost use Rattle.zst_apply.specs.Damage.{apply_damage};
-ghost use Rattle.zst_model.specs.pools.Soundness.{DatedUpTo};
-ghost use Rattle.zst_objset.specs.Damage.{IfSetDamaged};
 ghost use Rattle.zst_objset.specs.TightSets.{SetIsTight};
-ghost use Rattle.zst_tree.specs.Sets.{SetFits};
+ghost use Rattle.zst_apply.specs.AppliedRecords.{Applies};
 ghost use Rattle.zst_apply.specs.AppliedRuns.{run_received};
+ghost use Rattle.zst_apply.specs.Changed.{Keeps};
 
 use zst_block::Io;
 use zst_laws::applied_is_state;
@@ -45,12 +41,7 @@ pub fn write_run<D: Disk>(
     ensures tight { (records : List (ℕ × ℕ)) (thing : Object) (state : DatedState) → (D.state io.new.disk.now).honest → SetIsTight (Has (D.state io.old.disk.now).seen io.old.space) set.old state → DatedUpTo number state
         → state.state object ≡ Some thing → thing.attr.block_size ≡ size → length records ≡ count
         → Applies 0 (SetIsTight (Has (D.state io.new.disk.now).seen io.new.space) set.new) (run_received number object size (index * size) records bytes.now state) result }
-    ensures limits { IfErr result LimitOfIndex }
-    ensures never_redacted { IfErr result NotRedacted }
-    ensures damaged { (D.state io.new.disk.now).honest → IfSetDamaged result (apply_damage (SparesTaken io.old.space (D.state io.old.disk.now).seen) (D.state io.old.disk.now).size set.old) }
-    ensures kept { OnErr result (set.new ≡ set.old) }
-    ensures levels { SetFits set.old → SetFits set.new }
-    ensures works { Works (count * (size / 512) + 464) (size / 512) (D.state io.old.disk.now) io.old.space io.old.failed (D.state io.new.disk.now) io.new.space io.new.failed (stop_of result) }
+    ensures keeps { Keeps (count * (size / 512) + 464) (size / 512) (D.state io.old.disk.now) io.old.space io.old.failed (D.state io.new.disk.now) io.new.space io.new.failed set.old set.new result }
     ensures same { io.new.disk.ghost_name ≡ io.old.disk.ghost_name }
 {
     applied_is_state();

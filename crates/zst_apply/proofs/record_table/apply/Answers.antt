@@ -1,14 +1,19 @@
-use Rattle.std.proofs.Common.{◌≡◌, ℕ, true}
+use Rattle.std.proofs.Common.{◌≡◌, ◌+◌, ◌^◌, ◌<◌, ◌≤◌, ℕ, true, sym, arith}
 use Rattle.std.specs.Prelude.{take}
 use Rattle.zst_block.proofs.IoCallLemmas.{Works-block}
+use Rattle.zst_model.specs.declared.refusals.faults.Quantity.TheVariants as quantities
+use Rattle.zst_model.specs.declared.states.attr.ObjectHead.{ObjectHead}
 use Rattle.zst_model.specs.declared.states.item.Change.TheVariants.{Put, Redact, Spill, Write}
 use Rattle.zst_model.specs.declared.states.item.Item.TheVariants.{At, FreeObjects}
-use Rattle.zst_model.specs.states.State.{is_number}
+use Rattle.zst_model.specs.states.AppliedItems.{within}
+use Rattle.zst_model.specs.states.State.{is_number, number_bound}
 use Rattle.zst_record.specs.Decoding.{is_object}
-use Rattle.zst_stream.specs.Items.{free_change, keeps_spill}
-use Rattle.zst_apply.proofs.RecordAnswers.{all_applied}
-use Rattle.zst_apply.proofs.ReceivedRecords.{over_none}
+use Rattle.zst_stream.specs.Items.{free_change}
+use Rattle.zst_objset.specs.Changes.{object_put, objects_freed, spill_put}
+use Rattle.zst_apply.proofs.ReceivedRecords.{freed_received, over_none, put_received, spill_received, under_bound}
 use Rattle.zst_apply.proofs.RecordCosts.{works_sized}
+use Rattle.zst_apply.proofs.SetChanges.{changed_by, fits_then, no_limit, record_changed}
+use Rattle.zst_apply.proofs.SetFaults.{inside, slots_told}
 use Rattle.zst_apply.proofs.record_table.apply.Goals as goal
 
 -- a number that a record may state
@@ -16,83 +21,110 @@ stated : (k : ℕ) → is_object k ≡ true → is_number k ≡ true
 unfolding is_object
 stated k is = is
 
+-- one more is no more than all of them
+below : (k : ℕ) → k < number_bound → k + 1 ≤ number_bound
+below k less = omega (arith, less)
+
+-- the range that is left of a FREEOBJECTS has the same numbers
+cut_same : (first count other more : ℕ) → ((k : ℕ) → 1 ≤ k → k < 2 ^ 48 → within other more k ≡ within first count k) → (k : ℕ) → is_number k ≡ true → within other more k ≡ within first count k
+unfolding number_bound
+cut_same first count other more same k is = same k (over_none k is) (under_bound k is)
+
+cut_inside : (other more : ℕ) → other + more ≤ 2 ^ 48 → other + more ≤ number_bound
+unfolding number_bound
+cut_inside other more is = is
+
 pub put_object-requires-clause-object : goal.put_object-requires-clause-object
-put_object-requires-clause-object g c = stated c.in-Object.object ((rw c.in-Object.is at c.requires.record).1.object_fits)
+put_object-requires-clause-object g c = over_none c.in-Object.object (stated c.in-Object.object ((rw c.in-Object.is at c.requires.record).1.object_fits))
 
 pub write_block-requires-clause-object : goal.write_block-requires-clause-object
 write_block-requires-clause-object g c = over_none c.in-Write.object (stated c.in-Write.object ((rw c.in-Write.is at c.requires.record).1.object_fits))
 
-pub free_blocks-requires-clause-object : goal.free_blocks-requires-clause-object
-free_blocks-requires-clause-object g c = over_none c.in-Free.object (stated c.in-Free.object ((rw c.in-Free.is at c.requires.record).1.object_fits))
+pub change_range-requires-clause-object : goal.change_range-requires-clause-object
+change_range-requires-clause-object g c = over_none c.in-Free.object (stated c.in-Free.object ((rw c.in-Free.is at c.requires.record).1.object_fits))
 
 pub put_spill-requires-clause-object : goal.put_spill-requires-clause-object
 put_spill-requires-clause-object g c = over_none c.in-Spill.object (stated c.in-Spill.object ((rw c.in-Spill.is at c.requires.record).1.object_fits))
 
-pub redact_blocks-requires-clause-object : goal.redact_blocks-requires-clause-object
-redact_blocks-requires-clause-object g c = over_none c.in-Redact.object (stated c.in-Redact.object ((rw c.in-Redact.is at c.requires.record).1.object_fits))
+pub change_range-requires-in-Redact-clause-object : goal.change_range-requires-in-Redact-clause-object
+change_range-requires-in-Redact-clause-object g c = over_none c.in-Redact.object (stated c.in-Redact.object ((rw c.in-Redact.is at c.requires.record).1.object_fits))
 
 pub returns-in-Object-clause-changed : goal.returns-in-Object-clause-changed
-returns-in-Object-clause-changed g c = λ state honest holds.
-    rw c.in-Object.is (all_applied c.args.number c.args.covered.now.index (At c.in-Object.object (Put (record { type_ = c.in-Object.type_; bonus_type = c.in-Object.bonus_type; block_size = c.in-Object.block_size }) (take c.in-Object.bonus_len c.args.covered.now.payload.now) (keeps_spill c.args.flags) c.in-Object.max_block)) state _ c.put_object.result (rw c.keeps_spill.ensures at (c.put_object.ensures.changed c.args.covered.now.index c.in-Object.max_block state honest holds)))
-
-pub returns-in-Object-clause-tight : goal.returns-in-Object-clause-tight
-returns-in-Object-clause-tight g c = λ state honest tight dated.
-    rw c.in-Object.is (all_applied c.args.number c.args.covered.now.index (At c.in-Object.object (Put (record { type_ = c.in-Object.type_; bonus_type = c.in-Object.bonus_type; block_size = c.in-Object.block_size }) (take c.in-Object.bonus_len c.args.covered.now.payload.now) (keeps_spill c.args.flags) c.in-Object.max_block)) state _ c.put_object.result (rw c.keeps_spill.ensures at (c.put_object.ensures.tight c.args.covered.now.index c.in-Object.max_block state honest tight dated)))
+returns-in-Object-clause-changed g c =
+    let k = c.in-Object.object in
+    let less = under_bound k (stated k ((rw c.in-Object.is at c.requires.record).1.object_fits)) in
+    let head : ObjectHead = record { type_ = c.in-Object.type_; bonus_type = c.in-Object.bonus_type; block_size = c.in-Object.block_size } in
+    let bonus = take c.in-Object.bonus_len c.args.covered.now.payload.now in
+    let put = c.put_object.ensures in
+    let result = c.put_object.result in
+    rw (c.in-Object.is, sym c.keeps_spill.ensures) (record_changed (At k (Put head bonus c.keeps_spill.result c.in-Object.max_block)) result
+    (changed_by (At k (Put head bonus c.keeps_spill.result c.in-Object.max_block)) (object_put c.args.number k head bonus c.keeps_spill.result) result
+    (λ index state honest holds. put_received c.args.number index k head bonus c.keeps_spill.result c.in-Object.max_block state less)
+    put.changed put.tight
+    (record {
+      limits = inside quantities.Object number_bound (k + 1) result (below k less) put.limits;
+      never_redacted = put.unredacted;
+      damaged = λ honest. slots_told _ _ c.args.set.now result (put.damaged honest);
+      kept = put.kept;
+      levels = fits_then _ _ result put.kept put.levels;
+      works = put.works;
+    }))
+    (Works-block put.works))
 
 pub returns-in-FreeObjects-clause-changed : goal.returns-in-FreeObjects-clause-changed
-returns-in-FreeObjects-clause-changed g c = λ state honest holds.
-    rw c.in-FreeObjects.is (all_applied c.args.number c.args.covered.now.index (FreeObjects c.in-FreeObjects.first c.in-FreeObjects.count) state _ c.free_objects.result (c.free_objects.ensures.changed c.args.covered.now.index state honest holds))
-
-pub returns-in-FreeObjects-clause-tight : goal.returns-in-FreeObjects-clause-tight
-returns-in-FreeObjects-clause-tight g c = λ state honest tight dated.
-    rw c.in-FreeObjects.is (all_applied c.args.number c.args.covered.now.index (FreeObjects c.in-FreeObjects.first c.in-FreeObjects.count) state _ c.free_objects.result (c.free_objects.ensures.tight c.args.covered.now.index state honest tight dated))
+returns-in-FreeObjects-clause-changed g c =
+    let first = c.in-FreeObjects.first in
+    let count = c.in-FreeObjects.count in
+    let numbers = c.cut-numbers in
+    let within_numbers = cut_inside numbers.result.first numbers.result.count numbers.ensures.inside in
+    let freed = c.free_objects.ensures in
+    let result = c.free_objects.result in
+    rw c.in-FreeObjects.is (record_changed (FreeObjects first count) result
+    (changed_by (FreeObjects first count) (objects_freed c.args.number numbers.result.first numbers.result.count) result
+    (λ index state honest holds. freed_received c.args.number index first count numbers.result.first numbers.result.count state holds.lawful within_numbers (cut_same first count numbers.result.first numbers.result.count numbers.ensures.same))
+    freed.changed (λ state honest tight dated. freed.tight state honest tight)
+    (record {
+      limits = inside quantities.Object number_bound (numbers.result.first + numbers.result.count) result within_numbers freed.limits;
+      never_redacted = freed.unredacted;
+      damaged = λ honest. slots_told _ _ c.args.set.now result (freed.damaged honest);
+      kept = freed.kept;
+      levels = freed.levels;
+      works = freed.works;
+    }))
+    (Works-block freed.works))
 
 pub returns-in-Write-clause-changed : goal.returns-in-Write-clause-changed
-returns-in-Write-clause-changed g c = λ state honest holds.
-    rw c.in-Write.is (all_applied c.args.number c.args.covered.now.index (At c.in-Write.object (Write c.in-Write.offset c.in-Write.type_ c.args.covered.now.payload.now)) state _ c.write_block.result (c.write_block.ensures.changed c.args.covered.now.index c.in-Write.type_ state honest holds))
-
-pub returns-in-Write-clause-tight : goal.returns-in-Write-clause-tight
-returns-in-Write-clause-tight g c = λ state honest tight dated.
-    rw c.in-Write.is (all_applied c.args.number c.args.covered.now.index (At c.in-Write.object (Write c.in-Write.offset c.in-Write.type_ c.args.covered.now.payload.now)) state _ c.write_block.result (c.write_block.ensures.tight c.args.covered.now.index c.in-Write.type_ state honest tight dated))
+returns-in-Write-clause-changed g c =
+    let did = c.write_block.ensures.changed c.in-Write.type_ in
+    rw c.in-Write.is (record_changed (At c.in-Write.object (Write c.in-Write.offset c.in-Write.type_ c.args.covered.now.payload.now)) c.write_block.result did
+    (works_sized (rw c.in-Write.is at c.requires.payload) did.keeps.works))
 
 pub returns-in-Free-clause-changed : goal.returns-in-Free-clause-changed
-returns-in-Free-clause-changed g c = λ state honest holds.
-    rw c.in-Free.is (all_applied c.args.number c.args.covered.now.index (At c.in-Free.object (free_change c.in-Free.offset c.in-Free.length)) state _ c.free_blocks.result (c.free_blocks.ensures.changed c.args.covered.now.index state honest holds))
-
-pub returns-in-Free-clause-tight : goal.returns-in-Free-clause-tight
-returns-in-Free-clause-tight g c = λ state honest tight dated.
-    rw c.in-Free.is (all_applied c.args.number c.args.covered.now.index (At c.in-Free.object (free_change c.in-Free.offset c.in-Free.length)) state _ c.free_blocks.result (c.free_blocks.ensures.tight c.args.covered.now.index state honest tight dated))
+returns-in-Free-clause-changed g c =
+    let did = c.change_range.ensures.changed in
+    rw c.in-Free.is (record_changed (At c.in-Free.object (free_change c.in-Free.offset c.in-Free.length)) c.change_range.result did (Works-block did.keeps.works))
 
 pub returns-in-Spill-clause-changed : goal.returns-in-Spill-clause-changed
-returns-in-Spill-clause-changed g c = λ state honest holds.
-    rw c.in-Spill.is (all_applied c.args.number c.args.covered.now.index (At c.in-Spill.object (Spill c.args.covered.now.payload.now)) state _ c.put_spill.result (c.put_spill.ensures.changed c.args.covered.now.index state honest holds))
-
-pub returns-in-Spill-clause-tight : goal.returns-in-Spill-clause-tight
-returns-in-Spill-clause-tight g c = λ state honest tight dated.
-    rw c.in-Spill.is (all_applied c.args.number c.args.covered.now.index (At c.in-Spill.object (Spill c.args.covered.now.payload.now)) state _ c.put_spill.result (c.put_spill.ensures.tight c.args.covered.now.index state honest tight dated))
+returns-in-Spill-clause-changed g c =
+    let k = c.in-Spill.object in
+    let bytes = c.args.covered.now.payload.now in
+    let put = c.put_spill.ensures in
+    let result = c.put_spill.result in
+    rw c.in-Spill.is (record_changed (At k (Spill bytes)) result
+    (changed_by (At k (Spill bytes)) (spill_put c.args.number k bytes) result
+    (λ index state honest holds. spill_received c.args.number index k bytes state)
+    put.changed put.tight
+    (record {
+      limits = no_limit result put.limits;
+      never_redacted = put.unredacted;
+      damaged = λ honest. slots_told _ _ c.args.set.now result (put.damaged honest);
+      kept = put.kept;
+      levels = fits_then _ _ result put.kept put.levels;
+      works = put.works;
+    }))
+    (works_sized (rw c.in-Spill.is at c.requires.payload) put.works))
 
 pub returns-in-Redact-clause-changed : goal.returns-in-Redact-clause-changed
-returns-in-Redact-clause-changed g c = λ state honest holds.
-    rw c.in-Redact.is (all_applied c.args.number c.args.covered.now.index (At c.in-Redact.object (Redact c.in-Redact.offset c.in-Redact.length)) state _ c.redact_blocks.result (c.redact_blocks.ensures.changed c.args.covered.now.index state honest holds))
-
-pub returns-in-Redact-clause-tight : goal.returns-in-Redact-clause-tight
-returns-in-Redact-clause-tight g c = λ state honest tight dated.
-    rw c.in-Redact.is (all_applied c.args.number c.args.covered.now.index (At c.in-Redact.object (Redact c.in-Redact.offset c.in-Redact.length)) state _ c.redact_blocks.result (c.redact_blocks.ensures.tight c.args.covered.now.index state honest tight dated))
-
-pub returns-in-Object-clause-works : goal.returns-in-Object-clause-works
-returns-in-Object-clause-works g c = rw c.in-Object.is (Works-block c.put_object.ensures.works)
-
-pub returns-in-FreeObjects-clause-works : goal.returns-in-FreeObjects-clause-works
-returns-in-FreeObjects-clause-works g c = rw c.in-FreeObjects.is (Works-block c.free_objects.ensures.works)
-
-pub returns-in-Write-clause-works : goal.returns-in-Write-clause-works
-returns-in-Write-clause-works g c = rw c.in-Write.is (works_sized (rw c.in-Write.is at c.requires.payload) c.write_block.ensures.works)
-
-pub returns-in-Free-clause-works : goal.returns-in-Free-clause-works
-returns-in-Free-clause-works g c = rw c.in-Free.is (Works-block c.free_blocks.ensures.works)
-
-pub returns-in-Spill-clause-works : goal.returns-in-Spill-clause-works
-returns-in-Spill-clause-works g c = rw c.in-Spill.is (works_sized (rw c.in-Spill.is at c.requires.payload) c.put_spill.ensures.works)
-
-pub returns-in-Redact-clause-works : goal.returns-in-Redact-clause-works
-returns-in-Redact-clause-works g c = rw c.in-Redact.is (Works-block c.redact_blocks.ensures.works)
+returns-in-Redact-clause-changed g c =
+    let did = c.change_range-in-Redact.ensures.changed in
+    rw c.in-Redact.is (record_changed (At c.in-Redact.object (Redact c.in-Redact.offset c.in-Redact.length)) c.change_range-in-Redact.result did (Works-block did.keeps.works))

@@ -2,7 +2,8 @@ use Rattle.std.proofs.Common.{◌*◌, ℕ, length, sym, ap, ◌∙◌}
 use Rattle.zst_objset.proofs.LeafLaws.{is_number_at}
 use Rattle.zst_objset.proofs.RunLaws.{may_write}
 use Rattle.zst_objset.proofs.WriteLaws.{block_some}
-use Rattle.zst_apply.proofs.RunLaws.{applies_both, both, no_limit, run_of, so_many}
+use Rattle.zst_apply.proofs.RunLaws.{applies_both, both, run_of, so_many}
+use Rattle.zst_apply.proofs.SetChanges.{fits_then, no_limit}
 use Rattle.zst_apply.proofs.SetFaults.{names_told}
 use Rattle.zst_apply.proofs.runs.write_run.Goals as goal
 
@@ -21,8 +22,15 @@ returns-clause-tight g c = λ records thing state honest tight dated there size_
     (may_write c.args.size c.args.index (length records) c.args.bytes.now (c.requires.long ∙ ap (λ (n : ℕ). n * c.args.size) (sym long)) c.requires.even (rw long c.requires.inside)) in
     applies_both _ _ _ all.now (so_many c.args.number c.args.object c.args.size c.args.index c.args.count records c.args.bytes.now state all.now long all.written) all.received_is c.write_blocks.result (c.write_blocks.ensures.tight state honest tight dated)
 
-pub returns-clause-damaged : goal.returns-clause-damaged
-returns-clause-damaged g c = λ honest. names_told _ _ c.args.set.now c.write_blocks.result (c.write_blocks.ensures.damaged honest)
-
-pub returns-clause-limits : goal.returns-clause-limits
-returns-clause-limits g c = no_limit c.write_blocks.result c.write_blocks.ensures.limits
+pub returns-clause-keeps : goal.returns-clause-keeps
+returns-clause-keeps g c =
+    let wrote = c.write_blocks.ensures in
+    let result = c.write_blocks.result in
+    record {
+      limits = no_limit result wrote.limits;
+      never_redacted = wrote.unredacted;
+      damaged = λ honest. names_told _ _ c.args.set.now result (wrote.damaged honest);
+      kept = wrote.kept;
+      levels = fits_then _ _ result wrote.kept wrote.levels;
+      works = wrote.works;
+    }

@@ -46,8 +46,8 @@ returns-in-Ok-clause-moved g c = λ tight state honest stands.
     let before = Has (g.D.Disk.state old.disk.now).seen old.space in
     let after = Has (g.D.Disk.state new.disk.now).seen new.space in
     let made =
-    applies_so tight c.args.number covered.index (items_by c.args.flags covered.payload covered.head) before after c.args.partial.now.objects c.apply.new.set state.objects (Ok tt) (c.in-Ok.ensures.changed state.objects honest)
-    (c.in-Ok.ensures.tight state.objects honest) stands.objects in
+    applies_so tight c.args.number covered.index (items_by c.args.flags covered.payload covered.head) before after c.args.partial.now.objects c.apply.new.set state.objects (Ok tt) (c.in-Ok.ensures.changed.changed covered.index state.objects honest)
+    (c.in-Ok.ensures.changed.tight covered.index state.objects honest) stands.objects in
     let fits = ends_fit c.requires.covered.features c.args.number covered.index c.args.flags covered.head covered.payload state.objects made.0
     (later_fits c.requires.covered.features covered.head c.requires.later c.requires.covered.fits) c.requires.covered.payload made.1 in
     moved_is (bound_of tight c.args.number) before after c.args.number c.args.flags covered c.args.partial.now c.apply.new.set c.point_behind-partial.result
@@ -61,23 +61,23 @@ returns-in-Err-clause-moved g c = λ tight state honest stands.
     let before = Has (g.D.Disk.state old.disk.now).seen old.space in
     let after = Has (g.D.Disk.state new.disk.now).seen new.space in
     let refused =
-    applies_so tight c.args.number covered.index (items_by c.args.flags covered.payload covered.head) before after c.args.partial.now.objects c.apply.new.set state.objects (Err c.in-Err.fault) (c.in-Err.ensures.changed state.objects honest)
-    (c.in-Err.ensures.tight state.objects honest) stands.objects in
+    applies_so tight c.args.number covered.index (items_by c.args.flags covered.payload covered.head) before after c.args.partial.now.objects c.apply.new.set state.objects (Err c.in-Err.fault) (c.in-Err.ensures.changed.changed covered.index state.objects honest)
+    (c.in-Err.ensures.changed.tight covered.index state.objects honest) stands.objects in
     subst (λ (fault : RecvFault). TakeFault (moved_by c.args.number covered c.args.flags state) fault) (sym c.of_record.ensures)
     (refused_is c.args.number c.args.flags covered state c.in-Err.fault refused)
 
 pub returns-in-Err-clause-known : goal.returns-in-Err-clause-known
-returns-in-Err-clause-known g c = subst IsRecordFault (sym c.of_record.ensures) (known_record (covered_of c.args.covered.now).index c.in-Err.fault c.in-Err.ensures.never_redacted)
+returns-in-Err-clause-known g c = subst IsRecordFault (sym c.of_record.ensures) (known_record (covered_of c.args.covered.now).index c.in-Err.fault c.in-Err.ensures.changed.keeps.never_redacted)
 
 pub returns-in-Err-clause-damaged : goal.returns-in-Err-clause-damaged
 returns-in-Err-clause-damaged g c = λ sector stated found honest is.
     let old = c.args.io.now in
     let fault : of_record (covered_of c.args.covered.now).index c.in-Err.fault ≡ faults.Pool (pools.Damaged sector stated found) = sym c.of_record.ensures ∙ err_told (Unit {0}) c.of_record.result _ is in
     told_record (apply_damage (SparesTaken old.space (g.D.Disk.state old.disk.now).seen) (g.D.Disk.state old.disk.now).size c.args.partial.now.objects) (Unit {0}) (covered_of c.args.covered.now).index c.in-Err.fault sector stated found
-    (c.in-Err.ensures.damaged honest) fault
+    (c.in-Err.ensures.changed.keeps.damaged honest) fault
 
 pub returns-in-Ok-clause-spends : goal.returns-in-Ok-clause-spends
-returns-in-Ok-clause-spends g c = spends_one (covered_of c.args.covered.now) _ _ _ _ _ _ _ c.in-Ok.ensures.works
+returns-in-Ok-clause-spends g c = spends_one (covered_of c.args.covered.now) _ _ _ _ _ _ _ c.in-Ok.ensures.changed.keeps.works
 
 pub returns-in-Err-clause-spends : goal.returns-in-Err-clause-spends
 returns-in-Err-clause-spends g c =
@@ -85,7 +85,7 @@ returns-in-Err-clause-spends g c =
     let new = c.apply.new.io.space in
     let covered = covered_of c.args.covered.now in
     subst (λ (fault : RecvFault). Spends (covered ∷ []) old new (stop_at fault)) (sym c.of_record.ensures)
-    (subst (λ (stop : Option BlockFault). Spends (covered ∷ []) old new stop) (sym (stop_same covered.index c.in-Err.fault)) (spends_one covered _ _ _ _ _ _ _ c.in-Err.ensures.works))
+    (subst (λ (stop : Option BlockFault). Spends (covered ∷ []) old new stop) (sym (stop_same covered.index c.in-Err.fault)) (spends_one covered _ _ _ _ _ _ _ c.in-Err.ensures.changed.keeps.works))
 
 pub returns-in-Err-clause-unplanned : goal.returns-in-Err-clause-unplanned
 returns-in-Err-clause-unplanned g c = λ fault is.

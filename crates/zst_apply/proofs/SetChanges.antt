@@ -1,0 +1,108 @@
+-- What calls on a set answer, one after another, is what a record's call answers.
+use Rattle.std.proofs.Common.{◌≡◌, ℕ, Bool, [], ◌∷◌, List, Result, Ok, Err, refl, sym, subst}
+use Rattle.std.specs.Prelude.{None, IfErr, OnErr, OnOk}
+use Rattle.zst_outside.specs.Images.{DiskState}
+use Rattle.zst_space.specs.FreeSectors.{FreeSectors}
+use Rattle.zst_block.specs.Blocks.{FitsDisk, Has, SparesTaken}
+use Rattle.zst_block.specs.IoCalls.{Looks, Works}
+use Rattle.zst_block.proofs.IoCallLemmas.{Works-after, Works-looks}
+use Rattle.zst_model.specs.declared.refusals.faults.Quantity.TheVariants as quantities
+use Rattle.zst_model.specs.declared.refusals.refusal.Refusal.{Refusal}
+use Rattle.zst_model.specs.declared.states.item.Item.{Item}
+use Rattle.zst_model.specs.pools.Soundness.{DatedUpTo}
+use Rattle.zst_model.specs.sends.ReceivedRecords.{received}
+use Rattle.zst_model.specs.states.DatedState.{DatedState}
+use Rattle.zst_model.specs.states.State.{index_bound}
+use Rattle.zst_tree.specs.Sets.{SetFits}
+use Rattle.zst_tree.specs.declared.tree.ObjSet.{ObjSet}
+use Rattle.zst_objset.specs.Answers.{Changes, LimitOnly, NotLimit, NotRedacted, stop_of}
+use Rattle.zst_objset.specs.Damage.{IfSetDamaged}
+use Rattle.zst_objset.specs.Sets.{SetHolds}
+use Rattle.zst_objset.specs.TightSets.{SetIsTight}
+use Rattle.zst_objset.specs.declared.fault.ObjFault.{ObjFault}
+use Rattle.zst_objset.specs.declared.fault.ObjFault.TheVariants as faults
+use Rattle.zst_objset.proofs.LeafLaws.{look_on}
+use Rattle.zst_apply.specs.AppliedRecords.{LimitOfIndex, RefusesRecord, received_all}
+use Rattle.zst_apply.specs.Changed.{Changed, Keeps}
+use Rattle.zst_apply.specs.Damage.{apply_damage}
+use Rattle.zst_apply.proofs.RecordAnswers.{all_applied, applies_as, for_record}
+use Rattle.zst_apply.proofs.SetFaults.{told_before}
+
+-- no limit, or that of an index
+pub no_limit : (result : Result (Unit {0}) ObjFault) → IfErr result NotLimit → IfErr result LimitOfIndex
+no_limit (Ok done) is = tt
+no_limit (Err (faults.CannotApply fault)) is = tt
+no_limit (Err (faults.Redacted object block)) is = tt
+no_limit (Err (faults.Limit which limit)) is = absurd is
+no_limit (Err (faults.Block fault)) is = tt
+
+pub of_index : (past : ℕ) (result : Result (Unit {0}) ObjFault) → IfErr result (LimitOnly quantities.Block index_bound past) → IfErr result LimitOfIndex
+of_index past (Ok done) is = tt
+of_index past (Err (faults.CannotApply fault)) is = tt
+of_index past (Err (faults.Redacted object block)) is = tt
+of_index past (Err (faults.Limit which limit)) is = (is.0, is.1)
+of_index past (Err (faults.Block fault)) is = tt
+
+-- a set that is as it was, or fits, fits
+pub fits_then : (set made : ObjSet) (result : Result (Unit {0}) ObjFault) → OnErr result (made ≡ set) → OnOk result (SetFits made) → SetFits set → SetFits made
+fits_then set made (Ok done) kept fit fits = fit
+fits_then set made (Err fault) kept fit fits = subst SetFits (sym kept) fits
+
+-- a call that only read, and is refused
+pub refused_after : {number most block : ℕ} {old : DiskState} {space : FreeSectors} {failed : Bool} {new : DiskState} {left : FreeSectors} {failed' : Bool} {set : ObjSet}
+    (definition : ℕ → DatedState → Result DatedState Refusal) (fault : ObjFault) → FitsDisk old.size space → Looks old space failed new left failed' (stop_of {T = Unit {0}} (Err fault))
+    → ((index : ℕ) (state : DatedState) → new.honest → SetHolds (Has old.seen space) set state → RefusesRecord index (definition index state) fault)
+    → LimitOfIndex fault → NotRedacted fault → (new.honest → IfSetDamaged {T = Unit {0}} (Err fault) (apply_damage (SparesTaken space old.seen) old.size set))
+    → Changed number definition most block old space failed new left failed' set set (Err fault)
+refused_after definition fault fits looks refuses limits unredacted damaged = record {
+  changed = refuses;
+  tight = λ index state honest tight dated. refuses index state honest tight.holds;
+  keeps = record { limits = limits; never_redacted = unredacted; damaged = damaged; kept = refl; levels = λ fit. fit; works = Works-looks fits looks };
+}
+
+module _ {number most block : ℕ} {old : DiskState} {space : FreeSectors} {failed : Bool} {new : DiskState} {left : FreeSectors} {failed' : Bool} {set made : ObjSet} where
+  -- a call that answers what the item makes
+  pub changed_by : (item : Item) (makes : DatedState → Result DatedState Refusal) (result : Result (Unit {0}) ObjFault)
+      → ((index : ℕ) (state : DatedState) → new.honest → SetHolds (Has old.seen space) set state → received number index item state ≡ for_record index (makes state))
+      → ((state : DatedState) → new.honest → SetHolds (Has old.seen space) set state → Changes (SetHolds (Has new.seen left) made) (makes state) result)
+      → ((state : DatedState) → new.honest → SetIsTight (Has old.seen space) set state → DatedUpTo number state → Changes (SetIsTight (Has new.seen left) made) (makes state) result)
+      → Keeps most block old space failed new left failed' set made result
+      → Changed number (λ index. received number index item) most block old space failed new left failed' set made result
+  changed_by item makes result is changes tightly keeps = record {
+    changed = λ index state honest holds. applies_as number index item state (makes state) (is index state honest holds) (SetHolds (Has new.seen left) made) result (changes state honest holds);
+    tight = λ index state honest tight dated. applies_as number index item state (makes state) (is index state honest tight.holds) (SetIsTight (Has new.seen left) made) result (tightly state honest tight dated);
+    keeps = keeps;
+  }
+
+  -- an item is all that a record says; what it may take is more
+  pub record_changed : {fewer other : ℕ} (item : Item) (result : Result (Unit {0}) ObjFault) → Changed number (λ index. received number index item) fewer other old space failed new left failed' set made result
+      → Works most block old space failed new left failed' (stop_of result)
+      → Changed number (λ index. received_all number index (item ∷ [])) most block old space failed new left failed' set made result
+  record_changed item result did works = record {
+    changed = λ index state honest holds. all_applied number index item state (SetHolds (Has new.seen left) made) result (did.changed index state honest holds);
+    tight = λ index state honest tight dated. all_applied number index item state (SetIsTight (Has new.seen left) made) result (did.tight index state honest tight dated);
+    keeps = record {
+      limits = did.keeps.limits;
+      never_redacted = did.keeps.never_redacted;
+      damaged = did.keeps.damaged;
+      kept = did.keeps.kept;
+      levels = did.keeps.levels;
+      works = works;
+    };
+  }
+
+  -- a call behind one that read
+  pub changed_after : {mid : DiskState} {less : FreeSectors} {fails : Bool} (definition : ℕ → DatedState → Result DatedState Refusal) (result : Result (Unit {0}) ObjFault) → Looks old space failed mid less fails None
+      → Changed number definition most block mid less fails new left failed' set made result → Changed number definition most block old space failed new left failed' set made result
+  changed_after {mid} {less} {fails} definition result looks did = record {
+    changed = λ index state honest holds. did.changed index state honest (look_on (λ (seen : List ℕ) (free : FreeSectors). SetHolds (Has seen free) set state) _ _ _ _ _ _ _ looks holds);
+    tight = λ index state honest tight dated. did.tight index state honest (look_on (λ (seen : List ℕ) (free : FreeSectors). SetIsTight (Has seen free) set state) _ _ _ _ _ _ _ looks tight) dated;
+    keeps = record {
+      limits = did.keeps.limits;
+      never_redacted = did.keeps.never_redacted;
+      damaged = λ honest. told_before _ _ _ _ _ _ _ looks set result (did.keeps.damaged honest);
+      kept = did.keeps.kept;
+      levels = did.keeps.levels;
+      works = Works-after looks did.keeps.works;
+    };
+  }
