@@ -1,4 +1,5 @@
 // Streams of the tests' own.
+use crate::fields::{GUID, set_all};
 use std::alloc::Global;
 use std::process::Abort;
 use std::test::Fail;
@@ -37,8 +38,11 @@ impl Stream {
         payload: &[u8],
     ) -> Result<Stream, Fail> {
         let mut smallest = smallest_stream(rt);
-        set(rt, &mut smallest, 4, 4, payload.len() as u64);
-        set(rt, &mut smallest, 16, 8, version);
+        set_all(
+            rt,
+            &mut smallest,
+            &[(4, 4, payload.len() as u64), (16, 8, version)],
+        );
         let (begin, _) = smallest.split_at(RECORD_LEN);
         let mut stream = Stream::new(alloc);
         stream.add(rt, begin)?;
@@ -103,20 +107,8 @@ impl Stream {
     }
 }
 
-pub(super) const GUID: u64 = 0x1_0000_0001;
-
-/// Writes a number of so many bytes, as the tables of zfs_ioctl.h place it.
-fn set(rt: &impl Abort, stream: &mut [u8; 624], place: usize, width: usize, value: u64) {
-    assert!(rt; place <= 616 && width <= 8);
-    let bytes = value.to_le_bytes();
-    for i in 0..width {
-        stream[place + i] = bytes[i];
-    }
-}
-
 /// The smallest stream: BEGIN of `t/a@s` and END, with the sums that a sender of OpenZFS states.
 pub(super) fn smallest_stream(rt: &impl Abort) -> [u8; 624] {
-    let mut stream = [0; 624];
     let fields = [
         (8, 8, 0x2_F5ba_cbac),
         (16, 8, 17),
@@ -136,9 +128,8 @@ pub(super) fn smallest_stream(rt: &impl Abort) -> [u8; 624] {
         (608, 8, 98_333_701_267_116),
         (616, 8, 4_055_694_265_642_928),
     ];
-    for (place, width, value) in fields {
-        set(rt, &mut stream, place, width, value);
-    }
+    let mut stream = [0; 624];
+    set_all(rt, &mut stream, &fields);
     stream
 }
 
