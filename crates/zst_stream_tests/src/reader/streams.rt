@@ -23,11 +23,7 @@ impl Stream {
 
     /// BEGIN of the smallest stream.
     pub(super) fn begin(rt: &impl Abort, alloc: Global) -> Result<Stream, Fail> {
-        let smallest = smallest_stream(rt);
-        let (begin, _) = smallest.split_at(RECORD_LEN);
-        let mut stream = Stream::new(alloc);
-        stream.add(rt, begin)?;
-        Ok(stream)
+        Stream::begin_with(rt, alloc, PLAIN, &[])
     }
 
     /// The same with this `drr_versioninfo` and a payload.
@@ -107,11 +103,14 @@ impl Stream {
     }
 }
 
+/// `drr_versioninfo` of the smallest stream. The features stand above its lowest two bits.
+pub(super) const PLAIN: u64 = 17;
+
 /// The smallest stream: BEGIN of `t/a@s` and END, with the sums that a sender of OpenZFS states.
 pub(super) fn smallest_stream(rt: &impl Abort) -> [u8; 624] {
     let fields = [
         (8, 8, 0x2_F5ba_cbac),
-        (16, 8, 17),
+        (16, 8, PLAIN),
         (24, 8, 1_700_000_000),
         (32, 4, 2),
         (36, 4, 12),
