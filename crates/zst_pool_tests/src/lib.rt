@@ -21,4 +21,6 @@ mod recv;
 #[cfg(test)]
 mod refusals;
 #[cfg(test)]
+mod rows;
+#[cfg(test)]
 mod send;

@@ -1,5 +1,4 @@
 //! Plans of what no command makes, in directories that are spelled by hand.
-mod directories;
 mod headers;
 mod receive;
 mod receivers;

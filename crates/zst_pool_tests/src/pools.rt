@@ -1,14 +1,15 @@
 // Pools on disks in memory, and lines on them.
-ghost use Rattle.std.specs.Prelude.{IfOk};
+ghost use Rattle.std.specs.Prelude.{◌≡◌, ◌≤◌, ◌×◌, ◌^◌, false, IfOk};
 ghost use Rattle.zst_model.specs.pools.Step.{IsCommand};
+ghost use Rattle.zst_image.specs.Commits.{Ready};
+ghost use Rattle.zst_pool.specs.Calls.{CanCommit};
 
 use crate::refusals::TestRefusal;
 use std::alloc::{AllocError, Global};
-use std::process::Abort;
 use zst_image::PoolState;
 use zst_line::{Line, parse};
 use zst_model::{Command, Refusal, Reply};
-use zst_outside::MemDisk;
+use zst_outside::{Disk, MemDisk};
 use zst_pool::Pool;
 
 // When commands are run, in seconds.
@@ -37,12 +38,36 @@ pub(crate) fn command_of(alloc: Global, line: &str) -> Result<Command, TestRefus
     }
 }
 
+// The pool of a disk, opened.
+pub(crate) fn pool_on<'d>(
+    alloc: Global,
+    disk: &'d mut MemDisk,
+) -> Result<Pool<'d, MemDisk>, TestRefusal>
+    ensures works { IfOk result (λ pool. CanCommit (⟦<MemDisk as Disk>⟧.state pool.io.disk.now) pool.io.space pool.kept.body) }
+    ensures same { IfOk result (λ pool. pool.io.disk.ghost_name ≡ disk.entry.ghost_name) }
+{
+    let kept = PoolState::open(alloc, disk)?;
+    Ok(Pool::new(alloc, disk, kept))
+}
+
+// Runs the command that a line says on a pool that stays open.
+pub(crate) fn step_in(
+    alloc: Global,
+    pool: &mut Pool<'_, MemDisk>,
+    line: &str,
+) -> Result<Reply, TestRefusal>
+    requires ready { pool.old.io.failed ≡ false → Ready (⟦<MemDisk as Disk>⟧.state pool.old.io.disk.now) pool.old.kept.body }
+    ensures ready { pool.new.io.failed ≡ false → Ready (⟦<MemDisk as Disk>⟧.state pool.new.io.disk.now) pool.new.kept.body }
+    ensures same { pool.new.io.disk.ghost_name ≡ pool.old.io.disk.ghost_name }
+{
+    let command = command_of(alloc, line)?;
+    Ok(pool.step(alloc, NOW, command)?)
+}
+
 // Opens the pool of a disk and runs the command that a line says.
 pub(crate) fn step_on(alloc: Global, disk: &mut MemDisk, line: &str) -> Result<Reply, TestRefusal> {
-    let command = command_of(alloc, line)?;
-    let kept = PoolState::open(alloc, disk)?;
-    let mut pool = Pool::new(alloc, disk, kept);
-    Ok(pool.step(alloc, NOW, command)?)
+    let mut pool = pool_on(alloc, disk)?;
+    step_in(alloc, &mut pool, line)
 }
 
 // Runs the commands of lines, each on the pool as it is opened again.
@@ -57,20 +82,21 @@ pub(crate) fn steps_on(
     Ok(())
 }
 
-// A disk of 1,024 sectors with a new pool, after the commands of these lines.
-pub(crate) fn with_lines(alloc: Global, lines: &[&str]) -> Result<MemDisk, TestRefusal> {
-    let bytes = vec![in alloc; 0; 524_288]?;
+// A disk of so many sectors with a new pool.
+pub(crate) fn created(alloc: Global, sectors: u64) -> Result<MemDisk, TestRefusal>
+    requires sectors { (128 ≤ sectors) × (sectors ≤ 2 ^ 31) }
+{
+    let bytes = vec![in alloc; 0; sectors as usize * 512]?;
     let mut disk = MemDisk::new(bytes, Vec::new(alloc), None);
-    PoolState::create(alloc, &mut disk, 1_024, 1)?;
-    steps_on(alloc, &mut disk, lines)?;
+    PoolState::create(alloc, &mut disk, sectors, 1)?;
     Ok(disk)
 }
 
-// Checks that this line is answered.
-pub(crate) fn check_line(rt: &impl Abort, reply: &Reply, line: &str) {
-    let lines = reply.lines();
-    assert_eq!(rt; lines.len(), 1);
-    assert!(rt; lines[0].as_slice() == line.as_bytes(), "{line}");
+// A disk of 1,024 sectors with a new pool, after the commands of these lines.
+pub(crate) fn with_lines(alloc: Global, lines: &[&str]) -> Result<MemDisk, TestRefusal> {
+    let mut disk = created(alloc, 1_024)?;
+    steps_on(alloc, &mut disk, lines)?;
+    Ok(disk)
 }
 
 // How many datasets, snapshots and bookmarks the pool of a disk has.

@@ -9,6 +9,8 @@ pub use piece_sizes::piece_size;
 #[cfg(test)]
 mod dump;
 #[cfg(test)]
+mod fields;
+#[cfg(test)]
 mod file;
 #[cfg(test)]
 mod outside;

@@ -1,4 +1,5 @@
 use std::alloc::{AllocError, Global};
+use std::process::Abort;
 use zst_outside::{Disk, Fault, MemDisk, Sink, Source};
 
 // Writes to a disk of four bytes.
@@ -29,36 +30,64 @@ fn image_is(
     Ok(reads_as(&mut image, bytes))
 }
 
-#[test]
-fn images_fill_what_was_not_synced(rt: HostRuntime) -> Result<(), AllocError> {
-    let alloc = rt.alloc();
-    let mut disk = MemDisk::new(vec![in alloc; 0; 4]?, Vec::new(alloc), None);
+// A disk of four zeros.
+fn zeros(alloc: Global, fail: Vec<u64>, stop: Option<u64>) -> Result<MemDisk, AllocError> {
+    Ok(MemDisk::new(vec![in alloc; 0; 4]?, fail, stop))
+}
+
+// A disk with a write that was synced, and one that wasn't.
+fn with_writes(rt: &impl Abort, alloc: Global) -> Result<MemDisk, AllocError> {
+    let mut disk = zeros(alloc, Vec::new(alloc), None)?;
     assert!(rt; write(&mut disk, 0, 1).is_ok());
     assert!(rt; disk.sync().is_ok());
     assert!(rt; write(&mut disk, 3, 2).is_ok());
-    assert!(rt; image_is(&disk, alloc, 0, [0, 0, 0, 0])?);
-    assert!(rt; image_is(&disk, alloc, 1, [0xA5, 0, 0, 0])?);
-    assert!(rt; image_is(&disk, alloc, 2, [1, 0, 0, 0])?);
-    assert!(rt; image_is(&disk, alloc, 3, [1, 0, 0, 0xA5])?);
+    Ok(disk)
+}
+
+#[test]
+fn images_fill_what_was_not_synced(rt: HostRuntime) -> Result<(), AllocError> {
+    let mut disk = with_writes(&rt, rt.alloc())?;
+    for (moment, bytes) in [
+        (0, [0, 0, 0, 0]),
+        (1, [0xA5, 0, 0, 0]),
+        (2, [1, 0, 0, 0]),
+        (3, [1, 0, 0, 0xA5]),
+    ] {
+        assert!(rt;
+            image_is(&disk, rt.alloc(), moment, bytes)?,
+            "before {moment}"
+        );
+    }
     assert!(rt; reads_as(&mut disk, [1, 0, 0, 2]));
     assert_eq!(rt; disk.calls(), 4);
     assert_eq!(rt; disk.log().len(), 4);
     Ok(())
 }
 
-#[test]
-fn failed_calls_leave_their_ranges_open(rt: HostRuntime) -> Result<(), AllocError> {
-    let alloc = rt.alloc();
-    let fail = vec![in alloc; 1]?;
-    let mut disk = MemDisk::new(vec![in alloc; 0; 4]?, fail, Some(3));
+// A disk of which the second call fails, and all from the fourth on.
+fn with_faults(rt: &impl Abort, alloc: Global) -> Result<MemDisk, AllocError> {
+    let mut disk = zeros(alloc, vec![in alloc; 1]?, Some(3))?;
     assert!(rt; write(&mut disk, 0, 1).is_ok());
     assert!(rt; write(&mut disk, 1, 2).is_err());
     assert!(rt; disk.sync().is_ok());
     assert!(rt; write(&mut disk, 2, 3).is_err());
     assert!(rt; disk.sync().is_err());
-    assert!(rt; image_is(&disk, alloc, 2, [0xA5, 0xA5, 0, 0])?);
-    assert!(rt; image_is(&disk, alloc, 3, [1, 0, 0, 0])?);
-    assert!(rt; image_is(&disk, alloc, 5, [1, 0, 0xA5, 0])?);
+    Ok(disk)
+}
+
+#[test]
+fn failed_calls_leave_their_ranges_open(rt: HostRuntime) -> Result<(), AllocError> {
+    let disk = with_faults(&rt, rt.alloc())?;
+    for (moment, bytes) in [
+        (2, [0xA5, 0xA5, 0, 0]),
+        (3, [1, 0, 0, 0]),
+        (5, [1, 0, 0xA5, 0]),
+    ] {
+        assert!(rt;
+            image_is(&disk, rt.alloc(), moment, bytes)?,
+            "before {moment}"
+        );
+    }
     assert_eq!(rt; disk.faults(), 3);
     assert_eq!(rt; disk.starved(), 0);
     Ok(())

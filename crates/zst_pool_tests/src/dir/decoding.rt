@@ -1,6 +1,8 @@
-use super::texts::{datasets, is_dir, push_dataset, push_partial, receiving, sample, sample_with};
+use super::texts::{
+    is_dir, over_base, receiving, sample, sample_with, two_datasets, two_snapshots,
+};
+use crate::rows::read;
 use std::test::Fail;
-use zst_bytes::push_word;
 use zst_dir::Dir;
 
 #[test]
@@ -11,29 +13,38 @@ fn an_empty_directory_is_three_counts(rt: HostRuntime) -> Result<(), Fail> {
 }
 
 #[test]
-fn rows_are_read_as_they_were_spelled(rt: HostRuntime) -> Result<(), Fail> {
+fn rows_are_read_and_spelled_as_they_were(rt: HostRuntime) -> Result<(), Fail> {
     let bytes = sample(rt.alloc())?;
-    let Some(dir) = Dir::decode(rt.alloc(), &bytes)? else {
-        assert!(rt; false, "no directory");
-        return Ok(());
-    };
+    let dir = read(rt.alloc(), &bytes)?;
     assert!(rt; dir.datasets().len() == 2 && dir.snapshots().len() == 3);
     assert!(rt; dir.bookmarks().len() == 1 && dir.partials().len() == 1);
+    assert!(rt; dir.encode(rt.alloc())?.as_slice() == bytes.as_slice());
+    Ok(())
+}
+
+#[test]
+fn snapshots_are_read_as_they_were_spelled(rt: HostRuntime) -> Result<(), Fail> {
+    let dir = read(rt.alloc(), &sample(rt.alloc())?)?;
     let [first, second, third] = dir.snapshots() else {
-        return Ok(());
+        return Err(Fail::new("not three snapshots"));
     };
     assert_eq!(rt; first.name.text(), "t@b");
     assert_eq!(rt; second.name.text(), "t@a");
     assert_eq!(rt; third.name.text(), "t/c@a");
     assert!(rt; second.number == 2 && second.time == 1_700_000_000);
     assert!(rt; second.redact.as_slice() == [3, u64::MAX].as_slice());
+    Ok(())
+}
+
+#[test]
+fn a_partial_state_is_read_as_it_was_spelled(rt: HostRuntime) -> Result<(), Fail> {
+    let dir = read(rt.alloc(), &sample(rt.alloc())?)?;
     let [partial] = dir.partials() else {
-        return Ok(());
+        return Err(Fail::new("not one partial state"));
     };
     assert!(rt; partial.keep && partial.header.kind == 3 && partial.header.features == 0x14);
     assert!(rt; partial.header.name.as_bytes() == b"a/b@\xff".as_slice());
     assert!(rt; partial.point.object == 1 << 47 && partial.point.offset == 4096);
-    assert!(rt; dir.encode(rt.alloc())?.as_slice() == bytes.as_slice());
     Ok(())
 }
 
@@ -84,7 +95,7 @@ fn guids_stand_only_beside_their_feature_and_their_source(rt: HostRuntime) -> Re
         // A stream that was asked for by a token is kept with the header of the first.
         ((4 | RESUMING, 0), none, none, false),
     ] {
-        let bytes = receiving(rt.alloc(), fields, redact, from_redact)?;
+        let bytes = receiving(rt.alloc(), fields, (redact, from_redact))?;
         assert_eq!(rt;
             is_dir(rt.alloc(), &bytes)?,
             lawful,
@@ -95,62 +106,50 @@ fn guids_stand_only_beside_their_feature_and_their_source(rt: HostRuntime) -> Re
 }
 
 #[test]
-fn rows_out_of_order_are_none(rt: HostRuntime) -> Result<(), Fail> {
-    let alloc = rt.alloc();
-    let one: &[(&str, u64)] = &[("a", 1)];
-    assert!(rt; is_dir(alloc, &datasets(alloc, &[("a", "", one), ("b", "", one)])?)?);
-    assert!(rt; !is_dir(alloc, &datasets(alloc, &[("b", "", one), ("a", "", one)])?)?);
-    assert!(rt; !is_dir(alloc, &datasets(alloc, &[("a", "", one), ("a", "", one)])?)?);
-    assert!(rt;
-        is_dir(
-            alloc,
-            &datasets(alloc, &[("a", "", &[("c", 1), ("b", 1)])])?
-        )?
-    );
-    assert!(rt;
-        !is_dir(
-            alloc,
-            &datasets(alloc, &[("a", "", &[("b", 2), ("c", 1)])])?
-        )?
-    );
-    assert!(rt;
-        !is_dir(
-            alloc,
-            &datasets(alloc, &[("a", "", &[("b", 1), ("b", 2)])])?
-        )?
-    );
+fn datasets_out_of_order_are_none(rt: HostRuntime) -> Result<(), Fail> {
+    for (first, second, lawful) in [("a", "b", true), ("b", "a", false), ("a", "a", false)] {
+        let bytes = two_datasets(rt.alloc(), (first, ""), &[("a", 100, 1)], second)?;
+        assert_eq!(rt; is_dir(rt.alloc(), &bytes)?, lawful, "{first} {second}");
+    }
     Ok(())
 }
 
 #[test]
-fn names_that_are_not_there_are_none(rt: HostRuntime) -> Result<(), Fail> {
-    let alloc = rt.alloc();
-    let one: &[(&str, u64)] = &[("a", 1)];
-    assert!(rt;
-        is_dir(
-            alloc,
-            &datasets(alloc, &[("a", "b@a", &[]), ("b", "", one)])?
-        )?
-    );
-    assert!(rt;
-        !is_dir(
-            alloc,
-            &datasets(alloc, &[("a", "b@b", &[]), ("b", "", one)])?
-        )?
-    );
+fn snapshots_out_of_order_are_none(rt: HostRuntime) -> Result<(), Fail> {
+    for (first, second, lawful) in [
+        (("c", 1), ("b", 1), true),
+        (("b", 2), ("c", 1), false),
+        (("b", 1), ("b", 2), false),
+    ] {
+        let bytes = two_snapshots(rt.alloc(), first, second)?;
+        assert_eq!(rt; is_dir(rt.alloc(), &bytes)?, lawful, "{first:?} {second:?}");
+    }
+    Ok(())
+}
+
+#[test]
+fn an_origin_that_is_not_there_is_none(rt: HostRuntime) -> Result<(), Fail> {
+    for (origin, lawful) in [("b@a", true), ("b@b", false)] {
+        let bytes = two_datasets(rt.alloc(), ("a", origin), &[], "b")?;
+        assert_eq!(rt; is_dir(rt.alloc(), &bytes)?, lawful, "{origin}");
+    }
+    Ok(())
+}
+
+#[test]
+fn a_base_that_is_not_there_is_none(rt: HostRuntime) -> Result<(), Fail> {
     for (component, base, lawful) in [
         ("b", "", true),
         ("b", "t@a", true),
         ("b", "t@c", false),
         ("a", "t@a", false),
     ] {
-        let mut out = Vec::new(alloc);
-        push_word(&mut out, 1)?;
-        push_dataset(&mut out, "t", "", one)?;
-        push_word(&mut out, 0)?;
-        push_word(&mut out, 1)?;
-        push_partial(&mut out, ("t", component, base), (0x14, 100), &[], &[9])?;
-        assert_eq!(rt; is_dir(alloc, &out)?, lawful, "{component} on {base}");
+        let bytes = over_base(rt.alloc(), component, base)?;
+        assert_eq!(rt;
+            is_dir(rt.alloc(), &bytes)?,
+            lawful,
+            "{component} on {base}"
+        );
     }
     Ok(())
 }

@@ -1,94 +1,89 @@
 // The bytes of directories, row by row.
+use crate::rows::{
+    PartialFields, SnapshotFields, push_bookmark, push_dataset, push_numbers, push_partial,
+};
 use std::alloc::{AllocError, Global};
-use zst_block::Ptr;
-use zst_bytes::{push_text, push_word, push_words};
+use zst_bytes::push_word;
 use zst_dir::Dir;
-use zst_tree::{ObjSet, push_ptr, push_set};
 
-// Spells a dataset: its origin, no objects, a guid, and its snapshots by component and number.
-pub(super) fn push_dataset(
+// Spells a dataset with redaction guids, whose snapshots have some too.
+fn push_redacted(
     out: &mut Vec<u8>,
-    name: &str,
-    origin: &str,
-    snapshots: &[(&str, u64)],
+    names: (&str, &str),
+    snapshots: &[SnapshotFields<'_>],
 ) -> Result<(), AllocError> {
-    push_text(out, name.as_bytes())?;
-    push_word(out, 2)?;
-    push_text(out, origin.as_bytes())?;
-    push_set(out, &ObjSet::empty())?;
-    push_words(out, &[7])?;
-    push_word(out, snapshots.len() as u64)?;
-    for (component, number) in snapshots {
-        push_text(out, component.as_bytes())?;
-        push_word(out, 100)?;
-        push_word(out, 1_700_000_000)?;
-        push_word(out, *number)?;
-        push_set(out, &ObjSet::empty())?;
-        push_words(out, &[3, u64::MAX])?;
-    }
-    Ok(())
-}
-
-// Spells a bookmark of one run.
-fn push_bookmark(out: &mut Vec<u8>, name: &str) -> Result<(), AllocError> {
-    push_text(out, name.as_bytes())?;
-    push_word(out, 100)?;
-    push_word(out, 1_700_000_000)?;
-    push_word(out, 1)?;
-    push_words(out, &[3, 4])?;
-    push_word(out, 1)?;
-    push_word(out, 0)?;
-    push_ptr(out, &Ptr::hole(5))
+    push_dataset(out, names, snapshots, (&[7], &[3, u64::MAX]))
 }
 
 // Spells a partial state: its features, the source's guid, and both sets of guids are given.
-pub(super) fn push_partial(
+fn push_received(
     out: &mut Vec<u8>,
     (target, component, base): (&str, &str, &str),
     (features, from): (u64, u64),
-    redact: &[u64],
-    from_redact: &[u64],
+    (redact, from_redact): (&[u64], &[u64]),
 ) -> Result<(), AllocError> {
-    push_text(out, target.as_bytes())?;
-    push_text(out, component.as_bytes())?;
-    push_word(out, 1)?;
-    for number in [3, 0x4, features, 1_700_000_001, 101, from] {
-        push_word(out, number)?;
-    }
-    push_text(out, b"a/b@\xff")?;
-    push_words(out, redact)?;
-    push_words(out, from_redact)?;
-    push_text(out, base.as_bytes())?;
-    push_set(out, &ObjSet::empty())?;
-    push_word(out, 1 << 47)?;
-    push_word(out, 4096)
+    let fields = PartialFields {
+        target,
+        component,
+        numbers: [1, 3, 0x4, features, 1_700_000_001, 101, from],
+        name: b"a/b@\xff",
+        redact,
+        from_redact,
+        base,
+        point: [1 << 47, 4096],
+    };
+    push_partial(out, &fields)
 }
 
-// Two datasets, the second a clone, with three snapshots, a bookmark and a partial state.
+// Two datasets, the second a clone, with three snapshots, a bookmark of one run and a partial state.
 pub(super) fn sample(alloc: Global) -> Result<Vec<u8>, AllocError> {
     let mut out = Vec::new(alloc);
     push_word(&mut out, 2)?;
-    push_dataset(&mut out, "t", "", &[("b", 1), ("a", 2)])?;
-    push_dataset(&mut out, "t/c", "t@b", &[("a", 2)])?;
+    push_redacted(&mut out, ("t", ""), &[("b", 100, 1), ("a", 100, 2)])?;
+    push_redacted(&mut out, ("t/c", "t@b"), &[("a", 100, 2)])?;
     push_word(&mut out, 1)?;
-    push_bookmark(&mut out, "t#b")?;
+    push_bookmark(&mut out, "t#b", [100, 1_700_000_000, 1], &[3, 4], 1)?;
     push_word(&mut out, 1)?;
-    push_partial(&mut out, ("t", "c", "t@a"), (0x14, 100), &[], &[9])?;
+    push_received(&mut out, ("t", "c", "t@a"), (0x14, 100), (&[], &[9]))?;
     Ok(out)
 }
 
-// Datasets with neither bookmarks nor partial states.
-pub(super) fn datasets(
+// A dataset and its origin, and another with a snapshot, without bookmarks and partial states.
+pub(super) fn two_datasets(
     alloc: Global,
-    rows: &[(&str, &str, &[(&str, u64)])],
+    first: (&str, &str),
+    snapshots: &[SnapshotFields<'_>],
+    second: &str,
 ) -> Result<Vec<u8>, AllocError> {
     let mut out = Vec::new(alloc);
-    push_word(&mut out, rows.len() as u64)?;
-    for (name, origin, snapshots) in rows {
-        push_dataset(&mut out, name, origin, snapshots)?;
-    }
-    push_word(&mut out, 0)?;
-    push_word(&mut out, 0)?;
+    push_word(&mut out, 2)?;
+    push_redacted(&mut out, first, snapshots)?;
+    push_redacted(&mut out, (second, ""), &[("a", 100, 1)])?;
+    push_numbers(&mut out, &[0, 0])?;
+    Ok(out)
+}
+
+// A dataset with two snapshots.
+pub(super) fn two_snapshots(
+    alloc: Global,
+    first: (&str, u64),
+    second: (&str, u64),
+) -> Result<Vec<u8>, AllocError> {
+    let mut out = Vec::new(alloc);
+    push_word(&mut out, 1)?;
+    let snapshots = [(first.0, 100, first.1), (second.0, 100, second.1)];
+    push_redacted(&mut out, ("a", ""), &snapshots)?;
+    push_numbers(&mut out, &[0, 0])?;
+    Ok(out)
+}
+
+// A dataset with a snapshot, and a partial state of it with this component and base.
+pub(super) fn over_base(alloc: Global, component: &str, base: &str) -> Result<Vec<u8>, AllocError> {
+    let mut out = Vec::new(alloc);
+    push_word(&mut out, 1)?;
+    push_redacted(&mut out, ("t", ""), &[("a", 100, 1)])?;
+    push_numbers(&mut out, &[0, 1])?;
+    push_received(&mut out, ("t", component, base), (0x14, 100), (&[], &[9]))?;
     Ok(out)
 }
 
@@ -106,17 +101,14 @@ pub(super) fn sample_with(alloc: Global, place: usize, number: u64) -> Result<Ve
         .collect(alloc)
 }
 
-// The bytes of one dataset and a full or incremental stream received into another.
+// A partial state alone, of a full or incremental stream.
 pub(super) fn receiving(
     alloc: Global,
     fields: (u64, u64),
-    redact: &[u64],
-    from_redact: &[u64],
+    guids: (&[u64], &[u64]),
 ) -> Result<Vec<u8>, AllocError> {
     let mut out = Vec::new(alloc);
-    push_word(&mut out, 0)?;
-    push_word(&mut out, 0)?;
-    push_word(&mut out, 1)?;
-    push_partial(&mut out, ("t", "c", ""), fields, redact, from_redact)?;
+    push_numbers(&mut out, &[0, 0, 1])?;
+    push_received(&mut out, ("t", "c", ""), fields, guids)?;
     Ok(out)
 }

@@ -10,6 +10,12 @@ fn redaction_bookmarks_are_found_by_their_guids(rt: HostRuntime) -> Result<(), F
     assert!(rt; plan.from_number == Some(4) && plan.from_guid == 16);
     let plan = planned(&dir, &token(17, 16, &[7, 9], &[]))?;
     assert!(rt; plan.snap == 1 && plan.book_t == Some(0));
+    Ok(())
+}
+
+#[test]
+fn guids_of_no_redaction_bookmark_are_refused(rt: HostRuntime) -> Result<(), Fail> {
+    let dir = twins(rt.alloc())?;
     let text = "no such guid 0000000000000010";
     assert!(rt; is_refused(&dir, &token(18, 16, &[], &[9]), text));
     let text = "no such guid 0000000000000011";

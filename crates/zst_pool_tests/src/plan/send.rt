@@ -17,20 +17,30 @@ fn redactions_are_sent_by_their_bookmarks(rt: HostRuntime) -> Result<(), Fail> {
             "{snap} from {from}"
         );
     }
+    Ok(())
+}
+
+#[test]
+fn a_header_has_the_guids_of_its_bookmark(rt: HostRuntime) -> Result<(), Fail> {
+    let dir = clones(rt.alloc())?;
     let header = planned(&dir, "c@w", "a#r")?.header(&dir);
     assert!(rt; header.from == 17 && header.from_redact.as_slice() == [7, 9].as_slice());
     assert!(rt; header.redact.as_slice().is_empty() && header.features == 4);
-    match send_plan(&dir, &ask("a@s", "a@q", "a#r")?) {
-        Ok(plan) => {
-            assert_eq!(rt; plan.book_t, Some(1));
-            let header = plan.header(&dir);
-            // REDACTED is bit 21, SA_SPILL bit 2.
-            assert_eq!(rt; header.features, 0x20_0004);
-            assert!(rt; header.redact.as_slice() == [7, 9].as_slice());
-            assert!(rt; header.from_redact.as_slice().is_empty());
-        }
-        Err(_) => return Err(Fail::new("it is refused")),
-    }
+    Ok(())
+}
+
+#[test]
+fn a_redacted_send_has_the_guids_that_it_is_for(rt: HostRuntime) -> Result<(), Fail> {
+    let dir = clones(rt.alloc())?;
+    let Ok(plan) = send_plan(&dir, &ask("a@s", "a@q", "a#r")?) else {
+        return Err(Fail::new("it is refused"));
+    };
+    assert_eq!(rt; plan.book_t, Some(1));
+    let header = plan.header(&dir);
+    // REDACTED is bit 21, SA_SPILL bit 2.
+    assert_eq!(rt; header.features, 0x20_0004);
+    assert!(rt; header.redact.as_slice() == [7, 9].as_slice());
+    assert!(rt; header.from_redact.as_slice().is_empty());
     Ok(())
 }
 
@@ -49,10 +59,18 @@ fn what_no_command_makes_is_refused_in_order(rt: HostRuntime) -> Result<(), Fail
         let ask = ask(snap, from, redact)?;
         assert!(rt; is_refused(&dir, &ask, text), "{text}");
     }
+    Ok(())
+}
+
+#[test]
+fn origins_in_a_circle_end(rt: HostRuntime) -> Result<(), Fail> {
+    let ask = ask("e@x", "a@s", "")?;
     for numbers in [(20, 20), (20, 21), (21, 20)] {
         let dir = circle(rt.alloc(), numbers)?;
-        let ask = ask("e@x", "a@s", "")?;
-        assert!(rt; is_refused(&dir, &ask, "not an ancestor of e@x: a@s"));
+        assert!(rt;
+            is_refused(&dir, &ask, "not an ancestor of e@x: a@s"),
+            "{numbers:?}"
+        );
     }
     Ok(())
 }

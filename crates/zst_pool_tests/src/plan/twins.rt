@@ -1,5 +1,5 @@
 // A directory with guids that stand twice and with redaction bookmarks, and tokens.
-use crate::plan::directories::{push_bookmark, push_dataset, read};
+use crate::rows::{push_bookmark, push_dataset, read};
 use std::alloc::Global;
 use std::test::Fail;
 use zst_bytes::push_word;
@@ -10,18 +10,15 @@ use zst_token::Token;
 
 // `a@s` and `b@s` have one guid, and so have `a@q` and `b@q`. Of `a@s` and of `b@q` there are redaction bookmarks.
 pub(super) fn twins(alloc: Global) -> Result<Dir, Fail> {
+    let of_a = [("q", 16, 2), ("s", 17, 3)];
+    let of_b = [("q", 16, 4), ("s", 17, 5), ("t", 18, 7)];
     let mut out = Vec::new(alloc);
     push_word(&mut out, 2)?;
-    push_dataset(&mut out, ("a", ""), &[("q", 16, 2), ("s", 17, 3)], &[])?;
-    push_dataset(
-        &mut out,
-        ("b", ""),
-        &[("q", 16, 4), ("s", 17, 5), ("t", 18, 7)],
-        &[],
-    )?;
+    push_dataset(&mut out, ("a", ""), &of_a, (&[], &[]))?;
+    push_dataset(&mut out, ("b", ""), &of_b, (&[], &[]))?;
     push_word(&mut out, 2)?;
-    push_bookmark(&mut out, "a#r", 17, 3, &[7, 9])?;
-    push_bookmark(&mut out, "b#r", 16, 4, &[7])?;
+    push_bookmark(&mut out, "a#r", [17, 1_700_000_000, 3], &[7, 9], 0)?;
+    push_bookmark(&mut out, "b#r", [16, 1_700_000_000, 4], &[7], 0)?;
     push_word(&mut out, 0)?;
     read(alloc, out.as_slice())
 }

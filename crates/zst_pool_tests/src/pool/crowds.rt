@@ -1,30 +1,23 @@
 // A pool of many snapshots.
-ghost use Rattle.std.specs.Prelude.{◌<◌};
+ghost use Rattle.std.specs.Prelude.{◌≤◌};
 
 use crate::bytes_of;
-use crate::pools::{rows_of, step_on};
+use crate::pools::{created, rows_of, step_on};
 use crate::refusals::TestRefusal;
 use std::alloc::Global;
 use std::process::Abort;
-use zst_image::PoolState;
 use zst_model::Refusal;
 use zst_outside::{Disk, MemDisk};
 
-// A disk of these bytes, of which no call fails.
-fn disk_of(alloc: Global, bytes: Vec<u8>) -> MemDisk {
-    MemDisk::new(bytes, Vec::new(alloc), None)
-}
-
 // The bytes of a disk whose one dataset has a hundred snapshots.
 fn with_hundred(alloc: Global) -> Result<Vec<u8>, TestRefusal> {
-    let mut disk = disk_of(alloc, vec![in alloc; 0; 4_194_304]?);
-    PoolState::create(alloc, &mut disk, 8_192, 1)?;
+    let mut disk = created(alloc, 8_192)?;
     step_on(alloc, &mut disk, "fs here tank/a")?;
     for place in 0..100u64 {
         let line = format!(in alloc; "snapshot here tank/a@s{place}")?;
         step_on(alloc, &mut disk, line.as_str())?;
     }
-    Ok(bytes_of(alloc, &mut disk)?)
+    bytes_of(alloc, &mut disk).map_err(TestRefusal)
 }
 
 // Checks that a disk has all of the hundred snapshots, or nothing.
@@ -37,6 +30,14 @@ fn check_whole(
     let rows = rows_of(alloc, disk)?;
     assert!(rt; rows == (1, 100, 0) || rows == (0, 0, 0), "at {at}");
     Ok(())
+}
+
+// Checks so what a crash before the call of this number leaves.
+fn check_image(rt: &impl Abort, alloc: Global, disk: &MemDisk, call: u64) -> Result<(), TestRefusal>
+    requires call { call ≤ (⟦<MemDisk as Disk>⟧.state disk.now).calls }
+{
+    let mut image = disk.image(alloc, call, 0xa5)?;
+    check_whole(rt, alloc, &mut image, call)
 }
 
 // Checks so where the call of this number fails as the dataset is destroyed.
@@ -58,12 +59,10 @@ fn check_fault(
 fn a_hundred_snapshots_go_at_once(rt: HostRuntime) -> Result<(), TestRefusal> {
     let alloc = rt.alloc();
     let bytes = with_hundred(alloc)?;
-    let mut disk = disk_of(alloc, bytes.clone()?);
+    let mut disk = MemDisk::new(bytes.clone()?, Vec::new(alloc), None);
     step_on(alloc, &mut disk, "destroy here tank/a")?;
-    let calls = disk.calls();
-    for call in 0..calls {
-        let mut image = disk.image(alloc, call, 0xa5)?;
-        check_whole(&rt, alloc, &mut image, call)?;
+    for call in 0..disk.calls() {
+        check_image(&rt, alloc, &disk, call)?;
         check_fault(&rt, alloc, bytes.clone()?, call)?;
     }
     assert_eq!(rt; rows_of(alloc, &mut disk)?, (0, 0, 0));

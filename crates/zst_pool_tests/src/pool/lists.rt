@@ -1,16 +1,19 @@
 // What is told of the lists of bookmarks, which no command writes yet and the program asks for nowhere.
-ghost use Rattle.std.specs.Prelude.{◌≤◌};
+ghost use Rattle.std.specs.Prelude.{◌≡◌, ◌≤◌, IfOk, OnOk};
+ghost use Rattle.zst_block.specs.Blocks.{FitsDisk};
 ghost use Rattle.zst_dir.specs.Rows.{IsBookmarkRow};
 
-use crate::pools::{NOW, SMALL, step_on, with_lines};
+use crate::pools::{NOW, SMALL, pool_on, step_on, with_lines};
 use crate::refusals::TestRefusal;
-use zst_dir::Bookmark;
-use zst_image::PoolState;
+use std::alloc::Global;
+use std::process::Abort;
+use zst_block::Io;
+use zst_dir::{Bookmark, Dir};
 use zst_leaves::write_leaves;
 use zst_list::encode_list;
-use zst_model::{GuidSet, PlanFault, Refusal, Run};
+use zst_model::{GuidSet, List, PlanFault, Refusal, Run};
 use zst_names::BookName;
-use zst_pool::Pool;
+use zst_outside::{Disk, MemDisk};
 use zst_tree::Tree;
 
 // Blocks 3 and 4 of object 1.
@@ -46,30 +49,55 @@ fn with_list(name: BookName, tree: &Tree) -> Bookmark
     }
 }
 
+// The list of a bookmark of a pool that is opened.
+fn list_on(alloc: Global, disk: &mut MemDisk, text: &str) -> Result<Option<List>, TestRefusal> {
+    let name = bookmark(text)?;
+    let mut pool = pool_on(alloc, disk)?;
+    Ok(pool.list_of(alloc, &name)?)
+}
+
 #[test]
 fn a_plain_bookmark_has_no_list(rt: HostRuntime) -> Result<(), TestRefusal> {
-    let alloc = rt.alloc();
-    let mut disk = with_lines(alloc, &SMALL)?;
-    step_on(alloc, &mut disk, "bookmark here tank/a@s tank/a#k")?;
-    let kept = PoolState::open(alloc, &mut disk)?;
-    let mut pool = Pool::new(alloc, &mut disk, kept);
-    assert!(rt; pool.list_of(alloc, &bookmark("tank/a#k")?)?.is_none());
+    let mut disk = with_lines(rt.alloc(), &SMALL)?;
+    step_on(rt.alloc(), &mut disk, "bookmark here tank/a@s tank/a#k")?;
+    assert!(rt; list_on(rt.alloc(), &mut disk, "tank/a#k")?.is_none());
     Ok(())
 }
 
 #[test]
 fn a_bookmark_that_is_not_there_is_told(rt: HostRuntime) -> Result<(), TestRefusal> {
-    let alloc = rt.alloc();
-    let mut disk = with_lines(alloc, &SMALL)?;
-    let kept = PoolState::open(alloc, &mut disk)?;
-    let mut pool = Pool::new(alloc, &mut disk, kept);
-    match pool.list_of(alloc, &bookmark("tank/a#z")?) {
+    let mut disk = with_lines(rt.alloc(), &SMALL)?;
+    match list_on(rt.alloc(), &mut disk, "tank/a#z") {
         Ok(_) => panic!(rt; "there is no such bookmark"),
-        Err(fault) => assert_eq!(rt;
-            TestRefusal::from(fault).0.text().as_str(),
-            "no such tank/a#z"
-        ),
+        Err(TestRefusal(refusal)) => {
+            assert_eq!(rt; refusal.text().as_str(), "no such tank/a#z");
+        }
     }
+    Ok(())
+}
+
+// Writes the list of one run, and tells the tree of its one leaf.
+fn write_list(rt: &impl Abort, alloc: Global, io: &mut Io<'_, MemDisk>) -> Result<Tree, TestRefusal>
+    requires fits { FitsDisk (⟦<MemDisk as Disk>⟧.state io.old.disk.now).size io.old.space }
+    ensures levels { IfOk result (λ tree. tree.levels ≡ 0) }
+    ensures fits { OnOk result (FitsDisk (⟦<MemDisk as Disk>⟧.state io.new.disk.now).size io.new.space) }
+    ensures same { io.new.disk.ghost_name ≡ io.old.disk.ghost_name }
+{
+    let bytes = encode_list(alloc, &[REDACTED])?;
+    assert_eq!(rt; bytes.len(), 24);
+    let Ok(tree) = write_leaves(io, &bytes, 6) else {
+        return Err(TestRefusal(Refusal::DiskFault));
+    };
+    assert_eq!(rt; tree.levels, 0);
+    Ok(tree)
+}
+
+// Adds a bookmark with a list below this root to a directory that has no bookmark.
+fn add_listed(rt: &impl Abort, dir: &mut Dir, text: &str, tree: &Tree) -> Result<(), TestRefusal>
+    requires levels { tree.now.levels ≤ 7 }
+{
+    assert!(rt; dir.bookmarks().is_empty());
+    dir.add_bookmark(with_list(bookmark(text)?, tree))?;
     Ok(())
 }
 
@@ -77,17 +105,9 @@ fn a_bookmark_that_is_not_there_is_told(rt: HostRuntime) -> Result<(), TestRefus
 fn a_list_is_told_where_something_is_redacted(rt: HostRuntime) -> Result<(), TestRefusal> {
     let alloc = rt.alloc();
     let mut disk = with_lines(alloc, &SMALL)?;
-    let kept = PoolState::open(alloc, &mut disk)?;
-    let mut pool = Pool::new(alloc, &mut disk, kept);
-    let bytes = encode_list(alloc, &[REDACTED])?;
-    assert_eq!(rt; bytes.len(), 24);
-    let Ok(tree) = write_leaves(&mut pool.io, &bytes, 6) else {
-        return Err(TestRefusal(Refusal::DiskFault));
-    };
-    assert_eq!(rt; tree.levels, 0);
-    assert!(rt; pool.kept.dir.bookmarks().is_empty());
-    let row = with_list(bookmark("tank/a#k")?, &tree);
-    pool.kept.dir.add_bookmark(row)?;
+    let mut pool = pool_on(alloc, &mut disk)?;
+    let tree = write_list(&rt, alloc, &mut pool.io)?;
+    add_listed(&rt, &mut pool.kept.dir, "tank/a#k", &tree)?;
     match pool.list_of(alloc, &bookmark("tank/a#k")?)? {
         Some(list) => assert!(rt; list.runs() == [REDACTED].as_slice()),
         None => panic!(rt; "the bookmark has a list"),

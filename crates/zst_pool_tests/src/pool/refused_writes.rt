@@ -1,30 +1,37 @@
 // What a refused command took of a pool that stays open.
-use crate::pools::{NOW, SMALL, command_of, steps_on};
+ghost use Rattle.std.specs.Prelude.{◌≡◌, false};
+ghost use Rattle.zst_image.specs.Commits.{Ready};
+
+use crate::pools::{SMALL, created, pool_on, step_in, steps_on};
 use crate::refusals::TestRefusal;
 use std::alloc::Global;
-use zst_image::PoolState;
-use zst_model::Reply;
-use zst_outside::MemDisk;
-use zst_pool::{Pool, PoolFault};
+use std::process::Abort;
+use zst_model::Refusal;
+use zst_outside::{Disk, MemDisk};
+use zst_pool::Pool;
 
 // A disk of 256 sectors with the small pool.
 fn small(alloc: Global) -> Result<MemDisk, TestRefusal> {
-    let bytes = vec![in alloc; 0; 131_072]?;
-    let mut disk = MemDisk::new(bytes, Vec::new(alloc), None);
-    PoolState::create(alloc, &mut disk, 256, 1)?;
+    let mut disk = created(alloc, 256)?;
     steps_on(alloc, &mut disk, &SMALL)?;
     Ok(disk)
 }
 
-// Whether 16 sectors were wanted, and 4 were free.
-fn is_full(answer: &Result<Reply, PoolFault>) -> bool {
-    matches!(
+// Checks that a write to block 2 is refused: 16 sectors are wanted, and 4 are free.
+fn check_full(rt: &impl Abort, alloc: Global, pool: &mut Pool<'_, MemDisk>)
+    requires ready { pool.old.io.failed ≡ false → Ready (⟦<MemDisk as Disk>⟧.state pool.old.io.disk.now) pool.old.kept.body }
+    ensures ready { pool.new.io.failed ≡ false → Ready (⟦<MemDisk as Disk>⟧.state pool.new.io.disk.now) pool.new.kept.body }
+    ensures same { pool.new.io.disk.ghost_name ≡ pool.old.io.disk.ghost_name }
+{
+    let answer = step_in(alloc, pool, "write here tank/a 1 2 01");
+    let is_full = matches!(
         answer,
-        Err(PoolFault::Full {
+        Err(TestRefusal(Refusal::Full {
             need: 16,
             largest: 4
-        })
-    )
+        }))
+    );
+    assert!(rt; is_full);
 }
 
 #[test]
@@ -37,12 +44,8 @@ fn what_a_refused_write_took_is_free_again(rt: HostRuntime) -> Result<(), TestRe
     // for the directory.
     let lines = ["write here tank/a 1 0 01", "write here tank/a 1 1 01"];
     steps_on(alloc, &mut disk, &lines)?;
-    let kept = PoolState::open(alloc, &mut disk)?;
-    let mut pool = Pool::new(alloc, &mut disk, kept);
-    let line = "write here tank/a 1 2 01";
-    let first = pool.step(alloc, NOW, command_of(alloc, line)?);
-    assert!(rt; is_full(&first));
-    let second = pool.step(alloc, NOW, command_of(alloc, line)?);
-    assert!(rt; is_full(&second));
+    let mut pool = pool_on(alloc, &mut disk)?;
+    check_full(&rt, alloc, &mut pool);
+    check_full(&rt, alloc, &mut pool);
     Ok(())
 }

@@ -1,15 +1,18 @@
 // A receive that isn't kept, beside commands on the pool that stays open.
-ghost use Rattle.std.specs.Prelude.{◌≡◌, IfOk, None, OnOk};
+ghost use Rattle.std.specs.Prelude.{◌≡◌, false, IfOk, None, OnOk};
 ghost use Rattle.zst_dir.specs.Rows.{HasSnapshot, IsPartialRow};
+ghost use Rattle.zst_image.specs.Commits.{Ready};
 ghost use Rattle.zst_model.specs.pools.Pool.{IsStated};
+ghost use Rattle.zst_pool.specs.Calls.{CanCommit};
 
-use crate::pools::{NOW, check_line, command_of, rows_of, with_lines};
+use crate::pools::{NOW, pool_on, rows_of, step_in, with_lines};
 use crate::refusals::TestRefusal;
+use std::alloc::Global;
 use std::process::Abort;
 use zst_dir::{Dir, Partial};
-use zst_image::PoolState;
 use zst_model::{GuidSet, Header, NameText, PlanFault, Point, Refusal};
 use zst_names::{DatasetName, SnapName};
+use zst_outside::{Disk, MemDisk};
 use zst_pool::Pool;
 use zst_tree::ObjSet;
 
@@ -64,38 +67,100 @@ fn check_new(dir: &Dir, name: &SnapName) -> Result<(), TestRefusal>
     Ok(())
 }
 
+// Puts what a receive into tank/b has when it begins, as the third state.
+fn put_begun(
+    rt: &impl Abort,
+    alloc: Global,
+    pool: &mut Pool<'_, MemDisk>,
+) -> Result<(), TestRefusal>
+    requires works { CanCommit (⟦<MemDisk as Disk>⟧.state pool.old.io.disk.now) pool.old.io.space pool.old.kept.body }
+    ensures ready { pool.new.io.failed ≡ false → Ready (⟦<MemDisk as Disk>⟧.state pool.new.io.disk.now) pool.new.kept.body }
+    ensures same { pool.new.io.disk.ghost_name ≡ pool.old.io.disk.ghost_name }
+{
+    let partial = begun("tank/b@t")?;
+    check_new(&pool.kept.dir, &partial.snapshot_name())?;
+    assert_eq!(rt; pool.put_partial(alloc, partial, false)?, 3);
+    Ok(())
+}
+
+// Leaves out the partial state of tank/b.
+fn drop_begun(pool: &mut Pool<'_, MemDisk>) -> Result<(), TestRefusal>
+    requires ready { pool.old.io.failed ≡ false → Ready (⟦<MemDisk as Disk>⟧.state pool.old.io.disk.now) pool.old.kept.body }
+    ensures ready { pool.new.io.failed ≡ false → Ready (⟦<MemDisk as Disk>⟧.state pool.new.io.disk.now) pool.new.kept.body }
+    ensures same { pool.new.io.disk.ghost_name ≡ pool.old.io.disk.ghost_name }
+{
+    pool.drop_partial(&DatasetName::parse("tank/b").map_err(PlanFault::from)?);
+    Ok(())
+}
+
 // Checks how many datasets and partial states a directory has.
 fn check_counts(rt: &impl Abort, dir: &Dir, datasets: usize, partials: usize) {
     assert_eq!(rt; dir.datasets().len(), datasets);
     assert_eq!(rt; dir.partials().len(), partials);
 }
 
+// Checks that a command is answered with this line.
+fn check_answer(
+    rt: &impl Abort,
+    alloc: Global,
+    pool: &mut Pool<'_, MemDisk>,
+    line: &str,
+    want: &str,
+)
+    requires ready { pool.old.io.failed ≡ false → Ready (⟦<MemDisk as Disk>⟧.state pool.old.io.disk.now) pool.old.kept.body }
+    ensures ready { pool.new.io.failed ≡ false → Ready (⟦<MemDisk as Disk>⟧.state pool.new.io.disk.now) pool.new.kept.body }
+    ensures same { pool.new.io.disk.ghost_name ≡ pool.old.io.disk.ghost_name }
+{
+    let reply = match step_in(alloc, pool, line) {
+        Ok(reply) => reply,
+        Err(_) => panic!(rt; "{line} is refused"),
+    };
+    let lines = reply.lines();
+    assert_eq!(rt; lines.len(), 1);
+    assert!(rt; lines[0].as_slice() == want.as_bytes(), "{want}");
+}
+
+// Checks that a command is refused with this text.
+fn check_refused(
+    rt: &impl Abort,
+    alloc: Global,
+    pool: &mut Pool<'_, MemDisk>,
+    line: &str,
+    want: &str,
+)
+    requires ready { pool.old.io.failed ≡ false → Ready (⟦<MemDisk as Disk>⟧.state pool.old.io.disk.now) pool.old.kept.body }
+    ensures ready { pool.new.io.failed ≡ false → Ready (⟦<MemDisk as Disk>⟧.state pool.new.io.disk.now) pool.new.kept.body }
+    ensures same { pool.new.io.disk.ghost_name ≡ pool.old.io.disk.ghost_name }
+{
+    match step_in(alloc, pool, line) {
+        Ok(_) => panic!(rt; "{line} is answered"),
+        Err(TestRefusal(refusal)) => assert_eq!(rt; refusal.text().as_str(), want),
+    }
+}
+
 #[test]
 fn a_session_that_is_not_kept_runs_beside_commands(rt: HostRuntime) -> Result<(), TestRefusal> {
     let alloc = rt.alloc();
     let mut disk = with_lines(alloc, &["fs here tank/a"])?;
-    let kept = PoolState::open(alloc, &mut disk)?;
-    let mut pool = Pool::new(alloc, &mut disk, kept);
-    let partial = begun("tank/b@t")?;
-    check_new(&pool.kept.dir, &partial.snapshot_name())?;
-    assert_eq!(rt; pool.put_partial(alloc, partial, false)?, 3);
+    let mut pool = pool_on(alloc, &mut disk)?;
+    put_begun(&rt, alloc, &mut pool)?;
     check_counts(&rt, &pool.kept.dir, 1, 1);
-
-    let reply = pool.step(alloc, NOW, command_of(alloc, "fs here tank/c")?)?;
-    check_line(&rt, &reply, "ok 4");
+    check_answer(&rt, alloc, &mut pool, "fs here tank/c", "ok 4");
     check_counts(&rt, &pool.kept.dir, 2, 1);
-    match pool.step(alloc, NOW, command_of(alloc, "fs here tank/b")?) {
-        Ok(_) => panic!(rt; "the target's name was free"),
-        Err(fault) => assert_eq!(rt;
-            TestRefusal::from(fault).0.text().as_str(),
-            "exists: tank/b"
-        ),
-    }
+    check_refused(&rt, alloc, &mut pool, "fs here tank/b", "exists: tank/b");
+    Ok(())
+}
 
-    pool.drop_partial(&DatasetName::parse("tank/b").map_err(PlanFault::from)?);
+#[test]
+fn a_session_that_is_left_out_leaves_its_name(rt: HostRuntime) -> Result<(), TestRefusal> {
+    let alloc = rt.alloc();
+    let mut disk = with_lines(alloc, &["fs here tank/a"])?;
+    let mut pool = pool_on(alloc, &mut disk)?;
+    put_begun(&rt, alloc, &mut pool)?;
+    check_answer(&rt, alloc, &mut pool, "fs here tank/c", "ok 4");
+    drop_begun(&mut pool)?;
     check_counts(&rt, &pool.kept.dir, 2, 0);
-    let reply = pool.step(alloc, NOW, command_of(alloc, "fs here tank/b")?)?;
-    check_line(&rt, &reply, "ok 5");
+    check_answer(&rt, alloc, &mut pool, "fs here tank/b", "ok 5");
     assert_eq!(rt; rows_of(alloc, pool.into_disk())?, (3, 0, 0));
     Ok(())
 }

@@ -53,25 +53,38 @@ const FAR: [&str; 5] = [
     "snapshot here tank/a@s",
 ];
 
+// Lines behind the small pool: a block more, a snapshot, the first block anew, and a snapshot.
+const CHANGES: [&str; 4] = [
+    "write here tank/a 1 1 01",
+    "snapshot here tank/a@r",
+    "write here tank/a 1 0 aa",
+    "snapshot here tank/a@t",
+];
+
 #[test]
 fn each_block_that_is_sent_is_read_once(rt: HostRuntime) -> Result<(), TestRefusal> {
-    let alloc = rt.alloc();
-    let mut disk = with_lines(alloc, &SMALL)?;
-    let lines = [
-        "write here tank/a 1 1 01",
-        "snapshot here tank/a@r",
-        "write here tank/a 1 0 aa",
-        "snapshot here tank/a@t",
-    ];
-    steps_on(alloc, &mut disk, &lines)?;
+    let mut disk = with_lines(rt.alloc(), &SMALL)?;
+    steps_on(rt.alloc(), &mut disk, &CHANGES)?;
     for (snap, from, blocks) in [
         ("tank/a@s", "", 1),
         ("tank/a@t", "", 2),
         ("tank/a@t", "tank/a@s", 2),
         ("tank/a@t", "tank/a@r", 1),
     ] {
-        check_reads(&rt, alloc, &mut disk, (snap, from), 512, (blocks, 192))?;
+        check_reads(&rt, rt.alloc(), &mut disk, (snap, from), 512, (blocks, 192))?;
     }
-    let mut disk = with_lines(alloc, &FAR)?;
-    check_reads(&rt, alloc, &mut disk, ("tank/a@s", ""), 512, (2, 4_096))
+    Ok(())
+}
+
+#[test]
+fn a_distant_block_that_is_sent_is_read_once(rt: HostRuntime) -> Result<(), TestRefusal> {
+    let mut disk = with_lines(rt.alloc(), &FAR)?;
+    check_reads(
+        &rt,
+        rt.alloc(),
+        &mut disk,
+        ("tank/a@s", ""),
+        512,
+        (2, 4_096),
+    )
 }

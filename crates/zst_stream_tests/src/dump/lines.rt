@@ -1,4 +1,5 @@
 // Records beside their lines.
+use super::records::Shown;
 use std::alloc::Global;
 use std::process::Abort;
 use std::str;
@@ -28,6 +29,15 @@ pub(super) fn check_line(
     };
     assert_eq!(rt; line_of(&record, &mut out), Ok(()), "{want}");
     assert_eq!(rt; text_of(&out), want);
+}
+
+// Checks the line of each of these records, whose payloads are zeros.
+pub(super) fn check_lines(rt: &impl Abort, alloc: Global, records: &[Shown]) {
+    for (head, length, at, line) in records {
+        let payload = [0; 512];
+        assert!(rt; *length <= 512);
+        check_line(rt, alloc, head, *at, &payload[..*length], line);
+    }
 }
 
 pub(super) fn header_of(name: NameText, resume: Option<Point>) -> Header {

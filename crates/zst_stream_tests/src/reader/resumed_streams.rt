@@ -1,16 +1,29 @@
 // Streams whose BEGIN has a payload.
 use super::payloads::{PAYLOAD, hand_out_resumed, is_refused_by};
 use super::readers::{open_reader, push_all};
-use super::streams::Stream;
+use super::streams::{PLAIN, Stream};
+use std::alloc::Global;
+use std::process::Abort;
 use std::test::Fail;
 use zst_model::Point;
 
-/// `drr_versioninfo` of the smallest stream. The features stand above its lowest two bits: RESUMING is 20, REDACTED is 21.
-const PLAIN: u64 = 17;
-
+// RESUMING is bit 20 of the features, REDACTED bit 21.
 const RESUMED: u64 = PLAIN + (1 << 22);
 
 const BOTH: u64 = RESUMED + (1 << 23);
+
+/// Checks that a stream in pieces of this size is two records, resumed there.
+fn check_pieces(rt: &impl Abort, alloc: Global, stream: &[u8], size: usize, point: Point) {
+    assert!(rt; size > 0);
+    let mut reader = open_reader(rt, alloc);
+    let mut records = 0u64;
+    for piece in stream.chunks(size) {
+        push_all(rt, &mut reader, piece);
+        records = records.saturating_add(hand_out_resumed(rt, &mut reader, point));
+    }
+    assert!(rt; records == 2, "pieces of {size}");
+    assert!(rt; reader.finish() == Ok(()), "pieces of {size}");
+}
 
 #[test]
 fn begin_says_where_a_stream_is_resumed(rt: HostRuntime) -> Result<(), Fail> {
@@ -22,14 +35,7 @@ fn begin_says_where_a_stream_is_resumed(rt: HostRuntime) -> Result<(), Fail> {
         offset: 512,
     };
     for size in [1, 664] {
-        let mut reader = open_reader(&rt, rt.alloc());
-        let mut records = 0u64;
-        for piece in stream.bytes.chunks(size) {
-            push_all(&rt, &mut reader, piece);
-            records = records.saturating_add(hand_out_resumed(&rt, &mut reader, point));
-        }
-        assert!(rt; records == 2, "pieces of {size}");
-        assert!(rt; reader.finish() == Ok(()), "pieces of {size}");
+        check_pieces(&rt, rt.alloc(), &stream.bytes, size, point);
     }
     Ok(())
 }

@@ -1,4 +1,5 @@
 // Streams of the tests' own.
+use crate::fields::{GUID, set_all};
 use std::alloc::Global;
 use std::process::Abort;
 use std::test::Fail;
@@ -22,11 +23,7 @@ impl Stream {
 
     /// BEGIN of the smallest stream.
     pub(super) fn begin(rt: &impl Abort, alloc: Global) -> Result<Stream, Fail> {
-        let smallest = smallest_stream(rt);
-        let (begin, _) = smallest.split_at(RECORD_LEN);
-        let mut stream = Stream::new(alloc);
-        stream.add(rt, begin)?;
-        Ok(stream)
+        Stream::begin_with(rt, alloc, PLAIN, &[])
     }
 
     /// The same with this `drr_versioninfo` and a payload.
@@ -37,8 +34,11 @@ impl Stream {
         payload: &[u8],
     ) -> Result<Stream, Fail> {
         let mut smallest = smallest_stream(rt);
-        set(rt, &mut smallest, 4, 4, payload.len() as u64);
-        set(rt, &mut smallest, 16, 8, version);
+        set_all(
+            rt,
+            &mut smallest,
+            &[(4, 4, payload.len() as u64), (16, 8, version)],
+        );
         let (begin, _) = smallest.split_at(RECORD_LEN);
         let mut stream = Stream::new(alloc);
         stream.add(rt, begin)?;
@@ -103,23 +103,14 @@ impl Stream {
     }
 }
 
-pub(super) const GUID: u64 = 0x1_0000_0001;
-
-/// Writes a number of so many bytes, as the tables of zfs_ioctl.h place it.
-fn set(rt: &impl Abort, stream: &mut [u8; 624], place: usize, width: usize, value: u64) {
-    assert!(rt; place <= 616 && width <= 8);
-    let bytes = value.to_le_bytes();
-    for i in 0..width {
-        stream[place + i] = bytes[i];
-    }
-}
+/// `drr_versioninfo` of the smallest stream. The features stand above its lowest two bits.
+pub(super) const PLAIN: u64 = 17;
 
 /// The smallest stream: BEGIN of `t/a@s` and END, with the sums that a sender of OpenZFS states.
 pub(super) fn smallest_stream(rt: &impl Abort) -> [u8; 624] {
-    let mut stream = [0; 624];
     let fields = [
         (8, 8, 0x2_F5ba_cbac),
-        (16, 8, 17),
+        (16, 8, PLAIN),
         (24, 8, 1_700_000_000),
         (32, 4, 2),
         (36, 4, 12),
@@ -136,9 +127,8 @@ pub(super) fn smallest_stream(rt: &impl Abort) -> [u8; 624] {
         (608, 8, 98_333_701_267_116),
         (616, 8, 4_055_694_265_642_928),
     ];
-    for (place, width, value) in fields {
-        set(rt, &mut stream, place, width, value);
-    }
+    let mut stream = [0; 624];
+    set_all(rt, &mut stream, &fields);
     stream
 }
 

@@ -1,10 +1,12 @@
-use super::payloads::{PAYLOAD, header_of};
+use crate::fields::header_of;
 use zst_model::Point;
 use zst_record::{begin_payload, put_begin_payload};
 
-/// Zeros behind the magic.
-const NOTHING: &[u8; 40] =
-    b"ZSTBEG01\0\0\0\0\0\0\0\0\0\0\0\0\0\0\0\0\0\0\0\0\0\0\0\0\0\0\0\0\0\0\0\0";
+/// Resumed at byte 512 of object 5, for one redaction guid, from a source with two.
+const PAYLOAD: &[u8; 64] = b"ZSTBEG01\
+    \x05\0\0\0\0\0\0\0\0\x02\0\0\0\0\0\0\
+    \x01\0\0\0\0\0\0\0\x02\0\0\0\0\0\0\0\
+    \x07\0\0\0\0\0\0\0\x03\0\0\0\0\0\0\0\x04\0\0\0\0\0\0\0";
 
 const BOTH: u32 = 3 << 20;
 

@@ -1,80 +1,76 @@
 // Records, field by field, and what they are judged as.
+use crate::fields::{Field, GUID, set, set_all};
 use std::process::Abort;
 use zst_model::{Flaw, Lack, StreamFault};
 use zst_record::decode;
 
-/// Writes a number of so many bytes into a record, as the tables of zfs_ioctl.h place it.
-fn set(rt: &impl Abort, record: &mut [u8; 312], place: usize, width: usize, value: u64) {
-    assert!(rt; place <= 304 && width <= 8);
-    let bytes = value.to_le_bytes();
-    for i in 0..width {
-        record[place + i] = bytes[i];
-    }
+/// What is found in a record: nothing, or a flaw or a lack at a place of it.
+#[derive(Drop)]
+pub(super) enum Found {
+    Nothing,
+    Flaw(u64, Flaw),
+    Lack(u64, Lack),
 }
 
-/// A record of fields: place, width, value.
-pub(super) fn record_of(rt: &impl Abort, fields: &[(usize, usize, u64)]) -> [u8; 312] {
-    let mut record = [0; 312];
-    for (place, width, value) in fields {
-        set(rt, &mut record, *place, *width, *value);
-    }
-    record
-}
-
-pub(super) fn fault_of(record: &[u8; 312], at: u64, features: u32) -> Option<StreamFault> {
+/// What is judged of a record that begins there.
+pub(super) fn fault_of(record: &[u8; 312], at: u64) -> Option<StreamFault> {
     if at > 1 << 62 {
         return None;
     }
-    decode(record, at, features).err()
+    decode(record, at, 0).err()
 }
 
-pub(super) fn grammar(at: u64, flaw: Flaw) -> Option<StreamFault> {
-    Some(StreamFault::Grammar { at, flaw })
-}
-
-pub(super) fn lack(at: u64, lack: Lack) -> Option<StreamFault> {
-    Some(StreamFault::Unsupported { at, lack })
+/// Whether a record that begins there is judged so.
+pub(super) fn is_found(record: &[u8; 312], at: u64, want: &Found) -> bool {
+    let fault = fault_of(record, at);
+    match want {
+        Found::Nothing => fault.is_none(),
+        Found::Flaw(place, flaw) => {
+            fault
+                == Some(StreamFault::Grammar {
+                    at: at.saturating_add(*place),
+                    flaw: *flaw,
+                })
+        }
+        Found::Lack(place, lack) => {
+            fault
+                == Some(StreamFault::Unsupported {
+                    at: at.saturating_add(*place),
+                    lack: *lack,
+                })
+        }
+    }
 }
 
 /// Sets one field after the other in a record that passes, and compares what is found.
-pub(super) fn judge(
-    rt: &impl Abort,
-    good: &[u8; 312],
-    at: u64,
-    features: u32,
-    table: &[(usize, usize, u64, Option<StreamFault>)],
-) {
-    assert!(rt; fault_of(good, at, features).is_none());
-    for (place, width, value, want) in table {
+pub(super) fn judge(rt: &impl Abort, good: &[u8; 312], at: u64, table: &[(Field, Found)]) {
+    assert!(rt; fault_of(good, at).is_none());
+    for (field, want) in table {
         let mut record = *good;
-        set(rt, &mut record, *place, *width, *value);
-        assert!(rt;
-            fault_of(&record, at, features) == *want,
-            "{value} at {place}"
-        );
+        set(rt, &mut record, field);
+        assert!(rt; is_found(&record, at, want), "{field:?}");
     }
 }
 
 pub(super) fn object_record(rt: &impl Abort) -> [u8; 312] {
-    record_of(
-        rt,
-        &[(0, 4, 1), (8, 8, 1), (16, 4, 19), (24, 4, 512), (34, 1, 1)],
-    )
+    let fields = [(0, 4, 1), (8, 8, 1), (16, 4, 19), (24, 4, 512), (34, 1, 1)];
+    let mut record = [0; 312];
+    set_all(rt, &mut record, &fields);
+    record
 }
 
 /// BEGIN of the smallest stream.
 pub(super) fn begin_record(rt: &impl Abort) -> [u8; 312] {
-    let mut record = record_of(
-        rt,
-        &[
-            (8, 8, 0x2_f5ba_cbac),
-            (16, 8, 17),
-            (24, 8, 1_700_000_000),
-            (32, 4, 2),
-            (36, 4, 12),
-            (40, 8, 0x1_0000_0001),
-        ],
-    );
-    record[56..61].copy_from_slice(b"t/a@s");
+    let fields = [
+        (8, 8, 0x2_f5ba_cbac),
+        (16, 8, 17),
+        (24, 8, 1_700_000_000),
+        (32, 4, 2),
+        (36, 4, 12),
+        (40, 8, GUID),
+        (56, 5, 0x73_4061_2f74),
+    ];
+    let mut record = [0; 312];
+    set_all(rt, &mut record, &fields);
     record
 }

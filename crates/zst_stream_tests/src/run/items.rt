@@ -102,32 +102,45 @@ fn write(object: u64, type_: u32, offset: u64, length: u64) -> Head
     }
 }
 
+// Puts object 1, a directory of one block.
+fn put_directory(stream: &mut Stream) -> Result<(), AllocError> {
+    stream.free_objects(0, 1)?;
+    stream.put(object(1, 21, 0, 1024, 0, 0), &[])?;
+    stream.free(1, 1024, u64::MAX)?;
+    stream.put(write(1, 21, 0, 1024), &[7; 1024])?;
+    stream.free(1, 1024, 2048)
+}
+
+// Puts object 2, a file of a large block, with a bonus of 164 bytes.
+fn put_file(stream: &mut Stream) -> Result<(), AllocError> {
+    let mut bonus = [3; 168];
+    bonus[164..].copy_from_slice(&[0; 4]);
+    stream.put(object(2, 19, 44, 131_072, 164, 1), &bonus)?;
+    stream.free(2, 262_144, u64::MAX)?;
+    stream.put(write(2, 19, 0, 131_072), &[9; 131_072])?;
+    stream.free(2, 131_072, 131_072)?;
+    stream.free_objects(3, 281_474_976_710_653)
+}
+
+// The end, whose sums the writer states.
+fn end() -> Head
+    ensures { payload_len result ≡ 0 }
+{
+    Head::End {
+        sums: [0; 4],
+        to: GUID,
+    }
+}
+
 pub(super) fn written(alloc: Global) -> Result<Vec<u8>, AllocError> {
     let mut stream = Stream {
         writer: Writer::new(),
         bytes: Vec::new(alloc),
     };
-    let mut bonus = [3; 168];
-    bonus[164] = 0;
-    bonus[165] = 0;
-    bonus[166] = 0;
-    bonus[167] = 0;
     stream.put(begin(), &[])?;
-    stream.free_objects(0, 1)?;
-    stream.put(object(1, 21, 0, 1024, 0, 0), &[])?;
-    stream.free(1, 1024, u64::MAX)?;
-    stream.put(write(1, 21, 0, 1024), &[7; 1024])?;
-    stream.free(1, 1024, 2048)?;
-    stream.put(object(2, 19, 44, 131_072, 164, 1), &bonus)?;
-    stream.free(2, 262_144, u64::MAX)?;
-    stream.put(write(2, 19, 0, 131_072), &[9; 131_072])?;
-    stream.free(2, 131_072, 131_072)?;
-    stream.free_objects(3, 281_474_976_710_653)?;
-    let end = Head::End {
-        sums: [0; 4],
-        to: GUID,
-    };
-    stream.put(end, &[])?;
+    put_directory(&mut stream)?;
+    put_file(&mut stream)?;
+    stream.put(end(), &[])?;
     let Stream { writer: _, bytes } = stream;
     Ok(bytes)
 }
