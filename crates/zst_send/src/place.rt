@@ -19,6 +19,7 @@ ghost use Rattle.zst_tree.specs.Damage.{IsSeen};
 ghost use Rattle.zst_tree.specs.Indices.{Delivers};
 
 use crate::due_items::{DueItems, due_of};
+use std::alloc::Global;
 use std::marker::Brand;
 use std::sync::ledger::{Blank, Ledger};
 use zst_block::{BlockFault, Io};
@@ -131,6 +132,7 @@ impl Place {
     pub(crate) fn find<D: Disk>(
         &mut self,
         io: &mut Io<'_, D>,
+        alloc: Global,
         set: &ObjSet,
         source: Option<u64>,
     ) -> Result<Option<DueItems>, BlockFault>
@@ -162,7 +164,7 @@ impl Place {
         object_is_next();
         gone_run_is_next();
         block_run_is_next();
-        let Some(found) = next_found(io, set, source, self)? else {
+        let Some(found) = next_found(io, alloc, set, source, self)? else {
             // Who asks again looks at no block.
             *self = self.at_end();
             return Ok(None);
@@ -178,6 +180,7 @@ impl Place {
 // nothing is looked for.
 fn next_found<D: Disk>(
     io: &mut Io<'_, D>,
+    alloc: Global,
     set: &ObjSet,
     source: Option<u64>,
     place: &Place,
@@ -197,12 +200,13 @@ fn next_found<D: Disk>(
     if place.is_ended() {
         return Ok(None);
     }
-    counted::<D, Brand>(io, set, source, place, Blank::new(1))
+    counted::<D, Brand>(io, alloc, set, source, place, Blank::new(1))
 }
 
 // That, in this ledger.
 fn counted<D: Disk, L: Ledger>(
     io: &mut Io<'_, D>,
+    alloc: Global,
     set: &ObjSet,
     source: Option<u64>,
     place: &Place,
@@ -223,5 +227,15 @@ fn counted<D: Disk, L: Ledger>(
     ensures same { io.new.disk.ghost_name ≡ io.old.disk.ghost_name }
 {
     let mut steps = Steps::<L>::new(blank);
-    next_cell(io, set, source, place.point, place.slot, &mut steps)
+    let none = zst_model::List::empty(alloc);
+    next_cell(
+        io,
+        set,
+        source,
+        &none,
+        &none,
+        place.point,
+        place.slot,
+        &mut steps,
+    )
 }

@@ -30,6 +30,11 @@ impl Room {
         Ok(Room { bytes, holds: None })
     }
 
+    /// The allocator that its room is of.
+    pub(crate) fn alloc(&self) -> Global {
+        *self.bytes.allocator()
+    }
+
     /// Has the block that a pointer names, which is read where the room has another.
     ///
     /// A block that is longer than any that a stream has isn't of its layout.

@@ -108,7 +108,10 @@ impl SendState {
         if self.ended {
             return Ok(false);
         }
-        match self.walk.next(io, &subject.set, subject.source)? {
+        match self
+            .walk
+            .next(io, room.alloc(), &subject.set, subject.source)?
+        {
             Some(due) => {
                 self.work = Work::put(&mut self.writer, room, io, &due, subject.to)?;
                 Ok(true)

@@ -19,6 +19,7 @@ ghost use Rattle.zst_tree.specs.Indices.{Delivers};
 
 use crate::due_items::{DueItems, joined};
 use crate::place::Place;
+use std::alloc::Global;
 use zst_block::{BlockFault, Io};
 use zst_laws::held_goes_on;
 use zst_model::Point;
@@ -50,6 +51,7 @@ impl Walk {
     pub(crate) fn next<D: Disk>(
         &mut self,
         io: &mut Io<'_, D>,
+        alloc: Global,
         set: &ObjSet,
         source: Option<u64>,
     ) -> Result<Option<DueItems>, BlockFault>
@@ -77,11 +79,11 @@ impl Walk {
         ensures kept_fit { FitsDisk (D.state io.new.disk.now).size io.new.space }
         ensures same { io.new.disk.ghost_name ≡ io.old.disk.ghost_name }
     {
-        let Some(due) = self.first(io, set, source)? else {
+        let Some(due) = self.first(io, alloc, set, source)? else {
             return Ok(None);
         };
         if due.is_run() {
-            return Ok(Some(self.lengthened(io, set, source, due)?));
+            return Ok(Some(self.lengthened(io, alloc, set, source, due)?));
         }
         self.held = due.behind();
         Ok(Some(due))
@@ -91,6 +93,7 @@ impl Walk {
     fn first<D: Disk>(
         &mut self,
         io: &mut Io<'_, D>,
+        alloc: Global,
         set: &ObjSet,
         source: Option<u64>,
     ) -> Result<Option<DueItems>, BlockFault>
@@ -117,7 +120,7 @@ impl Walk {
                 self.held = None;
                 Ok(Some(due))
             }
-            None => self.place.find(io, set, source),
+            None => self.place.find(io, alloc, set, source),
         }
     }
 
@@ -125,6 +128,7 @@ impl Walk {
     fn lengthened<D: Disk>(
         &mut self,
         io: &mut Io<'_, D>,
+        alloc: Global,
         set: &ObjSet,
         source: Option<u64>,
         run: DueItems,
@@ -149,10 +153,10 @@ impl Walk {
     {
         held_goes_on();
         let mut run = run;
-        let mut next = self.place.find(io, set, source)?;
+        let mut next = self.place.find(io, alloc, set, source)?;
         while let Some(both) = joined(&run, &next) {
             run = both;
-            next = self.place.find(io, set, source)?;
+            next = self.place.find(io, alloc, set, source)?;
         }
         self.held = next;
         Ok(run)

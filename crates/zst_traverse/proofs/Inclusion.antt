@@ -12,7 +12,7 @@ unfolding any_below
 any_none test zero none = refl
 any_none test (suc bound) none = or_from (test bound) (any_below test bound) (none bound (omega arith)) (any_none test bound (λ i less. none i (omega arith)))
 
-any_some : (test : ℕ → Bool) (bound i : ℕ) → i < bound → test i ≡ true → any_below test bound ≡ true
+pub any_some : (test : ℕ → Bool) (bound i : ℕ) → i < bound → test i ≡ true → any_below test bound ≡ true
 unfolding any_below
 any_some test zero i less passes = absurd (omega arith)
 any_some test (suc bound) i less passes = elim (cases_eq i bound) [

@@ -7,13 +7,13 @@ use Rattle.zst_block.specs.Blocks.{Has, named}
 use Rattle.zst_dnode.specs.declared.dnode.Dnode.{Dnode}
 use Rattle.zst_dnode.specs.declared.slot.Slot.{Slot}
 use Rattle.zst_dnode.specs.declared.slot.Slot.TheVariants as slots
-use Rattle.zst_model.specs.sends.Inclusion.{is_after}
+use Rattle.zst_model.specs.sends.Inclusion.{is_after, Pairs}
 use Rattle.zst_model.specs.states.DatedState.{DatedState}
 use Rattle.zst_tree.specs.Damage.{IsSeen, MayHave}
 use Rattle.zst_objset.specs.Damage.{IsLoaded}
-use Rattle.zst_objset.specs.Dnodes.{IsThere}
-use Rattle.zst_objset.specs.Sets.{date_in, IsLeaf, Spells}
-use Rattle.zst_objset.proofs.LeafLaws.{leaf_of}
+use Rattle.zst_objset.specs.Dnodes.{IsThereIn, outside}
+use Rattle.zst_objset.specs.Sets.{date_in, IsLeafIn, Spells}
+use Rattle.zst_objset.proofs.LeafLaws.{leaf_in}
 use Rattle.zst_traverse.specs.Cells.{choice_after, IsNextGone, NoNumber}
 use Rattle.zst_traverse.specs.Leaves.{EndsAll, EndsLeaf, IfNothing, IsNext, ShowsAhead, StandsFor}
 use Rattle.zst_traverse.specs.Slots.{AreEarly, IsFirstSlot, ShowsAbsent}
@@ -24,15 +24,15 @@ use Rattle.zst_traverse.specs.declared.leaves.Leaf.{Leaf}
 use Rattle.zst_traverse.proofs.Numbers.{ahead_behind, early_in, gone_in, leaf_late, there_in}
 
 -- the dnode at a place of a leaf is that of an object that tells a late date, and no number from one on and before it is included
-pub record ObjectShown (image : List ℕ) (space : FreeSectors) (snap : DatedState) (leaf : Leaf) (source : Option ℕ) (from at : ℕ) (dnode : Dnode) : Type 0 where
-  pub there : IsThere (Has image space) snap (16 * leaf.index + at) dnode
+pub record ObjectShown (image : List ℕ) (space : FreeSectors) (pairs : Pairs) (snap : DatedState) (leaf : Leaf) (source : Option ℕ) (from at : ℕ) (dnode : Dnode) : Type 0 where
+  pub there : IsThereIn (Has image space) (outside pairs (Has image space)) snap (16 * leaf.index + at) dnode
   pub late : is_after source (date_in (slots.There dnode)) ≡ true
   pub tight : IsTightLeaf (Has image space) snap leaf.index leaf.ptr → IsTightSlot snap (16 * leaf.index + at) (slots.There dnode)
-  pub behind : (shown : WalkStep) → ShowsAhead (Has image space) snap (choice_after source) (16 * leaf.index + at) shown → ShowsAhead (Has image space) snap (choice_after source) from shown
+  pub behind : (shown : WalkStep) → ShowsAhead (Has image space) (outside pairs (Has image space)) snap (choice_after source) (16 * leaf.index + at) shown → ShowsAhead (Has image space) (outside pairs (Has image space)) snap (choice_after source) from shown
 
-module _ (image : List ℕ) (space : FreeSectors) (snap : DatedState) (leaf : Leaf) (node : List ℕ) (stands : StandsFor (Has image space) snap leaf) (some : 0 < leaf.count) (less : leaf.index < 2 ^ 44) (isnt : leaf.ptr.kind ≢ 0) (loaded : IsLoaded (IsSeen image) leaf.ptr node) where
-  pub leaf_is : IsLeaf (Has image space) snap leaf.index leaf.ptr
-  leaf_is = leaf_of (Has image space) snap leaf.index leaf.ptr (stands leaf.index (omega arith) (omega arith) less) isnt
+module _ (image : List ℕ) (space : FreeSectors) (pairs : Pairs) (snap : DatedState) (leaf : Leaf) (node : List ℕ) (stands : StandsFor (Has image space) (outside pairs (Has image space)) snap leaf) (some : 0 < leaf.count) (less : leaf.index < 2 ^ 44) (isnt : leaf.ptr.kind ≢ 0) (loaded : IsLoaded (IsSeen image) leaf.ptr node) where
+  pub leaf_is : IsLeafIn (Has image space) (outside pairs (Has image space)) snap leaf.index leaf.ptr
+  leaf_is = leaf_in (Has image space) (outside pairs (Has image space)) snap leaf.index leaf.ptr (stands leaf.index (omega arith) (omega arith) less) isnt
 
   may_same : MayHave (IsSeen image) leaf.ptr node → node ≡ leaf_is.bytes
   may_same may = sym may.block.bytes_are ∙ ap (λ (i : List ℕ). named i leaf.ptr) may.among ∙ leaf_is.names.there.block.bytes_are
@@ -52,27 +52,27 @@ module _ (image : List ℕ) (space : FreeSectors) (snap : DatedState) (leaf : Le
     pub nothing_shown : AreEarly leaf_is.slots source place 16 → NoNumber snap (choice_after source) from (16 * leaf.index + 16)
     nothing_shown early =
         subst (λ (n : ℕ). NoNumber snap (choice_after source) n (16 * leaf.index + 16)) split
-        (early_in (Has image space) snap source leaf.index leaf_is.slots leaf_is.slots_are less place 16 (omega arith) (omega arith) early)
+        (early_in (Has image space) (outside pairs (Has image space)) snap source leaf.index leaf_is.slots leaf_is.slots_are less place 16 (omega arith) (omega arith) early)
 
     pub gone_shown : (first count : ℕ) → ShowsAbsent leaf_is.slots source leaf.index place first count → IsNextGone snap (choice_after source) from first count
     gone_shown first count shows =
         subst (λ (n : ℕ). IsNextGone snap (choice_after source) n first count) split
-        (gone_in (Has image space) snap source leaf.index leaf_is.slots leaf_is.slots_are less place first count (omega arith) shows)
+        (gone_in (Has image space) (outside pairs (Has image space)) snap source leaf.index leaf_is.slots leaf_is.slots_are less place first count (omega arith) shows)
 
     -- an object that tells a late date
-    pub object_shown : (at : ℕ) (dnode : Dnode) → ((held : ℕ → Slot) → Spells node held → IsFirstSlot held source place (at, slots.There dnode)) → ObjectShown image space snap leaf source from at dnode
+    pub object_shown : (at : ℕ) (dnode : Dnode) → ((held : ℕ → Slot) → Spells node held → IsFirstSlot held source place (at, slots.There dnode)) → ObjectShown image space pairs snap leaf source from at dnode
     object_shown at dnode shows =
         let first = shows leaf_is.slots spelled in
         let over : place ≤ at = first.from_on in
         let under : at < 16 = first.under in
         record {
-          there = there_in (Has image space) snap source leaf.index leaf_is.slots leaf_is.slots_are less place at dnode (omega arith) first;
+          there = there_in (Has image space) (outside pairs (Has image space)) snap source leaf.index leaf_is.slots leaf_is.slots_are less place at dnode (omega arith) first;
           late = first.late;
           tight = λ tight. tight_slot tight at dnode under first.is;
           behind = λ shown next.
-              ahead_behind (Has image space) snap source from (16 * leaf.index + at) shown (omega arith)
+              ahead_behind (Has image space) (outside pairs (Has image space)) snap source from (16 * leaf.index + at) shown (omega arith)
               (subst (λ (n : ℕ). NoNumber snap (choice_after source) n (16 * leaf.index + at)) split
-              (early_in (Has image space) snap source leaf.index leaf_is.slots leaf_is.slots_are less place at (omega arith) (omega arith) first.none_before))
+              (early_in (Has image space) (outside pairs (Has image space)) snap source leaf.index leaf_is.slots leaf_is.slots_are less place at (omega arith) (omega arith) first.none_before))
               next;
         }
 
@@ -80,7 +80,7 @@ module _ (image : List ℕ) (space : FreeSectors) (snap : DatedState) (leaf : Le
     pub late_shown : is_after source leaf.ptr.number ≡ true → from ≡ 16 * leaf.index → AreEarly leaf_is.slots source place 16 → ⊥
     late_shown late start early =
         let first : place ≡ 0 = omega arith in
-        leaf_late (Has image space) snap source leaf.index leaf.ptr leaf_is late (subst (λ (p : ℕ). AreEarly leaf_is.slots source p 16) first early)
+        leaf_late (Has image space) (outside pairs (Has image space)) snap source leaf.index leaf.ptr leaf_is late (subst (λ (p : ℕ). AreEarly leaf_is.slots source p 16) first early)
 
 -- where something is shown nothing is said of what isn't
 pub next_ends : (shown : WalkStep) → IsNext shown → EndsLeaf shown

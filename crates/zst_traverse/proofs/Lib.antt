@@ -1,4 +1,5 @@
 mod Inclusion
+mod ListedNumbers
 mod SlotDates
 mod Numbers
 mod Glances

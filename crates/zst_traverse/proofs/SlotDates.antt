@@ -12,7 +12,7 @@ use Rattle.zst_model.specs.states.State.{index_bound, is_number}
 use Rattle.zst_tree.specs.Indices.{Blocks, Map, TreeIs, span}
 use Rattle.zst_tree.specs.declared.tree.Tree.{Tree}
 use Rattle.zst_tree.proofs.QuietRanges.{quiet_below}
-use Rattle.zst_objset.specs.Dnodes.{IsAbsent, IsThere, SlotIs, tree_of}
+use Rattle.zst_objset.specs.Dnodes.{IsAbsent, IsThereIn, SlotIn, tree_of}
 use Rattle.zst_objset.specs.Sets.{date_in, latest}
 use Rattle.zst_traverse.specs.Cells.{choice_after}
 use Rattle.zst_traverse.specs.Dates.{IsFirstLate, NoneLate}
@@ -34,15 +34,15 @@ tree_bound has tree map number i is root past less =
     (λ over. subst (λ (p : Ptr). p.number ≤ number) (sym (is.stands.past i over)) past)
     (cases_lt i (span tree.levels)))
 
-module _ (has : Blocks) (snap : DatedState) (source : Option ℕ) (k : ℕ) where
-  index_bound_date : (dnode : Dnode) (there : IsThere has snap k dnode) (i : ℕ) → i < index_bound → snap.index_date k i ≤ date_in (slots.There dnode)
+module _ (has : Blocks) (reads : ℕ → ℕ → Blocks) (snap : DatedState) (source : Option ℕ) (k : ℕ) where
+  index_bound_date : (dnode : Dnode) (there : IsThereIn has reads snap k dnode) (i : ℕ) → i < index_bound → snap.index_date k i ≤ date_in (slots.There dnode)
   unfolding index_bound
   index_bound_date dnode there i less =
       subst (λ (n : ℕ). n ≤ date_in (slots.There dnode)) (there.is.index_dates i less)
       (tree_bound has (tree_of dnode) there.map (date_in (slots.There dnode)) i there.is.tree (omega arith) (omega arith) (omega arith))
 
   -- where the date that a slot tells isn't late, its number isn't included
-  pub slot_early : (slot : Slot) → SlotIs has snap k slot → is_after source (date_in slot) ≡ false → includes_number snap (choice_after source) k ≡ false
+  pub slot_early : (slot : Slot) → SlotIn has reads snap k slot → is_after source (date_in slot) ≡ false → includes_number snap (choice_after source) k ≡ false
   slot_early (slots.Absent date) is early =
       not_included snap source k (subst (λ (n : ℕ). is_after source n ≡ false) (sym is.date_is) early) (λ i less. subst (λ (n : ℕ). is_after source n ≡ false) (sym (is.dates i less)) early)
   slot_early (slots.There dnode) is early =
@@ -54,22 +54,22 @@ module _ (has : Blocks) (snap : DatedState) (source : Option ℕ) (k : ℕ) wher
   absent_late date number is late = included_by_date snap source k number (subst (λ (n : ℕ). is_after source n ≡ true) (sym is.date_is) late)
 
   -- an object is included by its own date, or by one of its tree
-  pub object_late : (dnode : Dnode) → is_number k ≡ true → IsThere has snap k dnode → is_after source dnode.date ≡ true → includes_number snap (choice_after source) k ≡ true
+  pub object_late : (dnode : Dnode) → is_number k ≡ true → IsThereIn has reads snap k dnode → is_after source dnode.date ≡ true → includes_number snap (choice_after source) k ≡ true
   object_late dnode number is late = included_by_date snap source k number (subst (λ (n : ℕ). is_after source n ≡ true) is.is.date_is late)
 
-  pub object_touched : (dnode : Dnode) (found : ℕ) → is_number k ≡ true → (is : IsThere has snap k dnode) → IsFirstLate is.map source 0 (2 ^ 43) found → includes_number snap (choice_after source) k ≡ true
+  pub object_touched : (dnode : Dnode) (found : ℕ) → is_number k ≡ true → (is : IsThereIn has reads snap k dnode) → IsFirstLate is.map source 0 (2 ^ 43) found → includes_number snap (choice_after source) k ≡ true
   unfolding index_bound
   object_touched dnode found number is first =
       included_by_index snap source k number found first.under (subst (λ (n : ℕ). is_after source n ≡ true) (is.is.index_dates found first.under) first.late)
 
-  pub object_early : (dnode : Dnode) (is : IsThere has snap k dnode) → is_after source dnode.date ≡ false → NoneLate is.map source 0 (2 ^ 43) → includes_number snap (choice_after source) k ≡ false
+  pub object_early : (dnode : Dnode) (is : IsThereIn has reads snap k dnode) → is_after source dnode.date ≡ false → NoneLate is.map source 0 (2 ^ 43) → includes_number snap (choice_after source) k ≡ false
   unfolding index_bound
   object_early dnode is early none =
       not_included snap source k (subst (λ (n : ℕ). is_after source n ≡ false) is.is.date_is early)
       (λ i less. subst (λ (n : ℕ). is_after source n ≡ false) (is.is.index_dates i less) (none i (omega arith) less))
 
   -- a tight slot of a late date is that of an included object
-  pub tight_touched : (dnode : Dnode) (is : IsThere has snap k dnode) → IsTightSlot snap k (slots.There dnode) → is_after source (date_in (slots.There dnode)) ≡ true → is_after source dnode.date ≡ false → NoneLate is.map source 0 (2 ^ 43) → ⊥
+  pub tight_touched : (dnode : Dnode) (is : IsThereIn has reads snap k dnode) → IsTightSlot snap k (slots.There dnode) → is_after source (date_in (slots.There dnode)) ≡ true → is_after source dnode.date ≡ false → NoneLate is.map source 0 (2 ^ 43) → ⊥
   unfolding index_bound
   tight_touched dnode is (inl own) late early none =
       false≢true (sym (subst (λ (n : ℕ). is_after source n ≡ false) is.is.date_is early) ∙ late_on source (date_in (slots.There dnode)) (snap.number_date k) own late)

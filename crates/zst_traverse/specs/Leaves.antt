@@ -5,8 +5,8 @@ use Rattle.zst_model.specs.sends.Inclusion.{Choice}
 use Rattle.zst_model.specs.states.DatedState.{DatedState}
 use Rattle.zst_model.specs.states.State.{number_bound}
 use Rattle.zst_tree.specs.Indices.{Blocks}
-use Rattle.zst_objset.specs.Sets.{LeafIs}
-use Rattle.zst_traverse.specs.Cells.{IsNextNumber, NoNumber}
+use Rattle.zst_objset.specs.Sets.{LeafIn}
+use Rattle.zst_traverse.specs.Cells.{IsNextNumberIn, NoNumber}
 use Rattle.zst_traverse.specs.declared.walk_entry.WalkEntry.{WalkEntry}
 use Rattle.zst_traverse.specs.declared.walk_entry.WalkEntry.TheVariants.{Object, Gone, Pairs}
 use Rattle.zst_traverse.specs.declared.leaves.WalkStep.{WalkStep}
@@ -14,18 +14,18 @@ use Rattle.zst_traverse.specs.declared.leaves.WalkStep.TheVariants.{Next, Nothin
 use Rattle.zst_traverse.specs.declared.leaves.Leaf.{Leaf}
 
 -- a leaf's pointer stands for the slots of its index, and for those of the next ones, as many as are told
-abbrev pub StandsFor : Blocks → DatedState → Leaf → Type 0
-StandsFor has snap leaf = (j : ℕ) → leaf.index ≤ j → j < leaf.index + leaf.count → j < 2 ^ 44 → LeafIs has snap j leaf.ptr
+abbrev pub StandsFor : Blocks → (ℕ → ℕ → Blocks) → DatedState → Leaf → Type 0
+StandsFor has reads snap leaf = (j : ℕ) → leaf.index ≤ j → j < leaf.index + leaf.count → j < 2 ^ 44 → LeafIn has reads snap j leaf.ptr
 
 -- what a look from a number on shows: the first included number, or that there is none below another
-abbrev pub ShowsAhead : Blocks → DatedState → Choice → ℕ → WalkStep → Type 0
-ShowsAhead has snap choice from (Next found) = IsNextNumber has snap choice from found
-ShowsAhead has snap choice from (Nothing below) = NoNumber snap choice from below
+abbrev pub ShowsAhead : Blocks → (ℕ → ℕ → Blocks) → DatedState → Choice → ℕ → WalkStep → Type 0
+ShowsAhead has reads snap choice from (Next found) = IsNextNumberIn has reads snap choice from found
+ShowsAhead has reads snap choice from (Nothing below) = NoNumber snap choice from below
 
 -- what a search from a number on finds: the first included number, or that there is none
-abbrev pub FindsNumber : Blocks → DatedState → Choice → ℕ → Option WalkEntry → Type 0
-FindsNumber has snap choice from (Some found) = IsNextNumber has snap choice from found
-FindsNumber has snap choice from None = NoNumber snap choice from number_bound
+abbrev pub FindsNumber : Blocks → (ℕ → ℕ → Blocks) → DatedState → Choice → ℕ → Option WalkEntry → Type 0
+FindsNumber has reads snap choice from (Some found) = IsNextNumberIn has reads snap choice from found
+FindsNumber has reads snap choice from None = NoNumber snap choice from number_bound
 
 -- whatever the image, what is found from a number on is a number, or numbers
 abbrev pub NumberFits : ℕ → WalkEntry → Type 0

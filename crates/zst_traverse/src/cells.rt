@@ -9,29 +9,32 @@ ghost use Rattle.zst_tree.specs.Damage.{HangsIn, IsSeen, MayHave};
 ghost use Rattle.zst_tree.specs.Indices.{Delivers};
 ghost use Rattle.zst_tree.specs.declared.tree.ObjSet.{ObjSet};
 ghost use Rattle.zst_objset.specs.Damage.{IfDamaged, StandsIn};
-ghost use Rattle.zst_objset.specs.Dnodes.{DnodeIs};
-ghost use Rattle.zst_objset.specs.Sets.{LeafIs, SetHolds};
-ghost use Rattle.zst_traverse.specs.Cells.{choice_after, FoundFits, IsNextCell};
+ghost use Rattle.zst_objset.specs.Dnodes.{DnodeIn, outside};
+ghost use Rattle.zst_objset.specs.Sets.{LeafIn, SetHoldsBut};
+ghost use Rattle.zst_traverse.specs.Cells.{choice_with, FoundFits, IsNextCellIn};
 ghost use Rattle.zst_traverse.specs.Leaves.{StandsFor};
 ghost use Rattle.zst_traverse.specs.Runs.{FindsPairs, RunFits};
 ghost use Rattle.zst_traverse.specs.StandingEntries.{FoundStands, RunStands};
 ghost use Rattle.zst_traverse.specs.Damage.{IsDamagedCell};
-ghost use Rattle.zst_objset.specs.TightSets.{IsTightLeaf, SetIsTight};
+ghost use Rattle.zst_objset.specs.TightSets.{IsTightLeaf, SetIsTightIn};
+ghost use Rattle.zst_model.specs.sends.Inclusion.{Pairs};
+ghost use Rattle.zst_model.specs.fields.Lists.{has_pair};
+ghost use Rattle.zst_traverse.specs.ListedNumbers.{AreIncluded};
 
 use crate::leaves::{Leaf, leaf_at, load_leaf};
-use crate::number_search::next_number;
+use crate::listed::next_listed;
 use crate::pairs::{Run, next_pairs};
 use crate::walk_entry::WalkEntry;
 use std::sync::ledger::Ledger;
 use zst_block::{BlockFault, Io};
 use zst_dnode::{Dnode, Slot};
-use zst_model::Point;
 use zst_model::limits::NUMBER_BOUND;
+use zst_model::{List, Point};
 use zst_outside::Disk;
 use zst_tree::{ObjSet, Steps};
 
 // The dnode of a number, in its leaf.
-fn dnode_in<D: Disk, L: Ledger>(
+pub(crate) fn dnode_in<D: Disk, L: Ledger>(
     io: &mut Io<'_, D>,
     leaf: &Leaf,
     number: u64,
@@ -39,8 +42,8 @@ fn dnode_in<D: Disk, L: Ledger>(
 ) -> Result<Option<Dnode>, BlockFault>
     requires number { (0 < number) × (number < 2 ^ 48) × (leaf.now.index ≡ number / 16) }
     requires fits { FitsDisk (D.state io.old.disk.now).size io.old.space }
-    ensures found { (snap : DatedState) → (D.state io.new.disk.now).honest → LeafIs (Has (D.state io.old.disk.now).seen io.old.space) snap leaf.now.index leaf.now.ptr
-        → Delivers (DnodeIs (Has (D.state io.old.disk.now).seen io.old.space) snap number) result }
+    ensures found { (snap : DatedState) (pairs : Pairs) → (D.state io.new.disk.now).honest → LeafIn (Has (D.state io.old.disk.now).seen io.old.space) (outside pairs (Has (D.state io.old.disk.now).seen io.old.space)) snap leaf.now.index leaf.now.ptr
+        → Delivers (DnodeIn (Has (D.state io.old.disk.now).seen io.old.space) (outside pairs (Has (D.state io.old.disk.now).seen io.old.space)) snap number) result }
     ensures ranges { IfOk result (λ found. IfSome found DnodeFits) }
     ensures stands { (set : ObjSet) → (D.state io.new.disk.now).honest → HangsIn (MayHave (IsSeen (D.state io.old.disk.now).seen)) set.tree leaf.now.ptr → IfOk result (λ found. IfSome found (StandsIn (IsSeen (D.state io.old.disk.now).seen) set)) }
     ensures damaged { (set : ObjSet) → (D.state io.new.disk.now).honest → HangsIn (MayHave (IsSeen (D.state io.old.disk.now).seen)) set.tree leaf.now.ptr → IfDamaged result (IsDamagedCell (IsSeen (D.state io.old.disk.now).seen) (D.state io.old.disk.now).size set) }
@@ -67,13 +70,15 @@ fn own_pairs<D: Disk, L: Ledger>(
     io: &mut Io<'_, D>,
     leaf: &Leaf,
     source: Option<u64>,
+    listed: &List,
+    withheld: &List,
     point: Point,
     steps: &mut Steps<L>,
 ) -> Result<Option<Run>, BlockFault>
     requires object { (0 < point.object) × (point.object < 2 ^ 48) × (leaf.now.index ≡ point.object / 16) }
     requires fits { FitsDisk (D.state io.old.disk.now).size io.old.space }
-    ensures found { (snap : DatedState) → (D.state io.new.disk.now).honest → IsState snap.state → LeafIs (Has (D.state io.old.disk.now).seen io.old.space) snap leaf.now.index leaf.now.ptr
-        → Delivers (FindsPairs (Has (D.state io.old.disk.now).seen io.old.space) snap (choice_after source) point) result }
+    ensures found { (snap : DatedState) → (D.state io.new.disk.now).honest → IsState snap.state → LeafIn (Has (D.state io.old.disk.now).seen io.old.space) (outside (has_pair withheld.now) (Has (D.state io.old.disk.now).seen io.old.space)) snap leaf.now.index leaf.now.ptr
+        → Delivers (FindsPairs (Has (D.state io.old.disk.now).seen io.old.space) snap (choice_with source listed.now withheld.now) point) result }
     ensures ranges { IfOk result (λ found. IfSome found (RunFits 0 (2 ^ 43))) }
     ensures stands { (set : ObjSet) → (D.state io.new.disk.now).honest → HangsIn (MayHave (IsSeen (D.state io.old.disk.now).seen)) set.tree leaf.now.ptr → IfOk result (λ found. IfSome found (RunStands (IsSeen (D.state io.old.disk.now).seen) set)) }
     ensures damaged { (set : ObjSet) → (D.state io.new.disk.now).honest → HangsIn (MayHave (IsSeen (D.state io.old.disk.now).seen)) set.tree leaf.now.ptr → IfDamaged result (IsDamagedCell (IsSeen (D.state io.old.disk.now).seen) (D.state io.old.disk.now).size set) }
@@ -86,7 +91,7 @@ fn own_pairs<D: Disk, L: Ledger>(
 {
     match dnode_in(io, leaf, point.object, steps)? {
         None => Ok(None),
-        Some(dnode) => next_pairs(io, &dnode, source, point, steps),
+        Some(dnode) => next_pairs(io, &dnode, source, listed, withheld, point, steps),
     }
 }
 
@@ -109,6 +114,8 @@ fn behind_slot<D: Disk, L: Ledger>(
     set: &ObjSet,
     leaf: &Leaf,
     source: Option<u64>,
+    listed: &List,
+    withheld: &List,
     point: Point,
     steps: &mut Steps<L>,
 ) -> Result<Option<WalkEntry>, BlockFault>
@@ -116,22 +123,32 @@ fn behind_slot<D: Disk, L: Ledger>(
     requires object { (0 < point.object) × (point.object < 2 ^ 48) × (leaf.now.index ≡ point.object / 16) }
     requires count { (0 < leaf.now.count) × (leaf.now.index + leaf.now.count ≤ 2 ^ 49) }
     requires fits { FitsDisk (D.state io.old.disk.now).size io.old.space }
-    ensures found { (snap : DatedState) → (D.state io.new.disk.now).honest → SetHolds (Has (D.state io.old.disk.now).seen io.old.space) set.now snap
-        → StandsFor (Has (D.state io.old.disk.now).seen io.old.space) snap leaf.now → Delivers (IsNextCell (Has (D.state io.old.disk.now).seen io.old.space) snap (choice_after source) point false) result }
+    ensures found { (snap : DatedState) → (D.state io.new.disk.now).honest → SetHoldsBut (Has (D.state io.old.disk.now).seen io.old.space) (has_pair withheld.now) set.now snap
+        → StandsFor (Has (D.state io.old.disk.now).seen io.old.space) (outside (has_pair withheld.now) (Has (D.state io.old.disk.now).seen io.old.space)) snap leaf.now → Delivers (IsNextCellIn (Has (D.state io.old.disk.now).seen io.old.space) (outside (has_pair withheld.now) (Has (D.state io.old.disk.now).seen io.old.space)) snap (choice_with source listed.now withheld.now) point false) result }
     ensures ranges { IfOk result (λ found. IfSome found (FoundFits point)) }
     ensures stands { (D.state io.new.disk.now).honest → HangsIn (MayHave (IsSeen (D.state io.old.disk.now).seen)) set.now.tree leaf.now.ptr → IfOk result (λ found. IfSome found (FoundStands (IsSeen (D.state io.old.disk.now).seen) set.now)) }
     ensures damaged { (D.state io.new.disk.now).honest → HangsIn (MayHave (IsSeen (D.state io.old.disk.now).seen)) set.now.tree leaf.now.ptr → IfDamaged result (IsDamagedCell (IsSeen (D.state io.old.disk.now).seen) (D.state io.old.disk.now).size set.now) }
     ensures looks { Looks (D.state io.old.disk.now) io.old.space io.old.failed (D.state io.new.disk.now) io.new.space io.new.failed (stop_of result) }
     ensures steps { steps.old ≤ steps.new }
-    ensures few { (snap : DatedState) → (D.state io.new.disk.now).honest → SetIsTight (Has (D.state io.old.disk.now).seen io.old.space) set.now snap
-        → StandsFor (Has (D.state io.old.disk.now).seen io.old.space) snap leaf.now → IsTightLeaf (Has (D.state io.old.disk.now).seen io.old.space) snap leaf.now.index leaf.now.ptr → steps.new ≤ steps.old + 49 }
+    ensures few { (snap : DatedState) → (D.state io.new.disk.now).honest → SetIsTightIn (Has (D.state io.old.disk.now).seen io.old.space) (outside (has_pair withheld.now) (Has (D.state io.old.disk.now).seen io.old.space)) set.now snap
+        → StandsFor (Has (D.state io.old.disk.now).seen io.old.space) (outside (has_pair withheld.now) (Has (D.state io.old.disk.now).seen io.old.space)) snap leaf.now → IsTightLeaf (Has (D.state io.old.disk.now).seen io.old.space) snap leaf.now.index leaf.now.ptr
+        → AreIncluded snap (choice_with source listed.now withheld.now) listed.now withheld.now → steps.new ≤ steps.old + 57 }
     ensures calls { (D.state io.new.disk.now).calls + steps.old ≤ (D.state io.old.disk.now).calls + steps.new }
     ensures kept_fit { FitsDisk (D.state io.new.disk.now).size io.new.space }
     ensures same { io.new.disk.ghost_name ≡ io.old.disk.ghost_name }
 {
-    match own_pairs(io, leaf, source, point, steps)? {
+    match own_pairs(io, leaf, source, listed, withheld, point, steps)? {
         Some(run) => Ok(Some(told(point.object, run))),
-        None => next_number(io, set, source, leaf, point.object + 1, steps),
+        None => next_listed(
+            io,
+            set,
+            source,
+            listed,
+            withheld,
+            leaf,
+            point.object + 1,
+            steps,
+        ),
     }
 }
 
@@ -144,31 +161,36 @@ fn is_passed(point: Point, slot: bool) -> bool
 }
 
 /// The first included number or pair at or after a point, of a set whose numbers and pairs are
-/// included where they are dated after a source. The point's own number comes first where `slot` is
-/// true and is passed over where it is false; its indices count from the point's offset.
+/// included where they are dated after a source, or stand in the source's list, or in that of the
+/// withheld pairs, which are told as redacted and whose blocks aren't read. The point's own number
+/// comes first where `slot` is true and is passed over where it is false; its indices count from the
+/// point's offset.
 pub fn next_cell<D: Disk, L: Ledger>(
     io: &mut Io<'_, D>,
     set: &ObjSet,
     from: Option<u64>,
+    listed: &List,
+    withheld: &List,
     point: Point,
     slot: bool,
     steps: &mut Steps<L>,
 ) -> Result<Option<WalkEntry>, BlockFault>
     requires fits { FitsDisk (D.state io.old.disk.now).size io.old.space }
 
-    // Of a set that holds a state, what is found is next there, and no damage is told.
-    ensures found { (snap : DatedState) → (D.state io.new.disk.now).honest → SetHolds (Has (D.state io.old.disk.now).seen io.old.space) set.now snap
-        → Delivers (IsNextCell (Has (D.state io.new.disk.now).seen io.new.space) snap (choice_after from) point slot) result }
+    // Of a set that holds a state, but for the blocks of the withheld pairs, what is found is next there, and no damage is told.
+    ensures found { (snap : DatedState) → (D.state io.new.disk.now).honest → SetHoldsBut (Has (D.state io.old.disk.now).seen io.old.space) (has_pair withheld.now) set.now snap
+        → Delivers (IsNextCellIn (Has (D.state io.new.disk.now).seen io.new.space) (outside (has_pair withheld.now) (Has (D.state io.new.disk.now).seen io.new.space)) snap (choice_with from listed.now withheld.now) point slot) result }
 
     // Whatever the image, what is found is in its range and stands in the set, and damage is told of a block of the walk.
     ensures ranges { IfOk result (λ found. IfSome found (FoundFits point)) }
     ensures stands { (D.state io.new.disk.now).honest → IfOk result (λ found. IfSome found (FoundStands (IsSeen (D.state io.old.disk.now).seen) set.now)) }
     ensures damaged { (D.state io.new.disk.now).honest → IfDamaged result (IsDamagedCell (IsSeen (D.state io.old.disk.now).seen) (D.state io.old.disk.now).size set.now) }
 
-    // It only reads, a block each step, and of a set whose slots are tight at most 64.
+    // It only reads, a block each step, and of a set whose slots are tight at most 64, where each number that a list has a pair of is included.
     ensures looks { Looks (D.state io.old.disk.now) io.old.space io.old.failed (D.state io.new.disk.now) io.new.space io.new.failed (stop_of result) }
     ensures steps { steps.old ≤ steps.new }
-    ensures few { (snap : DatedState) → (D.state io.new.disk.now).honest → SetIsTight (Has (D.state io.old.disk.now).seen io.old.space) set.now snap → steps.new ≤ steps.old + 64 }
+    ensures few { (snap : DatedState) → (D.state io.new.disk.now).honest → SetIsTightIn (Has (D.state io.old.disk.now).seen io.old.space) (outside (has_pair withheld.now) (Has (D.state io.old.disk.now).seen io.old.space)) set.now snap
+        → AreIncluded snap (choice_with from listed.now withheld.now) listed.now withheld.now → steps.new ≤ steps.old + 64 }
     ensures calls { (D.state io.new.disk.now).calls + steps.old ≤ (D.state io.old.disk.now).calls + steps.new }
     ensures kept_fit { FitsDisk (D.state io.new.disk.now).size io.new.space }
     ensures same { io.new.disk.ghost_name ≡ io.old.disk.ghost_name }
@@ -181,9 +203,9 @@ pub fn next_cell<D: Disk, L: Ledger>(
     }
     let leaf = leaf_at(io, &set.tree, point.object / 16, steps)?;
     if is_passed(point, slot) {
-        behind_slot(io, set, &leaf, from, point, steps)
+        behind_slot(io, set, &leaf, from, listed, withheld, point, steps)
     } else {
         let number = point.object.max(1);
-        next_number(io, set, from, &leaf, number, steps)
+        next_listed(io, set, from, listed, withheld, &leaf, number, steps)
     }
 }

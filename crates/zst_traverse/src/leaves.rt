@@ -3,19 +3,20 @@ ghost use Rattle.std.specs.Prelude.{◌≡◌, ◌+◌, ◌*◌, ◌^◌, ◌<�
 ghost use Rattle.zst_space.specs.FreeSectors.{FreeSectors};
 ghost use Rattle.zst_block.specs.Blocks.{FitsDisk, Has};
 ghost use Rattle.zst_block.specs.IoCalls.{Looks, stop_of};
-ghost use Rattle.zst_model.specs.sends.Inclusion.{is_after};
+ghost use Rattle.zst_model.specs.sends.Inclusion.{is_after, Pairs};
 ghost use Rattle.zst_model.specs.states.DatedState.{DatedState};
 ghost use Rattle.zst_tree.specs.Damage.{HangsIn, IsSeen, MayHave, NamesDamage, NamesNode};
 ghost use Rattle.zst_tree.specs.Lookups.{Shows};
 ghost use Rattle.zst_tree.specs.Indices.{Delivers, Map, TreeIs};
 ghost use Rattle.zst_tree.specs.declared.tree.ObjSet.{ObjSet};
 ghost use Rattle.zst_objset.specs.Damage.{IfDamaged, IsDamagedLeaf, IsLoaded};
-ghost use Rattle.zst_objset.specs.Sets.{HasSlots, LeafIs};
+ghost use Rattle.zst_objset.specs.Sets.{HasSlotsIn, LeafIn};
 ghost use Rattle.zst_traverse.specs.Cells.{choice_after};
 ghost use Rattle.zst_traverse.specs.Leaves.{AheadFits, EndsLeaf, GoesOn, IfNothing, IsNext, ShowsAhead, StandsFor};
 ghost use Rattle.zst_traverse.specs.StandingEntries.{AheadStands};
 ghost use Rattle.zst_traverse.specs.Damage.{IsDamagedCell};
 ghost use Rattle.zst_objset.specs.TightSets.{IsTightLeaf};
+ghost use Rattle.zst_objset.specs.Dnodes.{outside};
 
 use crate::dates::is_after;
 use crate::objects::judged;
@@ -78,8 +79,8 @@ pub(crate) fn load_leaf<D: Disk, L: Ledger>(
 ) -> Result<(), BlockFault>
     requires index { leaf.now.index < 2 ^ 44 }
     requires fits { FitsDisk (D.state io.old.disk.now).size io.old.space }
-    ensures slots { (snap : DatedState) → (D.state io.new.disk.now).honest → LeafIs (Has (D.state io.old.disk.now).seen io.old.space) snap leaf.now.index leaf.now.ptr
-        → Delivers (λ done. HasSlots (Has (D.state io.old.disk.now).seen io.old.space) snap leaf.now.index io.new.node) result }
+    ensures slots { (snap : DatedState) (pairs : Pairs) → (D.state io.new.disk.now).honest → LeafIn (Has (D.state io.old.disk.now).seen io.old.space) (outside pairs (Has (D.state io.old.disk.now).seen io.old.space)) snap leaf.now.index leaf.now.ptr
+        → Delivers (λ done. HasSlotsIn (Has (D.state io.old.disk.now).seen io.old.space) (outside pairs (Has (D.state io.old.disk.now).seen io.old.space)) snap leaf.now.index io.new.node) result }
     ensures loaded { (D.state io.new.disk.now).honest → OnOk result (IsLoaded (IsSeen (D.state io.old.disk.now).seen) leaf.now.ptr io.new.node) }
     ensures damaged { (D.state io.new.disk.now).honest → IfDamaged result (IsDamagedLeaf (IsSeen (D.state io.old.disk.now).seen) (D.state io.old.disk.now).size leaf.now.ptr) }
     ensures looks { Looks (D.state io.old.disk.now) io.old.space io.old.failed (D.state io.new.disk.now) io.new.space io.new.failed (stop_of result) }
@@ -97,7 +98,7 @@ fn in_hole(leaf: &Leaf, source: Option<u64>, from: u64) -> WalkStep
     requires index { leaf.now.index < 2 ^ 44 }
     requires count { leaf.now.index + leaf.now.count ≤ 2 ^ 49 }
     requires from { (0 < from) × (16 * leaf.now.index ≤ from) × (from ≤ 16 * (leaf.now.index + leaf.now.count)) × (from ≤ 2 ^ 48) }
-    ensures shows { (snap : DatedState) (image : List ℕ) (space : FreeSectors) → leaf.now.ptr.kind ≡ 0 → StandsFor (Has image space) snap leaf.now → ShowsAhead (Has image space) snap (choice_after source) from result }
+    ensures shows { (snap : DatedState) (pairs : Pairs) (image : List ℕ) (space : FreeSectors) → leaf.now.ptr.kind ≡ 0 → StandsFor (Has image space) (outside pairs (Has image space)) snap leaf.now → ShowsAhead (Has image space) (outside pairs (Has image space)) snap (choice_after source) from result }
     ensures ranges { AheadFits from result }
     ensures goes_on { from < 2 ^ 48 → from < 16 * (leaf.now.index + leaf.now.count) → GoesOn from result }
     ensures stands { (seen : List ℕ) (set : ObjSet) → AheadStands (IsSeen seen) set result }
@@ -125,19 +126,19 @@ pub(crate) fn look<D: Disk, L: Ledger>(
     requires count { (0 < leaf.now.count) × (leaf.now.index + leaf.now.count ≤ 2 ^ 49) }
     requires from { (0 < from) × (16 * leaf.now.index ≤ from) × (from ≤ 16 * leaf.now.index + 16) }
     requires fits { FitsDisk (D.state io.old.disk.now).size io.old.space }
-    ensures shows { (snap : DatedState) → (D.state io.new.disk.now).honest → StandsFor (Has (D.state io.old.disk.now).seen io.old.space) snap leaf.now
-        → Delivers (ShowsAhead (Has (D.state io.old.disk.now).seen io.old.space) snap (choice_after source) from) result }
+    ensures shows { (snap : DatedState) (pairs : Pairs) → (D.state io.new.disk.now).honest → StandsFor (Has (D.state io.old.disk.now).seen io.old.space) (outside pairs (Has (D.state io.old.disk.now).seen io.old.space)) snap leaf.now
+        → Delivers (ShowsAhead (Has (D.state io.old.disk.now).seen io.old.space) (outside pairs (Has (D.state io.old.disk.now).seen io.old.space)) snap (choice_after source) from) result }
     ensures ranges { IfOk result (AheadFits from) }
     ensures goes_on { from < 16 * leaf.now.index + 16 → IfOk result (GoesOn from) }
     ensures stands { (set : ObjSet) → (D.state io.new.disk.now).honest → HangsIn (MayHave (IsSeen (D.state io.old.disk.now).seen)) set.tree leaf.now.ptr → IfOk result (AheadStands (IsSeen (D.state io.old.disk.now).seen) set) }
     ensures damaged { (set : ObjSet) → (D.state io.new.disk.now).honest → HangsIn (MayHave (IsSeen (D.state io.old.disk.now).seen)) set.tree leaf.now.ptr → IfDamaged result (IsDamagedCell (IsSeen (D.state io.old.disk.now).seen) (D.state io.old.disk.now).size set) }
 
     // In a tight leaf an object that may be included is.
-    ensures ends { (snap : DatedState) → (D.state io.new.disk.now).honest → StandsFor (Has (D.state io.old.disk.now).seen io.old.space) snap leaf.now
+    ensures ends { (snap : DatedState) (pairs : Pairs) → (D.state io.new.disk.now).honest → StandsFor (Has (D.state io.old.disk.now).seen io.old.space) (outside pairs (Has (D.state io.old.disk.now).seen io.old.space)) snap leaf.now
         → IsTightLeaf (Has (D.state io.old.disk.now).seen io.old.space) snap leaf.now.index leaf.now.ptr → IfOk result EndsLeaf }
-    ensures few { (snap : DatedState) → (D.state io.new.disk.now).honest → StandsFor (Has (D.state io.old.disk.now).seen io.old.space) snap leaf.now
+    ensures few { (snap : DatedState) (pairs : Pairs) → (D.state io.new.disk.now).honest → StandsFor (Has (D.state io.old.disk.now).seen io.old.space) (outside pairs (Has (D.state io.old.disk.now).seen io.old.space)) snap leaf.now
         → IsTightLeaf (Has (D.state io.old.disk.now).seen io.old.space) snap leaf.now.index leaf.now.ptr → IfOk result (IfNothing (steps.new ≤ steps.old + 1)) }
-    ensures late { (snap : DatedState) → (D.state io.new.disk.now).honest → StandsFor (Has (D.state io.old.disk.now).seen io.old.space) snap leaf.now
+    ensures late { (snap : DatedState) (pairs : Pairs) → (D.state io.new.disk.now).honest → StandsFor (Has (D.state io.old.disk.now).seen io.old.space) (outside pairs (Has (D.state io.old.disk.now).seen io.old.space)) snap leaf.now
         → IsTightLeaf (Has (D.state io.old.disk.now).seen io.old.space) snap leaf.now.index leaf.now.ptr → is_after source leaf.now.ptr.number ≡ true → from ≡ 16 * leaf.now.index → IfOk result IsNext }
     ensures looks { Looks (D.state io.old.disk.now) io.old.space io.old.failed (D.state io.new.disk.now) io.new.space io.new.failed (stop_of result) }
     ensures steps { (steps.old ≤ steps.new) × (steps.new ≤ steps.old + 14) }

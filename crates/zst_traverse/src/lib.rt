@@ -4,6 +4,7 @@
 mod cells;
 mod dates;
 mod leaves;
+mod listed;
 mod number_search;
 mod objects;
 mod pairs;

@@ -1,5 +1,5 @@
 //! The search for the first included indices of an object.
-ghost use Rattle.std.specs.Prelude.{◌≡◌, ◌↔◌, ◌+◌, ◌*◌, ◌^◌, ◌<◌, ◌≤◌, true, ℕ, IfNone, IfOk, IfSome};
+ghost use Rattle.std.specs.Prelude.{◌≡◌, ◌↔◌, ◌+◌, ◌*◌, ◌^◌, ◌<◌, ◌≤◌, true, ℕ, Bool, false, IfErr, IfNone, IfOk, IfSome};
 ghost use Rattle.zst_block.specs.Blocks.{FitsDisk, Has};
 ghost use Rattle.zst_block.specs.IoCalls.{Looks, stop_of};
 ghost use Rattle.zst_dnode.specs.Dnode.{DnodeFits};
@@ -9,10 +9,11 @@ ghost use Rattle.zst_tree.specs.Damage.{IsSeen};
 ghost use Rattle.zst_tree.specs.Indices.{Delivers, Map};
 ghost use Rattle.zst_tree.specs.declared.tree.ObjSet.{ObjSet};
 ghost use Rattle.zst_objset.specs.Damage.{IfDamaged, StandsIn};
-ghost use Rattle.zst_objset.specs.Dnodes.{IsThere, ObjectIs};
+ghost use Rattle.zst_objset.specs.Dnodes.{IsThereIn, ObjectIn, outside};
+ghost use Rattle.zst_model.specs.fields.Lists.{has_pair};
 ghost use Rattle.zst_model.specs.states.State.{IsObject, IsState, Object};
-ghost use Rattle.zst_traverse.specs.Cells.{choice_after};
-ghost use Rattle.zst_traverse.specs.Runs.{cell_of, FindsPairs, IsRun, RunFits};
+ghost use Rattle.zst_traverse.specs.Cells.{choice_with};
+ghost use Rattle.zst_traverse.specs.Runs.{outside_indices, cell_of, FindsIn, FindsPairs, IsRun, RunFits, TakesTurn};
 ghost use Rattle.zst_traverse.specs.StandingEntries.{RunStands};
 ghost use Rattle.zst_traverse.specs.Damage.{IsDamagedCell};
 
@@ -20,7 +21,7 @@ use crate::dates::next_late;
 use std::sync::ledger::Ledger;
 use zst_block::{BlockFault, Io, Ptr};
 use zst_dnode::Dnode;
-use zst_model::{Cell, Point};
+use zst_model::{Cell, List, Point};
 use zst_objset::tree_of;
 use zst_outside::Disk;
 use zst_tree::Steps;
@@ -80,8 +81,9 @@ fn run_at<D: Disk, L: Ledger>(
     requires dnode { DnodeFits dnode.now }
     requires index { index < dnode.now.end }
     requires fits { FitsDisk (D.state io.old.disk.now).size io.old.space }
-    ensures run { (object : Object) (date : ℕ) (dates : ℕ → ℕ) (map : Map) → (D.state io.new.disk.now).honest → IsObject object → ObjectIs (Has (D.state io.old.disk.now).seen io.old.space) dnode.now object date dates map
-        → Delivers (IsRun (Has (D.state io.old.disk.now).seen io.old.space) object dates index) result }
+    ensures run { (object : Object) (date : ℕ) (dates : ℕ → ℕ) (map : Map) (withheld : ℕ → Bool) → (D.state io.new.disk.now).honest → IsObject object → withheld index ≡ false
+        → ObjectIn (Has (D.state io.old.disk.now).seen io.old.space) (outside_indices withheld (Has (D.state io.old.disk.now).seen io.old.space)) dnode.now object date dates map
+        → Delivers (IsRun (Has (D.state io.old.disk.now).seen io.old.space) withheld object dates index) result }
     ensures ranges { IfOk result (RunFits index dnode.now.end) }
     ensures stands { (set : ObjSet) → (D.state io.new.disk.now).honest → StandsIn (IsSeen (D.state io.old.disk.now).seen) set dnode.now → IfOk result (RunStands (IsSeen (D.state io.old.disk.now).seen) set) }
     ensures damaged { (set : ObjSet) → (D.state io.new.disk.now).honest → StandsIn (IsSeen (D.state io.old.disk.now).seen) set dnode.now → IfDamaged result (IsDamagedCell (IsSeen (D.state io.old.disk.now).seen) (D.state io.old.disk.now).size set) }
@@ -104,19 +106,77 @@ fn run_at<D: Disk, L: Ledger>(
     })
 }
 
-/// The first included indices of an object at or past an offset.
+/// What comes next of an object's indices.
+#[derive(Clone, Copy, Debug)]
+pub(crate) struct Turn {
+    pub index: u64,
+    /// So many from it on may be told with it.
+    pub most: u64,
+    /// Its block is withheld, and isn't read.
+    pub is_withheld: bool,
+}
+
+// The first index of an object in a list, from one on and below another.
+pub(crate) fn next_in(list: &List, object: u64, from: u64, below: u64) -> Option<u64>
+    ensures { FindsIn (has_pair list.now object) from below result }
+{
+    match list.next_from(object, from) {
+        Some((number, index)) if number == object && index < below => Some(index),
+        _ => None,
+    }
+}
+
+// The first of three indices, where each is the first of its own test from one on and below another.
+fn first_turn(
+    late: Option<u64>,
+    listed: Option<u64>,
+    withheld: Option<u64>,
+    below: u64,
+) -> Option<Turn>
+    ensures ranges { IfSome result (λ turn. (0 < turn.most) × (turn.index + turn.most ≤ below)) }
+    ensures turn { (is_late is_listed is_withheld : ℕ → Bool) (from : ℕ) → FindsIn is_late from below late → FindsIn is_listed from below listed → FindsIn is_withheld from below withheld
+        → TakesTurn is_late is_listed is_withheld from below result }
+{
+    let first = late.unwrap_or(below).min(listed.unwrap_or(below));
+    let first_withheld = withheld.unwrap_or(below).min(below);
+    if first_withheld < below && first_withheld <= first {
+        return Some(Turn {
+            index: first_withheld,
+            most: 1,
+            is_withheld: true,
+        });
+    }
+    if first >= below {
+        return None;
+    }
+    let most = if late == Some(first) {
+        first_withheld - first
+    } else {
+        1
+    };
+    Some(Turn {
+        index: first,
+        most,
+        is_withheld: false,
+    })
+}
+/// The first included indices of an object at or past an offset: those that are dated after the source, or
+/// stand in the source's list, or in that of the withheld pairs, whose blocks aren't read.
 #[tactic(auto, unfolding(zst_model::specs::states::State::index_bound))]
 pub(crate) fn next_pairs<D: Disk, L: Ledger>(
     io: &mut Io<'_, D>,
     dnode: &Dnode,
     source: Option<u64>,
+    listed: &List,
+    withheld: &List,
     point: Point,
     steps: &mut Steps<L>,
 ) -> Result<Option<Run>, BlockFault>
     requires dnode { DnodeFits dnode.now }
     requires fits { FitsDisk (D.state io.old.disk.now).size io.old.space }
-    ensures found { (snap : DatedState) → (D.state io.new.disk.now).honest → IsState snap.state → IsThere (Has (D.state io.old.disk.now).seen io.old.space) snap point.object dnode.now
-        → Delivers (FindsPairs (Has (D.state io.old.disk.now).seen io.old.space) snap (choice_after source) point) result }
+    ensures found { (snap : DatedState) → (D.state io.new.disk.now).honest → IsState snap.state
+        → IsThereIn (Has (D.state io.old.disk.now).seen io.old.space) (outside (has_pair withheld.now) (Has (D.state io.old.disk.now).seen io.old.space)) snap point.object dnode.now
+        → Delivers (FindsPairs (Has (D.state io.old.disk.now).seen io.old.space) snap (choice_with source listed.now withheld.now) point) result }
     ensures ranges { IfOk result (λ found. IfSome found (RunFits 0 dnode.now.end)) }
     ensures stands { (set : ObjSet) → (D.state io.new.disk.now).honest → StandsIn (IsSeen (D.state io.old.disk.now).seen) set dnode.now → IfOk result (λ found. IfSome found (RunStands (IsSeen (D.state io.old.disk.now).seen) set)) }
     ensures damaged { (set : ObjSet) → (D.state io.new.disk.now).honest → StandsIn (IsSeen (D.state io.old.disk.now).seen) set dnode.now → IfDamaged result (IsDamagedCell (IsSeen (D.state io.old.disk.now).seen) (D.state io.old.disk.now).size set) }
@@ -128,11 +188,54 @@ pub(crate) fn next_pairs<D: Disk, L: Ledger>(
     ensures same { io.new.disk.ghost_name ≡ io.old.disk.ghost_name }
 {
     let from = first_index(point.offset, dnode.block_size);
-    match next_late(io, &tree_of(dnode), source, from, dnode.end, steps)? {
+    let late = next_late(io, &tree_of(dnode), source, from, dnode.end, steps)?;
+    let in_listed = next_in(listed, point.object, from, dnode.end);
+    let in_withheld = next_in(withheld, point.object, from, dnode.end);
+    match first_turn(late, in_listed, in_withheld, dnode.end) {
         None => Ok(None),
-        Some(index) => {
-            let run = run_at(io, dnode, index, steps)?;
+        Some(turn) => {
+            let run = run_of(io, dnode, turn, steps)?;
             Ok(Some(run))
         }
     }
+}
+
+// What is told of the index whose turn it is, and of as many behind it as are like it.
+#[tactic(auto, unfolding(zst_model::specs::states::State::index_bound))]
+fn run_of<D: Disk, L: Ledger>(
+    io: &mut Io<'_, D>,
+    dnode: &Dnode,
+    turn: Turn,
+    steps: &mut Steps<L>,
+) -> Result<Run, BlockFault>
+    requires dnode { DnodeFits dnode.now }
+    requires turn { (0 < turn.most) × (turn.index + turn.most ≤ dnode.now.end) }
+    requires fits { FitsDisk (D.state io.old.disk.now).size io.old.space }
+    ensures withheld { turn.is_withheld ≡ true → IfOk result (λ run. (run.first ≡ turn.index) × (run.count ≡ 1) × (run.what ≡ cells.Redacted)) × ((D.state io.new.disk.now).calls ≤ (D.state io.old.disk.now).calls) }
+    ensures run { (object : Object) (date : ℕ) (dates : ℕ → ℕ) (map : Map) (withheld : ℕ → Bool) → (D.state io.new.disk.now).honest → IsObject object → turn.is_withheld ≡ false → withheld turn.index ≡ false
+        → ObjectIn (Has (D.state io.old.disk.now).seen io.old.space) (outside_indices withheld (Has (D.state io.old.disk.now).seen io.old.space)) dnode.now object date dates map
+        → Delivers (λ run. IsRun (Has (D.state io.old.disk.now).seen io.old.space) withheld object dates turn.index run × (run.count ≤ turn.most)) result }
+    ensures ok { (turn.is_withheld ≡ true) → IfErr result (λ fault. ⊥) }
+    ensures ranges { IfOk result (RunFits turn.index dnode.now.end) }
+    ensures stands { (set : ObjSet) → (D.state io.new.disk.now).honest → StandsIn (IsSeen (D.state io.old.disk.now).seen) set dnode.now → IfOk result (RunStands (IsSeen (D.state io.old.disk.now).seen) set) }
+    ensures damaged { (set : ObjSet) → (D.state io.new.disk.now).honest → StandsIn (IsSeen (D.state io.old.disk.now).seen) set dnode.now → IfDamaged result (IsDamagedCell (IsSeen (D.state io.old.disk.now).seen) (D.state io.old.disk.now).size set) }
+    ensures looks { Looks (D.state io.old.disk.now) io.old.space io.old.failed (D.state io.new.disk.now) io.new.space io.new.failed (stop_of result) }
+    ensures steps { (steps.old ≤ steps.new) × (steps.new ≤ steps.old + 7) }
+    ensures calls { (D.state io.new.disk.now).calls + steps.old ≤ (D.state io.old.disk.now).calls + steps.new }
+    ensures kept_fit { FitsDisk (D.state io.new.disk.now).size io.new.space }
+    ensures same { io.new.disk.ghost_name ≡ io.old.disk.ghost_name }
+{
+    if turn.is_withheld {
+        return Ok(Run {
+            first: turn.index,
+            count: 1,
+            what: Cell::Redacted,
+            ptr: Ptr::hole(0),
+        });
+    }
+    let run = run_at(io, dnode, turn.index, steps)?;
+    Ok(Run {
+        count: run.count.min(turn.most),
+        ..run
+    })
 }

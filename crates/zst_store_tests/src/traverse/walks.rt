@@ -6,7 +6,7 @@ use std::alloc::{AllocError, Global};
 use std::marker::Brand;
 use std::sync::ledger::{Blank, Ledger};
 use zst_block::{BlockFault, Io};
-use zst_model::{Cell, Point};
+use zst_model::{Cell, List, Point};
 use zst_outside::Disk;
 use zst_traverse::{WalkEntry, next_cell};
 use zst_tree::{ObjSet, Steps};
@@ -16,6 +16,8 @@ fn counted<D: Disk, L: Ledger>(
     io: &mut Io<'_, D>,
     set: &ObjSet,
     from: Option<u64>,
+    listed: &List,
+    withheld: &List,
     at: Place,
     blank: Blank,
 ) -> Result<Option<WalkEntry>, BlockFault>
@@ -27,7 +29,9 @@ fn counted<D: Disk, L: Ledger>(
     ensures same { io.new.disk.ghost_name ≡ io.old.disk.ghost_name }
 {
     let mut steps = Steps::<L>::new(blank);
-    next_cell(io, set, from, at.point, at.slot, &mut steps)
+    next_cell(
+        io, set, from, listed, withheld, at.point, at.slot, &mut steps,
+    )
 }
 
 // That, in a ledger of its own.
@@ -35,13 +39,15 @@ pub(super) fn next<D: Disk>(
     io: &mut Io<'_, D>,
     set: &ObjSet,
     from: Option<u64>,
+    listed: &List,
+    withheld: &List,
     at: Place,
 ) -> Result<Option<WalkEntry>, BlockFault>
     requires fits { FitsDisk (D.state io.old.disk.now).size io.old.space }
     ensures fits { FitsDisk (D.state io.new.disk.now).size io.new.space }
     ensures same { io.new.disk.ghost_name ≡ io.old.disk.ghost_name }
 {
-    counted::<D, Brand>(io, set, from, at, Blank::new(1))
+    counted::<D, Brand>(io, set, from, listed, withheld, at, Blank::new(1))
 }
 
 // Where a walk goes on.
@@ -117,6 +123,8 @@ pub(super) fn walk<D: Disk>(
     io: &mut Io<'_, D>,
     set: &ObjSet,
     from: Option<u64>,
+    listed: &List,
+    withheld: &List,
     count: usize,
 ) -> Result<(Vec<WalkAnswer>, u64), AllocError>
     requires fits { FitsDisk (D.state io.old.disk.now).size io.old.space }
@@ -127,7 +135,7 @@ pub(super) fn walk<D: Disk>(
     let mut all = Vec::new(alloc);
     let mut at = at_slot(0);
     'calls: for _ in 0..count {
-        let told = told_of(next(io, set, from, at));
+        let told = told_of(next(io, set, from, listed, withheld, at));
         all.push(told)?;
         at = behind(told, at);
     }

@@ -2,31 +2,32 @@ use Rattle.zst_block.proofs.IoCallLemmas.{Looks-none}
 use Rattle.std.proofs.Common.{ℕ, ◌%◌, refl, subst, arith}
 use Rattle.std.proofs.lemmas.Result.{err_from_is_err_and}
 use Rattle.zst_block.specs.Blocks.{Has}
-use Rattle.zst_objset.specs.Sets.{HasSlots}
-use Rattle.zst_objset.proofs.LeafLaws.{absent_found, none_found, slot_found, slot_there}
+use Rattle.zst_objset.specs.Sets.{HasSlotsIn}
+use Rattle.zst_traverse.proofs.NextCells.{absent_in_slot, no_slot_at, none_at, slot_at, there_in_slot}
 use Rattle.zst_traverse.proofs.Damage.{lacking_cell}
 use Rattle.zst_traverse.proofs.Numbers.{hole_none}
 use Rattle.zst_traverse.proofs.cells.dnode_in.Goals as goal
+use Rattle.zst_objset.specs.Dnodes.{outside}
 
 pub returns-then-leaf-eq0-clause-found : goal.returns-then-leaf-eq0-clause-found
-returns-then-leaf-eq0-clause-found g c = λ snap honest is.
-    none_found _ snap c.args.number (hole_none _ snap c.args.leaf.now.index c.args.leaf.now.ptr c.args.number c.requires.number.2 c.requires.number.0 c.requires.number.1 is c.if-leaf-eq0.true)
+returns-then-leaf-eq0-clause-found g c = λ snap pairs honest is.
+    none_at _ (outside pairs (Has (g.D.Disk.state c.args.io.now.disk.now).seen c.args.io.now.space)) snap c.args.number (hole_none _ _ snap c.args.leaf.now.index c.args.leaf.now.ptr c.args.number c.requires.number.2 c.requires.number.0 c.requires.number.1 is c.if-leaf-eq0.true)
 
 pub returns-in_err-load_leaf-clause-found : goal.returns-in_err-load_leaf-clause-found
-returns-in_err-load_leaf-clause-found g c = λ snap honest is.
+returns-in_err-load_leaf-clause-found g c = λ snap pairs honest is.
     let p = err_from_is_err_and c.from_residual.result c.from_residual.ensures.1 in
-    rw (p.1, p.2) (c.in_err-load_leaf.ensures.slots snap honest is)
+    rw (p.1, p.2) (c.in_err-load_leaf.ensures.slots snap pairs honest is)
 
 pub returns-in-Some-Absent-clause-found : goal.returns-in-Some-Absent-clause-found
-returns-in-Some-Absent-clause-found g c = λ snap honest is.
-    let slots = subst (λ (j : ℕ). HasSlots (Has (g.D.Disk.state c.args.io.now.disk.now).seen c.args.io.now.space) snap j c.load_leaf.new.io.node) c.requires.number.2 (c.in_ok-load_leaf.ensures.slots snap honest is) in
-    absent_found _ snap c.args.number c.in-Some-Absent.field-0-0 c.in-Some-Absent.field-0 c.in-Some-Absent.field-0-is
-    (slot_found _ snap c.args.number _ _ c.in-Some-Absent.field-0 c.requires.number.0 c.requires.number.1 slots c.as_slice.ensures.bytes c.in-Some-Absent.ensures.back)
+returns-in-Some-Absent-clause-found g c = λ snap pairs honest is.
+    let slots = subst (λ (j : ℕ). HasSlotsIn (Has (g.D.Disk.state c.args.io.now.disk.now).seen c.args.io.now.space) (outside pairs (Has (g.D.Disk.state c.args.io.now.disk.now).seen c.args.io.now.space)) snap j c.load_leaf.new.io.node) c.requires.number.2 (c.in_ok-load_leaf.ensures.slots snap pairs honest is) in
+    absent_in_slot _ _ snap c.args.number c.in-Some-Absent.field-0-0 c.in-Some-Absent.field-0 c.in-Some-Absent.field-0-is
+    (slot_at _ _ snap c.args.number _ _ c.in-Some-Absent.field-0 c.requires.number.0 c.requires.number.1 slots c.as_slice.ensures.bytes c.in-Some-Absent.ensures.back)
 
 pub returns-in-None-clause-found : goal.returns-in-None-clause-found
-returns-in-None-clause-found g c = λ snap honest is.
-    let slots = subst (λ (j : ℕ). HasSlots (Has (g.D.Disk.state c.args.io.now.disk.now).seen c.args.io.now.space) snap j c.load_leaf.new.io.node) c.requires.number.2 (c.in_ok-load_leaf.ensures.slots snap honest is) in
-    absurd (slot_there _ snap c.args.number _ _ slots c.as_slice.ensures.bytes (c.in-None.ensures.none refl))
+returns-in-None-clause-found g c = λ snap pairs honest is.
+    let slots = subst (λ (j : ℕ). HasSlotsIn (Has (g.D.Disk.state c.args.io.now.disk.now).seen c.args.io.now.space) (outside pairs (Has (g.D.Disk.state c.args.io.now.disk.now).seen c.args.io.now.space)) snap j c.load_leaf.new.io.node) c.requires.number.2 (c.in_ok-load_leaf.ensures.slots snap pairs honest is) in
+    absurd (no_slot_at _ _ snap c.args.number _ _ slots c.as_slice.ensures.bytes (c.in-None.ensures.none refl))
 
 pub returns-in-None-clause-damaged : goal.returns-in-None-clause-damaged
 returns-in-None-clause-damaged g c = λ set honest hangs.
@@ -128,3 +129,9 @@ returns-in-None-clause-same g c = c.in_ok-load_leaf.ensures.same
 
 pub load_leaf-requires-clause-fits : goal.load_leaf-requires-clause-fits
 load_leaf-requires-clause-fits g c = c.requires.fits
+
+pub returns-in-Some-There-clause-found : goal.returns-in-Some-There-clause-found
+returns-in-Some-There-clause-found g c = λ snap pairs honest is.
+    let slots = subst (λ (j : ℕ). HasSlotsIn (Has (g.D.Disk.state c.args.io.now.disk.now).seen c.args.io.now.space) (outside pairs (Has (g.D.Disk.state c.args.io.now.disk.now).seen c.args.io.now.space)) snap j c.load_leaf.new.io.node) c.requires.number.2 (c.in_ok-load_leaf.ensures.slots snap pairs honest is) in
+    there_in_slot _ _ snap c.args.number c.in-Some-There.dnode c.in-Some-There.field-0 c.in-Some-There.field-0-is
+    (slot_at _ _ snap c.args.number _ _ c.in-Some-There.field-0 c.requires.number.0 c.requires.number.1 slots c.as_slice.ensures.bytes c.in-Some-There.ensures.back)

@@ -8,18 +8,20 @@ use Rattle.zst_tree.proofs.Results.{delivers_if}
 use Rattle.zst_tree.specs.Lookups.{Shows}
 use Rattle.zst_tree.specs.Indices.{Delivers}
 use Rattle.zst_objset.proofs.LeafLaws.{look_on}
-use Rattle.zst_objset.specs.Sets.{SetHolds}
-use Rattle.zst_traverse.specs.Cells.{choice_after, IsNextCell}
+use Rattle.zst_objset.specs.Sets.{SetHoldsBut}
+use Rattle.zst_traverse.specs.Cells.{choice_with, IsNextCellIn}
 use Rattle.zst_traverse.specs.Leaves.{FindsNumber, StandsFor}
-use Rattle.zst_objset.specs.TightSets.{IsTightLeaf, SetIsTight}
+use Rattle.zst_objset.specs.TightSets.{IsTightLeaf, SetIsTightIn}
 use Rattle.zst_traverse.proofs.NextCells.{past_next, slot_next}
 use Rattle.zst_traverse.proofs.Numbers.{stands_for}
 use Rattle.zst_traverse.proofs.StepLaws.{calls_then}
 use Rattle.zst_traverse.proofs.cells.next_cell.Goals as goal
+use Rattle.zst_objset.specs.Dnodes.{outside}
+use Rattle.zst_model.specs.fields.Lists.{has_pair}
 
 pub returns-then-point-ge-NUMBER_BOUND-clause-found : goal.returns-then-point-ge-NUMBER_BOUND-clause-found
 returns-then-point-ge-NUMBER_BOUND-clause-found g c = λ snap honest holds.
-    past_next (Has (g.D.Disk.state c.args.io.now.disk.now).seen c.args.io.now.space) snap c.args.from c.args.point c.args.slot holds.lawful (omega arith)
+    past_next (Has (g.D.Disk.state c.args.io.now.disk.now).seen c.args.io.now.space) (outside (has_pair c.args.withheld.now) (Has (g.D.Disk.state c.args.io.now.disk.now).seen c.args.io.now.space)) snap (choice_with c.args.from c.args.listed.now c.args.withheld.now) c.args.point c.args.slot holds.lawful (omega arith)
 
 pub returns-in_err-leaf-clause-found : goal.returns-in_err-leaf-clause-found
 returns-in_err-leaf-clause-found g c = λ snap honest holds.
@@ -32,33 +34,33 @@ returns-then-is_passed-clause-found g c = λ snap honest holds.
     let looks = c.in_ok-leaf.ensures.looks in
     let was = c.behind_slot.ensures.looks.reads.honest honest in
     let shows = subst (λ (n : ℕ). Shows holds.map n (leaf.ptr, leaf.count)) (sym c.in_ok-leaf.ensures.index) (c.in_ok-leaf.ensures.shows holds.map was holds.tree) in
-    let stands_on = look_on (λ (seen : List ℕ) (space : FreeSectors). StandsFor (Has seen space) snap leaf) _ _ _ _ _ _ _ looks (stands_for _ c.args.set.now snap holds leaf shows) in
-    let holds_on = look_on (λ (seen : List ℕ) (space : FreeSectors). SetHolds (Has seen space) c.args.set.now snap) _ _ _ _ _ _ _ looks holds in
-    let next = look_on (λ (seen : List ℕ) (space : FreeSectors). Delivers (IsNextCell (Has seen space) snap (choice_after c.args.from) c.args.point false) c.behind_slot.result) _ _ _ _ _ _ _ c.behind_slot.ensures.looks (c.behind_slot.ensures.found snap honest holds_on stands_on) in
-    subst (λ (slot : Bool). Delivers (IsNextCell (Has (g.D.Disk.state c.behind_slot.new.io.disk.now).seen c.behind_slot.new.io.space) snap (choice_after c.args.from) c.args.point slot) c.behind_slot.result) (sym (c.is_passed.ensures.passed c.if-is_passed.true).0) next
+    let stands_on = look_on (λ (seen : List ℕ) (space : FreeSectors). StandsFor (Has seen space) (outside (has_pair c.args.withheld.now) (Has seen space)) snap leaf) _ _ _ _ _ _ _ looks (stands_for _ _ c.args.set.now snap holds leaf shows) in
+    let holds_on = look_on (λ (seen : List ℕ) (space : FreeSectors). SetHoldsBut (Has seen space) (has_pair c.args.withheld.now) c.args.set.now snap) _ _ _ _ _ _ _ looks holds in
+    let next = look_on (λ (seen : List ℕ) (space : FreeSectors). Delivers (IsNextCellIn (Has seen space) (outside (has_pair c.args.withheld.now) (Has seen space)) snap (choice_with c.args.from c.args.listed.now c.args.withheld.now) c.args.point false) c.behind_slot.result) _ _ _ _ _ _ _ c.behind_slot.ensures.looks (c.behind_slot.ensures.found snap honest holds_on stands_on) in
+    subst (λ (slot : Bool). Delivers (IsNextCellIn (Has (g.D.Disk.state c.behind_slot.new.io.disk.now).seen c.behind_slot.new.io.space) (outside (has_pair c.args.withheld.now) (Has (g.D.Disk.state c.behind_slot.new.io.disk.now).seen c.behind_slot.new.io.space)) snap (choice_with c.args.from c.args.listed.now c.args.withheld.now) c.args.point slot) c.behind_slot.result) (sym (c.is_passed.ensures.passed c.if-is_passed.true).0) next
 
 pub returns-else-is_passed-clause-found : goal.returns-else-is_passed-clause-found
 returns-else-is_passed-clause-found g c = λ snap honest holds.
     let leaf = c.in_ok-leaf.leaf in
     let looks = c.in_ok-leaf.ensures.looks in
-    let was = c.next_number.ensures.looks.reads.honest honest in
+    let was = c.next_listed.ensures.looks.reads.honest honest in
     let shows = subst (λ (n : ℕ). Shows holds.map n (leaf.ptr, leaf.count)) (sym c.in_ok-leaf.ensures.index) (c.in_ok-leaf.ensures.shows holds.map was holds.tree) in
-    let stands_on = look_on (λ (seen : List ℕ) (space : FreeSectors). StandsFor (Has seen space) snap leaf) _ _ _ _ _ _ _ looks (stands_for _ c.args.set.now snap holds leaf shows) in
-    let holds_on = look_on (λ (seen : List ℕ) (space : FreeSectors). SetHolds (Has seen space) c.args.set.now snap) _ _ _ _ _ _ _ looks holds in
-    let next = look_on (λ (seen : List ℕ) (space : FreeSectors). Delivers (FindsNumber (Has seen space) snap (choice_after c.args.from) c.max-number.result) c.next_number.result) _ _ _ _ _ _ _ c.next_number.ensures.looks (c.next_number.ensures.found snap honest holds_on stands_on) in
-    delivers_if _ _ c.next_number.result (slot_next _ snap c.args.from c.args.point c.args.slot c.max-number.result holds.lawful c.max-number.ensures (c.is_passed.ensures.judged c.if-is_passed.false)) next
+    let stands_on = look_on (λ (seen : List ℕ) (space : FreeSectors). StandsFor (Has seen space) (outside (has_pair c.args.withheld.now) (Has seen space)) snap leaf) _ _ _ _ _ _ _ looks (stands_for _ _ c.args.set.now snap holds leaf shows) in
+    let holds_on = look_on (λ (seen : List ℕ) (space : FreeSectors). SetHoldsBut (Has seen space) (has_pair c.args.withheld.now) c.args.set.now snap) _ _ _ _ _ _ _ looks holds in
+    let next = look_on (λ (seen : List ℕ) (space : FreeSectors). Delivers (FindsNumber (Has seen space) (outside (has_pair c.args.withheld.now) (Has seen space)) snap (choice_with c.args.from c.args.listed.now c.args.withheld.now) c.max-number.result) c.next_listed.result) _ _ _ _ _ _ _ c.next_listed.ensures.looks (c.next_listed.ensures.found snap honest holds_on stands_on) in
+    delivers_if _ _ c.next_listed.result (slot_next _ _ snap (choice_with c.args.from c.args.listed.now c.args.withheld.now) c.args.point c.args.slot c.max-number.result holds.lawful c.max-number.ensures (c.is_passed.ensures.judged c.if-is_passed.false)) next
 
 pub returns-then-is_passed-clause-few : goal.returns-then-is_passed-clause-few
-returns-then-is_passed-clause-few g c = λ snap honest tight.
+returns-then-is_passed-clause-few g c = λ snap honest tight included.
     let holds = tight.holds in
     let leaf = c.in_ok-leaf.leaf in
     let looks = c.in_ok-leaf.ensures.looks in
     let was = c.behind_slot.ensures.looks.reads.honest honest in
     let shown = c.in_ok-leaf.ensures.shows holds.map was holds.tree in
     let index_is : leaf.index ≡ c.args.point.object / 16 = c.in_ok-leaf.ensures.index in
-    let stands_on = look_on (λ (seen : List ℕ) (space : FreeSectors). StandsFor (Has seen space) snap leaf) _ _ _ _ _ _ _ looks
-    (stands_for _ c.args.set.now snap holds leaf (subst (λ (n : ℕ). Shows holds.map n (leaf.ptr, leaf.count)) (sym index_is) shown)) in
-    let tight_on = look_on (λ (seen : List ℕ) (space : FreeSectors). SetIsTight (Has seen space) c.args.set.now snap) _ _ _ _ _ _ _ looks tight in
+    let stands_on = look_on (λ (seen : List ℕ) (space : FreeSectors). StandsFor (Has seen space) (outside (has_pair c.args.withheld.now) (Has seen space)) snap leaf) _ _ _ _ _ _ _ looks
+    (stands_for _ _ c.args.set.now snap holds leaf (subst (λ (n : ℕ). Shows holds.map n (leaf.ptr, leaf.count)) (sym index_is) shown)) in
+    let tight_on = look_on (λ (seen : List ℕ) (space : FreeSectors). SetIsTightIn (Has seen space) (outside (has_pair c.args.withheld.now) (Has seen space)) c.args.set.now snap) _ _ _ _ _ _ _ looks tight in
     let some : 0 < leaf.count = shown.some in
     let less : c.args.point.object / 16 < 2 ^ 44 = omega arith in
     let has = Has (g.D.Disk.state c.args.io.now.disk.now).seen c.args.io.now.space in
@@ -66,20 +68,20 @@ returns-then-is_passed-clause-few g c = λ snap honest tight.
     let leaf_tight = subst (λ (n : ℕ). IsTightLeaf has snap n leaf.ptr) (sym index_is) (subst (λ (p : Ptr). IsTightLeaf has snap (c.args.point.object / 16) p) at (tight.tight (c.args.point.object / 16) less)) in
     let leaf_on = look_on (λ (seen : List ℕ) (space : FreeSectors). IsTightLeaf (Has seen space) snap leaf.index leaf.ptr) _ _ _ _ _ _ _ looks leaf_tight in
     let first = c.in_ok-leaf.ensures.steps.1 in
-    let more = c.behind_slot.ensures.few snap honest tight_on stands_on leaf_on in
+    let more = c.behind_slot.ensures.few snap honest tight_on stands_on leaf_on included in
     omega (arith, first, more)
 
 pub returns-else-is_passed-clause-few : goal.returns-else-is_passed-clause-few
-returns-else-is_passed-clause-few g c = λ snap honest tight.
+returns-else-is_passed-clause-few g c = λ snap honest tight included.
     let holds = tight.holds in
     let leaf = c.in_ok-leaf.leaf in
     let looks = c.in_ok-leaf.ensures.looks in
-    let was = c.next_number.ensures.looks.reads.honest honest in
+    let was = c.next_listed.ensures.looks.reads.honest honest in
     let shown = c.in_ok-leaf.ensures.shows holds.map was holds.tree in
     let index_is : leaf.index ≡ c.args.point.object / 16 = c.in_ok-leaf.ensures.index in
-    let stands_on = look_on (λ (seen : List ℕ) (space : FreeSectors). StandsFor (Has seen space) snap leaf) _ _ _ _ _ _ _ looks
-    (stands_for _ c.args.set.now snap holds leaf (subst (λ (n : ℕ). Shows holds.map n (leaf.ptr, leaf.count)) (sym index_is) shown)) in
-    let tight_on = look_on (λ (seen : List ℕ) (space : FreeSectors). SetIsTight (Has seen space) c.args.set.now snap) _ _ _ _ _ _ _ looks tight in
+    let stands_on = look_on (λ (seen : List ℕ) (space : FreeSectors). StandsFor (Has seen space) (outside (has_pair c.args.withheld.now) (Has seen space)) snap leaf) _ _ _ _ _ _ _ looks
+    (stands_for _ _ c.args.set.now snap holds leaf (subst (λ (n : ℕ). Shows holds.map n (leaf.ptr, leaf.count)) (sym index_is) shown)) in
+    let tight_on = look_on (λ (seen : List ℕ) (space : FreeSectors). SetIsTightIn (Has seen space) (outside (has_pair c.args.withheld.now) (Has seen space)) c.args.set.now snap) _ _ _ _ _ _ _ looks tight in
     let some : 0 < leaf.count = shown.some in
     let less : c.args.point.object / 16 < 2 ^ 44 = omega arith in
     let has = Has (g.D.Disk.state c.args.io.now.disk.now).seen c.args.io.now.space in
@@ -87,7 +89,7 @@ returns-else-is_passed-clause-few g c = λ snap honest tight.
     let leaf_tight = subst (λ (n : ℕ). IsTightLeaf has snap n leaf.ptr) (sym index_is) (subst (λ (p : Ptr). IsTightLeaf has snap (c.args.point.object / 16) p) at (tight.tight (c.args.point.object / 16) less)) in
     let leaf_on = look_on (λ (seen : List ℕ) (space : FreeSectors). IsTightLeaf (Has seen space) snap leaf.index leaf.ptr) _ _ _ _ _ _ _ looks leaf_tight in
     let first = c.in_ok-leaf.ensures.steps.1 in
-    let more = c.next_number.ensures.few snap honest tight_on stands_on leaf_on in
+    let more = c.next_listed.ensures.few snap honest tight_on stands_on leaf_on included in
     omega (arith, first, more)
 
 pub returns-then-set-gt7-clause-ranges : goal.returns-then-set-gt7-clause-ranges
@@ -160,13 +162,13 @@ pub returns-then-is_passed-clause-ranges : goal.returns-then-is_passed-clause-ra
 returns-then-is_passed-clause-ranges g c = c.behind_slot.ensures.ranges
 
 pub returns-else-is_passed-clause-looks : goal.returns-else-is_passed-clause-looks
-returns-else-is_passed-clause-looks g c = Looks-then c.in_ok-leaf.ensures.looks c.next_number.ensures.looks
+returns-else-is_passed-clause-looks g c = Looks-then c.in_ok-leaf.ensures.looks c.next_listed.ensures.looks
 
 pub returns-else-is_passed-clause-kept_fit : goal.returns-else-is_passed-clause-kept_fit
-returns-else-is_passed-clause-kept_fit g c = c.next_number.ensures.kept_fit
+returns-else-is_passed-clause-kept_fit g c = c.next_listed.ensures.kept_fit
 
 pub returns-else-is_passed-clause-same : goal.returns-else-is_passed-clause-same
-returns-else-is_passed-clause-same g c = c.next_number.ensures.same ∙ c.in_ok-leaf.ensures.same
+returns-else-is_passed-clause-same g c = c.next_listed.ensures.same ∙ c.in_ok-leaf.ensures.same
 
 pub leaf_at-requires-clause-fits : goal.leaf_at-requires-clause-fits
 leaf_at-requires-clause-fits g c = c.requires.fits
@@ -174,11 +176,11 @@ leaf_at-requires-clause-fits g c = c.requires.fits
 pub behind_slot-requires-clause-fits : goal.behind_slot-requires-clause-fits
 behind_slot-requires-clause-fits g c = c.in_ok-leaf.ensures.kept_fit
 
-pub next_number-requires-clause-fits : goal.next_number-requires-clause-fits
-next_number-requires-clause-fits g c = c.in_ok-leaf.ensures.kept_fit
+pub next_listed-requires-clause-fits : goal.next_listed-requires-clause-fits
+next_listed-requires-clause-fits g c = c.in_ok-leaf.ensures.kept_fit
 
 pub returns-then-is_passed-clause-calls : goal.returns-then-is_passed-clause-calls
 returns-then-is_passed-clause-calls g c = calls_then _ _ _ _ _ _ c.in_ok-leaf.ensures.calls c.behind_slot.ensures.calls
 
 pub returns-else-is_passed-clause-calls : goal.returns-else-is_passed-clause-calls
-returns-else-is_passed-clause-calls g c = calls_then _ _ _ _ _ _ c.in_ok-leaf.ensures.calls c.next_number.ensures.calls
+returns-else-is_passed-clause-calls g c = calls_then _ _ _ _ _ _ c.in_ok-leaf.ensures.calls c.next_listed.ensures.calls

@@ -12,27 +12,28 @@ use Rattle.zst_tree.specs.Damage.{IsSeen}
 use Rattle.zst_tree.specs.Indices.{Delivers}
 use Rattle.zst_objset.proofs.LeafLaws.{look_back, look_on}
 use Rattle.zst_objset.specs.Damage.{IfDamaged, StandsIn}
-use Rattle.zst_objset.specs.Dnodes.{DnodeIs, IsThere}
-use Rattle.zst_traverse.specs.Cells.{choice_after}
+use Rattle.zst_objset.specs.Dnodes.{DnodeIn, IsThereIn, outside}
+use Rattle.zst_traverse.specs.Cells.{choice_with}
 use Rattle.zst_traverse.specs.Runs.{FindsPairs}
 use Rattle.zst_traverse.specs.StandingEntries.{RunStands}
 use Rattle.zst_traverse.specs.Damage.{IsDamagedCell}
-use Rattle.zst_traverse.proofs.NextCells.{runs_fit, there_of}
+use Rattle.zst_traverse.proofs.NextCells.{no_pair_of, nothing_at, runs_fit, there_of}
 use Rattle.zst_traverse.proofs.StepLaws.{calls_then}
 use Rattle.zst_traverse.proofs.cells.own_pairs.Goals as goal
+use Rattle.zst_model.specs.fields.Lists.{has_pair}
 
 pub returns-in_err-dnode_in-clause-found : goal.returns-in_err-dnode_in-clause-found
 returns-in_err-dnode_in-clause-found g c = λ snap honest lawful is.
     let p = err_from_is_err_and c.from_residual.result c.from_residual.ensures.1 in
-    rw (p.1, p.2) (c.in_err-dnode_in.ensures.found snap honest is)
+    rw (p.1, p.2) (c.in_err-dnode_in.ensures.found snap (has_pair c.args.withheld.now) honest is)
 
 pub returns-in-Some-clause-found : goal.returns-in-Some-clause-found
 returns-in-Some-clause-found g c = λ snap honest lawful is.
     let was = c.next_pairs.ensures.looks.reads.honest honest in
     let looks = c.in_ok-dnode_in.ensures.looks in
-    let found = subst (λ (found : Option Dnode). DnodeIs (Has (g.D.Disk.state c.args.io.now.disk.now).seen c.args.io.now.space) snap c.args.point.object found) c.in-Some.is (c.in_ok-dnode_in.ensures.found snap was is) in
-    let on = look_on (λ (seen : List ℕ) (space : FreeSectors). IsThere (Has seen space) snap c.args.point.object c.in-Some.dnode) _ _ _ _ _ _ _ looks (there_of _ snap c.args.point.object c.in-Some.dnode found) in
-    look_back (λ (seen : List ℕ) (space : FreeSectors). Delivers (FindsPairs (Has seen space) snap (choice_after c.args.source) c.args.point) c.next_pairs.result) _ _ _ _ _ _ _ looks (c.next_pairs.ensures.found snap honest lawful on)
+    let found = subst (λ (found : Option Dnode). DnodeIn (Has (g.D.Disk.state c.args.io.now.disk.now).seen c.args.io.now.space) (outside (has_pair c.args.withheld.now) (Has (g.D.Disk.state c.args.io.now.disk.now).seen c.args.io.now.space)) snap c.args.point.object found) c.in-Some.is (c.in_ok-dnode_in.ensures.found snap (has_pair c.args.withheld.now) was is) in
+    let on = look_on (λ (seen : List ℕ) (space : FreeSectors). IsThereIn (Has seen space) (outside (has_pair c.args.withheld.now) (Has seen space)) snap c.args.point.object c.in-Some.dnode) _ _ _ _ _ _ _ looks (there_of _ _ snap c.args.point.object c.in-Some.dnode found) in
+    look_back (λ (seen : List ℕ) (space : FreeSectors). Delivers (FindsPairs (Has seen space) snap (choice_with c.args.source c.args.listed.now c.args.withheld.now) c.args.point) c.next_pairs.result) _ _ _ _ _ _ _ looks (c.next_pairs.ensures.found snap honest lawful on)
 
 pub returns-in-Some-clause-ranges : goal.returns-in-Some-clause-ranges
 unfolding index_bound
@@ -131,3 +132,10 @@ next_pairs-requires-clause-fits g c = c.in_ok-dnode_in.ensures.kept_fit
 
 pub returns-in-Some-clause-calls : goal.returns-in-Some-clause-calls
 returns-in-Some-clause-calls g c = calls_then _ _ _ _ _ _ c.in_ok-dnode_in.ensures.calls c.next_pairs.ensures.calls
+
+pub returns-in-None-clause-found : goal.returns-in-None-clause-found
+returns-in-None-clause-found g c = λ snap honest lawful is i past.
+    let has = Has (g.D.Disk.state c.args.io.now.disk.now).seen c.args.io.now.space in
+    no_pair_of snap (choice_with c.args.source c.args.listed.now c.args.withheld.now) c.args.point.object
+    (nothing_at has (outside (has_pair c.args.withheld.now) has) snap c.args.point.object
+    (subst (λ (found : Option Dnode). DnodeIn has (outside (has_pair c.args.withheld.now) has) snap c.args.point.object found) c.in-None.is (c.in_ok-dnode_in.ensures.found snap (has_pair c.args.withheld.now) honest is))) i

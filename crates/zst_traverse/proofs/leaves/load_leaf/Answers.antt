@@ -1,7 +1,7 @@
 use Rattle.zst_traverse.proofs.leaves.load_leaf.Goals as goal
 
 pub returns-clause-slots : goal.returns-clause-slots
-returns-clause-slots g c = c.load_slots.ensures.slots
+returns-clause-slots g c = c.load_slots.ensures.slots_in
 
 pub returns-clause-loaded : goal.returns-clause-loaded
 returns-clause-loaded g c = c.load_slots.ensures.loaded

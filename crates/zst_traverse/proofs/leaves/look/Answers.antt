@@ -12,7 +12,7 @@ use Rattle.zst_tree.specs.Indices.{Delivers}
 use Rattle.zst_objset.proofs.LeafLaws.{look_back, look_on}
 use Rattle.zst_objset.proofs.SearchLaws.{lacks_none}
 use Rattle.zst_objset.specs.Damage.{HasSlot, IfDamaged, StandsIn}
-use Rattle.zst_objset.specs.Dnodes.{IsThere}
+use Rattle.zst_objset.specs.Dnodes.{IsThereIn, outside}
 use Rattle.zst_traverse.specs.Cells.{choice_after}
 use Rattle.zst_traverse.specs.Leaves.{EndsLeaf, IsNext, ShowsAhead, StandsFor}
 use Rattle.zst_traverse.specs.Slots.{HasGlance, ShowsLate}
@@ -27,59 +27,60 @@ use Rattle.std.specs.Prelude.{IfOk}
 use Rattle.zst_traverse.proofs.leaves.look.Given as given
 use Rattle.zst_traverse.proofs.StepLaws.{calls_then}
 use Rattle.zst_traverse.proofs.leaves.look.Goals as goal
+use Rattle.zst_model.specs.sends.Inclusion.{Pairs}
 
 pub returns-in-None-clause-shows : goal.returns-in-None-clause-shows
-returns-in-None-clause-shows g c = λ snap honest stands.
+returns-in-None-clause-shows g c = λ snap pairs honest stands.
     let loaded = c.in_ok-load_leaf.ensures.loaded honest in
-    let spells = spelled _ _ snap c.args.leaf.now c.load_leaf.new.io.node stands c.requires.count.0 c.requires.index c.if-leaf-eq0.false loaded in
+    let spells = spelled _ _ pairs snap c.args.leaf.now c.load_leaf.new.io.node stands c.requires.count.0 c.requires.index c.if-leaf-eq0.false loaded in
     absurd (lacks_none _ _ spells c.in-None.ensures.none)
 
 pub returns-in-Some-Nothing-clause-shows : goal.returns-in-Some-Nothing-clause-shows
-returns-in-Some-Nothing-clause-shows g c = λ snap honest stands.
+returns-in-Some-Nothing-clause-shows g c = λ snap pairs honest stands.
     let leaf = c.args.leaf.now in
     let place = c.args.from - 16 * leaf.index in
     let node = c.load_leaf.new.io.node in
     let isnt = c.if-leaf-eq0.false in
     let loaded = c.in_ok-load_leaf.ensures.loaded honest in
-    let is = leaf_is _ _ snap leaf node stands c.requires.count.0 c.requires.index isnt loaded in
-    let spells = spelled _ _ snap leaf node stands c.requires.count.0 c.requires.index isnt loaded in
-    nothing_shown _ _ snap leaf node stands c.requires.count.0 c.requires.index isnt loaded c.args.source c.args.from place (omega arith) c.requires.from.0
+    let is = leaf_is _ _ pairs snap leaf node stands c.requires.count.0 c.requires.index isnt loaded in
+    let spells = spelled _ _ pairs snap leaf node stands c.requires.count.0 c.requires.index isnt loaded in
+    nothing_shown _ _ pairs snap leaf node stands c.requires.count.0 c.requires.index isnt loaded c.args.source c.args.from place (omega arith) c.requires.from.0
     (subst (λ (seen : Glance). ShowsLate is.slots c.args.source leaf.index place seen) c.in-Some-Nothing.field-0-is (c.in-Some-Nothing.ensures.shows is.slots spells))
 
 pub returns-in-Some-Nothing-clause-late : goal.returns-in-Some-Nothing-clause-late
-returns-in-Some-Nothing-clause-late g c = λ snap honest stands tight late start.
+returns-in-Some-Nothing-clause-late g c = λ snap pairs honest stands tight late start.
     let leaf = c.args.leaf.now in
     let place = c.args.from - 16 * leaf.index in
     let node = c.load_leaf.new.io.node in
     let isnt = c.if-leaf-eq0.false in
     let loaded = c.in_ok-load_leaf.ensures.loaded honest in
-    let is = leaf_is _ _ snap leaf node stands c.requires.count.0 c.requires.index isnt loaded in
-    let spells = spelled _ _ snap leaf node stands c.requires.count.0 c.requires.index isnt loaded in
-    late_shown _ _ snap leaf node stands c.requires.count.0 c.requires.index isnt loaded c.args.source c.args.from place (omega arith) c.requires.from.0 late start
+    let is = leaf_is _ _ pairs snap leaf node stands c.requires.count.0 c.requires.index isnt loaded in
+    let spells = spelled _ _ pairs snap leaf node stands c.requires.count.0 c.requires.index isnt loaded in
+    late_shown _ _ pairs snap leaf node stands c.requires.count.0 c.requires.index isnt loaded c.args.source c.args.from place (omega arith) c.requires.from.0 late start
     (subst (λ (seen : Glance). ShowsLate is.slots c.args.source leaf.index place seen) c.in-Some-Nothing.field-0-is (c.in-Some-Nothing.ensures.shows is.slots spells))
 
 pub returns-in-Some-Absent-clause-shows : goal.returns-in-Some-Absent-clause-shows
-returns-in-Some-Absent-clause-shows g c = λ snap honest stands.
+returns-in-Some-Absent-clause-shows g c = λ snap pairs honest stands.
     let leaf = c.args.leaf.now in
     let place = c.args.from - 16 * leaf.index in
     let node = c.load_leaf.new.io.node in
     let isnt = c.if-leaf-eq0.false in
     let loaded = c.in_ok-load_leaf.ensures.loaded honest in
-    let is = leaf_is _ _ snap leaf node stands c.requires.count.0 c.requires.index isnt loaded in
-    let spells = spelled _ _ snap leaf node stands c.requires.count.0 c.requires.index isnt loaded in
-    gone_shown _ _ snap leaf node stands c.requires.count.0 c.requires.index isnt loaded c.args.source c.args.from place (omega arith) c.requires.from.0 c.in-Some-Absent.first c.in-Some-Absent.count
+    let is = leaf_is _ _ pairs snap leaf node stands c.requires.count.0 c.requires.index isnt loaded in
+    let spells = spelled _ _ pairs snap leaf node stands c.requires.count.0 c.requires.index isnt loaded in
+    gone_shown _ _ pairs snap leaf node stands c.requires.count.0 c.requires.index isnt loaded c.args.source c.args.from place (omega arith) c.requires.from.0 c.in-Some-Absent.first c.in-Some-Absent.count
     (subst (λ (seen : Glance). ShowsLate is.slots c.args.source leaf.index place seen) c.in-Some-Absent.field-0-is (c.in-Some-Absent.ensures.shows is.slots spells))
 
 pub returns-in-Some-There-clause-shows : goal.returns-in-Some-There-clause-shows
-returns-in-Some-There-clause-shows g c = λ snap honest stands.
+returns-in-Some-There-clause-shows g c = λ snap pairs honest stands.
     let leaf = c.args.leaf.now in
     let place = c.args.from - 16 * leaf.index in
     let at = c.in-Some-There.place in
     let dnode = c.in-Some-There.dnode in
-    let shown = object_shown _ _ snap leaf c.load_leaf.new.io.node stands c.requires.count.0 c.requires.index c.if-leaf-eq0.false (c.in_ok-load_leaf.ensures.loaded (c.judged.ensures.looks.reads.honest honest)) c.args.source c.args.from place (omega arith) c.requires.from.0 at dnode
+    let shown = object_shown _ _ pairs snap leaf c.load_leaf.new.io.node stands c.requires.count.0 c.requires.index c.if-leaf-eq0.false (c.in_ok-load_leaf.ensures.loaded (c.judged.ensures.looks.reads.honest honest)) c.args.source c.args.from place (omega arith) c.requires.from.0 at dnode
     (λ held spells. subst (λ (seen : Glance). ShowsLate held c.args.source leaf.index place seen) c.in-Some-There.field-0-is (c.in-Some-There.ensures.shows held spells)) in
-    let on = look_on (λ (seen : List ℕ) (space : FreeSectors). IsThere (Has seen space) snap (16 * leaf.index + at) dnode) _ _ _ _ _ _ _ c.in_ok-load_leaf.ensures.looks shown.there in
-    let back = look_back (λ (seen : List ℕ) (space : FreeSectors). Delivers (ShowsAhead (Has seen space) snap (choice_after c.args.source) (16 * leaf.index + at)) c.judged.result) _ _ _ _ _ _ _ c.in_ok-load_leaf.ensures.looks (c.judged.ensures.shows snap honest on) in
+    let on = look_on (λ (seen : List ℕ) (space : FreeSectors). IsThereIn (Has seen space) (outside pairs (Has seen space)) snap (16 * leaf.index + at) dnode) _ _ _ _ _ _ _ c.in_ok-load_leaf.ensures.looks shown.there in
+    let back = look_back (λ (seen : List ℕ) (space : FreeSectors). Delivers (ShowsAhead (Has seen space) (outside pairs (Has seen space)) snap (choice_after c.args.source) (16 * leaf.index + at)) c.judged.result) _ _ _ _ _ _ _ c.in_ok-load_leaf.ensures.looks (c.judged.ensures.shows snap pairs honest on) in
     delivers_if _ _ c.judged.result shown.behind back
 
 -- the dnode that is judged may stand in the set
@@ -106,26 +107,26 @@ returns-in-Some-There-clause-damaged g c = λ set honest hangs.
     seen_before _ _ _ _ _ _ _ c.in_ok-load_leaf.ensures.looks (λ (seen : List ℕ) (size : ℕ). IfDamaged c.judged.result (IsDamagedCell (IsSeen seen) size set)) (c.judged.ensures.damaged set honest on)
 
 -- in a tight leaf an object that is shown is next
-is_next : (g : given.Over) (c : goal.After-judged g) (snap : DatedState) → (g.D.Disk.state c.judged.new.io.disk.now).honest → StandsFor (Has (g.D.Disk.state c.args.io.now.disk.now).seen c.args.io.now.space) snap c.args.leaf.now
+is_next : (g : given.Over) (c : goal.After-judged g) (snap : DatedState) (pairs : Pairs) → (g.D.Disk.state c.judged.new.io.disk.now).honest → StandsFor (Has (g.D.Disk.state c.args.io.now.disk.now).seen c.args.io.now.space) (outside pairs (Has (g.D.Disk.state c.args.io.now.disk.now).seen c.args.io.now.space)) snap c.args.leaf.now
     → IsTightLeaf (Has (g.D.Disk.state c.args.io.now.disk.now).seen c.args.io.now.space) snap c.args.leaf.now.index c.args.leaf.now.ptr → IfOk c.judged.result IsNext
-is_next g c snap honest stands tight =
+is_next g c snap pairs honest stands tight =
     let leaf = c.args.leaf.now in
     let place = c.args.from - 16 * leaf.index in
     let at = c.in-Some-There.place in
     let dnode = c.in-Some-There.dnode in
-    let shown = object_shown _ _ snap leaf c.load_leaf.new.io.node stands c.requires.count.0 c.requires.index c.if-leaf-eq0.false (c.in_ok-load_leaf.ensures.loaded (c.judged.ensures.looks.reads.honest honest)) c.args.source c.args.from place (omega arith) c.requires.from.0 at dnode
+    let shown = object_shown _ _ pairs snap leaf c.load_leaf.new.io.node stands c.requires.count.0 c.requires.index c.if-leaf-eq0.false (c.in_ok-load_leaf.ensures.loaded (c.judged.ensures.looks.reads.honest honest)) c.args.source c.args.from place (omega arith) c.requires.from.0 at dnode
     (λ held spells. subst (λ (seen : Glance). ShowsLate held c.args.source leaf.index place seen) c.in-Some-There.field-0-is (c.in-Some-There.ensures.shows held spells)) in
-    let on = look_on (λ (seen : List ℕ) (space : FreeSectors). IsThere (Has seen space) snap (16 * leaf.index + at) dnode) _ _ _ _ _ _ _ c.in_ok-load_leaf.ensures.looks shown.there in
-    c.judged.ensures.next snap honest on (shown.tight tight) shown.late
+    let on = look_on (λ (seen : List ℕ) (space : FreeSectors). IsThereIn (Has seen space) (outside pairs (Has seen space)) snap (16 * leaf.index + at) dnode) _ _ _ _ _ _ _ c.in_ok-load_leaf.ensures.looks shown.there in
+    c.judged.ensures.next snap pairs honest on (shown.tight tight) shown.late
 
 pub returns-in-Some-There-clause-ends : goal.returns-in-Some-There-clause-ends
-returns-in-Some-There-clause-ends g c = λ snap honest stands tight. if_ok IsNext EndsLeaf next_ends c.judged.result (is_next g c snap honest stands tight)
+returns-in-Some-There-clause-ends g c = λ snap pairs honest stands tight. if_ok IsNext EndsLeaf next_ends c.judged.result (is_next g c snap pairs honest stands tight)
 
 pub returns-in-Some-There-clause-few : goal.returns-in-Some-There-clause-few
-returns-in-Some-There-clause-few g c = λ snap honest stands tight. if_ok IsNext _ (next_some _) c.judged.result (is_next g c snap honest stands tight)
+returns-in-Some-There-clause-few g c = λ snap pairs honest stands tight. if_ok IsNext _ (next_some _) c.judged.result (is_next g c snap pairs honest stands tight)
 
 pub returns-in-Some-There-clause-late : goal.returns-in-Some-There-clause-late
-returns-in-Some-There-clause-late g c = λ snap honest stands tight late start. is_next g c snap honest stands tight
+returns-in-Some-There-clause-late g c = λ snap pairs honest stands tight late start. is_next g c snap pairs honest stands tight
 
 pub returns-in-Some-There-clause-looks : goal.returns-in-Some-There-clause-looks
 returns-in-Some-There-clause-looks g c = Looks-then c.in_ok-load_leaf.ensures.looks c.judged.ensures.looks
@@ -146,7 +147,7 @@ pub returns-then-leaf-eq0-clause-ranges : goal.returns-then-leaf-eq0-clause-rang
 returns-then-leaf-eq0-clause-ranges g c = c.in_hole.ensures.ranges
 
 pub returns-then-leaf-eq0-clause-ends : goal.returns-then-leaf-eq0-clause-ends
-returns-then-leaf-eq0-clause-ends g c = λ snap honest stands tight. c.in_hole.ensures.ends
+returns-then-leaf-eq0-clause-ends g c = λ snap pairs honest stands tight. c.in_hole.ensures.ends
 
 pub returns-in_err-load_leaf-clause-ranges : goal.returns-in_err-load_leaf-clause-ranges
 returns-in_err-load_leaf-clause-ranges g c =
@@ -164,17 +165,17 @@ returns-in_err-load_leaf-clause-stands g c = λ set honest hangs.
     rw p.1 tt
 
 pub returns-in_err-load_leaf-clause-ends : goal.returns-in_err-load_leaf-clause-ends
-returns-in_err-load_leaf-clause-ends g c = λ snap honest stands tight.
+returns-in_err-load_leaf-clause-ends g c = λ snap pairs honest stands tight.
     let p = err_from_is_err_and c.from_residual.result c.from_residual.ensures.1 in
     rw p.1 tt
 
 pub returns-in_err-load_leaf-clause-few : goal.returns-in_err-load_leaf-clause-few
-returns-in_err-load_leaf-clause-few g c = λ snap honest stands tight.
+returns-in_err-load_leaf-clause-few g c = λ snap pairs honest stands tight.
     let p = err_from_is_err_and c.from_residual.result c.from_residual.ensures.1 in
     rw p.1 tt
 
 pub returns-in_err-load_leaf-clause-late : goal.returns-in_err-load_leaf-clause-late
-returns-in_err-load_leaf-clause-late g c = λ snap honest stands tight after at.
+returns-in_err-load_leaf-clause-late g c = λ snap pairs honest stands tight after at.
     let p = err_from_is_err_and c.from_residual.result c.from_residual.ensures.1 in
     rw p.1 tt
 
@@ -202,13 +203,13 @@ pub returns-in-None-clause-stands : goal.returns-in-None-clause-stands
 returns-in-None-clause-stands g c = λ set honest hangs. tt
 
 pub returns-in-None-clause-ends : goal.returns-in-None-clause-ends
-returns-in-None-clause-ends g c = λ snap honest stands tight. tt
+returns-in-None-clause-ends g c = λ snap pairs honest stands tight. tt
 
 pub returns-in-None-clause-few : goal.returns-in-None-clause-few
-returns-in-None-clause-few g c = λ snap honest stands tight. tt
+returns-in-None-clause-few g c = λ snap pairs honest stands tight. tt
 
 pub returns-in-None-clause-late : goal.returns-in-None-clause-late
-returns-in-None-clause-late g c = λ snap honest stands tight after at. tt
+returns-in-None-clause-late g c = λ snap pairs honest stands tight after at. tt
 
 pub returns-in-None-clause-calls : goal.returns-in-None-clause-calls
 returns-in-None-clause-calls g c = c.in_ok-load_leaf.ensures.calls
@@ -256,7 +257,7 @@ pub returns-in-Some-Absent-clause-same : goal.returns-in-Some-Absent-clause-same
 returns-in-Some-Absent-clause-same g c = c.in_ok-load_leaf.ensures.same
 
 pub returns-in-Some-Absent-clause-ends : goal.returns-in-Some-Absent-clause-ends
-returns-in-Some-Absent-clause-ends g c = λ snap honest stands tight. tt
+returns-in-Some-Absent-clause-ends g c = λ snap pairs honest stands tight. tt
 
 pub returns-in-Some-There-clause-kept_fit : goal.returns-in-Some-There-clause-kept_fit
 returns-in-Some-There-clause-kept_fit g c = c.judged.ensures.kept_fit

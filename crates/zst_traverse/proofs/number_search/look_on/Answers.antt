@@ -18,25 +18,26 @@ use Rattle.zst_traverse.proofs.LeafLooks.{if_ok, next_all}
 use Rattle.zst_traverse.proofs.Numbers.{ahead_behind, leaves_early, stands_for}
 use Rattle.zst_traverse.proofs.StepLaws.{calls_then}
 use Rattle.zst_traverse.proofs.number_search.look_on.Goals as goal
+use Rattle.zst_objset.specs.Dnodes.{outside}
 
 pub returns-in_err-next_late-clause-shows : goal.returns-in_err-next_late-clause-shows
-returns-in_err-next_late-clause-shows g c = λ snap honest holds.
+returns-in_err-next_late-clause-shows g c = λ snap pairs honest holds.
     let p = err_from_is_err_and c.from_residual.result c.from_residual.ensures.1 in
     rw (p.1, p.2) (c.in_err-next_late.ensures.late holds.map honest holds.tree)
 
 pub returns-in_err-leaf-in-Some-clause-shows : goal.returns-in_err-leaf-in-Some-clause-shows
-returns-in_err-leaf-in-Some-clause-shows g c = λ snap honest holds.
+returns-in_err-leaf-in-Some-clause-shows g c = λ snap pairs honest holds.
     let p = err_from_is_err_and c.from_residual-in_err-leaf-in-Some.result c.from_residual-in_err-leaf-in-Some.ensures.1 in
     let tree = look_on (λ (seen : List ℕ) (space : FreeSectors). TreeIs (Has seen space) c.args.set.now.tree holds.map) _ _ _ _ _ _ _ c.in_ok-next_late.ensures.looks holds.tree in
     rw (p.1, p.2) (c.in_err-leaf-in-Some.ensures.shows holds.map honest tree)
 
 pub returns-in-None-clause-shows : goal.returns-in-None-clause-shows
-returns-in-None-clause-shows g c = λ snap honest holds k over under.
-    leaves_early _ snap c.args.source c.args.set.now holds c.args.from (2 ^ 44) c.requires.from.0 (omega arith)
+returns-in-None-clause-shows g c = λ snap pairs honest holds k over under.
+    leaves_early _ _ snap c.args.source c.args.set.now holds c.args.from (2 ^ 44) c.requires.from.0 (omega arith)
     (subst (λ (found : Option ℕ). FindsLate holds.map c.args.source (c.args.from / 16) (2 ^ 44) found) c.in-None.is (c.in_ok-next_late.ensures.late holds.map honest holds.tree)) k over (omega arith)
 
 pub returns-in_ok-leaf-in-Some-clause-shows : goal.returns-in_ok-leaf-in-Some-clause-shows
-returns-in_ok-leaf-in-Some-clause-shows g c = λ snap honest holds.
+returns-in_ok-leaf-in-Some-clause-shows g c = λ snap pairs honest holds.
     let index = c.in-Some.index in
     let leaf = c.in_ok-leaf-in-Some.leaf in
     let there = c.look.ensures.looks.reads.honest honest in
@@ -44,17 +45,17 @@ returns-in_ok-leaf-in-Some-clause-shows g c = λ snap honest holds.
     let first : IsFirstLate holds.map c.args.source (c.args.from / 16) (2 ^ 44) index = subst (λ (found : Option ℕ). FindsLate holds.map c.args.source (c.args.from / 16) (2 ^ 44) found) c.in-Some.is (c.in_ok-next_late.ensures.late holds.map was holds.tree) in
     let tree = look_on (λ (seen : List ℕ) (space : FreeSectors). TreeIs (Has seen space) c.args.set.now.tree holds.map) _ _ _ _ _ _ _ c.in_ok-next_late.ensures.looks holds.tree in
     let shows : Shows holds.map index (leaf.ptr, leaf.count) = c.in_ok-leaf-in-Some.ensures.shows holds.map there tree in
-    let stands = stands_for _ c.args.set.now snap holds leaf (subst (λ (n : ℕ). Shows holds.map n (leaf.ptr, leaf.count)) (sym c.in_ok-leaf-in-Some.ensures.index) shows) in
+    let stands = stands_for _ _ c.args.set.now snap holds leaf (subst (λ (n : ℕ). Shows holds.map n (leaf.ptr, leaf.count)) (sym c.in_ok-leaf-in-Some.ensures.index) shows) in
     let looks = Looks-then c.in_ok-next_late.ensures.looks c.in_ok-leaf-in-Some.ensures.looks in
-    let on = look_on (λ (seen : List ℕ) (space : FreeSectors). StandsFor (Has seen space) snap leaf) _ _ _ _ _ _ _ looks stands in
-    let back = look_back (λ (seen : List ℕ) (space : FreeSectors). Delivers (ShowsAhead (Has seen space) snap (choice_after c.args.source) c.max.result) c.look.result) _ _ _ _ _ _ _ looks (c.look.ensures.shows snap honest on) in
+    let on = look_on (λ (seen : List ℕ) (space : FreeSectors). StandsFor (Has seen space) (outside pairs (Has seen space)) snap leaf) _ _ _ _ _ _ _ looks stands in
+    let back = look_back (λ (seen : List ℕ) (space : FreeSectors). Delivers (ShowsAhead (Has seen space) (outside pairs (Has seen space)) snap (choice_after c.args.source) c.max.result) c.look.result) _ _ _ _ _ _ _ looks (c.look.ensures.shows snap pairs honest on) in
     let under : index < 2 ^ 44 = first.under in
     let none : NoNumber snap (choice_after c.args.source) c.args.from c.max.result = λ k over less.
-    leaves_early _ snap c.args.source c.args.set.now holds c.args.from index c.requires.from.0 (omega arith) first.none_before k over (omega arith) in
-    delivers_if _ _ c.look.result (λ shown. ahead_behind _ snap c.args.source c.args.from c.max.result shown (omega arith) none) back
+    leaves_early _ _ snap c.args.source c.args.set.now holds c.args.from index c.requires.from.0 (omega arith) first.none_before k over (omega arith) in
+    delivers_if _ _ c.look.result (λ shown. ahead_behind _ _ snap c.args.source c.args.from c.max.result shown (omega arith) none) back
 
 pub returns-in_ok-leaf-in-Some-clause-ends : goal.returns-in_ok-leaf-in-Some-clause-ends
-returns-in_ok-leaf-in-Some-clause-ends g c = λ snap honest tight start.
+returns-in_ok-leaf-in-Some-clause-ends g c = λ snap pairs honest tight start.
     let holds = tight.holds in
     let index = c.in-Some.index in
     let leaf = c.in_ok-leaf-in-Some.leaf in
@@ -64,9 +65,9 @@ returns-in_ok-leaf-in-Some-clause-ends g c = λ snap honest tight start.
     let tree = look_on (λ (seen : List ℕ) (space : FreeSectors). TreeIs (Has seen space) c.args.set.now.tree holds.map) _ _ _ _ _ _ _ c.in_ok-next_late.ensures.looks holds.tree in
     let shows : Shows holds.map index (leaf.ptr, leaf.count) = c.in_ok-leaf-in-Some.ensures.shows holds.map there tree in
     let index_is : leaf.index ≡ index = c.in_ok-leaf-in-Some.ensures.index in
-    let stands = stands_for _ c.args.set.now snap holds leaf (subst (λ (n : ℕ). Shows holds.map n (leaf.ptr, leaf.count)) (sym index_is) shows) in
+    let stands = stands_for _ _ c.args.set.now snap holds leaf (subst (λ (n : ℕ). Shows holds.map n (leaf.ptr, leaf.count)) (sym index_is) shows) in
     let looks = Looks-then c.in_ok-next_late.ensures.looks c.in_ok-leaf-in-Some.ensures.looks in
-    let on = look_on (λ (seen : List ℕ) (space : FreeSectors). StandsFor (Has seen space) snap leaf) _ _ _ _ _ _ _ looks stands in
+    let on = look_on (λ (seen : List ℕ) (space : FreeSectors). StandsFor (Has seen space) (outside pairs (Has seen space)) snap leaf) _ _ _ _ _ _ _ looks stands in
     let under : index < 2 ^ 44 = first.under in
     let from_on : c.args.from / 16 ≤ index = first.from_on in
     let some : 0 < leaf.count = shows.some in
@@ -75,7 +76,7 @@ returns-in_ok-leaf-in-Some-clause-ends g c = λ snap honest tight start.
     let leaf_tight : IsTightLeaf has snap leaf.index leaf.ptr = subst (λ (n : ℕ). IsTightLeaf has snap n leaf.ptr) (sym index_is) (subst (λ (p : Ptr). IsTightLeaf has snap index p) same (tight.tight index under)) in
     let tight_on = look_on (λ (seen : List ℕ) (space : FreeSectors). IsTightLeaf (Has seen space) snap leaf.index leaf.ptr) _ _ _ _ _ _ _ looks leaf_tight in
     let late : is_after c.args.source leaf.ptr.number ≡ true = subst (λ (p : Ptr). is_after c.args.source p.number ≡ true) same first.late in
-    if_ok IsNext EndsAll next_all c.look.result (c.look.ensures.late snap honest on tight_on late (omega arith))
+    if_ok IsNext EndsAll next_all c.look.result (c.look.ensures.late snap pairs honest on tight_on late (omega arith))
 
 pub returns-in_ok-leaf-in-Some-clause-looks : goal.returns-in_ok-leaf-in-Some-clause-looks
 returns-in_ok-leaf-in-Some-clause-looks g c = Looks-then c.in_ok-next_late.ensures.looks (Looks-then c.in_ok-leaf-in-Some.ensures.looks c.look.ensures.looks)
@@ -96,7 +97,7 @@ returns-in_err-next_late-clause-stands g c = λ honest.
     rw p.1 tt
 
 pub returns-in_err-next_late-clause-ends : goal.returns-in_err-next_late-clause-ends
-returns-in_err-next_late-clause-ends g c = λ snap honest tight whole.
+returns-in_err-next_late-clause-ends g c = λ snap pairs honest tight whole.
     let p = err_from_is_err_and c.from_residual.result c.from_residual.ensures.1 in
     rw p.1 tt
 
@@ -148,7 +149,7 @@ returns-in_err-leaf-in-Some-clause-stands g c = λ honest.
     rw p.1 tt
 
 pub returns-in_err-leaf-in-Some-clause-ends : goal.returns-in_err-leaf-in-Some-clause-ends
-returns-in_err-leaf-in-Some-clause-ends g c = λ snap honest tight whole.
+returns-in_err-leaf-in-Some-clause-ends g c = λ snap pairs honest tight whole.
     let p = err_from_is_err_and c.from_residual-in_err-leaf-in-Some.result c.from_residual-in_err-leaf-in-Some.ensures.1 in
     rw p.1 tt
 

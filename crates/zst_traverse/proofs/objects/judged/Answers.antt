@@ -11,31 +11,31 @@ use Rattle.zst_traverse.proofs.SlotDates.{tight_touched}
 use Rattle.zst_traverse.proofs.objects.judged.Goals as goal
 
 pub returns-then-is_after-clause-shows : goal.returns-then-is_after-clause-shows
-returns-then-is_after-clause-shows g c = λ snap honest there.
-    date_shown _ snap c.args.source c.args.number c.args.dnode there c.requires.number.0 c.requires.number.1 (sym c.is_after.ensures ∙ c.if-is_after.true)
+returns-then-is_after-clause-shows g c = λ snap pairs honest there.
+    date_shown _ _ snap c.args.source c.args.number c.args.dnode there c.requires.number.0 c.requires.number.1 (sym c.is_after.ensures ∙ c.if-is_after.true)
 
 pub returns-in_err-next_late-clause-shows : goal.returns-in_err-next_late-clause-shows
-returns-in_err-next_late-clause-shows g c = λ snap honest there.
+returns-in_err-next_late-clause-shows g c = λ snap pairs honest there.
     let p = err_from_is_err_and c.from_residual.result c.from_residual.ensures.1 in
     let tree = subst (λ (t : Tree). TreeIs (Has (g.D.Disk.state c.args.io.now.disk.now).seen c.args.io.now.space) t there.map) (sym c.tree_of.ensures) there.is.tree in
     rw (p.1, p.2) (c.in_err-next_late.ensures.late there.map honest tree)
 
 pub returns-in-Some-clause-shows : goal.returns-in-Some-clause-shows
-returns-in-Some-clause-shows g c = λ snap honest there.
+returns-in-Some-clause-shows g c = λ snap pairs honest there.
     let tree = subst (λ (t : Tree). TreeIs (Has (g.D.Disk.state c.args.io.now.disk.now).seen c.args.io.now.space) t there.map) (sym c.tree_of.ensures) there.is.tree in
-    index_shown _ snap c.args.source c.args.number c.args.dnode there c.requires.number.0 c.requires.number.1 c.in-Some.field-0
+    index_shown _ _ snap c.args.source c.args.number c.args.dnode there c.requires.number.0 c.requires.number.1 c.in-Some.field-0
     (subst (λ (found : Option ℕ). FindsLate there.map c.args.source 0 (2 ^ 43) found) c.in-Some.is (c.in_ok-next_late.ensures.late there.map honest tree))
 
 pub returns-in-None-clause-shows : goal.returns-in-None-clause-shows
-returns-in-None-clause-shows g c = λ snap honest there.
+returns-in-None-clause-shows g c = λ snap pairs honest there.
     let tree = subst (λ (t : Tree). TreeIs (Has (g.D.Disk.state c.args.io.now.disk.now).seen c.args.io.now.space) t there.map) (sym c.tree_of.ensures) there.is.tree in
-    early_passed _ snap c.args.source c.args.number c.args.dnode there c.requires.number.0 c.requires.number.1 (sym c.is_after.ensures ∙ c.if-is_after.false)
+    early_passed _ _ snap c.args.source c.args.number c.args.dnode there c.requires.number.0 c.requires.number.1 (sym c.is_after.ensures ∙ c.if-is_after.false)
     (subst (λ (found : Option ℕ). FindsLate there.map c.args.source 0 (2 ^ 43) found) c.in-None.is (c.in_ok-next_late.ensures.late there.map honest tree))
 
 pub returns-in-None-clause-next : goal.returns-in-None-clause-next
-returns-in-None-clause-next g c = λ snap honest there tight late.
+returns-in-None-clause-next g c = λ snap pairs honest there tight late.
     let tree = subst (λ (t : Tree). TreeIs (Has (g.D.Disk.state c.args.io.now.disk.now).seen c.args.io.now.space) t there.map) (sym c.tree_of.ensures) there.is.tree in
-    tight_touched _ snap c.args.source c.args.number c.args.dnode there tight late (sym c.is_after.ensures ∙ c.if-is_after.false)
+    tight_touched _ _ snap c.args.source c.args.number c.args.dnode there tight late (sym c.is_after.ensures ∙ c.if-is_after.false)
     (subst (λ (found : Option ℕ). FindsLate there.map c.args.source 0 (2 ^ 43) found) c.in-None.is (c.in_ok-next_late.ensures.late there.map honest tree))
 
 pub returns-then-is_after-clause-damaged : goal.returns-then-is_after-clause-damaged
@@ -51,7 +51,7 @@ pub returns-then-is_after-clause-same : goal.returns-then-is_after-clause-same
 returns-then-is_after-clause-same g c = refl
 
 pub returns-then-is_after-clause-next : goal.returns-then-is_after-clause-next
-returns-then-is_after-clause-next g c = λ snap honest there tight after. tt
+returns-then-is_after-clause-next g c = λ snap pairs honest there tight after. tt
 
 pub returns-in_err-next_late-clause-ranges : goal.returns-in_err-next_late-clause-ranges
 returns-in_err-next_late-clause-ranges g c =
@@ -69,7 +69,7 @@ returns-in_err-next_late-clause-stands g c = λ set honest stands.
     rw p.1 tt
 
 pub returns-in_err-next_late-clause-next : goal.returns-in_err-next_late-clause-next
-returns-in_err-next_late-clause-next g c = λ snap honest there tight after.
+returns-in_err-next_late-clause-next g c = λ snap pairs honest there tight after.
     let p = err_from_is_err_and c.from_residual.result c.from_residual.ensures.1 in
     rw p.1 tt
 
@@ -127,7 +127,7 @@ pub returns-in-None-clause-same : goal.returns-in-None-clause-same
 returns-in-None-clause-same g c = c.in_ok-next_late.ensures.same
 
 pub returns-in-Some-clause-next : goal.returns-in-Some-clause-next
-returns-in-Some-clause-next g c = λ snap honest there tight after. tt
+returns-in-Some-clause-next g c = λ snap pairs honest there tight after. tt
 
 pub returns-in-None-clause-stands : goal.returns-in-None-clause-stands
 returns-in-None-clause-stands g c = λ set honest stands. tt

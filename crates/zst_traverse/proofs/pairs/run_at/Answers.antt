@@ -9,7 +9,7 @@ use Rattle.zst_traverse.proofs.Indices.{cell_stands, is_run, no_cell, run_has_ce
 use Rattle.zst_traverse.proofs.pairs.run_at.Goals as goal
 
 pub returns-in_err-ptr-clause-run : goal.returns-in_err-ptr-clause-run
-returns-in_err-ptr-clause-run g c = λ object date dates map honest lawful is.
+returns-in_err-ptr-clause-run g c = λ object date dates map withheld honest lawful read is.
     let p = err_from_is_err_and c.from_residual.result c.from_residual.ensures.1 in
     let tree = subst (λ (t : Tree). TreeIs (Has (g.D.Disk.state c.args.io.now.disk.now).seen c.args.io.now.space) t map) (sym c.tree_of.ensures) is.tree in
     rw (p.1, p.2) (c.in_err-ptr.ensures.shows map honest tree)
@@ -23,10 +23,10 @@ returns-in_err-ptr-clause-damaged g c = λ set honest stands.
     (subst (λ (t : Tree). TellsNode seen size NamesNode t.levels t.root c.in_err-ptr.field-0.0) c.tree_of.ensures (c.in_err-ptr.ensures.damaged honest)))
 
 pub returns-in_default-clause-run : goal.returns-in_default-clause-run
-returns-in_default-clause-run g c = λ object date dates map honest lawful is.
+returns-in_default-clause-run g c = λ object date dates map withheld honest lawful read is.
     let has = Has (g.D.Disk.state c.args.io.now.disk.now).seen c.args.io.now.space in
     let tree = subst (λ (t : Tree). TreeIs has t map) (sym c.tree_of.ensures) is.tree in
-    absurd (run_has_cell _ _ c.args.dnode.now object date dates map lawful is c.args.index c.requires.index c.requires.dnode.end c.in_ok-ptr.ptr c.in_ok-ptr.alike (c.in_ok-ptr.ensures.shows map honest tree) (cc))
+    absurd (run_has_cell _ _ c.args.dnode.now object date dates map lawful withheld is c.args.index read c.requires.index c.requires.dnode.end c.in_ok-ptr.ptr c.in_ok-ptr.alike (c.in_ok-ptr.ensures.shows map honest tree) (cc))
 
 pub returns-in_default-clause-damaged : goal.returns-in_default-clause-damaged
 returns-in_default-clause-damaged g c = λ set honest stands.
@@ -42,11 +42,11 @@ returns-clause-stands g c = λ set honest stands.
     cell_stands seen set c.args.dnode.now stands c.in_ok-ptr.ptr hangs _ (cc)
 
 pub returns-clause-run : goal.returns-clause-run
-returns-clause-run g c = λ object date dates map honest lawful is.
+returns-clause-run g c = λ object date dates map withheld honest lawful read is.
     let has = Has (g.D.Disk.state c.args.io.now.disk.now).seen c.args.io.now.space in
     let tree = subst (λ (t : Tree). TreeIs has t map) (sym c.tree_of.ensures) is.tree in
     let count = c.count_of-count.ensures in
-    is_run has c.args.dnode.now object date dates map is c.args.index c.requires.index c.requires.dnode.end _ c.in_ok-ptr.alike (c.in_ok-ptr.ensures.shows map honest tree) refl count.some count.most.0 (omega (arith, count.most.1, c.requires.index)) (cc) count.one
+    is_run has withheld c.args.dnode.now object date dates map is c.args.index c.requires.index c.requires.dnode.end _ c.in_ok-ptr.alike (c.in_ok-ptr.ensures.shows map honest tree) refl count.some count.most.0 (omega (arith, count.most.1, c.requires.index)) (cc) count.one
 
 pub returns-in_err-ptr-clause-ranges : goal.returns-in_err-ptr-clause-ranges
 returns-in_err-ptr-clause-ranges g c =

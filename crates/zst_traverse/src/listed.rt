@@ -1,0 +1,166 @@
+//! The first included number, where a list's pairs include numbers too.
+ghost use Rattle.std.specs.Prelude.{◌≡◌, ◌+◌, ◌*◌, ◌^◌, ◌<◌, ◌≤◌, ◌||◌, true, false, ℕ, IfOk, IfSome};
+ghost use Rattle.zst_block.specs.Blocks.{FitsDisk, Has};
+ghost use Rattle.zst_block.specs.IoCalls.{Looks, stop_of};
+ghost use Rattle.zst_dnode.specs.Dnode.{DnodeFits};
+ghost use Rattle.zst_model.specs.fields.Lists.{has_pair};
+ghost use Rattle.zst_model.specs.states.DatedState.{DatedState};
+ghost use Rattle.zst_tree.specs.Damage.{HangsIn, IsSeen, MayHave};
+ghost use Rattle.zst_tree.specs.Indices.{Delivers};
+ghost use Rattle.zst_objset.specs.Damage.{IfDamaged, StandsIn};
+ghost use Rattle.zst_objset.specs.Dnodes.{outside};
+ghost use Rattle.zst_objset.specs.Sets.{SetHoldsBut};
+ghost use Rattle.zst_objset.specs.TightSets.{IsTightLeaf, SetIsTightIn};
+ghost use Rattle.zst_traverse.specs.Cells.{choice_with};
+ghost use Rattle.zst_traverse.specs.Damage.{IsDamagedCell};
+ghost use Rattle.zst_traverse.specs.Leaves.{FindsNumber, NumberFits, StandsFor};
+ghost use Rattle.zst_traverse.specs.ListedNumbers.{AreIncluded, FindsListed, FindsObject, FindsOf, first_found, IsListedBelow, or_below};
+ghost use Rattle.zst_traverse.specs.StandingEntries.{NumberStands};
+
+use crate::cells::dnode_in;
+use crate::leaves::{Leaf, leaf_at};
+use crate::number_search::next_number;
+use crate::pairs::next_in;
+use crate::walk_entry::WalkEntry;
+use std::sync::ledger::Ledger;
+use zst_block::{BlockFault, Io};
+use zst_dnode::Dnode;
+use zst_model::List;
+use zst_model::limits::NUMBER_BOUND;
+use zst_outside::Disk;
+use zst_tree::{ObjSet, Steps};
+
+// The first number from one on of which a list has a pair.
+fn first_of(list: &List, from: u64) -> Option<u64>
+    ensures first { FindsOf list.now from result }
+{
+    match list.next_from(from, 0) {
+        Some((number, _)) => Some(number),
+        None => None,
+    }
+}
+
+fn or_below(found: Option<u64>, below: u64) -> u64
+    ensures { result ≡ or_below below found }
+{
+    match found {
+        Some(number) => number.min(below),
+        None => below,
+    }
+}
+
+// The first number from one on and below another of which one of two lists has a pair.
+fn next_of(listed: &List, withheld: &List, from: u64, below: u64) -> Option<u64>
+    ensures first { FindsListed listed.now withheld.now from below result }
+{
+    let one = first_of(listed, from);
+    let other = first_of(withheld, from);
+    let first = or_below(one, below).min(or_below(other, below));
+    if first < below { Some(first) } else { None }
+}
+
+// Whether one of two lists has a pair of an object below an end.
+fn is_listed(listed: &List, withheld: &List, object: u64, end: u64) -> bool
+    ensures some { result ≡ true → IsListedBelow listed.now withheld.now object end }
+    ensures none { result ≡ false → (i : ℕ) → i < end → (has_pair listed.now object i || has_pair withheld.now object i) ≡ false }
+{
+    match next_in(listed, object, 0, end) {
+        Some(_) => true,
+        None => match next_in(withheld, object, 0, end) {
+            Some(_) => true,
+            None => false,
+        },
+    }
+}
+
+// The object of a number, where a list has a pair of it below its end.
+fn listed_object<D: Disk, L: Ledger>(
+    io: &mut Io<'_, D>,
+    set: &ObjSet,
+    listed: &List,
+    withheld: &List,
+    number: u64,
+    steps: &mut Steps<L>,
+) -> Result<Option<Dnode>, BlockFault>
+    requires levels { set.now.tree.levels ≤ 7 }
+    requires number { (0 < number) × (number < 2 ^ 48) }
+    requires fits { FitsDisk (D.state io.old.disk.now).size io.old.space }
+    ensures found { (snap : DatedState) → (D.state io.new.disk.now).honest → SetHoldsBut (Has (D.state io.old.disk.now).seen io.old.space) (has_pair withheld.now) set.now snap
+        → Delivers (FindsObject (Has (D.state io.old.disk.now).seen io.old.space) (outside (has_pair withheld.now) (Has (D.state io.old.disk.now).seen io.old.space)) snap listed.now withheld.now number) result }
+    ensures ranges { IfOk result (λ found. IfSome found DnodeFits) }
+    ensures stands { (D.state io.new.disk.now).honest → IfOk result (λ found. IfSome found (StandsIn (IsSeen (D.state io.old.disk.now).seen) set.now)) }
+    ensures damaged { (D.state io.new.disk.now).honest → IfDamaged result (IsDamagedCell (IsSeen (D.state io.old.disk.now).seen) (D.state io.old.disk.now).size set.now) }
+    ensures looks { Looks (D.state io.old.disk.now) io.old.space io.old.failed (D.state io.new.disk.now) io.new.space io.new.failed (stop_of result) }
+    ensures steps { (steps.old ≤ steps.new) × (steps.new ≤ steps.old + 8) }
+    ensures calls { (D.state io.new.disk.now).calls + steps.old ≤ (D.state io.old.disk.now).calls + steps.new }
+    ensures kept_fit { FitsDisk (D.state io.new.disk.now).size io.new.space }
+    ensures same { io.new.disk.ghost_name ≡ io.old.disk.ghost_name }
+{
+    let leaf = leaf_at(io, &set.tree, number / 16, steps)?;
+    match dnode_in(io, &leaf, number, steps)? {
+        None => Ok(None),
+        Some(dnode) => {
+            if is_listed(listed, withheld, number, dnode.end) {
+                Ok(Some(dnode))
+            } else {
+                Ok(None)
+            }
+        }
+    }
+}
+
+// The number at which what is found begins.
+fn first_found(found: &Option<WalkEntry>) -> u64
+    ensures { result ≡ first_found found.now }
+{
+    match found {
+        None => NUMBER_BOUND,
+        Some(WalkEntry::Object { number, .. }) => *number,
+        Some(WalkEntry::Gone { first, .. }) => *first,
+        Some(WalkEntry::Pairs { object, .. }) => *object,
+    }
+}
+
+/// The first included number from one on, by a date or by a list's pair, at which a leaf ends or
+/// which stands in it.
+pub(crate) fn next_listed<D: Disk, L: Ledger>(
+    io: &mut Io<'_, D>,
+    set: &ObjSet,
+    source: Option<u64>,
+    listed: &List,
+    withheld: &List,
+    leaf: &Leaf,
+    from: u64,
+    steps: &mut Steps<L>,
+) -> Result<Option<WalkEntry>, BlockFault>
+    requires levels { set.now.tree.levels ≤ 7 }
+    requires index { leaf.now.index < 2 ^ 44 }
+    requires count { (0 < leaf.now.count) × (leaf.now.index + leaf.now.count ≤ 2 ^ 49) }
+    requires from { (0 < from) × (16 * leaf.now.index ≤ from) × (from ≤ 16 * leaf.now.index + 16) }
+    requires fits { FitsDisk (D.state io.old.disk.now).size io.old.space }
+    ensures found { (snap : DatedState) → (D.state io.new.disk.now).honest → SetHoldsBut (Has (D.state io.old.disk.now).seen io.old.space) (has_pair withheld.now) set.now snap
+        → StandsFor (Has (D.state io.old.disk.now).seen io.old.space) (outside (has_pair withheld.now) (Has (D.state io.old.disk.now).seen io.old.space)) snap leaf.now
+        → Delivers (FindsNumber (Has (D.state io.old.disk.now).seen io.old.space) (outside (has_pair withheld.now) (Has (D.state io.old.disk.now).seen io.old.space)) snap (choice_with source listed.now withheld.now) from) result }
+    ensures ranges { IfOk result (λ found. IfSome found (NumberFits from)) }
+    ensures stands { (D.state io.new.disk.now).honest → HangsIn (MayHave (IsSeen (D.state io.old.disk.now).seen)) set.now.tree leaf.now.ptr → IfOk result (λ found. IfSome found (NumberStands (IsSeen (D.state io.old.disk.now).seen) set.now)) }
+    ensures damaged { (D.state io.new.disk.now).honest → HangsIn (MayHave (IsSeen (D.state io.old.disk.now).seen)) set.now.tree leaf.now.ptr → IfDamaged result (IsDamagedCell (IsSeen (D.state io.old.disk.now).seen) (D.state io.old.disk.now).size set.now) }
+    ensures looks { Looks (D.state io.old.disk.now) io.old.space io.old.failed (D.state io.new.disk.now) io.new.space io.new.failed (stop_of result) }
+    ensures steps { steps.old ≤ steps.new }
+    ensures few { (snap : DatedState) → (D.state io.new.disk.now).honest → SetIsTightIn (Has (D.state io.old.disk.now).seen io.old.space) (outside (has_pair withheld.now) (Has (D.state io.old.disk.now).seen io.old.space)) set.now snap
+        → StandsFor (Has (D.state io.old.disk.now).seen io.old.space) (outside (has_pair withheld.now) (Has (D.state io.old.disk.now).seen io.old.space)) snap leaf.now → IsTightLeaf (Has (D.state io.old.disk.now).seen io.old.space) snap leaf.now.index leaf.now.ptr
+        → AreIncluded snap (choice_with source listed.now withheld.now) listed.now withheld.now → steps.new ≤ steps.old + 43 }
+    ensures calls { (D.state io.new.disk.now).calls + steps.old ≤ (D.state io.old.disk.now).calls + steps.new }
+    ensures kept_fit { FitsDisk (D.state io.new.disk.now).size io.new.space }
+    ensures same { io.new.disk.ghost_name ≡ io.old.disk.ghost_name }
+{
+    let by_date = next_number(io, set, source, leaf, from, steps)?;
+    let below = first_found(&by_date);
+    let mut at = from;
+    while let Some(number) = next_of(listed, withheld, at, below) {
+        match listed_object(io, set, listed, withheld, number, steps)? {
+            Some(dnode) => return Ok(Some(WalkEntry::Object { number, dnode })),
+            None => at = number + 1,
+        }
+    }
+    Ok(by_date)
+}
