@@ -18,9 +18,9 @@ use Rattle.zst_objset.proofs.RangeIndices.{within_times}
 use Rattle.zst_objset.proofs.RangeLaws.{no_redact}
 use Rattle.zst_dnode.specs.declared.dnode.Dnode.{Dnode}
 use Rattle.zst_apply.specs.Checks.{free_check, redact_check, write_check}
-use Rattle.zst_apply.specs.RangeChanges.{change_of, range_check}
-use Rattle.zst_apply.specs.declared.blocks.RangeChange.{RangeChange}
-use Rattle.zst_apply.specs.declared.blocks.RangeChange.TheVariants as ranges
+use Rattle.zst_apply.specs.Fills.{change_of, range_check}
+use Rattle.zst_apply.specs.declared.blocks.Fill.{Fill}
+use Rattle.zst_apply.specs.declared.blocks.Fill.TheVariants as fills
 
 -- a greater number of blocks takes more bytes
 times_below : (a b size : ℕ) → 0 < size → a < b → a * size < b * size
@@ -213,11 +213,11 @@ no_free offset count = no_holes (count == to_end) offset count
 
 -- ---- a change of a range of an object that isn't there, and one that is judged wrong
 
-pub no_change : (change : RangeChange) (offset count : ℕ) → apply_change (change_of change offset count) None ≡ Err NoObject
-no_change ranges.Free offset count = no_free offset count
-no_change ranges.Redact offset count = no_redact offset count
+pub no_change : (fill : Fill) (offset count : ℕ) → apply_change (change_of fill offset count) None ≡ Err NoObject
+no_change fills.Holes offset count = no_free offset count
+no_change fills.Redacted offset count = no_redact offset count
 
-pub change_refused : (change : RangeChange) (dnode : Dnode) (offset count : ℕ) (object : Object) (fault : ApplyFault) → dnode.type_ ≡ object.attr.type_ → dnode.block_size ≡ object.attr.block_size
-    → range_check change dnode offset count ≡ Err fault → apply_change (change_of change offset count) (Some object) ≡ Err fault
-change_refused ranges.Free dnode offset count object fault same_kind same is = free_refused offset count object dnode.block_size fault same is
-change_refused ranges.Redact dnode offset count object fault same_kind same is = redact_refused dnode.type_ dnode.block_size offset count object fault same_kind same is
+pub change_refused : (fill : Fill) (dnode : Dnode) (offset count : ℕ) (object : Object) (fault : ApplyFault) → dnode.type_ ≡ object.attr.type_ → dnode.block_size ≡ object.attr.block_size
+    → range_check fill dnode offset count ≡ Err fault → apply_change (change_of fill offset count) (Some object) ≡ Err fault
+change_refused fills.Holes dnode offset count object fault same_kind same is = free_refused offset count object dnode.block_size fault same is
+change_refused fills.Redacted dnode offset count object fault same_kind same is = redact_refused dnode.type_ dnode.block_size offset count object fault same_kind same is

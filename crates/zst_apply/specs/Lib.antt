@@ -3,5 +3,5 @@ pub mod Checks
 pub mod Costs
 pub mod Damage
 pub mod Changed
-pub mod RangeChanges
+pub mod Fills
 pub mod AppliedRuns

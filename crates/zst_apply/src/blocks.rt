@@ -11,7 +11,7 @@ ghost use Rattle.zst_objset.specs.Answers.{FindsThere, NotLimit, NotRedacted, st
 ghost use Rattle.zst_objset.specs.Damage.{IfSetDamaged, IsDamagedSet};
 ghost use Rattle.zst_objset.specs.Sets.{SetHolds};
 ghost use Rattle.zst_apply.specs.Changed.{Changed};
-ghost use Rattle.zst_apply.specs.RangeChanges.{change_of, range_check};
+ghost use Rattle.zst_apply.specs.Fills.{change_of, range_check};
 
 use crate::checks::{check_free, check_redact, check_write};
 use crate::cut_ranges::freed_indices;
@@ -22,13 +22,13 @@ use zst_objset::{ObjFault, Objects};
 use zst_outside::Disk;
 use zst_tree::ObjSet;
 
-/// What a record makes of a range of an object.
+/// What a record fills a range of an object with.
 #[derive(Clone, Copy)]
-pub(crate) enum RangeChange {
+pub(crate) enum Fill {
     /// Holes, in a range or to the end.
-    Free,
+    Holes,
     /// Redacted blocks, of user data alone.
-    Redact,
+    Redacted,
 }
 
 // The dnode of an object that has to be there.
@@ -50,18 +50,13 @@ fn object_there<D: Disk>(io: &mut Io<'_, D>, set: &ObjSet, object: u64) -> Resul
 }
 
 // Whether a range of an object may be changed so.
-fn check_range(
-    dnode: &Dnode,
-    change: RangeChange,
-    offset: u64,
-    length: u64,
-) -> Result<(), ApplyFault>
+fn check_range(dnode: &Dnode, fill: Fill, offset: u64, length: u64) -> Result<(), ApplyFault>
     requires { 0 < dnode.now.block_size }
-    ensures { result ≡ range_check change dnode.now offset length }
+    ensures { result ≡ range_check fill dnode.now offset length }
 {
-    match change {
-        RangeChange::Free => check_free(dnode, offset, length),
-        RangeChange::Redact => check_redact(dnode, offset, length),
+    match fill {
+        Fill::Holes => check_free(dnode, offset, length),
+        Fill::Redacted => check_redact(dnode, offset, length),
     }
 }
 
@@ -88,29 +83,29 @@ pub(crate) fn write_block<D: Disk>(
 }
 
 /// FREE or REDACT: what stands in a range of an object.
-pub(crate) fn change_range<D: Disk>(
+pub(crate) fn fill_range<D: Disk>(
     io: &mut Io<'_, D>,
     set: &mut ObjSet,
     object: u64,
-    change: RangeChange,
+    fill: Fill,
     offset: u64,
     length: u64,
     number: u64,
 ) -> Result<(), ObjFault>
     requires object { 0 < object }
     requires fits { FitsDisk (D.state io.old.disk.now).size io.old.space }
-    ensures changed { Changed number (λ index. received number index (At object (change_of change offset length))) 1280 16
+    ensures changed { Changed number (λ index. received number index (At object (change_of fill offset length))) 1280 16
         (D.state io.old.disk.now) io.old.space io.old.failed (D.state io.new.disk.now) io.new.space io.new.failed set.old set.new result }
     ensures same { io.new.disk.ghost_name ≡ io.old.disk.ghost_name }
 {
     let dnode = object_there(io, set, object)?;
-    check_range(&dnode, change, offset, length)?;
+    check_range(&dnode, fill, offset, length)?;
     let size = u64::from(dnode.block_size);
-    match change {
-        RangeChange::Free => {
+    match fill {
+        Fill::Holes => {
             let indices = freed_indices(size, offset, length);
             set.punch(io, object, indices.first, indices.count, number)
         }
-        RangeChange::Redact => set.redact_range(io, object, offset / size, length / size, number),
+        Fill::Redacted => set.redact_range(io, object, offset / size, length / size, number),
     }
 }

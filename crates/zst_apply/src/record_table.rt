@@ -8,7 +8,7 @@ ghost use Rattle.zst_apply.specs.AppliedRecords.{IsOfStream, received_all};
 ghost use Rattle.zst_apply.specs.Changed.{Changed};
 ghost use Rattle.zst_apply.specs.Costs.{record_block, record_cost};
 
-use crate::blocks::{RangeChange, change_range, write_block};
+use crate::blocks::{Fill, fill_range, write_block};
 use crate::cut_ranges::cut;
 use zst_block::Io;
 use zst_model::ObjectHead;
@@ -79,30 +79,14 @@ pub fn apply<D: Disk>(
             offset,
             length,
             ..
-        } => change_range(
-            io,
-            set,
-            *object,
-            RangeChange::Free,
-            *offset,
-            *length,
-            number,
-        ),
+        } => fill_range(io, set, *object, Fill::Holes, *offset, *length, number),
         Head::Spill { object, .. } => set.put_spill(io, *object, covered.payload, number),
         Head::Redact {
             object,
             offset,
             length,
             ..
-        } => change_range(
-            io,
-            set,
-            *object,
-            RangeChange::Redact,
-            *offset,
-            *length,
-            number,
-        ),
+        } => fill_range(io, set, *object, Fill::Redacted, *offset, *length, number),
         Head::Begin { .. } | Head::End { .. } => Ok(()),
     }
 }

@@ -40,14 +40,14 @@ put_object-requires-clause-object g c = over_none c.in-Object.object (stated c.i
 pub write_block-requires-clause-object : goal.write_block-requires-clause-object
 write_block-requires-clause-object g c = over_none c.in-Write.object (stated c.in-Write.object ((rw c.in-Write.is at c.requires.record).1.object_fits))
 
-pub change_range-requires-clause-object : goal.change_range-requires-clause-object
-change_range-requires-clause-object g c = over_none c.in-Free.object (stated c.in-Free.object ((rw c.in-Free.is at c.requires.record).1.object_fits))
+pub fill_range-requires-clause-object : goal.fill_range-requires-clause-object
+fill_range-requires-clause-object g c = over_none c.in-Free.object (stated c.in-Free.object ((rw c.in-Free.is at c.requires.record).1.object_fits))
 
 pub put_spill-requires-clause-object : goal.put_spill-requires-clause-object
 put_spill-requires-clause-object g c = over_none c.in-Spill.object (stated c.in-Spill.object ((rw c.in-Spill.is at c.requires.record).1.object_fits))
 
-pub change_range-requires-in-Redact-clause-object : goal.change_range-requires-in-Redact-clause-object
-change_range-requires-in-Redact-clause-object g c = over_none c.in-Redact.object (stated c.in-Redact.object ((rw c.in-Redact.is at c.requires.record).1.object_fits))
+pub fill_range-requires-in-Redact-clause-object : goal.fill_range-requires-in-Redact-clause-object
+fill_range-requires-in-Redact-clause-object g c = over_none c.in-Redact.object (stated c.in-Redact.object ((rw c.in-Redact.is at c.requires.record).1.object_fits))
 
 pub returns-in-Object-clause-changed : goal.returns-in-Object-clause-changed
 returns-in-Object-clause-changed g c =
@@ -101,8 +101,8 @@ returns-in-Write-clause-changed g c =
 
 pub returns-in-Free-clause-changed : goal.returns-in-Free-clause-changed
 returns-in-Free-clause-changed g c =
-    let did = c.change_range.ensures.changed in
-    rw c.in-Free.is (record_changed (At c.in-Free.object (free_change c.in-Free.offset c.in-Free.length)) c.change_range.result did (Works-block did.keeps.works))
+    let did = c.fill_range.ensures.changed in
+    rw c.in-Free.is (record_changed (At c.in-Free.object (free_change c.in-Free.offset c.in-Free.length)) c.fill_range.result did (Works-block did.keeps.works))
 
 pub returns-in-Spill-clause-changed : goal.returns-in-Spill-clause-changed
 returns-in-Spill-clause-changed g c =
@@ -126,5 +126,5 @@ returns-in-Spill-clause-changed g c =
 
 pub returns-in-Redact-clause-changed : goal.returns-in-Redact-clause-changed
 returns-in-Redact-clause-changed g c =
-    let did = c.change_range-in-Redact.ensures.changed in
-    rw c.in-Redact.is (record_changed (At c.in-Redact.object (Redact c.in-Redact.offset c.in-Redact.length)) c.change_range-in-Redact.result did (Works-block did.keeps.works))
+    let did = c.fill_range-in-Redact.ensures.changed in
+    rw c.in-Redact.is (record_changed (At c.in-Redact.object (Redact c.in-Redact.offset c.in-Redact.length)) c.fill_range-in-Redact.result did (Works-block did.keeps.works))
