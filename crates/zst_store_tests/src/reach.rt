@@ -1,14 +1,15 @@
 //! A walk of what a tree reaches, beside an older tree.
 ghost use Rattle.std.specs.Prelude.{◌≡◌};
+ghost use Rattle.zst_marks.specs.Marks.{HasRoomFor};
 
 use crate::{all_free, zeros};
-use std::alloc::AllocError;
+use std::alloc::{AllocError, Global};
+use std::process::Abort;
 use zst_block::Ptr;
 use zst_fletcher::Sum;
 use zst_marks::Marks;
 use zst_outside::Disk;
 use zst_reach::mark_below;
-use zst_space::Extent;
 use zst_tree::Tree;
 
 // A pointer to a sector of data with this date.
@@ -30,8 +31,21 @@ fn data(sector: u64, number: u64) -> Ptr
     }
 }
 
-fn extent(first: u64, count: u64) -> Extent {
-    Extent { first, count }
+// Checks which extents from sector 8 to 256 have no mark.
+fn check_unmarked(
+    rt: &impl Abort,
+    alloc: Global,
+    marks: &Marks,
+    wanted: &[(u64, u64)],
+) -> Result<(), AllocError>
+    requires room { HasRoomFor marks.now 256 }
+{
+    let free = marks.unmarked(alloc, 8, 256)?;
+    assert_eq!(rt; free.len(), wanted.len());
+    for (found, (first, count)) in free.iter().zip(wanted) {
+        assert!(rt; found.first == *first && found.count == *count, "{found:?}");
+    }
+    Ok(())
 }
 
 #[test]
@@ -52,15 +66,8 @@ fn a_tree_is_walked_beside_an_older_one(rt: HostRuntime) -> Result<(), AllocErro
     let hole = Ptr::hole(0);
     let done = mark_below(&mut io, &mut marks, 256, older.levels, older.root, 0, hole);
     assert!(rt; done.is_ok());
-    let free = marks.unmarked(rt.alloc(), 8, 256)?;
-    let wanted = [
-        extent(8, 16),
-        extent(40, 16),
-        extent(88, 112),
-        extent(201, 9),
-        extent(211, 45),
-    ];
-    assert!(rt; free.as_slice() == wanted.as_slice(), "{free:?}");
+    let wanted = [(8, 16), (40, 16), (88, 112), (201, 9), (211, 45)];
+    check_unmarked(&rt, rt.alloc(), &marks, &wanted)?;
     // Another leaf, a node above it, and the root: each of the nodes is read, and what stood there.
     assert!(rt; tree.set(&mut io, 5, data(220, 8)).is_ok());
     let before = io.disk.calls();
@@ -76,15 +83,7 @@ fn a_tree_is_walked_beside_an_older_one(rt: HostRuntime) -> Result<(), AllocErro
     );
     assert!(rt; done.is_ok());
     assert_eq!(rt; io.disk.calls().saturating_sub(before), 4);
-    let free = marks.unmarked(rt.alloc(), 8, 256)?;
-    let wanted = [
-        extent(8, 16),
-        extent(40, 16),
-        extent(120, 80),
-        extent(201, 9),
-        extent(211, 9),
-        extent(221, 35),
-    ];
-    assert!(rt; free.as_slice() == wanted.as_slice(), "{free:?}");
+    let wanted = [(8, 16), (40, 16), (120, 80), (201, 9), (211, 9), (221, 35)];
+    check_unmarked(&rt, rt.alloc(), &marks, &wanted)?;
     Ok(())
 }

@@ -2,6 +2,7 @@
 mod examples;
 
 use crate::dnode::examples::{dnode, example, is_slot_with, is_written_again, lay};
+use std::process::Abort;
 use zst_dnode::Slot;
 
 #[test]
@@ -11,11 +12,26 @@ fn a_dnode_has_the_bytes_of_its_table(rt: HostRuntime) {
     assert!(rt; is_written_again(&bytes));
 }
 
+// An absent object with a date.
+fn absent() -> [u8; 512] {
+    let mut bytes = [0; 512];
+    lay(&mut bytes, 16, b"\x88\x77\x66\x55\x44\x33\x22\x11");
+    bytes
+}
+
+// Checks that no byte of an absent object in this range may be set.
+fn check_unset(rt: &impl Abort, from: usize, to: usize) {
+    for at in from..to {
+        let mut other = absent();
+        lay(&mut other, at, b"\x01");
+        assert!(rt; Slot::get(&other, 0).is_none(), "at {at}");
+    }
+}
+
 #[test]
 fn an_absent_object_has_its_date_alone(rt: HostRuntime) {
-    let mut bytes = [0; 512];
-    assert!(rt; Slot::get(&bytes, 0) == Some(Slot::Absent { date: 0 }));
-    lay(&mut bytes, 16, b"\x88\x77\x66\x55\x44\x33\x22\x11");
+    let bytes = absent();
+    assert!(rt; Slot::get(&[0; 512], 0) == Some(Slot::Absent { date: 0 }));
     assert!(rt;
         Slot::get(&bytes, 0)
             == Some(Slot::Absent {
@@ -23,12 +39,15 @@ fn an_absent_object_has_its_date_alone(rt: HostRuntime) {
             })
     );
     assert!(rt; is_written_again(&bytes));
-    for (from, to) in [(0, 16), (24, 512)] {
-        for at in from..to {
-            let mut other = bytes;
-            lay(&mut other, at, b"\x01");
-            assert!(rt; Slot::get(&other, 0).is_none(), "at {at}");
-        }
+    check_unset(&rt, 0, 16);
+    check_unset(&rt, 24, 512);
+}
+
+// Checks that each byte in this range is zero in a slot.
+fn check_zeros(rt: &impl Abort, from: usize, to: usize) {
+    for at in from..to {
+        assert!(rt; is_slot_with(at, b"\0"), "at {at}");
+        assert!(rt; !is_slot_with(at, b"\x01"), "at {at}");
     }
 }
 
@@ -43,10 +62,7 @@ fn a_byte_that_no_field_names_is_zero(rt: HostRuntime) {
         (176, 192),
         (195, 512),
     ] {
-        for at in from..to {
-            assert!(rt; is_slot_with(at, b"\0"), "at {at}");
-            assert!(rt; !is_slot_with(at, b"\x01"), "at {at}");
-        }
+        check_zeros(&rt, from, to);
     }
 }
 

@@ -2,18 +2,27 @@
 use super::inputs::{ReadCounts, is_found, nothing, take_all};
 use super::readers::open_reader;
 use super::streams::{Stream, long_stream};
+use std::alloc::Global;
+use std::process::Abort;
 use std::test::Fail;
 use zst_outside::{MemSource, Source};
 use zst_reader::CAPACITY;
 
+/// A stream of so many holes.
+fn holes(rt: &impl Abort, alloc: Global, count: u64) -> Result<Stream, Fail> {
+    assert!(rt; count <= 10_000);
+    let mut stream = Stream::begin(rt, alloc)?;
+    for number in 0..count {
+        stream.free(rt, 512 * number)?;
+    }
+    stream.end(rt)?;
+    Ok(stream)
+}
+
 #[test]
 fn a_stream_longer_than_the_window_is_read_whole(rt: HostRuntime) -> Result<(), Fail> {
     let alloc = rt.alloc();
-    let mut stream = Stream::begin(&rt, alloc)?;
-    for number in 0..3_000 {
-        stream.free(&rt, 512 * number)?;
-    }
-    stream.end(&rt)?;
+    let stream = holes(&rt, alloc, 3_000)?;
     assert!(rt; stream.bytes.len() > CAPACITY);
     let want = ReadCounts {
         records: 3_002,

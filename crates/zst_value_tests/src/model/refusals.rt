@@ -160,6 +160,15 @@ fn faults_of_a_plan_without_names(rt: HostRuntime) {
             11,
             "no origin with guid 000000000000000a",
         ),
+    ];
+    for (fault, number, text) in table {
+        check_plan(&rt, fault, number, text);
+    }
+}
+
+#[test]
+fn faults_of_a_plan_with_guids_and_bounds(rt: HostRuntime) {
+    let table = [
         (
             PlanFault::NotContained { guid: u64::MAX },
             12,
@@ -268,6 +277,15 @@ fn faults_with_places(rt: HostRuntime) {
             22,
             "redacted: object 8 block 254",
         ),
+    ];
+    for (refusal, number, text) in table {
+        check(&rt, &refusal, number, text);
+    }
+}
+
+#[test]
+fn faults_of_room_and_of_damage(rt: HostRuntime) {
+    let table = [
         (
             Refusal::Limit {
                 which: Quantity::Stream,
