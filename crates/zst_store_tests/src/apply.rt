@@ -15,7 +15,7 @@ use zst_tree::ObjSet;
 #[test]
 fn each_record_does_what_it_says(rt: HostRuntime) -> Result<(), AllocError> {
     let mut disk = zeros(rt.alloc())?;
-    let mut io = all_free(rt.alloc(), &mut disk)?;
+    let mut io = all_free(rt.alloc(), &mut disk);
     let mut set = ObjSet::empty();
     accept(&rt, &mut io, &mut set, &put(1, 19, false), 5);
     accept(&rt, &mut io, &mut set, &spill(1), 6);
@@ -51,7 +51,7 @@ fn each_record_does_what_it_says(rt: HostRuntime) -> Result<(), AllocError> {
 #[test]
 fn the_faults_of_a_write_come_in_their_order(rt: HostRuntime) -> Result<(), AllocError> {
     let mut disk = zeros(rt.alloc())?;
-    let mut io = all_free(rt.alloc(), &mut disk)?;
+    let mut io = all_free(rt.alloc(), &mut disk);
     let mut set = ObjSet::empty();
     let no_object = ObjFault::CannotApply(ApplyFault::NoObject);
     let size = ObjFault::CannotApply(ApplyFault::SizeDiffers);
@@ -78,7 +78,7 @@ fn the_faults_of_a_write_come_in_their_order(rt: HostRuntime) -> Result<(), Allo
 #[test]
 fn the_faults_of_a_range_come_in_their_order(rt: HostRuntime) -> Result<(), AllocError> {
     let mut disk = zeros(rt.alloc())?;
-    let mut io = all_free(rt.alloc(), &mut disk)?;
+    let mut io = all_free(rt.alloc(), &mut disk);
     let mut set = ObjSet::empty();
     let no_object = ObjFault::CannotApply(ApplyFault::NoObject);
     let no_data = ObjFault::CannotApply(ApplyFault::NotUserData);
@@ -109,7 +109,7 @@ fn the_faults_of_a_range_come_in_their_order(rt: HostRuntime) -> Result<(), Allo
 #[test]
 fn ranges_past_what_there_is_are_cut(rt: HostRuntime) -> Result<(), AllocError> {
     let mut disk = zeros(rt.alloc())?;
-    let mut io = all_free(rt.alloc(), &mut disk)?;
+    let mut io = all_free(rt.alloc(), &mut disk);
     let mut set = ObjSet::empty();
     accept(&rt, &mut io, &mut set, &put(1, 19, false), 5);
     accept(&rt, &mut io, &mut set, &write(1, 512, false), 5);

@@ -27,7 +27,7 @@ fn in_pieces<'d>(alloc: Global, disk: &'d mut SureDisk) -> Result<Io<'d, SureDis
             count: 10
         },
     ]?;
-    Io::new(alloc, disk, Space::new(200, 32_768, free))
+    Ok(Io::new(alloc, disk, Space::new(200, 32_768, free)))
 }
 
 #[test]

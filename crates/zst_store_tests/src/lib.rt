@@ -1,13 +1,15 @@
-//! Tests of object sets on disks in memory: what a change and a walk cost, and what records make of a set.
+//! Tests of object sets on disks in memory: what is kept of a disk, what a change and a walk cost, and what records make of a set.
 //! They make only public calls, so that no library is proved a second time for them.
 #![tactic(auto)]
 
 mod disks;
 
-pub use disks::{all_free, zeros};
+pub use disks::{all_free, unread, zeros};
 
 #[cfg(test)]
 mod apply;
+#[cfg(test)]
+mod cache;
 #[cfg(test)]
 mod costs;
 #[cfg(test)]

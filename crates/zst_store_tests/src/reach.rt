@@ -2,7 +2,7 @@
 ghost use Rattle.std.specs.Prelude.{◌≡◌};
 ghost use Rattle.zst_marks.specs.Marks.{HasRoomFor};
 
-use crate::{all_free, zeros};
+use crate::{all_free, unread, zeros};
 use std::alloc::{AllocError, Global};
 use std::process::Abort;
 use zst_block::Ptr;
@@ -51,7 +51,7 @@ fn check_unmarked(
 #[test]
 fn a_tree_is_walked_beside_an_older_one(rt: HostRuntime) -> Result<(), AllocError> {
     let mut disk = zeros(rt.alloc())?;
-    let mut io = all_free(rt.alloc(), &mut disk)?;
+    let mut io = all_free(rt.alloc(), &mut disk);
     let mut marks = Marks::new(rt.alloc(), 256)?;
     let mut tree = Tree {
         levels: 0,
@@ -70,6 +70,7 @@ fn a_tree_is_walked_beside_an_older_one(rt: HostRuntime) -> Result<(), AllocErro
     check_unmarked(&rt, rt.alloc(), &marks, &wanted)?;
     // Another leaf, a node above it, and the root: each of the nodes is read, and what stood there.
     assert!(rt; tree.set(&mut io, 5, data(220, 8)).is_ok());
+    let mut io = unread(rt.alloc(), io)?;
     let before = io.disk.calls();
     let (levels, root) = (older.levels, older.root);
     let done = mark_below(

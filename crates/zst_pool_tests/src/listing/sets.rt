@@ -23,10 +23,10 @@ fn zeros(alloc: Global) -> Result<SureDisk, AllocError>
 }
 
 // Its sectors from 8 on are free.
-fn all_free<'d>(alloc: Global, disk: &'d mut SureDisk) -> Result<Io<'d, SureDisk>, AllocError>
+fn all_free<'d>(alloc: Global, disk: &'d mut SureDisk) -> Io<'d, SureDisk>
     requires { (⟦<SureDisk as Disk>⟧.state disk.old).size ≡ 16777216 }
-    ensures same { IfOk result (λ io. io.disk.ghost_name ≡ disk.entry.ghost_name) }
-    ensures fits { IfOk result (λ io. FitsDisk (⟦<SureDisk as Disk>⟧.state io.disk.now).size io.space) }
+    ensures same { result.disk.ghost_name ≡ disk.entry.ghost_name }
+    ensures fits { FitsDisk (⟦<SureDisk as Disk>⟧.state result.disk.now).size result.space }
 {
     Io::new(alloc, disk, Space::new(8, 32_768, Vec::new(alloc)))
 }
@@ -57,7 +57,7 @@ fn make<D: Disk>(io: &mut Io<'_, D>) -> Result<ObjSet, ListFault>
 
 pub(super) fn listed(alloc: Global) -> Result<Reply, ListFault> {
     let mut disk = zeros(alloc)?;
-    let mut io = all_free(alloc, &mut disk)?;
+    let mut io = all_free(alloc, &mut disk);
     let set = make(&mut io)?;
     list_objects(&mut io, alloc, &set)
 }

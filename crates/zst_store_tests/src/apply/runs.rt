@@ -13,7 +13,7 @@ use zst_tree::ObjSet;
 #[tactic(auto, unfolding(zst_model::specs::states::State::is_block_size, zst_model::specs::states::State::largest_block, zst_model::specs::states::State::is_odd_size))]
 fn a_run_is_read_as_its_blocks(rt: HostRuntime) -> Result<(), AllocError> {
     let mut disk = zeros(rt.alloc())?;
-    let mut io = all_free(rt.alloc(), &mut disk)?;
+    let mut io = all_free(rt.alloc(), &mut disk);
     let mut set = ObjSet::empty();
     accept(&rt, &mut io, &mut set, &put(1, 19, false), 5);
     accept(&rt, &mut io, &mut set, &write(1, 65_024, false), 7);
