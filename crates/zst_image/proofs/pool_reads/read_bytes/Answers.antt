@@ -1,6 +1,7 @@
 use Rattle.std.specs.Prelude.{Vec, Err}
 use Rattle.std.specs.declared.alloc.Global.{Global}
-use Rattle.std.proofs.Common.{rules, ◌≡◌, ℕ, [], refl, sym, ap, subst}
+use Rattle.std.proofs.Common.{rules, ◌≡◌, ◌∙◌, ℕ, [], refl, ap, subst}
+use Rattle.zst_outside.specs.Images.{DiskState}
 use Rattle.zst_space.specs.FreeSectors.{FreeSectors}
 use Rattle.zst_block.specs.Blocks.{Has}
 use Rattle.zst_leaves.specs.Damage.{TellsText}
@@ -14,14 +15,14 @@ pub returns-in-Ok-clause-there : goal.returns-in-Ok-clause-there
 returns-in-Ok-clause-there g c = λ text told has long.
     let here : (g.D.Disk.state c.read_leaves-read.new.io.disk.now).honest = search (rules, told) in
     let space : c.new-space.result ≡ free_by c.args.body.now = rw (c.new-space.ensures, c.new.ensures.items) refl in
-    c.in-Ok.ensures.there text here (subst (λ (s : FreeSectors). HasLeaves (Has (g.D.Disk.state c.args.disk.now).seen s) c.args.body.now.dir_levels c.args.body.now.dir_root text) (sym space) has) long
+    c.in-Ok.ensures.there text here (rw (c.new-io.ensures.disk, c.new-io.ensures.space, space) has) long
 
 pub returns-in-Ok-clause-only : goal.returns-in-Ok-clause-only
 returns-in-Ok-clause-only g c = λ told.
     let here : (g.D.Disk.state c.read_leaves-read.new.io.disk.now).honest = search (rules, told) in
     let space : c.new-space.result ≡ free_by c.args.body.now = rw (c.new-space.ensures, c.new.ensures.items) refl in
-    let none : c.new-space.result.free ≡ [] = rw space refl in
-    subst (λ (s : FreeSectors). HasLeaves (Has (g.D.Disk.state c.args.disk.now).seen s) c.args.body.now.dir_levels c.args.body.now.dir_root c.in-Ok.bytes.items) space (c.in-Ok.ensures.stands here none)
+    let none : c.new-io.result.space.free ≡ [] = rw (c.new-io.ensures.space, space) refl in
+    rw (c.new-io.ensures.disk, c.new-io.ensures.space, space) at (c.in-Ok.ensures.stands here none)
 
 pub of_leaves-requires : goal.of_leaves-requires
 of_leaves-requires g c = λ need largest is. c.in-Err.ensures.looks.never_full need largest (ap (λ (f : LeavesFault). stop_of_leaves {T = Vec ℕ Global} (Err f)) is)
@@ -31,7 +32,7 @@ returns-in-Err-clause-there g c = λ text told has long.
     let here : (g.D.Disk.state c.read_leaves-read.new.io.disk.now).honest = search (rules, told) in
     let space : c.new-space.result ≡ free_by c.args.body.now = rw (c.new-space.ensures, c.new.ensures.items) refl in
     leaves_read (Vec ℕ Global) text (λ read. read.items) c.in-Err.fault c.of_leaves.result c.of_leaves.ensures
-    (c.in-Err.ensures.there text here (subst (λ (s : FreeSectors). HasLeaves (Has (g.D.Disk.state c.args.disk.now).seen s) c.args.body.now.dir_levels c.args.body.now.dir_root text) (sym space) has) long)
+    (c.in-Err.ensures.there text here (rw (c.new-io.ensures.disk, c.new-io.ensures.space, space) has) long)
 
 pub returns-in-Err-clause-fault : goal.returns-in-Err-clause-fault
 returns-in-Err-clause-fault g c = leaves_load c.in-Err.fault c.of_leaves.result c.of_leaves.ensures
@@ -48,7 +49,9 @@ returns-in-Err-clause-damaged g c = λ told.
     let body = c.args.body.now in
     let disk = g.D.Disk.state c.args.disk.now in
     tells_leaves (Vec ℕ Global) disk body c.in-Err.fault c.of_leaves.result c.of_leaves.ensures
-    (subst (λ (s : FreeSectors). TellsText {T = Vec ℕ Global} s.end disk.seen disk.size body.dir_levels body.dir_root body.dir_bytes (Err c.in-Err.fault)) space (c.in-Err.ensures.damaged here))
+    (subst (λ (s : FreeSectors). TellsText {T = Vec ℕ Global} s.end disk.seen disk.size body.dir_levels body.dir_root body.dir_bytes (Err c.in-Err.fault)) (c.new-io.ensures.space ∙ space)
+    (subst (λ (d : DiskState). TellsText {T = Vec ℕ Global} c.new-io.result.space.end d.seen d.size body.dir_levels body.dir_root body.dir_bytes (Err c.in-Err.fault)) (ap g.D.Disk.state c.new-io.ensures.disk)
+    (c.in-Err.ensures.damaged here)))
 
 pub returns-in-Ok-clause-length : goal.returns-in-Ok-clause-length
 returns-in-Ok-clause-length g c = search rules

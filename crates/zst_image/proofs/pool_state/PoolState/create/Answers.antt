@@ -10,20 +10,20 @@ use Rattle.zst_image.proofs.pool_state.PoolState.create.Goals as goal
 pub answer-requires : goal.answer-requires
 answer-requires g c =
     let start : FreeSectors = record { end = 8; sectors = c.args.sectors; free = [] } in
-    let space : c.new-space.result ≡ start = rw (c.new-space.ensures, c.new.ensures.items) refl in
-    never-full c.new-space.result c.commit_dir-made.new.io.space c.args.sectors c.new-3.result c.commit_dir-made.result space c.new-3.ensures c.requires.sectors.0 c.commit_dir-made.ensures.full
+    let space : c.new-io.result.space ≡ start = rw (c.new-io.ensures.space, c.new-space.ensures, c.new.ensures.items) refl in
+    never-full c.new-io.result.space c.commit_dir-made.new.io.space c.args.sectors c.new-2.result c.commit_dir-made.result space c.new-2.ensures c.requires.sectors.0 c.commit_dir-made.ensures.full
 
 pub returns-clause-answer : goal.returns-clause-answer
 returns-clause-answer g c = λ told.
     let here : (g.D.Disk.state c.commit_dir-made.new.io.disk.now).honest = search (rules, told) in
     let old = g.D.Disk.state c.args.disk.now in
-    let none : latest old.seen ≡ None = c.in_ok-find_none.ensures.answer (c.commit_dir-made.ensures.honest here) in
+    let none : latest old.seen ≡ None = c.in_ok-find_none.ensures.answer (rw c.new-io.ensures.disk at (c.commit_dir-made.ensures.honest here)) in
     CreateAnswers-made old.size (latest old.seen) c.args.sectors c.commit_dir-made.result c.answer.result none (λ few. omega (arith, few, c.if-bytes-sectors.false, c.bytes.ensures, c.find_none.ensures.reads.size)) c.answer.ensures
 
 pub returns-clause-made : goal.returns-clause-made
 returns-clause-made g c = λ tight told.
     let here : (g.D.Disk.state c.commit_dir-made.new.io.disk.now).honest = search (rules, told) in
-    let next = NextIs-new {tight = tight} _ c.unborn.result c.new-3.result c.args.id c.requires.id (ap (λ (u : Uber). u.id) c.unborn.ensures) (ap (λ (u : Uber). u.number) c.unborn.ensures) c.new-3.ensures in
+    let next = NextIs-new {tight = tight} _ c.unborn.result c.new-2.result c.args.id c.requires.id (ap (λ (u : Uber). u.id) c.unborn.ensures) (ap (λ (u : Uber). u.number) c.unborn.ensures) c.new-2.ensures in
     let over = c.commit_dir-made.ensures.over tight _ here next in
     let made = IfOk-made _ c.commit_dir-made.result c.answer.result c.answer.ensures (IfOk-commit _ _ c.commit_dir-made.result over.answer) in
     search (rules, made)
@@ -37,9 +37,9 @@ pub returns-clause-moments : goal.returns-clause-moments
 returns-clause-moments g c = λ tight told.
     let here : (g.D.Disk.state c.commit_dir-made.new.io.disk.now).honest = search (rules, told) in
     let old = g.D.Disk.state c.args.disk.now in
-    let next = NextIs-new {tight = tight} _ c.unborn.result c.new-3.result c.args.id c.requires.id (ap (λ (u : Uber). u.id) c.unborn.ensures) (ap (λ (u : Uber). u.number) c.unborn.ensures) c.new-3.ensures in
+    let next = NextIs-new {tight = tight} _ c.unborn.result c.new-2.result c.args.id c.requires.id (ap (λ (u : Uber). u.id) c.unborn.ensures) (ap (λ (u : Uber). u.number) c.unborn.ensures) c.new-2.ensures in
     let over = c.commit_dir-made.ensures.over tight _ here next in
-    create-moments old _ _ _ c.new-space.result _ (search rules) c.find_none.ensures.reads over.moments
+    create-moments old _ _ _ c.new-io.result.space _ (search rules) c.find_none.ensures.reads (rw c.new-io.ensures.disk at over.moments)
 
 pub returns-in_err-find_none-clause-refused : goal.returns-in_err-find_none-clause-refused
 returns-in_err-find_none-clause-refused g c =
@@ -48,20 +48,20 @@ returns-in_err-find_none-clause-refused g c =
 
 pub returns-clause-refused : goal.returns-clause-refused
 returns-clause-refused g c =
-    create-refused (g.D.Disk.state c.args.disk.now) _ (g.D.Disk.state c.commit_dir-made.new.io.disk.now) _ c.commit_dir-made.result c.answer.result (search rules) c.answer.ensures c.find_none.ensures.reads c.commit_dir-made.ensures.refused
+    create-refused (g.D.Disk.state c.args.disk.now) _ (g.D.Disk.state c.commit_dir-made.new.io.disk.now) _ c.commit_dir-made.result c.answer.result (search rules) c.answer.ensures c.find_none.ensures.reads (rw c.new-io.ensures.disk at c.commit_dir-made.ensures.refused)
 
 pub returns-clause-cause : goal.returns-clause-cause
 returns-clause-cause g c =
-    let cause = made-cause _ _ _ c.commit_dir-made.result c.answer.result c.answer.ensures c.find_none.ensures.cause.later c.commit_dir-made.ensures.cause in
+    let cause = made-cause _ _ _ c.commit_dir-made.result c.answer.result c.answer.ensures c.find_none.ensures.cause.later (rw c.new-io.ensures.disk at c.commit_dir-made.ensures.cause) in
     search (rules, cause)
 
 pub returns-clause-new : goal.returns-clause-new
 returns-clause-new g c =
     let commit = c.commit_dir-made.ensures in
     let start : FreeSectors = record { end = 8; sectors = c.args.sectors; free = [] } in
-    let space : c.new-space.result ≡ start = rw (c.new-space.ensures, c.new.ensures.items) refl in
+    let space : c.new-io.result.space ≡ start = rw (c.new-io.ensures.space, c.new-space.ensures, c.new.ensures.items) refl in
     IfOk-made _ c.commit_dir-made.result c.answer.result c.answer.ensures
-    (new-made (g.D.Disk.state c.commit_dir-made.new.io.disk.now) c.args.sectors c.new-space.result c.commit_dir-made.new.io.space c.unborn.result c.new-3.result c.commit_dir-made.result space c.new-3.ensures c.requires.sectors.0
+    (new-made (g.D.Disk.state c.commit_dir-made.new.io.disk.now) c.args.sectors c.new-io.result.space c.commit_dir-made.new.io.space c.unborn.result c.new-2.result c.commit_dir-made.result space c.new-2.ensures c.requires.sectors.0
     (ap (λ (u : Uber). u.sectors) c.unborn.ensures) commit.takes commit.one_leaf commit.ends commit.ready)
 
 pub returns-in_err-find_none-clause-answer : goal.returns-in_err-find_none-clause-answer
