@@ -1,5 +1,5 @@
 //! How many calls of the disk a change of an object makes, and how many sectors it takes.
-ghost use Rattle.std.specs.Prelude.{◌<◌};
+ghost use Rattle.std.specs.Prelude.{◌≡◌, ◌<◌};
 ghost use Rattle.zst_block.specs.Blocks.{FitsDisk};
 ghost use Rattle.zst_model.specs.states.State.{IsHead};
 
