@@ -1,5 +1,5 @@
 // Pools on disks in memory, and lines on them.
-ghost use Rattle.std.specs.Prelude.{◌≡◌, ◌≤◌, ◌×◌, ◌^◌, false, IfOk};
+ghost use Rattle.std.specs.Prelude.{◌≡◌, ◌≤◌, ◌^◌, false, IfOk};
 ghost use Rattle.zst_model.specs.pools.Step.{IsCommand};
 ghost use Rattle.zst_image.specs.Commits.{Ready};
 ghost use Rattle.zst_pool.specs.Calls.{CanCommit};

@@ -3,9 +3,9 @@ ghost use Rattle.std.specs.Prelude.{◌≡◌};
 ghost use Rattle.zst_block.specs.Blocks.{FitsDisk};
 ghost use Rattle.zst_send.specs.Sends.{SendFits};
 
-use crate::pools::pool_on;
 use crate::refusals::TestRefusal;
 use std::alloc::Global;
+use zst_image::PoolState;
 use zst_model::PlanFault;
 use zst_names::SnapName;
 use zst_outside::{Disk, MemDisk};
@@ -69,8 +69,9 @@ pub(crate) fn sent(
     ask: &SendAsk,
     size: usize,
 ) -> Result<SendOutput, TestRefusal> {
-    let mut pool = pool_on(alloc, disk)?;
-    let begin = pool.io.disk.calls();
+    let kept = PoolState::open(alloc, disk)?;
+    let begin = disk.calls();
+    let mut pool = Pool::new(alloc, disk, kept);
     let mut send = Send::open(&mut pool, alloc, ask)?;
     let mut bytes = Vec::new(alloc);
     take_rest(alloc, &mut send, &mut pool, size, &mut bytes)?;
